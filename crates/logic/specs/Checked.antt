@@ -1,0 +1,27 @@
+-- A value, or the number of a refusal. A call's grounds, in their order, are a `do` block of these.
+use Prim.Native.Nat.{ℕ}
+use mathlib.Core.Bool.{Bool, true, false}
+use mathlib.Core.Option.{Option, none, some}
+
+pub data Checked (A : Type 0) : Type 0 where
+  ok : A → Checked A
+  refused : ℕ → Checked A
+
+infixl 10 _>>=_ _>>_
+abbrev pub _>>=_ : {A B : Type 0} → Checked A → (A → Checked B) → Checked B
+ok a >>= f = f a
+refused k >>= f = refused k
+
+abbrev pub _>>_ : {A B : Type 0} → Checked A → Checked B → Checked B
+ok a >> c = c
+refused k >> c = refused k
+
+-- What is held, or refusal k.
+abbrev pub held : {A : Type 0} → ℕ → Option A → Checked A
+held k none = refused k
+held k (some a) = ok a
+
+-- Refusal k unless the test passes.
+abbrev pub guard : ℕ → Bool → Checked (Unit {0})
+guard k true = ok tt
+guard k false = refused k

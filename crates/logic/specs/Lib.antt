@@ -1,0 +1,15 @@
+pub mod Lists
+pub mod Checked
+pub mod Model
+pub mod Quantity
+pub mod Plan
+pub mod Policy
+pub mod Order
+pub mod Formula
+pub mod Verdict
+pub mod Limits
+pub mod Choices
+pub mod TwoShelf
+pub mod Total
+pub mod Recursion
+pub mod Accepted

@@ -1,0 +1,51 @@
+-- The two totals of grounds 24 and 25, by recursion over the steps, on states, without the search. Document 01, "Refused because of the
+-- state". That they count paths and plans is proved (`Counting`, `Dictionary`).
+use Prim.Native.Nat.{ℕ, zero, suc, _*_}
+use mathlib.Core.Bool.{Bool, true, not, _||_}
+use mathlib.Core.List.{List, [], _∷_, map, flatMap}
+use lib.Dec.{leb}
+use lib.ListN.{length}
+use Rattle.logic.specs.Lists.{all, every}
+use Rattle.logic.specs.Checked.{Checked, guard, _>>_}
+use Rattle.logic.specs.Model.{Model, Step, enabled, outcomes}
+use Rattle.logic.specs.Quantity.{naturals, sum, Relation}
+use Rattle.logic.specs.Formula.{Formula, never, prop, neg, both, does, next, gain, plan}
+use Rattle.logic.specs.Verdict.{is-equal}
+
+-- The n-step paths under all enabled choices, and their number.
+unfoldable pub all-paths : Model → ℕ → ℕ → List (List Step)
+all-paths m zero s = [] ∷ []
+all-paths m (suc n) s = flatMap (λ a. flatMap (λ o. map (λ r. o ∷ r) (all-paths m n (o .target))) (outcomes m s a)) (enabled m s)
+
+unfoldable pub path-total : Model → ℕ → ℕ → ℕ
+path-total m zero s = 1
+path-total m (suc n) s = sum naturals (λ a. sum naturals (λ o. path-total m n (o .target)) (outcomes m s a)) (enabled m s)
+
+unfoldable pub multiply : {A : Type 0} → (A → ℕ) → List A → ℕ
+multiply f [] = 1
+multiply f (x ∷ xs) = f x * multiply f xs
+
+-- The number of n-step plans.
+unfoldable pub plan-total : Model → ℕ → ℕ → ℕ
+plan-total m zero s = 1
+plan-total m (suc n) s = sum naturals (λ a. multiply (λ o. plan-total m n (o .target)) (outcomes m s a)) (enabled m s)
+
+-- f is true of the steps and the relation of each "plan" node, in every state of the model.
+unfoldable pub every-plan : (ℕ → Relation → ℕ → Bool) → Model → List Formula → Bool
+every-plan f m fs = all (λ φ. at φ) fs
+  where
+    at : Formula → Bool
+    at never = true
+    at (prop i) = true
+    at (neg φ) = true
+    at (both φ ψ) = true
+    at (does a) = true
+    at (next φ) = true
+    at (gain n b p) = true
+    at (plan n φ r p q) = every (length (m .states)) (f n r)
+
+-- Refusal 24: over 1,000,000 paths; 25: over 65,536 plans of an "equal" node.
+unfoldable pub limits : Model → List Formula → Checked (Unit {0})
+limits m fs = do
+  guard 24 (every-plan (λ n r s. leb (path-total m n s) 1000000) m fs)
+  guard 25 (every-plan (λ n r s. not (is-equal r) || leb (plan-total m n s) 65536) m fs)

@@ -1,0 +1,61 @@
+-- Models: states, actions, outcomes. Document 01, "The model"; Definition 1 of source document 001.
+use Prim.Native.Nat.{ℕ, _/_, _%_, _^_}
+use mathlib.Core.Bool.{Bool, not, _&&_, _||_}
+use mathlib.Core.List.{List, []}
+use lib.ListN.{getD, length}
+use lib.Dec.{eqb}
+use lib.Bits.{bitAnd}
+use lib.IntN.{ℤ}
+use Rattle.logic.specs.Lists.{keep, count-from}
+
+-- A conjunction of literals as two masks: the propositions that must be true, and those that must be false.
+pub record Literals : Type 0 where
+  pub positive : ℕ
+  pub negative : ℕ
+
+pub record Action : Type 0 where
+  pub pre : Literals
+  pub posts : List Literals
+
+-- One step of a path: the choice made, and the outcome that it had.
+pub record Step : Type 0 where
+  pub choice : ℕ
+  pub target : ℕ
+  pub weight : ℕ
+  pub reward : ℤ
+
+-- `states` are the masks of true propositions; `rows` has for each state, and each action enabled there, its outcomes in postcondition order.
+pub record Model : Type 0 where
+  pub propositions : ℕ
+  pub denominator : ℕ
+  pub states : List ℕ
+  pub actions : List Action
+  pub rows : List (List (List Step))
+
+-- What stands past the end of the actions.
+unfoldable pub no-action : Action
+no-action = record { pre = record { positive = 0; negative = 0 }; posts = [] }
+
+-- The literals are true of a state's mask.
+unfoldable pub true-of : Literals → ℕ → Bool
+true-of l v = eqb (bitAnd v (l .positive)) (l .positive) && eqb (bitAnd v (l .negative)) 0
+
+-- Some proposition is demanded true by one and false by the other.
+unfoldable pub contradict : Literals → Literals → Bool
+contradict k l = not (eqb (bitAnd (k .positive) (l .negative)) 0) || not (eqb (bitAnd (l .positive) (k .negative)) 0)
+
+-- The valuation V of Definition 1, as a mask.
+unfoldable pub mask : Model → ℕ → ℕ
+mask m s = getD (m .states) s 0
+
+-- Proposition i is true in the state s.
+unfoldable pub prop-in : Model → ℕ → ℕ → Bool
+prop-in m s i = eqb (mask m s / 2 ^ i % 2) 1
+
+-- The choices in a state, rising: the actions whose precondition is true there. Condition (ii) of Definition 1.
+unfoldable pub enabled : Model → ℕ → List ℕ
+enabled m s = keep (λ a. true-of ((getD (m .actions) a no-action) .pre) (mask m s)) (count-from 0 (length (m .actions)))
+
+-- What a choice can lead to, in postcondition order.
+unfoldable pub outcomes : Model → ℕ → ℕ → List Step
+outcomes m s a = getD (getD (m .rows) s []) a []

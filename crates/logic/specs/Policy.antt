@@ -1,0 +1,37 @@
+-- Bounded policies as published: Definition 2 of source document 001 (Definitions 9 to 11 of 000).
+use Prim.Native.Nat.{ℕ, zero, suc, _<_}
+use mathlib.Core.Path.{_≡_}
+use mathlib.Core.List.{List, [], _∷_, _++_, map, flatMap, List·Memᴰ}
+use lib.ListN.{length}
+use Rattle.logic.specs.Lists.{keep}
+use Rattle.logic.specs.Model.{Model, Step, enabled, outcomes}
+use Rattle.logic.specs.Quantity.{naturals, sum}
+use Rattle.logic.specs.Plan.{weight}
+use Rattle.logic.specs.Formula.{Formula, sat}
+
+-- The last state of the history s h.
+unfoldable pub last : ℕ → List ℕ → ℕ
+last s [] = s
+last s (t ∷ h) = last t h
+
+-- An n-step policy from s: an action for every sequence of at most n states that begins with s, enabled in the sequence's last state,
+-- whether or not the policy can meet that sequence.
+pub record Policy (m : Model) (n s : ℕ) : Type 0 where
+  pub act : List ℕ → ℕ
+  pub executable : (h : List ℕ) → length h < n → ((t : ℕ) → List·Memᴰ t h → t < length (m .states)) → List·Memᴰ (act (s ∷ h)) (enabled m (last s h))
+
+-- The steps r go on from the history h, which ends in s, by the policy: each action is the policy's for the states so far.
+pub data Follows (m : Model) (act : List ℕ → ℕ) : List ℕ → ℕ → List Step → Type 0 where
+  stop : {h : List ℕ} {s : ℕ} → Follows m act h s []
+  move : {h : List ℕ} {s : ℕ} {o : Step} {r : List Step}
+      → List·Memᴰ o (outcomes m s (act h)) → Follows m act (h ++ (o .target ∷ [])) (o .target) r → Follows m act h s (o ∷ r)
+
+-- Those of n steps, listed: Paths of Definition 2, without the sequences of chance 0. That they are just these, each once, is proved
+-- (`Policies`).
+unfoldable pub policy-paths : Model → (List ℕ → ℕ) → ℕ → List ℕ → ℕ → List (List Step)
+policy-paths m act zero h s = [] ∷ []
+policy-paths m act (suc n) h s = flatMap (λ o. map (λ r. o ∷ r) (policy-paths m act n (h ++ (o .target ∷ [])) (o .target))) (outcomes m s (act h))
+
+-- The measure of the paths on which the condition is true, times the denominator to the n.
+unfoldable pub policy-weight : (m : Model) → Formula → (n s : ℕ) → Policy m n s → ℕ
+policy-weight m φ n s π = sum naturals weight (keep (sat m φ s) (policy-paths m (π .act) n (s ∷ []) s))

@@ -1,0 +1,79 @@
+-- The two-shelf model, and the verdicts of document 01 that are marked *.
+use Prim.Native.Nat.{ℕ, zero, suc}
+use mathlib.Core.Path.{_≡_, refl}
+use mathlib.Core.Bool.{Bool, true, false}
+use mathlib.Core.List.{List, [], _∷_, map, flatMap}
+use lib.IntN.{ℤ, pos, negsuc}
+use Rattle.logic.specs.Lists.{all, any, find, keep, product, join, count-from}
+use Rattle.logic.specs.Model.{Model, Step, Literals, Action, no-action, true-of, mask, prop-in, enabled, outcomes}
+use Rattle.logic.specs.Quantity.{sum, Relation, less, equal, greater, related}
+use Rattle.logic.specs.Plan.{plans, choices, paths, weight}
+use Rattle.logic.specs.Formula.{Formula, prop, neg, both, does, next, gain, plan, sat, W, meets}
+use Rattle.logic.specs.Verdict.{Verdict, no, yes-plan, leads, is-equal, goal, shown, verdict}
+
+needs : ℕ → ℕ → List Literals → Action
+needs t f ps = record { pre = record { positive = t; negative = f }; posts = ps }
+
+lit : ℕ → ℕ → Literals
+lit t f = record { positive = t; negative = f }
+
+to : ℕ → ℕ → ℕ → ℤ → Step
+to a t w r = record { choice = a; target = t; weight = w; reward = r }
+
+unfoldable pub two-shelf : Model
+unfolding needs lit to
+two-shelf =
+    record
+    { propositions = 2
+    ; denominator = 10
+    ; states = 0 ∷ 1 ∷ 2 ∷ []
+    ; actions =
+        needs 0 3 (lit 1 0 ∷ lit 0 1 ∷ [])
+        ∷ needs 0 3 (lit 1 0 ∷ lit 0 1 ∷ [])
+        ∷ needs 1 0 (lit 2 0 ∷ lit 0 2 ∷ [])
+        ∷ needs 2 0 (lit 2 0 ∷ [])
+        ∷ []
+    ; rows =
+        ((to 0 1 8 (negsuc 1) ∷ to 0 0 2 (negsuc 1) ∷ []) ∷ (to 1 1 5 (negsuc 0) ∷ to 1 0 5 (negsuc 0) ∷ []) ∷ [] ∷ [] ∷ [])
+        ∷ ([] ∷ [] ∷ (to 2 2 9 (pos 10) ∷ to 2 1 1 (pos 0) ∷ []) ∷ [] ∷ [])
+        ∷ ([] ∷ [] ∷ [] ∷ (to 3 2 10 (pos 0) ∷ []) ∷ [])
+        ∷ []
+    }
+
+pub record Row : Type 0 where
+  pub steps : ℕ
+  pub condition : Formula
+  pub rel : Relation
+  pub p : ℕ
+  pub q : ℕ
+  pub answer : Verdict
+
+row : ℕ → Formula → Relation → ℕ → ℕ → Verdict → Row
+row n φ r p q v = record { steps = n; condition = φ; rel = r; p = p; q = q; answer = v }
+
+held : Formula
+held = prop 0
+
+done : Formula
+done = prop 1
+
+unfoldable pub table : List Row
+unfolding row held done
+table =
+    row 1 (next held) greater 7 10 (yes-plan (pos 8) 1 0 (0 ∷ []))
+    ∷ row 1 (next held) greater 8 10 (no 0)
+    ∷ row 1 (next held) equal 5 10 (yes-plan (pos 5) 1 2 (1 ∷ []))
+    ∷ row 2 (next (next done)) equal 72 100 (yes-plan (pos 72) 2 1 (0 ∷ 2 ∷ 0 ∷ []))
+    ∷ row 2 (next (next done)) equal 45 100 (yes-plan (pos 45) 2 3 (1 ∷ 2 ∷ 0 ∷ []))
+    ∷ row 2 (next (next done)) equal 50 100 (no 4)
+    ∷ row 2 (next (next held)) greater 0 1 (yes-plan (pos 45) 2 0 (1 ∷ 2 ∷ 0 ∷ []))
+    ∷ row 2 (next (next held)) less 1 1 (yes-plan (pos 18) 2 0 (0 ∷ 2 ∷ 1 ∷ []))
+    ∷ row 2 (gain 2 equal (pos 8)) greater 0 1 (yes-plan (pos 72) 2 0 (0 ∷ 2 ∷ 0 ∷ []))
+    ∷ row 2 (both (does 1) (neg (next (does 1)))) greater 9 10 (yes-plan (pos 100) 2 0 (1 ∷ 2 ∷ 0 ∷ []))
+    ∷ row 1 (next done) equal 0 1 (yes-plan (pos 0) 1 1 (0 ∷ []))
+    ∷ row 1 (next done) less 0 1 (no 0)
+    ∷ []
+
+pub two-shelf-verdicts : map (λ r. verdict two-shelf 0 (plan (r .steps) (r .condition) (r .rel) (r .p) (r .q))) table ≡ map (λ r. r .answer) table
+unfolding two-shelf table all any find keep product join count-from flatMap no-action true-of mask prop-in enabled outcomes plans choices paths weight sum sat W meets related leads is-equal goal shown verdict
+two-shelf-verdicts = refl

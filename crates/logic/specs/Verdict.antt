@@ -1,0 +1,78 @@
+-- The verdict on a question. Document 01, "Which plan".
+use Prim.Native.Nat.{ℕ}
+use mathlib.Core.Bool.{Bool, true, false, cond, _&&_}
+use mathlib.Core.List.{List, []}
+use mathlib.Core.Option.{Option, none, some}
+use lib.ListN.{length}
+use lib.IntN.{ℤ, pos}
+use Rattle.logic.specs.Lists.{all, find}
+use Rattle.logic.specs.Checked.{Checked, ok, refused}
+use Rattle.logic.specs.Model.{Model}
+use Rattle.logic.specs.Quantity.{Quantity, naturals, Relation, less, equal, greater}
+use Rattle.logic.specs.Plan.{Plan, plans, choices}
+use Rattle.logic.specs.Formula.{Formula, never, prop, neg, both, does, next, gain, plan, sat, W, meets}
+
+-- For "greater" no plan has a greater total, for "less" none has a smaller one.
+unfoldable pub leads : (Q : Quantity) {A : Type 0} → (A → Q .Value) → Relation → List A → A → Bool
+leads Q t less ps π = all (λ ρ. Q .at-most (t π) (t ρ)) ps
+leads Q t equal ps π = true
+leads Q t greater ps π = all (λ ρ. Q .at-most (t ρ) (t π)) ps
+
+unfoldable pub is-equal : Relation → Bool
+is-equal less = false
+is-equal equal = true
+is-equal greater = false
+
+-- What a "plan" root asks of plans: their steps, a plan's total, whether it meets the bound, whether it leads, and whether plans are
+-- counted. Totals are integers, so that requests with signed totals come as further goals.
+pub record Goal : Type 0 where
+  pub steps : ℕ
+  pub total : Plan steps → ℤ
+  pub met : Plan steps → Bool
+  pub lead : Plan steps → Bool
+  pub counts : Bool
+
+-- The goal of operator 8, from a start state.
+abbrev pub plan-goal : Model → ℕ → ℕ → Formula → Relation → ℕ → ℕ → Goal
+plan-goal m s n φ r p q =
+    record
+    { steps = n
+    ; total = λ π. pos (W m φ n s π)
+    ; met = λ π. meets naturals m n r p q (W m φ n s π)
+    ; lead = leads naturals (W m φ n s) r (plans m n s)
+    ; counts = is-equal r
+    }
+
+-- The goal of a root, or refusal 22: root not "plan".
+unfoldable pub goal : Model → ℕ → Formula → Checked Goal
+goal m s never = refused 22
+goal m s (prop i) = refused 22
+goal m s (neg φ) = refused 22
+goal m s (both φ ψ) = refused 22
+goal m s (does a) = refused 22
+goal m s (next φ) = refused 22
+goal m s (gain n b p) = refused 22
+goal m s (plan n φ r p q) = ok (plan-goal m s n φ r p q)
+
+-- The shown plan with its place, from 1: the first in dictionary order that meets the bound and leads.
+unfoldable pub shown : Model → ℕ → (g : Goal) → Option (ℕ × Plan (g .steps))
+shown m s g = find (λ π. g .met π && g .lead π) 1 (plans m (g .steps) s)
+
+-- No with its count, yes, or yes with a plan: its total, its steps, the count, and its choices, which stand beside the rest.
+pub data Verdict : Type 0 where
+  no : (count : ℕ) → Verdict
+  yes : Verdict
+  yes-plan : (total : ℤ) (steps count : ℕ) → List ℕ → Verdict
+
+-- The verdict on a goal, by its shown plan.
+abbrev pub announced : Model → ℕ → (g : Goal) → Option (ℕ × Plan (g .steps)) → Verdict
+announced m s g none = no (cond (g .counts) (length (plans m (g .steps) s)) 0)
+announced m s g (some x) = yes-plan (g .total (x .1)) (g .steps) (cond (g .counts) (x .0) 0) (choices (g .steps) (x .1))
+
+abbrev pub verdict-by : Model → ℕ → Bool → Checked Goal → Verdict
+verdict-by m s t (ok g) = announced m s g (shown m s g)
+verdict-by m s t (refused k) = cond t yes (no 0)
+
+-- The verdict on a root in a start state. That a "plan" root is true exactly where it has a shown plan is proved (`Shown`).
+unfoldable pub verdict : Model → ℕ → Formula → Verdict
+verdict m s φ = verdict-by m s (sat m φ s []) (goal m s φ)
