@@ -1,0 +1,75 @@
+-- The grounds on which a question is refused, 1 to 6 and 9, each a test on the whole input, for a model with S states, A actions and N
+-- propositions. Document 01, "Refused because of the input" and the table of "Formulas".
+use Prim.Native.Nat.{ℕ, _+_, _*_, _-_}
+use mathlib.Core.Bool.{Bool, true, false, not, _&&_}
+use mathlib.Core.List.{List, [], _∷_}
+use lib.Dec.{eqb, ltb}
+use lib.IntN.{ℤ, pos, negsuc}
+use lib.ListN.{getD}
+use lib.Signed.{leZ}
+use Rattle.logic.specs.Lists.{all, every}
+use Rattle.logic.specs.Checked.{Checked, ok, _>>_, guard}
+use Rattle.logic.specs.Formula.{Formula, Node, is-path, shallow}
+use Rattle.blocks.specs.Bytes.{Bytes, byte, zeros, within}
+use Rattle.blocks.specs.Block.{whole-blocks, sums-right, headed}
+use Rattle.questions.specs.Layout.{Question, start-of, node-count, node-at, node-of, question-of}
+
+-- 5: the used fields of node i, a row for each operator. A node's children have smaller numbers than its own.
+unfoldable pub node-in-range : (A N : ℕ) → ℕ → Node → Bool
+node-in-range A N i x =
+    let steps : Bool = within 1 6 (x .n) in
+    let related : Bool = within 1 3 (x .right) in
+    getD
+    (false
+    ∷ true
+    ∷ ltb (x .left) N
+    ∷ ltb (x .left) i
+    ∷ (ltb (x .left) i && ltb (x .right) i)
+    ∷ ltb (x .left) A
+    ∷ ltb (x .left) i
+    ∷ (steps && related && leZ (negsuc 5999) (x .p) && leZ (x .p) (pos 6000) && eqb (x .q) 1)
+    ∷ (steps && ltb (x .left) i && related && within 1 1000000 (x .q) && leZ (pos 0) (x .p) && leZ (x .p) (pos (x .q)))
+    ∷ [])
+    (x .operator)
+    false
+
+-- 6: the table's empty cells are spare. Byte 1 is n, 2 left, 3 right, 4 to 11 p and q.
+unfoldable pub node-spare : Bytes → ℕ → Bool
+node-spare b i =
+    let n : Bool = zeros b (node-at i + 1) 1 in
+    let left : Bool = zeros b (node-at i + 2) 1 in
+    let right : Bool = zeros b (node-at i + 3) 1 in
+    let pq : Bool = zeros b (node-at i + 4) 8 in
+    getD
+    (true
+    ∷ (n && left && right && pq)
+    ∷ (n && right && pq)
+    ∷ (n && right && pq)
+    ∷ (n && pq)
+    ∷ (n && right && pq)
+    ∷ (n && right && pq)
+    ∷ left
+    ∷ true
+    ∷ [])
+    (byte b (node-at i))
+    true
+
+-- Spare too: bytes 4 to 7, and the nodes beyond the count with the rest of the block.
+unfoldable pub spare-zero : Bytes → Bool
+spare-zero b = zeros b 4 4 && every (node-count b) (node-spare b) && zeros b (node-at (node-count b)) (510 - node-at (node-count b))
+
+-- 9: the root is a state formula, and no "plan" has a child too deep. All nodes are checked, used or not.
+unfoldable pub formed : Question → Bool
+formed q = not (is-path (q .root)) && all shallow (q .nodes)
+
+-- What a question's bytes are read as: the first ground that applies, or the question.
+unfoldable pub read-question : (S A N : ℕ) → Bytes → Checked Question
+read-question S A N b = do
+  guard 1 (whole-blocks 1 1 b)
+  guard 2 (sums-right b)
+  guard 3 (headed b 0 3 0)
+  guard 4 (ltb (start-of b) S && within 1 40 (node-count b))
+  guard 5 (every (node-count b) (λ i. node-in-range A N i (node-of b i)))
+  guard 6 (spare-zero b)
+  guard 9 (formed (question-of b))
+  ok (question-of b)
