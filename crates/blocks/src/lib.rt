@@ -1,1 +1,135 @@
-// blocks
+// Bytes, numbers in bytes, and blocks of 512 bytes: what every reader and writer stands on.
+ghost use mathlib.Core.Path.{_≡_};
+ghost use Prim.Native.Nat.{_+_, _*_, _≤_, _<_, _%_};
+ghost use lib.ListN.{length};
+ghost use Rattle.blocks.specs.Bytes.{u16, u32, u64, i16, i32};
+ghost use Rattle.blocks.specs.Bytes as spec;
+ghost use lib.Signed.{mag};
+ghost use Rattle.blocks.specs.Block.{whole-blocks, word-sum, sums-right};
+ghost use Rattle.blocks.specs.Block as spec-block;
+
+// The byte at i; 0 past the end.
+pub fn byte(b: &[u8], i: usize) -> u8
+    ensures { λ r. ⌜ r ≡ spec.byte (now (b .entry)) i ⌝ }
+{
+    if i < b.len() {
+        return b[i];
+    }
+    0
+}
+
+// The same, as a number to count with.
+pub fn wide(b: &[u8], i: usize) -> usize
+    ensures { λ r. ⌜ (r ≡ spec.byte (now (b .entry)) i) × (r < 256) ⌝ }
+{
+    byte(b, i) as usize
+}
+
+// The 16-bit number at i.
+pub fn u16_at(b: &[u8], i: usize) -> u32
+    requires { ⌜ i < 65544 ⌝ }
+    ensures { λ r. ⌜ (r ≡ u16 (now (b .entry)) i) × (r < 65536) ⌝ }
+{
+    byte(b, i) as u32 + 256 * byte(b, i + 1) as u32
+}
+
+// The 32-bit number at i.
+pub fn u32_at(b: &[u8], i: usize) -> u32
+    requires { ⌜ i < 65540 ⌝ }
+    ensures { λ r. ⌜ r ≡ u32 (now (b .entry)) i ⌝ }
+{
+    u16_at(b, i) + 65536 * u16_at(b, i + 2)
+}
+
+// The 64-bit number at i.
+pub fn u64_at(b: &[u8], i: usize) -> u64
+    requires { ⌜ i < 65536 ⌝ }
+    ensures { λ r. ⌜ r ≡ u64 (now (b .entry)) i ⌝ }
+{
+    u32_at(b, i) as u64 + 4294967296 * u32_at(b, i + 4) as u64
+}
+
+// The signed 16-bit number at i.
+pub fn i16_at(b: &[u8], i: usize) -> i32
+    requires { ⌜ i < 65536 ⌝ }
+    ensures { λ r. ⌜ (r ≡ i16 (now (b .entry)) i) × (mag r ≤ 32768) ⌝ }
+{
+    let x = u16_at(b, i);
+    if x < 32768 {
+        return x as i32;
+    }
+    x as i32 - 65536
+}
+
+// The signed 32-bit number at i.
+pub fn i32_at(b: &[u8], i: usize) -> i32
+    requires { ⌜ i < 65536 ⌝ }
+    ensures { λ r. ⌜ r ≡ i32 (now (b .entry)) i ⌝ }
+{
+    let x = u32_at(b, i);
+    if x < 2147483648 {
+        return x as i32;
+    }
+    -1 - (4294967295 - x) as i32
+}
+
+// Whether the n bytes from a place on are zero. They are summed, so that no byte needs a branch.
+pub fn zeros(b: &[u8], from: usize, n: usize) -> bool
+    requires { ⌜ (from + n ≤ length (now b)) × (n < 65536) ⌝ }
+    ensures { λ r. ⌜ r ≡ spec.zeros (now (b .entry)) from n ⌝ }
+{
+    let mut sum: u32 = 0;
+    let mut i: usize = 0;
+    while i < n {
+        sum += b[from + i] as u32;
+        i += 1;
+    }
+    sum == 0
+}
+
+// The sum of the 256 words of block k.
+pub fn word_sum(b: &[u8], k: usize) -> u32
+    requires { ⌜ 512 * k + 512 ≤ length (now b) ⌝ }
+    ensures { λ r. ⌜ r ≡ word-sum (now (b .entry)) k ⌝ }
+{
+    let at = 512 * k;
+    let mut sum: u32 = 0;
+    let mut j: usize = 0;
+    while j < 256 {
+        sum += b[at + 2 * j] as u32 + 256 * b[at + 2 * j + 1] as u32;
+        j += 1;
+    }
+    sum
+}
+
+// Ground 2: whether the words of every block sum to 0 modulo 65,536.
+pub fn sums_right(b: &[u8]) -> bool
+    ensures { λ r. ⌜ r ≡ sums-right (now (b .entry)) ⌝ }
+{
+    let n = b.len() / 512;
+    let mut k: usize = 0;
+    while k < n {
+        if word_sum(b, k) % 65536 != 0 {
+            return false;
+        }
+        k += 1;
+    }
+    true
+}
+
+// Ground 1: whether there are from `least` to `most` whole blocks.
+pub fn whole_blocks(b: &[u8], least: usize, most: usize) -> bool
+    ensures { λ r. ⌜ r ≡ whole-blocks least most (now (b .entry)) ⌝ }
+{
+    let n = b.len() / 512;
+    b.len() % 512 == 0 && least <= n && n <= most
+}
+
+// Ground 3 of block k: whether it has this kind and number.
+pub fn headed(b: &[u8], k: usize, kind: usize, number: usize) -> bool
+    requires { ⌜ k < 128 ⌝ }
+    ensures { λ r. ⌜ r ≡ spec-block.headed (now (b .entry)) k kind number ⌝ }
+{
+    let at = 512 * k;
+    wide(b, at) == kind && wide(b, at + 1) == number
+}
