@@ -1,3 +1,5 @@
 pub mod Members
 pub mod Sums
 pub mod Tests
+pub mod Rising
+pub mod Dictionary
