@@ -3,3 +3,4 @@ pub mod Sums
 pub mod Tests
 pub mod Rising
 pub mod Dictionary
+pub mod PathWeights
