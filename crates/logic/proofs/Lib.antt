@@ -4,3 +4,5 @@ pub mod Tests
 pub mod Rising
 pub mod Dictionary
 pub mod PathWeights
+pub mod Steps
+pub mod Counting
