@@ -6,3 +6,7 @@ pub mod Dictionary
 pub mod PathWeights
 pub mod Steps
 pub mod Counting
+pub mod Best
+pub mod Recursion
+pub mod Reading
+pub mod Shown
