@@ -1,2 +1,12 @@
 pub mod Members
 pub mod Sums
+pub mod Tests
+pub mod Rising
+pub mod Dictionary
+pub mod PathWeights
+pub mod Steps
+pub mod Counting
+pub mod Best
+pub mod Recursion
+pub mod Reading
+pub mod Shown

@@ -1,10 +1,10 @@
 -- Members of the lists that `map`, `flatMap` and `product` make, and of the list of plans.
-use Prim.Native.Nat.{ℕ, zero, suc}
-use mathlib.Core.Path.{_≡_, refl, sym, ap, subst, _∙_}
+use Prim.Native.Nat.{ℕ, suc}
+use mathlib.Core.Path.{_≡_, refl, sym, ap, subst}
 use mathlib.Core.Logic.{⊎-elim}
-use mathlib.Core.List.{List, [], _∷_, _++_, map, flatMap, List·Memᴰ, List·Memᴰ·head, List·Memᴰ·tail, List·Memᴰ·not-nil, List·Memᴰ·cases-cons, List·Memᴰ·append-cases, Memᴰ·append-left, Memᴰ·append-right, Memᴰ·cast}
+use mathlib.Core.List.{List, [], _∷_, map, flatMap, List·Memᴰ, List·Memᴰ·head, List·Memᴰ·tail, List·Memᴰ·not-nil, List·Memᴰ·cases-cons, List·Memᴰ·append-cases, Memᴰ·append-left, Memᴰ·append-right}
 use Rattle.logic.specs.Lists.{product}
-use Rattle.logic.specs.Model.{Model, Step, enabled, outcomes}
+use Rattle.logic.specs.Model.{Model, enabled, outcomes}
 use Rattle.logic.specs.Plan.{Plan, plans, Match, ends, pair}
 
 module _ {A B : Type 0} where
@@ -32,6 +32,9 @@ module _ {A B : Type 0} where
   in-flatMap f {b = b} (List·Memᴰ·head {x} {xs} e) h = Memᴰ·append-left (flatMap f xs) (subst (λ y. List·Memᴰ b (f y)) e h)
   in-flatMap f (List·Memᴰ·tail {x} t) h = Memᴰ·append-right (f x) (in-flatMap f t h)
 
+  pub match-weaken : {R S : A → B → Type 0} → ((a : A) (b : B) → R a b → S a b) → {xs : List A} {ys : List B} → Match R xs ys → Match S xs ys
+  match-weaken h ends = ends
+  match-weaken h (pair {x} {y} r t) = pair (h x y r) (match-weaken h t)
 
 module _ {A B : Type 0} (g : A → List B) where
   pub product-member : (l : List A) {bs : List B} → List·Memᴰ bs (product (map g l)) → Match (λ a b. List·Memᴰ b (g a)) l bs

@@ -1,10 +1,11 @@
 -- Laws of totals: over a list, and over the paths of a plan by the first step.
-use Prim.Native.Nat.{ℕ, zero, suc, _+_, _*_}
-use native.Mathlib.Nat.{zero-add, add-zero, add-assoc, mul-zero, mul-add, mul-assoc, one-mul, add-mul, zero-mul}
-use mathlib.Core.Path.{_≡_, refl, sym, ap, ap₂, subst, _∙_}
+use Prim.Native.Nat.{ℕ, suc, _+_, _*_}
+use native.Mathlib.Nat.{zero-add, add-zero, add-assoc, add-comm, mul-zero, mul-add, mul-assoc, one-mul, zero-mul, suc-mul}
+use lib.ListN.{length, length-append}
+use mathlib.Core.Path.{_≡_, refl, sym, ap, ap₂, _∙_}
 use mathlib.Core.List.{List, [], _∷_, _++_, map, flatMap}
 use Rattle.logic.specs.Lists.{join}
-use Rattle.logic.specs.Model.{Model, Step, enabled, outcomes}
+use Rattle.logic.specs.Model.{Model, Step, outcomes}
 use Rattle.logic.specs.Plan.{Plan, paths, weight}
 use Rattle.logic.specs.Quantity.{Quantity, naturals, sum}
 use Rattle.logic.specs.Total.{total}
@@ -84,3 +85,13 @@ module _ (Q : Quantity) (L : Additive Q) where
             sum-map (λ r. Q .times (weight r) (f r)) (λ r. o ∷ r) l
             ∙ sum-ext _ _ l (λ r. L .times-times (o .weight) (weight r) (f (o ∷ r)))
             ∙ sum-times (o .weight) (λ r. Q .times (weight r) (f (o ∷ r))) l
+
+pub sum-constant : {A : Type 0} (k : ℕ) (l : List A) → sum naturals (λ a. k) l ≡ length l * k
+unfolding sum
+sum-constant k [] = sym (zero-mul k)
+sum-constant k (x ∷ xs) = ap (λ z. k + z) (sum-constant k xs) ∙ add-comm k (length xs * k) ∙ sym (suc-mul (length xs) k)
+
+pub length-flatMap : {A B : Type 0} (f : A → List B) (l : List A) → length (flatMap f l) ≡ sum naturals (λ a. length (f a)) l
+unfolding flatMap sum
+length-flatMap f [] = refl
+length-flatMap f (x ∷ xs) = length-append (f x) (flatMap f xs) ∙ ap (λ k. length (f x) + k) (length-flatMap f xs)
