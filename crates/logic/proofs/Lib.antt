@@ -10,3 +10,5 @@ pub mod Best
 pub mod Recursion
 pub mod Reading
 pub mod Shown
+pub mod Search
+pub mod Contradiction

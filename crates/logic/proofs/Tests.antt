@@ -47,6 +47,10 @@ module _ {A : Type 0} where
 
 -- ---- over a list
 
+pub member-place : {A : Type 0} {l : List A} {a : A} → List·Memᴰ a l → (d : A) → (i : ℕ) × (i < length l) × (getD l i d ≡ a)
+member-place (List·Memᴰ·head e) d = (0, omega arith, sym e)
+member-place (List·Memᴰ·tail t) d = let w = member-place t d in (suc (w .0), suc-le-suc (w .1), w .2)
+
 module _ {A : Type 0} (f : A → Bool) where
   pub all-true : (l : List A) → ((y : A) → List·Memᴰ y l → f y ≡ true) → all f l ≡ true
   unfolding all
@@ -118,6 +122,11 @@ module _ {A : Type 0} (f : A → Bool) where
       pick g true q = ((k, y), refl)
       pick g false q = ⊎-elim (λ r. absurd (false≢true (sym q ∙ ap f (sym r) ∙ e))) g (List·Memᴰ·cases-cons h)
 
+  pub find-none : (k : ℕ) (l : List A) → ((y : A) → List·Memᴰ y l → f y ≡ false) → find f k l ≡ none
+  unfolding find
+  find-none k [] h = refl
+  find-none k (x ∷ l) h = ap (λ t. cond t (some (k, x)) (find f (suc k) l)) (h x (List·Memᴰ·head refl)) ∙ find-none (suc k) l (λ y i. h y (List·Memᴰ·tail i))
+
   module _ (d : A) where
     -- The first place that passes is found, with its count from c.
     pub find-at : (c k : ℕ) (l : List A) → k < length l → f (getD l k d) ≡ true → ((j : ℕ) → j < k → f (getD l j d) ≡ false) → find f c l ≡ some (c + k, getD l k d)
@@ -130,9 +139,7 @@ module _ {A : Type 0} (f : A → Bool) where
         ∙ ap (λ z. some (z, getD l k d)) (omega arith)
 
     pub find-nowhere : (c : ℕ) (l : List A) → ((j : ℕ) → j < length l → f (getD l j d) ≡ false) → find f c l ≡ none
-    unfolding find
-    find-nowhere c [] g = refl
-    find-nowhere c (x ∷ l) g = ap (λ t. cond t (some (c, x)) (find f (suc c) l)) (g 0 (omega arith)) ∙ find-nowhere (suc c) l (λ j i. g (suc j) (suc-le-suc i))
+    find-nowhere c l g = find-none c l (λ y i. let w = member-place i d in ap f (sym (w .2)) ∙ g (w .0) (w .1))
 
 -- ---- over the numbers below n
 
