@@ -3,7 +3,7 @@
 use Prim.Native.Nat.{ℕ, _+_, _*_, _/_, _%_, min}
 use native.Mathlib.Omega.{arith}
 use mathlib.Core.Path.{_≡_, refl, sym, ap, _∙_}
-use mathlib.Core.Bool.{true, not, _||_, false≢true}
+use mathlib.Core.Bool.{Bool, true, not, _||_, false≢true}
 use lib.Dec.{eqb, eqb→eq}
 use lib.Arith.{bin-ind}
 use lib.Bits.{bitAnd, and-step}
@@ -28,14 +28,21 @@ no-common-bit t = bin-ind (λ n. (v f : ℕ) → bitAnd v n ≡ n → bitAnd v f
         last : (x n v f y z : ℕ) → x ≡ 0 → y * 2 + min (v % 2) (n % 2) ≡ n → z * 2 + min (v % 2) (f % 2) ≡ 0 → x * 2 + min (n % 2) (f % 2) ≡ 0
         last x n v f y z h e g = omega arith
 
-pub not-both : (p q : Literals) (v : ℕ) → contradict p q ≡ true → true-of p v ≡ true → true-of q v ≡ true → ⊥
-unfolding contradict true-of
-not-both p q v c a b =
-    let pt = eqb→eq _ _ (true→T (and-left (eqb (bitAnd v (p .positive)) (p .positive)) (eqb (bitAnd v (p .negative)) 0) a)) in
-    let pf = eqb→eq _ _ (true→T (and-right (eqb (bitAnd v (p .positive)) (p .positive)) (eqb (bitAnd v (p .negative)) 0) a)) in
-    let qt = eqb→eq _ _ (true→T (and-left (eqb (bitAnd v (q .positive)) (q .positive)) (eqb (bitAnd v (q .negative)) 0) b)) in
-    let qf = eqb→eq _ _ (true→T (and-right (eqb (bitAnd v (q .positive)) (q .positive)) (eqb (bitAnd v (q .negative)) 0) b)) in
-    clash (bitAnd (p .positive) (q .negative)) (bitAnd (q .positive) (p .negative)) (no-common-bit (p .positive) v (q .negative) pt qf) (no-common-bit (q .positive) v (p .negative) qt pf) c
+-- What is true of a state has all bits that it demands true, and none that it demands false.
+true-masks : (l : Literals) (v : ℕ) → true-of l v ≡ true → (bitAnd v (l .positive) ≡ l .positive) × (bitAnd v (l .negative) ≡ 0)
+unfolding true-of
+true-masks l v e =
+    let a : Bool = eqb (bitAnd v (l .positive)) (l .positive) in
+    let b : Bool = eqb (bitAnd v (l .negative)) 0 in
+    (eqb→eq _ _ (true→T (and-left a b e)), eqb→eq _ _ (true→T (and-right a b e)))
+
+pub not-both : (k l : Literals) (v : ℕ) → contradict k l ≡ true → true-of k v ≡ true → true-of l v ≡ true → ⊥
+unfolding contradict
+not-both k l v c a b =
+    let x = true-masks k v a in
+    let y = true-masks l v b in
+    clash (bitAnd (k .positive) (l .negative)) (bitAnd (l .positive) (k .negative))
+    (no-common-bit (k .positive) v (l .negative) (x .0) (y .1)) (no-common-bit (l .positive) v (k .negative) (y .0) (x .1)) c
   where
     clash : (x y : ℕ) → x ≡ 0 → y ≡ 0 → (not (eqb x 0) || not (eqb y 0)) ≡ true → ⊥
     clash x y e f h = false≢true (sym (ap (λ z. not (eqb z 0) || not (eqb y 0)) e ∙ ap (λ z. not (eqb z 0)) f) ∙ h)

@@ -44,8 +44,8 @@ pub plans-are : (m : Model) (n s : ℕ) (p : Plan n) → List·Memᴰ p (plans m
 unfolding plans
 plans-are m zero s p = (λ i. tt, λ u. List·Memᴰ·head refl)
 plans-are m (suc n) s p =
-    (λ i. let w = plan-member m n s p i in (w .0, match-weaken (λ o q j. plans-are m n (o .target) q .0 j) (w .1)),
-     λ w. in-plans m n s p (w .0) (match-weaken (λ o q j. plans-are m n (o .target) q .1 j) (w .1)))
+    (λ i. let w = plan-member m n s p i in (w .0, match-weaken (λ o q _ j. plans-are m n (o .target) q .0 j) (w .1)),
+     λ w. in-plans m n s p (w .0) (match-weaken (λ o q _ j. plans-are m n (o .target) q .1 j) (w .1)))
 
 -- ---- the order
 

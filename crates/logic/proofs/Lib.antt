@@ -12,3 +12,4 @@ pub mod Reading
 pub mod Shown
 pub mod Search
 pub mod Contradiction
+pub mod PolicyPaths

@@ -1,9 +1,9 @@
 -- Members of the lists that `map`, `flatMap` and `product` make, and of the list of plans.
 use Prim.Native.Nat.{ℕ, suc}
-use mathlib.Core.Path.{_≡_, refl, sym, ap, subst}
+use mathlib.Core.Path.{_≡_, refl, sym, ap, ap₂, subst}
 use mathlib.Core.Logic.{⊎-elim}
-use mathlib.Core.List.{List, [], _∷_, map, flatMap, List·Memᴰ, List·Memᴰ·head, List·Memᴰ·tail, List·Memᴰ·not-nil, List·Memᴰ·cases-cons, List·Memᴰ·append-cases, Memᴰ·append-left, Memᴰ·append-right}
-use Rattle.logic.specs.Lists.{product}
+use mathlib.Core.List.{List, [], _∷_, _++_, map, flatMap, List·Memᴰ, List·Memᴰ·head, List·Memᴰ·tail, List·Memᴰ·not-nil, List·Memᴰ·cases-cons, List·Memᴰ·append-cases, Memᴰ·append-left, Memᴰ·append-right}
+use Rattle.logic.specs.Lists.{product, join}
 use Rattle.logic.specs.Model.{Model, enabled, outcomes}
 use Rattle.logic.specs.Plan.{Plan, plans, Match, ends, pair}
 
@@ -32,9 +32,19 @@ module _ {A B : Type 0} where
   in-flatMap f {b = b} (List·Memᴰ·head {x} {xs} e) h = Memᴰ·append-left (flatMap f xs) (subst (λ y. List·Memᴰ b (f y)) e h)
   in-flatMap f (List·Memᴰ·tail {x} t) h = Memᴰ·append-right (f x) (in-flatMap f t h)
 
-  pub match-weaken : {R S : A → B → Type 0} → ((a : A) (b : B) → R a b → S a b) → {xs : List A} {ys : List B} → Match R xs ys → Match S xs ys
+  pub match-weaken : {R S : A → B → Type 0} {xs : List A} {ys : List B} → ((a : A) (b : B) → List·Memᴰ a xs → R a b → S a b) → Match R xs ys → Match S xs ys
   match-weaken h ends = ends
-  match-weaken h (pair {x} {y} r t) = pair (h x y r) (match-weaken h t)
+  match-weaken h (pair {x} {y} r t) = pair (h x y (List·Memᴰ·head refl) r) (match-weaken (λ a b i. h a b (List·Memᴰ·tail i)) t)
+
+  pub match-map : {R : A → B → Type 0} (g : A → B) (l : List A) → ((a : A) → List·Memᴰ a l → R a (g a)) → Match R l (map g l)
+  match-map g [] h = ends
+  match-map g (x ∷ xs) h = pair (h x (List·Memᴰ·head refl)) (match-map g xs (λ a i. h a (List·Memᴰ·tail i)))
+
+  -- Paired lists, joined by a function that looks at the first alone.
+  pub join-match : {C : Type 0} (f : A → B → List C) (g : A → List C) {xs : List A} {ys : List B} → Match (λ x y. f x y ≡ g x) xs ys → join f xs ys ≡ flatMap g xs
+  unfolding join flatMap
+  join-match f g ends = refl
+  join-match f g (pair e t) = ap₂ _++_ e (join-match f g t)
 
 module _ {A B : Type 0} (g : A → List B) where
   pub product-member : (l : List A) {bs : List B} → List·Memᴰ bs (product (map g l)) → Match (λ a b. List·Memᴰ b (g a)) l bs
