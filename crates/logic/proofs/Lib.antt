@@ -13,3 +13,4 @@ pub mod Shown
 pub mod Search
 pub mod Contradiction
 pub mod PolicyPaths
+pub mod Policies
