@@ -3,12 +3,12 @@
 use Prim.Native.Nat.{ℕ, _+_, _*_, _/_, _%_, min}
 use native.Mathlib.Omega.{arith}
 use mathlib.Core.Path.{_≡_, refl, sym, ap, _∙_}
-use mathlib.Core.Bool.{Bool, true, not, _||_, false≢true}
-use lib.Dec.{eqb, eqb→eq}
+use mathlib.Core.Bool.{true, not, _||_, false≢true}
+use lib.Dec.{eqb}
 use lib.Arith.{bin-ind}
 use lib.Bits.{bitAnd, and-step}
 use Rattle.logic.specs.Model.{Literals, true-of, contradict}
-use Rattle.logic.proofs.Tests.{true→T, and-left, and-right}
+use Rattle.logic.proofs.Tests.{and-both, eqb-eq}
 
 -- Bits that are all in v have none in common with bits of which none is in v.
 no-common-bit : (t v f : ℕ) → bitAnd v t ≡ t → bitAnd v f ≡ 0 → bitAnd t f ≡ 0
@@ -32,9 +32,8 @@ no-common-bit t = bin-ind (λ n. (v f : ℕ) → bitAnd v n ≡ n → bitAnd v f
 true-masks : (l : Literals) (v : ℕ) → true-of l v ≡ true → (bitAnd v (l .positive) ≡ l .positive) × (bitAnd v (l .negative) ≡ 0)
 unfolding true-of
 true-masks l v e =
-    let a : Bool = eqb (bitAnd v (l .positive)) (l .positive) in
-    let b : Bool = eqb (bitAnd v (l .negative)) 0 in
-    (eqb→eq _ _ (true→T (and-left a b e)), eqb→eq _ _ (true→T (and-right a b e)))
+    let w = and-both (eqb (bitAnd v (l .positive)) (l .positive)) (eqb (bitAnd v (l .negative)) 0) e in
+    (eqb-eq _ _ (w .0), eqb-eq _ _ (w .1))
 
 pub not-both : (k l : Literals) (v : ℕ) → contradict k l ≡ true → true-of k v ≡ true → true-of l v ≡ true → ⊥
 unfolding contradict

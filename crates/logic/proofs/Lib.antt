@@ -14,3 +14,5 @@ pub mod Search
 pub mod Contradiction
 pub mod PolicyPaths
 pub mod Policies
+pub mod Acceptance
+pub mod Examples

@@ -7,7 +7,7 @@ use mathlib.Core.Path.{_≡_, refl, sym, ap, subst, _∙_}
 use mathlib.Core.Logic.{_↔_}
 use mathlib.Core.Bool.{Bool, true, false, cond}
 use mathlib.Core.List.{List, [], _∷_, _++_, map, flatMap, append-nil, append-assoc, List·Memᴰ, List·Memᴰ·head, List·Memᴰ·tail}
-use lib.Dec.{eqb, eqb→eq, eqb-refl}
+use lib.Dec.{eqb}
 use lib.ListN.{length}
 use Rattle.logic.specs.Lists.{keep}
 use Rattle.logic.specs.Model.{Model, Step, enabled, outcomes}
@@ -17,7 +17,7 @@ use Rattle.logic.specs.Order.{Rising, first, Is-plan}
 use Rattle.logic.specs.Formula.{Formula, plan, sat, meets}
 use Rattle.logic.specs.Policy.{last, Policy, policy-paths, policy-weight}
 use Rattle.logic.specs.Accepted.{Accepted, Executable}
-use Rattle.logic.proofs.Tests.{T→true, true→T, not-true, any-some, any-there}
+use Rattle.logic.proofs.Tests.{eqb-eq, eq-eqb, ne-eqb, any-some, any-there}
 use Rattle.logic.proofs.Members.{match-weaken, match-map, join-match}
 use Rattle.logic.proofs.Dictionary.{plans-are}
 use Rattle.logic.proofs.PolicyPaths.{onward, History, longer, no-steps, policy-enabled}
@@ -71,7 +71,7 @@ module _ {B : Type 0} {R : Step → B → Type 0} where
   at-target-holds P g d u p (pair {x = o} {y = q} {xs = l} {ys = qs} r t) h = pick (eqb (o .target) u) refl (at-target-holds P g d u p t h)
     where
       pick : (b : Bool) → eqb (o .target) u ≡ b → P (at-target g d u l qs) → P (cond b (g q) (at-target g d u l qs))
-      pick true e k = h o q r (eqb→eq _ _ (true→T e))
+      pick true e k = h o q r (eqb-eq (o .target) u e)
       pick false e k = k
 
   -- Where targets differ, each plan is found.
@@ -79,9 +79,9 @@ module _ {B : Type 0} {R : Step → B → Type 0} where
   unfolding at-target
   each-found d ends = ends
   each-found (first k a) (pair {x = o} {y = q} {xs = l} {ys = qs} r t) =
-      pair (r, λ g d. ap (λ b. cond b (g q) (at-target g d (o .target) l qs)) (T→true (eqb (o .target) (o .target)) (eqb-refl (o .target))))
+      pair (r, λ g d. ap (λ b. cond b (g q) (at-target g d (o .target) l qs)) (eq-eqb {a = o .target} refl))
       (match-weaken
-        (λ x y i w. (w .0, λ g d. ap (λ b. cond b (g q) (at-target g d (x .target) l qs)) (not-true (eqb (o .target) (x .target)) (λ e. k x i (eqb→eq _ _ (true→T e)))) ∙ w .1 g d))
+        (λ x y i w. (w .0, λ g d. ap (λ b. cond b (g q) (at-target g d (x .target) l qs)) (ne-eqb (o .target) (x .target) (k x i)) ∙ w .1 g d))
         (each-found a t))
 
 unfoldable pub first-enabled : Model → ℕ → ℕ

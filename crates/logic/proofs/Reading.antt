@@ -4,14 +4,14 @@ use native.Mathlib.Omega.{arith}
 use mathlib.Core.Path.{_≡_, refl, sym, ap, subst, _∙_}
 use mathlib.Core.Bool.{Bool, true, false, false≢true}
 use mathlib.Core.List.{List, [], _∷_, _++_, flatMap, append-assoc, append-nil, List·Memᴰ, List·Memᴰ·head, Memᴰ·cast}
-use lib.Dec.{eqb, eqb→eq, eqb-refl}
+use lib.Dec.{eqb}
 use Rattle.logic.specs.Lists.{any, is-empty}
 use Rattle.logic.specs.Model.{Model, enabled, outcomes}
 use Rattle.logic.specs.Plan.{Plan, plans, choices, Match, ends, pair}
 use Rattle.logic.specs.Checked.{Checked, ok, refused, _>>=_, _>>_, guard}
 use Rattle.logic.specs.Choices.{read-each, read-plan, plan-of}
 use Rattle.logic.proofs.Members.{plan-member, in-plans}
-use Rattle.logic.proofs.Tests.{T→true, true→T, any-some, any-there}
+use Rattle.logic.proofs.Tests.{eqb-eq, eq-eqb, any-some, any-there}
 
 -- ---- what a passed chain of tests says
 
@@ -31,10 +31,10 @@ guard-ok k true c e = (refl, e)
 guard-ok k false c e = absurd (not-ok e)
 
 any-member : (a : ℕ) (l : List ℕ) → any (eqb a) l ≡ true → List·Memᴰ a l
-any-member a l e = let w = any-some (eqb a) l e in Memᴰ·cast (eqb→eq a (w .0) (true→T (w .2))) (w .1)
+any-member a l e = let w = any-some (eqb a) l e in Memᴰ·cast (eqb-eq a (w .0) (w .2)) (w .1)
 
 member-any : {a : ℕ} {l : List ℕ} → List·Memᴰ a l → any (eqb a) l ≡ true
-member-any {a} i = any-there (eqb a) i (T→true (eqb a a) (eqb-refl a))
+member-any {a} i = any-there (eqb a) i (eq-eqb {a = a} refl)
 
 module _ {A B : Type 0} (f : A → List ℕ → Checked (B × List ℕ)) (key : B → List ℕ) (R : A → B → Type 0) where
   each-sound : ((x : A) (cs : List ℕ) (y : B × List ℕ) → f x cs ≡ ok y → R x (y .0) × (cs ≡ key (y .0) ++ y .1))

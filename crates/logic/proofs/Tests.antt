@@ -8,7 +8,7 @@ use mathlib.Core.Logic.{⊎-elim}
 use mathlib.Core.Bool.{Bool, true, false, cond, _&&_, _||_, false≢true, or-true}
 use mathlib.Core.Option.{none, some}
 use mathlib.Core.List.{List, [], _∷_, map, List·Memᴰ, List·Memᴰ·head, List·Memᴰ·tail, List·Memᴰ·not-nil, List·Memᴰ·cases-cons}
-use lib.Dec.{T}
+use lib.Dec.{T, eqb, ltb, eqb→eq, eqb-refl, ltb→lt}
 use lib.ListN.{length, getD, length-map}
 use Rattle.logic.specs.Lists.{keep, any, all, find, count-from, tabulate, every, some-below}
 use Rattle.logic.proofs.Members.{map-member, in-map}
@@ -30,6 +30,9 @@ pub and-right : (a b : Bool) → (a && b) ≡ true → b ≡ true
 and-right true b e = e
 and-right false b e = absurd (false≢true e)
 
+pub and-both : (a b : Bool) → (a && b) ≡ true → (a ≡ true) × (b ≡ true)
+and-both a b e = (and-left a b e, and-right a b e)
+
 pub not-true : (t : Bool) → (t ≡ true → ⊥) → t ≡ false
 not-true true h = absurd (h refl)
 not-true false h = refl
@@ -37,6 +40,18 @@ not-true false h = refl
 pub same-test : (a b : Bool) → (a ≡ true → b ≡ true) → (b ≡ true → a ≡ true) → a ≡ b
 same-test true b f g = sym (f refl)
 same-test false b f g = sym (not-true b (λ e. false≢true (g e)))
+
+pub eqb-eq : (a b : ℕ) → eqb a b ≡ true → a ≡ b
+eqb-eq a b e = eqb→eq a b (true→T e)
+
+pub eq-eqb : {a b : ℕ} → a ≡ b → eqb a b ≡ true
+eq-eqb {a} e = subst (λ z. eqb a z ≡ true) e (T→true (eqb a a) (eqb-refl a))
+
+pub ne-eqb : (a b : ℕ) → (a ≡ b → ⊥) → eqb a b ≡ false
+ne-eqb a b h = not-true (eqb a b) (λ e. h (eqb-eq a b e))
+
+pub ltb-lt : (a b : ℕ) → ltb a b ≡ true → a < b
+ltb-lt a b e = ltb→lt a b (true→T e)
 
 module _ {A : Type 0} where
   pub none≢some : {x : A} → none ≡ some x → ⊥
