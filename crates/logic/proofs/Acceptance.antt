@@ -63,11 +63,11 @@ module _ (m : Model) (passed : states-ok m ≡ true) where
 
   pub passed-accepted : Accepted m
   passed-accepted =
-      record
-      { some-choice = λ s k. a-choice (enabled m s) (at-state s k .0)
-      ; sums = λ x. at-choice x .0
-      ; weighs = λ x o i. at-step x o i .2
-      ; inside = λ x o i. at-step x o i .1
-      ; named = λ x o i. at-step x o i .0
-      ; apart = λ x. rising-targets _ (at-choice x .2)
+      record {
+        some-choice = λ s k. a-choice (enabled m s) (at-state s k .0);
+        sums = λ x. at-choice x .0;
+        weighs = λ x o i. at-step x o i .2;
+        inside = λ x o i. at-step x o i .1;
+        named = λ x o i. at-step x o i .0;
+        apart = λ x. rising-targets _ (at-choice x .2);
       }

@@ -23,8 +23,10 @@ no-common-bit t = bin-ind (λ n. (v f : ℕ) → bitAnd v n ≡ n → bitAnd v f
       where
         halves : (x y n : ℕ) → x * 2 + min y (n % 2) ≡ n → x ≡ n / 2
         halves x y n e = omega arith
+
         zeros : (x y : ℕ) → x * 2 + y ≡ 0 → x ≡ 0
         zeros x y e = omega arith
+
         last : (x n v f y z : ℕ) → x ≡ 0 → y * 2 + min (v % 2) (n % 2) ≡ n → z * 2 + min (v % 2) (f % 2) ≡ 0 → x * 2 + min (n % 2) (f % 2) ≡ 0
         last x n v f y z h e g = omega arith
 

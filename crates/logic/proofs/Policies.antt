@@ -81,8 +81,8 @@ module _ {B : Type 0} {R : Step → B → Type 0} where
   each-found (first k a) (pair {x = o} {y = q} {xs = l} {ys = qs} r t) =
       pair (r, λ g d. ap (λ b. cond b (g q) (at-target g d (o .target) l qs)) (eq-eqb {a = o .target} refl))
       (match-weaken
-        (λ x y i w. (w .0, λ g d. ap (λ b. cond b (g q) (at-target g d (x .target) l qs)) (ne-eqb (o .target) (x .target) (k x i)) ∙ w .1 g d))
-        (each-found a t))
+      (λ x y i w. (w .0, λ g d. ap (λ b. cond b (g q) (at-target g d (x .target) l qs)) (ne-eqb (o .target) (x .target) (k x i)) ∙ w .1 g d))
+      (each-found a t))
 
 unfoldable pub first-enabled : Model → ℕ → ℕ
 first-enabled m s = elim (enabled m s) [ [] ↦ 0 | a ∷ l ↦ a ]
@@ -127,11 +127,11 @@ module _ {m : Model} (accepted : Accepted m) where
       let x : Executable m s (p .0) = record { state = k; choice = w .0 } in
       join-match _ (λ o. map (λ r. o ∷ r) (onward m act n h o))
       (match-weaken
-        (λ o q i f.
-          ap (map (λ r. o ∷ r))
-          (followed-paths act n q (h ++ (o .target ∷ [])) (o .target) (f .0) (accepted .inside x o i)
-            (λ t. ap act (append-assoc h (o .target ∷ []) t) ∙ e (o .target ∷ t) ∙ f .1 (λ q. follow m n q (o .target) t) _)))
-        (each-found (accepted .apart x) (w .1)))
+      (λ o q i f.
+      ap (map (λ r. o ∷ r))
+      (followed-paths act n q (h ++ (o .target ∷ [])) (o .target) (f .0) (accepted .inside x o i)
+      (λ t. ap act (append-assoc h (o .target ∷ []) t) ∙ e (o .target ∷ t) ∙ f .1 (λ q. follow m n q (o .target) t) _)))
+      (each-found (accepted .apart x) (w .1)))
       ∙ ap (λ a. flatMap (λ o. map (λ r. o ∷ r) (onward m act n h o)) (outcomes m s a)) (sym (ap act (sym (append-nil h)) ∙ e []))
 
   act-of : (n : ℕ) → Plan n → List ℕ → ℕ
@@ -149,11 +149,12 @@ module _ {m : Model} (accepted : Accepted m) where
     pub sat-policy : (φ : Formula) (r : Relation) (p q : ℕ) (ρ : List Step)
         → (sat m (plan n φ r p q) s ρ ≡ true) ↔ ((π : Policy m n s) × (meets naturals m n r p q (policy-weight m φ n s π) ≡ true))
     unfolding sat policy-weight
-    sat-policy φ r p q ρ =
-        (λ h.
+    sat-policy φ r p q ρ = (
+      λ h.
           let w = any-some _ (plans m n s) h in
           let x = plan-policy (w .0) (w .1) in
           (x .0, ap (λ l. meets naturals m n r p q (sum naturals weight (keep (sat m φ s) l))) (sym (x .1)) ∙ w .2),
-         λ x.
+      λ x.
           let w = policy-plan accepted (x .0) k in
-          any-there _ (w .1) (ap (λ l. meets naturals m n r p q (sum naturals weight (keep (sat m φ s) l))) (w .2) ∙ x .1))
+          any-there _ (w .1) (ap (λ l. meets naturals m n r p q (sum naturals weight (keep (sat m φ s) l))) (w .2) ∙ x .1),
+    )

@@ -48,11 +48,11 @@ pub record History (m : Model) (N s n : ℕ) (h : List ℕ) (t : ℕ) : Type 0 w
 
 pub longer : {m : Model} {N s n : ℕ} {h : List ℕ} {t : ℕ} → History m N s (suc n) h t → (u : ℕ) → u < length (m .states) → History m N s n (h ++ (u ∷ [])) u
 longer {m} {N} {s} {n} {h} y u k =
-    record
-    { ends-in = sym (last-append s h u)
-    ; state = k
-    ; states = λ v i. ⊎-elim (y .states v) (λ j. subst (λ z. z < length (m .states)) (sym (List·Memᴰ·eq-of-singleton j)) k) (List·Memᴰ·append-cases h i)
-    ; room = let e = length-append h (u ∷ []) in omega (arith, y .room)
+    record {
+      ends-in = sym (last-append s h u);
+      state = k;
+      states = λ v i. ⊎-elim (y .states v) (λ j. subst (λ z. z < length (m .states)) (sym (List·Memᴰ·eq-of-singleton j)) k) (List·Memᴰ·append-cases h i);
+      room = let e = length-append h (u ∷ []) in omega (arith, y .room);
     }
 
 pub no-steps : (m : Model) (n s : ℕ) → s < length (m .states) → History m n s n [] s

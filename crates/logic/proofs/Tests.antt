@@ -78,9 +78,6 @@ module _ {A : Type 0} (f : A → Bool) where
   all-at (x ∷ l) e h =
       ⊎-elim (λ q. ap f q ∙ and-left (f x) (all f l) e) (λ t. all-at l (and-right (f x) (all f l) e) t) (List·Memᴰ·cases-cons h)
 
-  pub all-false : (l : List A) {y : A} → List·Memᴰ y l → f y ≡ false → all f l ≡ false
-  all-false l i e = not-true (all f l) (λ h. false≢true (sym e ∙ all-at l h i))
-
   pub any-there : {l : List A} {a : A} → List·Memᴰ a l → f a ≡ true → any f l ≡ true
   unfolding any
   any-there (List·Memᴰ·head {x} {xs} e) h = ap (λ t. t || any f xs) (ap f (sym e) ∙ h)
@@ -94,9 +91,6 @@ module _ {A : Type 0} (f : A → Bool) where
       pick : (any f l ≡ true → (a : A) × List·Memᴰ a l × (f a ≡ true)) → (t : Bool) → f x ≡ t → (t || any f l) ≡ true → (a : A) × List·Memᴰ a (x ∷ l) × (f a ≡ true)
       pick k true q h = (x, List·Memᴰ·head refl, q)
       pick k false q h = let w = k h in (w .0, List·Memᴰ·tail (w .1), w .2)
-
-  pub any-none : (l : List A) → ((y : A) → List·Memᴰ y l → f y ≡ false) → any f l ≡ false
-  any-none l h = not-true (any f l) (λ e. let w = any-some l e in false≢true (sym (h (w .0) (w .1)) ∙ w .2))
 
   pub in-keep : {l : List A} {a : A} → List·Memᴰ a l → f a ≡ true → List·Memᴰ a (keep f l)
   unfolding keep
