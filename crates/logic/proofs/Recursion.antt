@@ -11,6 +11,7 @@ use Rattle.logic.specs.Quantity.{Quantity, sum}
 use Rattle.logic.specs.Total.{total}
 use Rattle.logic.specs.Recursion.{best-choice, greatest, best-plan}
 use Rattle.logic.specs.Accepted.{Accepted, Executable}
+use Rattle.logic.proofs.Members.{block}
 use Rattle.logic.proofs.Sums.{Additive, sum-pairs, total-step, total-zero, sum-ext}
 use Rattle.logic.proofs.Best.{Ordered, Best, here, first-best-is, best-map, best-blocks, best-product, best-member, best-le, Le}
 
@@ -41,18 +42,14 @@ module _ (Q : Quantity) (L : Additive Q) where
     best-plan-total (suc n) s f = chosen-total n s f _ (best-plan-total n)
 
 module _ (Q : Quantity) (L : Additive Q) (O : Ordered Q) (m : Model) (accepted : Accepted m) where
-  -- The plans that begin with the choice a.
-  block : (n s : ℕ) → ℕ → List (Plan (suc n))
-  block n s a = map (λ qs. (a, qs)) (product (map (λ o. plans m n (o .target)) (outcomes m s a)))
-
   best-of-choices : (v : ℕ → Q .Value) (l : List ℕ) → (a : ℕ) × (k : List ℕ) × (l ≡ a ∷ k) → Best Q v l (best-choice Q v l)
   unfolding best-choice
   best-of-choices v l h = subst (λ z. Best Q v z (best-choice Q v z)) (sym (h .2)) (first-best-is Q O v (h .0) (h .1))
 
   best-of-block : (n s a : ℕ) (f : List Step → Q .Value) → Executable m s a
       → ((o : Step) → List·Memᴰ o (outcomes m s a) → Best Q (λ p. total Q m n (o .target) p (λ r. f (o ∷ r))) (plans m n (o .target)) (best-plan Q m n (o .target) (λ r. f (o ∷ r))))
-      → Best Q (λ p. total Q m (suc n) s p f) (block n s a) (chosen Q L m n s f a)
-  unfolding block chosen
+      → Best Q (λ p. total Q m (suc n) s p f) (block m n s a) (chosen Q L m n s f a)
+  unfolding chosen
   best-of-block n s a f x h =
       best-map Q O (λ p. total Q m (suc n) s p f) (λ qs. (a, qs))
       (subst (λ v. Best Q v (product (map (λ o. plans m n (o .target)) (outcomes m s a))) (map (λ o. best-plan Q m n (o .target) (λ r. f (o ∷ r))) (outcomes m s a)))
@@ -62,10 +59,10 @@ module _ (Q : Quantity) (L : Additive Q) (O : Ordered Q) (m : Model) (accepted :
 
   -- The plan of first-best choices is the first of all plans in dictionary order that has the greatest total.
   pub best-plan-first : (n s : ℕ) (f : List Step → Q .Value) → s < length (m .states) → Best Q (λ p. total Q m n s p f) (plans m n s) (best-plan Q m n s f)
-  unfolding plans best-plan block chosen
+  unfolding plans best-plan chosen
   best-plan-first zero s f k = here (λ y i. absurd (List·Memᴰ·not-nil i))
   best-plan-first (suc n) s f k =
-      best-blocks Q O (λ p. total Q m (suc n) s p f) (block n s) (chosen Q L m n s f)
+      best-blocks Q O (λ p. total Q m (suc n) s p f) (block m n s) (chosen Q L m n s f)
       (λ a i.
       let x : Executable m s a = record { state = k; choice = i } in
       best-of-block n s a f x (λ o j. best-plan-first n (o .target) (λ r. f (o ∷ r)) (accepted .inside x o j)))
