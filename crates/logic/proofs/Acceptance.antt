@@ -47,10 +47,12 @@ module _ (m : Model) (passed : states-ok m ≡ true) where
   at-state s k = and-both (not (is-empty (enabled m s))) _ (every-at (state-ok m) (length (m .states)) passed k)
 
   module _ {s a : ℕ} (x : Executable m s a) where
-    at-choice : (sum naturals (λ o. o .weight) (outcomes m s a) ≡ m .denominator) × (all (step-ok m a) (outcomes m s a) ≡ true) × (targets-differ (outcomes m s a) ≡ true)
+    at-choice : (sum naturals (λ o. o .weight) (outcomes m s a) ≡ m .denominator)
+        × (all (step-ok m a) (outcomes m s a) ≡ true) × (targets-differ (outcomes m s a) ≡ true)
     unfolding choice-ok
     at-choice =
-        let w = and-both (eqb (sum naturals (λ o. o .weight) (outcomes m s a)) (m .denominator)) _ (all-at (choice-ok m s) (enabled m s) (at-state s (x .state) .1) (x .choice)) in
+        let e = all-at (choice-ok m s) (enabled m s) (at-state s (x .state) .1) (x .choice) in
+        let w = and-both (eqb (sum naturals (λ o. o .weight) (outcomes m s a)) (m .denominator)) _ e in
         let u = and-both (all (step-ok m a) (outcomes m s a)) _ (w .1) in
         (eqb-eq _ _ (w .0), u .0, u .1)
 

@@ -1,6 +1,7 @@
 pub mod Members
 pub mod Sums
 pub mod Tests
+pub mod Checked
 pub mod Rising
 pub mod Dictionary
 pub mod PathWeights

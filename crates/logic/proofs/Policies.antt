@@ -43,8 +43,11 @@ module _ {m : Model} (accepted : Accepted m) where
     unfolding plan-from
     plan-from-is zero h t y = tt
     plan-from-is (suc n) h t y =
-        let x = policy-enabled π y in
-        (x .choice, match-map _ (outcomes m t (π .act (s ∷ h))) (λ o i. plan-from-is n (h ++ (o .target ∷ [])) (o .target) (longer y (o .target) (accepted .inside x o i))))
+        let x = policy-enabled π y in (
+          x .choice,
+          match-map _ (outcomes m t (π .act (s ∷ h)))
+              (λ o i. plan-from-is n (h ++ (o .target ∷ [])) (o .target) (longer y (o .target) (accepted .inside x o i))),
+        )
 
     pub policy-plan : s < length (m .states) → (ρ : Plan N) × List·Memᴰ ρ (plans m N s) × (paths m N s ρ ≡ policy-paths m (π .act) N (s ∷ []) s)
     policy-plan k =
@@ -65,7 +68,8 @@ Found {B} l qs o q = (g : B → ℕ) (d : ℕ) → at-target g d (o .target) l q
 
 module _ {B : Type 0} {R : Step → B → Type 0} where
   -- What is true of d and of the plan below any outcome with this target is true of what is found.
-  at-target-holds : (P : ℕ → Type 0) (g : B → ℕ) (d u : ℕ) {l : List Step} {qs : List B} → P d → Match R l qs → ((o : Step) (q : B) → R o q → o .target ≡ u → P (g q)) → P (at-target g d u l qs)
+  at-target-holds : (P : ℕ → Type 0) (g : B → ℕ) (d u : ℕ) {l : List Step} {qs : List B}
+      → P d → Match R l qs → ((o : Step) (q : B) → R o q → o .target ≡ u → P (g q)) → P (at-target g d u l qs)
   unfolding at-target
   at-target-holds P g d u p ends h = p
   at-target-holds P g d u p (pair {x = o} {y = q} {xs = l} {ys = qs} r t) h = pick (eqb (o .target) u) refl (at-target-holds P g d u p t h)
@@ -107,7 +111,8 @@ module _ {m : Model} (accepted : Accepted m) where
   last-state s [] k y = k
   last-state s (u ∷ h) k y = last-state u h (y u (List·Memᴰ·head refl)) (λ v i. y v (List·Memᴰ·tail i))
 
-  follow-enabled : (n : ℕ) (p : Plan n) (s : ℕ) (h : List ℕ) → Is-plan m n s p → s < length (m .states) → States h → List·Memᴰ (follow m n p s h) (enabled m (last s h))
+  follow-enabled : (n : ℕ) (p : Plan n) (s : ℕ) (h : List ℕ)
+      → Is-plan m n s p → s < length (m .states) → States h → List·Memᴰ (follow m n p s h) (enabled m (last s h))
   unfolding follow last States
   follow-enabled zero p s h w k y = some-enabled (last s h) (last-state s h k y)
   follow-enabled (suc n) p s [] w k y = w .0

@@ -63,7 +63,8 @@ module _ {m : Model} {N s : ℕ} (π : Policy m N s) where
   -- The policy's action after a history is enabled.
   pub policy-enabled : {n : ℕ} {h : List ℕ} {t : ℕ} → History m N s (suc n) h t → Executable m t (π .act (s ∷ h))
   policy-enabled {n} {h} {t} y =
-      record { state = y .state; choice = subst (λ z. List·Memᴰ (π .act (s ∷ h)) (enabled m z)) (sym (y .ends-in)) (π .executable h (omega (arith, y .room)) (y .states)) }
+      let e = π .executable h (omega (arith, y .room)) (y .states) in
+      record { state = y .state; choice = subst (λ z. List·Memᴰ (π .act (s ∷ h)) (enabled m z)) (sym (y .ends-in)) e }
 
   module _ (accepted : Accepted m) where
     each-once : (n : ℕ) (h : List ℕ) (t : ℕ) → History m N s n h t → Rising Differ (policy-paths m (π .act) n (s ∷ h) t)
@@ -71,7 +72,8 @@ module _ {m : Model} {N s : ℕ} (π : Policy m N s) where
     each-once zero h t y = rising-one Differ []
     each-once (suc n) h t y =
         let x = policy-enabled y in
-        first-once (onward m (π .act) n (s ∷ h)) (accepted .apart x) (λ o i. each-once n (h ++ (o .target ∷ [])) (o .target) (longer y (o .target) (accepted .inside x o i)))
+        first-once (onward m (π .act) n (s ∷ h)) (accepted .apart x)
+        (λ o i. each-once n (h ++ (o .target ∷ [])) (o .target) (longer y (o .target) (accepted .inside x o i)))
 
     pub policy-paths-once : s < length (m .states) → Rising Differ (policy-paths m (π .act) N (s ∷ []) s)
     policy-paths-once k = each-once N [] s (no-steps m N s k)

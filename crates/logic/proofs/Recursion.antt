@@ -47,14 +47,16 @@ module _ (Q : Quantity) (L : Additive Q) (O : Ordered Q) (m : Model) (accepted :
   best-of-choices v l h = subst (λ z. Best Q v z (best-choice Q v z)) (sym (h .2)) (first-best-is Q O v (h .0) (h .1))
 
   best-of-block : (n s a : ℕ) (f : List Step → Q .Value) → Executable m s a
-      → ((o : Step) → List·Memᴰ o (outcomes m s a) → Best Q (λ p. total Q m n (o .target) p (λ r. f (o ∷ r))) (plans m n (o .target)) (best-plan Q m n (o .target) (λ r. f (o ∷ r))))
+      → ((o : Step) → List·Memᴰ o (outcomes m s a)
+      → Best Q (λ p. total Q m n (o .target) p (λ r. f (o ∷ r))) (plans m n (o .target)) (best-plan Q m n (o .target) (λ r. f (o ∷ r))))
       → Best Q (λ p. total Q m (suc n) s p f) (block m n s a) (chosen Q L m n s f a)
   unfolding chosen
   best-of-block n s a f x h =
       best-map Q O (λ p. total Q m (suc n) s p f) (λ qs. (a, qs))
-      (subst (λ v. Best Q v (product (map (λ o. plans m n (o .target)) (outcomes m s a))) (map (λ o. best-plan Q m n (o .target) (λ r. f (o ∷ r))) (outcomes m s a)))
+      (subst (λ v. Best Q v (product (map (λ o. plans m n (o .target)) (outcomes m s a))) (chosen Q L m n s f a .1))
       (fun-ext (λ qs. sym (total-step Q L m n s (a, qs) f)))
-      (best-product Q O (λ o. o .weight) (λ o q. total Q m n (o .target) q (λ r. f (o ∷ r))) (λ o. plans m n (o .target)) (λ o. best-plan Q m n (o .target) (λ r. f (o ∷ r))) (outcomes m s a)
+      (best-product Q O (λ o. o .weight) (λ o q. total Q m n (o .target) q (λ r. f (o ∷ r)))
+      (λ o. plans m n (o .target)) (λ o. best-plan Q m n (o .target) (λ r. f (o ∷ r))) (outcomes m s a)
       (accepted .weighs x) h))
 
   -- The plan of first-best choices is the first of all plans in dictionary order that has the greatest total.
@@ -66,7 +68,7 @@ module _ (Q : Quantity) (L : Additive Q) (O : Ordered Q) (m : Model) (accepted :
       (λ a i.
       let x : Executable m s a = record { state = k; choice = i } in
       best-of-block n s a f x (λ o j. best-plan-first n (o .target) (λ r. f (o ∷ r)) (accepted .inside x o j)))
-      (subst (λ v. Best Q v (enabled m s) (best-choice Q (λ a. sum Q (λ o. Q .times (o .weight) (greatest Q m n (o .target) (λ r. f (o ∷ r)))) (outcomes m s a)) (enabled m s)))
+      (subst (λ v. Best Q v (enabled m s) (best-plan Q m (suc n) s f .0))
       (fun-ext (λ a. sym (chosen-total Q L m n s f a (best-plan-total Q L m n))))
       (best-of-choices _ (enabled m s) (accepted .some-choice s k)))
 

@@ -41,7 +41,8 @@ module _ (m : Model) (φ : Formula) (n s : ℕ) where
     pub fewest-first : Best (reversed naturals) (W m φ n s) (plans m n s) fewest
     fewest-first =
         subst (λ v. Best (reversed naturals) v (plans m n s) fewest) (sym (fun-ext W-total-reversed))
-        (best-plan-first (reversed naturals) (reversed-additive naturals naturals-additive) (reversed-ordered naturals naturals-ordered) m accepted n s (value-of m φ s) k)
+        (best-plan-first (reversed naturals) (reversed-additive naturals naturals-additive) (reversed-ordered naturals naturals-ordered)
+        m accepted n s (value-of m φ s) k)
 
     module _ (p q : ℕ) where
       pub greater-shown : meets naturals m n greater p q (W m φ n s most) ≡ true → (j : ℕ) × (shown m s (plan-goal m s n φ greater p q) ≡ some (j, most))

@@ -17,10 +17,11 @@ use Rattle.logic.specs.Verdict.{leads, Goal, plan-goal, goal, shown}
 use Rattle.logic.specs.Recursion.{first-best}
 use Rattle.logic.proofs.Tests.{T→true, true→T, and-left, and-right, not-true, all-true, all-at, find-sound, find-there, find-none, any-some, any-there}
 use Rattle.logic.proofs.Best.{Ordered, naturals-ordered, reversed-ordered, Le, Lt, Best, here, later, first-best-is, best-le, best-member}
-use Rattle.logic.proofs.Reading.{not-ok, ok-same}
+use Rattle.logic.proofs.Checked.{not-ok, ok-same}
 
-find-first : (Q : Quantity) {A : Type 0} (t : A → Q .Value) (f : A → Bool) (k : ℕ) {l : List A} {x : A} → Best Q t l x → f x ≡ true → ((y : A) → Lt Q (t y) (t x) → f y ≡ false)
-    → (j : ℕ) × (find f k l ≡ some (j, x))
+-- A test that passes at the first of the greatest, and at no smaller element, finds it.
+find-first : (Q : Quantity) {A : Type 0} (t : A → Q .Value) (f : A → Bool) (k : ℕ) {l : List A} {x : A}
+    → Best Q t l x → f x ≡ true → ((y : A) → Lt Q (t y) (t x) → f y ≡ false) → (j : ℕ) × (find f k l ≡ some (j, x))
 unfolding find
 find-first Q t f k (here {x} {l} h) e g = (k, ap (λ c. cond c (some (k, x)) (find f (suc k) l)) e)
 find-first Q t f k (later {x} {y} {l} h b) e g =
@@ -54,7 +55,9 @@ module _ (Q : Quantity) (O : Ordered Q) (m : Model) (n : ℕ) (p : Q .Value) (q 
     best-found l {x} b e =
         find-first Q t (λ π. meets Q m n greater p q (t π) && all (λ ρ. Q .at-most (t ρ) (t π)) l) 1 b
         (ap₂ _&&_ e (greatest-leads b))
-        (λ y h. not-true _ (λ w. T-not (Q .at-most (t x) (t y)) h (true→T (all-at (λ ρ. Q .at-most (t ρ) (t y)) l (and-right (meets Q m n greater p q (t y)) _ w) (best-member Q O t b)))))
+        (λ y h. not-true _ (λ w.
+        let a = and-right (meets Q m n greater p q (t y)) _ w in
+        T-not (Q .at-most (t x) (t y)) h (true→T (all-at (λ ρ. Q .at-most (t ρ) (t y)) l a (best-member Q O t b)))))
 
     -- Where the greatest does not meet it, none does.
     pub best-missed : (l : List A) {x : A} → Best Q t l x → meets Q m n greater p q (t x) ≡ false
@@ -76,7 +79,7 @@ pub record Led (m : Model) (s : ℕ) (g : Goal) : Type 0 where
   pub leader-of : (π : Plan (g .steps)) → List·Memᴰ π (plans m (g .steps) s) → g .met π ≡ true
       → (ρ : Plan (g .steps)) × List·Memᴰ ρ (plans m (g .steps) s) × (g .lead ρ ≡ true) × (g .met ρ ≡ true)
 
--- Every goal is such. (A.3 and A.8: a clause more each.)
+-- Every goal is such.
 pub goal-led : (m : Model) (s : ℕ) (φ : Formula) (g : Goal) → goal m s φ ≡ ok g → Led m s g
 unfolding goal
 goal-led m s never g e = absurd (not-ok e)

@@ -106,7 +106,8 @@ module _ {A : Type 0} (f : A → Bool) where
   keep-member [] h = absurd (List·Memᴰ·not-nil h)
   keep-member (x ∷ l) {y} h = pick (keep-member l) (f x) refl h
     where
-      pick : (List·Memᴰ y (keep f l) → List·Memᴰ y l × (f y ≡ true)) → (t : Bool) → f x ≡ t → List·Memᴰ y (cond t (x ∷ keep f l) (keep f l)) → List·Memᴰ y (x ∷ l) × (f y ≡ true)
+      pick : (List·Memᴰ y (keep f l) → List·Memᴰ y l × (f y ≡ true)) → (t : Bool) → f x ≡ t
+          → List·Memᴰ y (cond t (x ∷ keep f l) (keep f l)) → List·Memᴰ y (x ∷ l) × (f y ≡ true)
       pick k true q i = ⊎-elim (λ e. (List·Memᴰ·head e, ap f e ∙ q)) (λ t. let w = k t in (List·Memᴰ·tail (w .0), w .1)) (List·Memᴰ·cases-cons i)
       pick k false q i = let w = k i in (List·Memᴰ·tail (w .0), w .1)
 
@@ -171,7 +172,8 @@ module _ (f : ℕ → Bool) where
   unfolding some-below
   some-below-at zero h e = absurd (not-suc-le-zero h)
   some-below-at (suc n) h e =
-      ⊎-elim (λ q. ap (λ t. some-below n f || t) (ap f (sym q) ∙ e) ∙ or-true (some-below n f)) (λ l. ap (λ t. t || f n) (some-below-at n l e)) (eq-or-lt-of-le (le-of-suc-le-suc h))
+      ⊎-elim (λ q. ap (λ t. some-below n f || t) (ap f (sym q) ∙ e) ∙ or-true (some-below n f))
+      (λ l. ap (λ t. t || f n) (some-below-at n l e)) (eq-or-lt-of-le (le-of-suc-le-suc h))
 
   pub some-below-index : (n : ℕ) → some-below n f ≡ true → (i : ℕ) × (i < n) × (f i ≡ true)
   unfolding some-below
