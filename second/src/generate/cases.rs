@@ -325,3 +325,55 @@ fn nested_deep(relation: &str, gain: u8) -> Vec<String> {
     }
     nodes
 }
+
+#[cfg(test)]
+mod tests {
+    use super::*;
+    use crate::blocks::read_model;
+    use crate::logic::{Plan, Totals};
+
+    fn totals(model: &[u8]) -> (Totals, u8) {
+        let model = read_model(model).expect("an accepted model");
+        (Totals::of(&model), model.states() as u8)
+    }
+
+    #[test]
+    fn a_million_paths_and_one() {
+        for (one_more, wanted) in [(false, 1_000_000), (true, 1_000_001)] {
+            let (totals, states) = totals(&million_paths(one_more));
+            let most = (0..states).map(|state| totals.paths(6, state)).max();
+            assert_eq!(most, Some(wanted));
+        }
+    }
+
+    #[test]
+    fn most_plans_and_one() {
+        for (one_more, wanted) in [(false, 65_536), (true, 65_537)] {
+            let (totals, states) = totals(&most_plans(one_more));
+            let most = (0..states).map(|state| totals.plans(3, state)).max();
+            assert_eq!(most, Some(wanted));
+        }
+    }
+
+    #[test]
+    fn plans_of_given_size() {
+        for size in [489, 490, 491, 980, 981, 1365] {
+            let (bytes, start) = plan_of_size(size, 6);
+            let model = read_model(&bytes).expect("an accepted model");
+            let mut plan = Plan::first(&model, start, 6);
+            assert_eq!(plan.choices(&model).len(), size);
+            assert!(plan.advance(&model));
+            assert_eq!(plan.choices(&model).len(), size);
+        }
+    }
+
+    #[test]
+    fn bench_cases_are_served() {
+        for model in [ten_outcomes(), equal_levels()] {
+            let (totals, states) = totals(&model);
+            assert!((0..states).all(|state| totals.paths(6, state) <= 1_000_000));
+        }
+        assert_eq!(totals(&ten_outcomes()).0.paths(6, 0), 1_000_000);
+        assert_eq!(totals(&equal_levels()).0.plans(6, 0), 65_536);
+    }
+}
