@@ -159,3 +159,83 @@ after-next cs (put b) = ap held-from (last-left-old loaded cs (put b) refl) ∙ 
 after-next cs judge = ap held-from (last-left-old loaded cs judge refl) ∙ after-judge (last-left loaded cs)
 after-next cs (write a) = after-same (write a) refl cs refl (λ m since i. refl)
 after-next cs (check b) = after-same (check b) refl cs refl (λ m since i. refl)
+
+-- ---- what is held was read, and judged
+
+cond-some : {A : Type 0} (t : Bool) {a b : A} → cond t (some a) none ≡ some b → a ≡ b
+cond-some true e = some-same e
+cond-some false e = absurd (none≢some e)
+
+got-some : {A : Type 0} (c : Checked A) {a : A} → got c ≡ some a → c ≡ ok a
+unfolding got
+got-some (ok a) e = ap ok (some-same e)
+got-some (refused k) e = absurd (none≢some e)
+
+module _ (m : Model) (q : Question) (v : Verdict) where
+  told-since : (n : Model) (o : Option (Question × List Call)) → (held-since n o) .model ≡ some m → (held-since n o) .question ≡ some q → (held-since n o) .verdict ≡ some v
+      → v ≡ verdict m (q .start) (q .root)
+  unfolding held-since verdict-since
+  told-since n none e f g = absurd (none≢some g)
+  told-since n (some x) e f g = sym (cond-some (any is-judge (x .1) && passed (limits n (x .0 .nodes))) g) ∙ ap₂ (λ k r. verdict k (r .start) (r .root)) (some-same e) (some-same f)
+
+  told-from : (o : Option (Model × List Call)) → (held-from o) .model ≡ some m → (held-from o) .question ≡ some q → (held-from o) .verdict ≡ some v → v ≡ verdict m (q .start) (q .root)
+  unfolding held-from
+  told-from none e f g = absurd (none≢some e)
+  told-from (some x) e f g = told-since (x .0) (last-left (asked (x .0)) (x .1)) e f g
+
+  -- A verdict that is held is that on the held question.
+  pub verdict-told : (cs : List Call) → (after cs) .model ≡ some m → (after cs) .question ≡ some q → (after cs) .verdict ≡ some v → v ≡ verdict m (q .start) (q .root)
+  unfolding after
+  verdict-told cs e f g = told-from (last-left loaded cs) e f g
+
+last-left-some : {A : Type 0} (f : Call → Option A) (cs : List Call) {x : A × List Call} → last-left f cs ≡ some x → (c : Call) × (f c ≡ some (x .0))
+unfolding last-left or-else
+last-left-some f [] e = absurd (none≢some e)
+last-left-some {A = A} f (d ∷ cs) {x} e = pick (last-left f cs) (f d) (λ y h. last-left-some f cs h) refl e
+  where
+    pick : (o : Option (A × List Call)) (p : Option A) → ((y : A × List Call) → o ≡ some y → (c : Call) × (f c ≡ some (y .0))) → f d ≡ p → or-else o p cs ≡ some x
+        → (c : Call) × (f c ≡ some (x .0))
+    pick (some y) p k h e = k x e
+    pick none none k h e = absurd (none≢some e)
+    pick none (some a) k h e = (d, h ∙ ap some (ap (λ z. z .0) (some-same e)))
+
+-- ---- a held model and question were read from some bytes
+
+loaded-read : (c : Call) {m : Model} → loaded c ≡ some m → (b : Bytes) × (read-model b ≡ ok m)
+unfolding loaded
+loaded-read (load b) e = (b, got-some (read-model b) e)
+loaded-read (put b) e = absurd (none≢some e)
+loaded-read (check b) e = absurd (none≢some e)
+loaded-read (write a) e = absurd (none≢some e)
+loaded-read judge e = absurd (none≢some e)
+
+asked-read : (n : Model) (c : Call) {q : Question} → asked n c ≡ some q → (b : Bytes) × (question-for n b ≡ ok q)
+unfolding asked
+asked-read n (load b) e = absurd (none≢some e)
+asked-read n (put b) e = (b, got-some (question-for n b) e)
+asked-read n (check b) e = absurd (none≢some e)
+asked-read n (write a) e = absurd (none≢some e)
+asked-read n judge e = absurd (none≢some e)
+
+pub model-told : (cs : List Call) (m : Model) → (after cs) .model ≡ some m → (b : Bytes) × (read-model b ≡ ok m)
+unfolding after held-from
+model-told cs m e = from (last-left loaded cs) refl e
+  where
+    from : (o : Option (Model × List Call)) → last-left loaded cs ≡ o → (held-from o) .model ≡ some m → (b : Bytes) × (read-model b ≡ ok m)
+    from none i h = absurd (none≢some h)
+    from (some x) i h =
+        let c = last-left-some loaded cs i in
+        loaded-read (c .0) (c .1 ∙ sym (held-model (x .0) (last-left (asked (x .0)) (x .1))) ∙ h)
+
+pub question-told : (cs : List Call) (m : Model) (q : Question) → (after cs) .model ≡ some m → (after cs) .question ≡ some q → (b : Bytes) × (question-for m b ≡ ok q)
+unfolding after held-from held-since
+question-told cs m q e f = from (last-left loaded cs) e f
+  where
+    since : (n : Model) (l : List Call) (o : Option (Question × List Call)) → last-left (asked n) l ≡ o → (held-since n o) .question ≡ some q → (b : Bytes) × (question-for n b ≡ ok q)
+    since n l none i h = absurd (none≢some h)
+    since n l (some x) i h = let c = last-left-some (asked n) l i in asked-read n (c .0) (c .1 ∙ h)
+    from : (o : Option (Model × List Call)) → (held-from o) .model ≡ some m → (held-from o) .question ≡ some q → (b : Bytes) × (question-for m b ≡ ok q)
+    from none h k = absurd (none≢some h)
+    from (some x) h k =
+        subst (λ n. (b : Bytes) × (question-for n b ≡ ok q)) (some-same (sym (held-model (x .0) (last-left (asked (x .0)) (x .1))) ∙ h))
+        (since (x .0) (x .1) (last-left (asked (x .0)) (x .1)) refl k)
