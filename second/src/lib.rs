@@ -5,6 +5,7 @@ pub mod blocks;
 pub mod bytes;
 pub mod compare;
 pub mod desk;
+pub mod draw;
 pub mod generate;
 pub mod ground;
 pub mod logic;
