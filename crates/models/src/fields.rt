@@ -4,8 +4,8 @@ ghost use Prim.Native.Nat.{_+_, _*_, _<_, _≤_, _^_};
 ghost use mathlib.Core.Bool.{true};
 ghost use lib.Dec.{ltb};
 ghost use Rattle.logic.specs.Lists.{every};
-ghost use Rattle.models.specs.Layout.{literals, state-count, prop-count, action-count, state-mask, post-of, outcome-of, entries};
-ghost use Rattle.models.specs.Grounds.{mask-in-range, literals-in-range, action-in-range, outcome-in-range, sizes-right, fields-right};
+ghost use Rattle.models.specs.Layout.{literals, state-count, prop-count, action-count, state-mask, post-of, outcome-of};
+ghost use Rattle.models.specs.Grounds.{mask-in-range, literals-in-range, action-in-range, outcome-in-range, cell-in-range, sizes-right, fields-right};
 ghost use Rattle.models.specs.Used.{Used};
 
 use blocks::{u32_at, wide, within};
@@ -106,7 +106,7 @@ fn cell_in_range(b: &[u8], s: usize, a: usize, n: usize) -> bool
 // The used outcomes of every cell.
 fn outcomes_in_range(b: &[u8], used: &[u8; 264]) -> bool
     requires { ⌜ (state-count (now b) ≤ 32) × (action-count (now b) ≤ 8) × Used (now b) (now used) ⌝ }
-    ensures { λ r. ⌜ r ≡ cells-in-range (now (b .entry)) ⌝ }
+    ensures { λ r. ⌜ r ≡ every (state-count (now (b .entry))) (λ s. every (action-count (now (b .entry))) (cell-in-range (now (b .entry)) s)) ⌝ }
 {
     let cells = 8 * wide(b, 2);
     let mut right = true;
