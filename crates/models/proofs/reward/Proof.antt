@@ -1,3 +1,6 @@
+use mathlib.Core.Path.{_≡_, refl, sym, ap, ap₂, _∙_}
+use Prim.Native.Nat.{_+_}
+use Rattle.blocks.specs.Bytes.{i16}
 use native.Mathlib.Omega.{arith}
 use Rattle.models.specs.Layout.{outcome-of}
 use borrow.Author.Needs.{needs}
@@ -23,7 +26,7 @@ i16-at-requires c κs = search needs
 -- src/lib.rt:84:1
 returns : tie.Need-returns
 unfolding outcome-of
-returns c = cc
+returns c = c .i16-at .ensures .0 ∙ ap (λ x. i16 (c .before .before .before .args .b .now) (x + 2)) (c .before .outcome-at .ensures .0)
 
 pub reward-spec : {M : Type 1} → statement M
 reward-spec = tie.close (tie.spec outcome-at-requires add-i16-at i16-at-requires returns)

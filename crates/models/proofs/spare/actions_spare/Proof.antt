@@ -30,7 +30,8 @@ loop-holds c = (omega arith, refl)
 
 -- src/spare.rt:32:25
 action-spare-requires : tie.Need-action-spare-requires Inv-loop μ-loop
-action-spare-requires c κs = search needs
+action-spare-requires c κs = let S = c .before .before .before .before in
+    (omega arith, S .pre .posts (c .before .loop .a) (omega arith), omega arith)
 
 -- src/spare.rt:33:9
 add-a : tie.Need-add-a Inv-loop μ-loop
