@@ -19,7 +19,8 @@ use Rattle.logic.specs.Model.{true-of}
 use Rattle.logic.proofs.Tests.{same-test, every-at, every-intro, and-left, and-right}
 use Rattle.blocks.specs.Bytes.{Bytes, within}
 use Rattle.blocks.specs.Block.{block-count, whole-blocks}
-use Rattle.models.specs.Layout.{state-count, action-count, state-mask, pre-of, post-count, entries}
+use Rattle.models.specs.Layout.{state-count, action-count, state-mask, pre-of, post-count, cell-at, entries}
+use Rattle.models.specs.Used.{Sized}
 
 module _ (f : ℕ → Bool) (i : ℕ) {r t : Bool} where
   pub every-more : r ≡ every i f → t ≡ f i → (r && t) ≡ every (i + 1) f
@@ -43,12 +44,12 @@ shift-zero v n =
         , λ h. let g : v < 1 * 2 ^ n = omega arith in let l : v / 2 ^ n < 1 = div-lt-iff-lt-mul (pow-pos n) .1 g in omega arith )
 
 -- A table's cells, 8 to a row, are a grid; those from column A up pass.
-pub grid : (f : ℕ → ℕ → Bool) (m A : ℕ) → A ≤ 8 → ((s a : ℕ) → A ≤ a → f s a ≡ true)
+pub grid : (f : ℕ → ℕ → Bool) (m A : ℕ) → A ≤ 8 → ((s a : ℕ) → A ≤ a → a < 8 → f s a ≡ true)
     → every (8 * m) (λ k. f (k / 8) (k % 8)) ≡ every m (λ s. every A (f s))
 grid f m A h g =
     same-test _ _
     (λ e. every-intro _ m (λ s l. every-intro (f s) A (λ a k. inside s a (omega arith) (every-at (λ k. f (k / 8) (k % 8)) (8 * m) e (omega arith)))))
-    (λ e. every-intro _ (8 * m) (λ k l. ⊎-elim (λ z. g (k / 8) (k % 8) (omega arith)) (λ i. every-at (f (k / 8)) A (every-at (λ s. every A (f s)) m e (omega arith)) (omega arith)) (eq-zero-or-pos (A - k % 8))))
+    (λ e. every-intro _ (8 * m) (λ k l. ⊎-elim (λ z. g (k / 8) (k % 8) (omega arith) (omega arith)) (λ i. every-at (f (k / 8)) A (every-at (λ s. every A (f s)) m e (omega arith)) (omega arith)) (eq-zero-or-pos (A - k % 8))))
   where
     inside : (s a : ℕ) → a < 8 → f ((8 * s + a) / 8) ((8 * s + a) % 8) ≡ true → f s a ≡ true
     inside s a l e =
@@ -80,6 +81,22 @@ module _ (b : Bytes) where
   pub entries-inside : (s a : ℕ) → s < state-count b → a < action-count b → entries b s a ≡ cond (true-of (pre-of b a) (state-mask b s)) (post-count b a) 0
   unfolding entries
   entries-inside s a h g = rw (lt-ltb s (state-count b) h, lt-ltb a (action-count b) g) refl
+
+module _ (b : Bytes) (sized : Sized b) where
+  pub entries-small : (s a : ℕ) → entries b s a ≤ 4
+  entries-small s a =
+      ⊎-elim (λ z. rw (entries-past-states b s a (omega arith)) (omega arith))
+      (λ h. ⊎-elim (λ z. rw (entries-past-actions b s a (omega arith)) (omega arith))
+        (λ g. rw (entries-inside b s a (omega arith) (omega arith)) (go (true-of (pre-of b a) (state-mask b s)) (sized .posts a (omega arith)))) (eq-zero-or-pos (action-count b - a)))
+      (eq-zero-or-pos (state-count b - s))
+    where
+      go : (t : Bool) → post-count b a ≤ 4 → cond t (post-count b a) 0 ≤ 4
+      go true h = h
+      go false h = omega arith
+
+  pub cell-inside : (k : ℕ) → k < 24 * (length b / 512 - 1) → (k < 264) × (cell-at (k / 8) (k % 8) + 16 ≤ length b)
+  unfolding cell-at
+  cell-inside k h = let e = sized .bytes in (omega arith, omega arith)
 
 -- ---- what the first grounds say
 

@@ -3,6 +3,7 @@ use Rattle.models.proofs.spare.cells_spare.Tie as tie
 use Rattle.models.proofs.spare.cells_spare.Reads as reads
 use Rattle.models.proofs.spare.cells_spare.Lts as lts
 use Rattle.models.proofs.spare.cell_spare.Reads as cell-spare-reads
+use Rattle.models.proofs.widened.Reads as widened-reads
 
 abbrev Inv-loop : tie.InvT-loop
 Inv-loop b used cells right₀ k₀ right k = ?
@@ -22,13 +23,13 @@ mul-cells c = ?
 loop-holds : tie.Need-loop-holds Inv-loop μ-loop
 loop-holds c = ?
 
--- src/spare.rt:85:53
-element-copy-out-cell-spare : tie.Need-element-copy-out-cell-spare Inv-loop μ-loop
-element-copy-out-cell-spare c = ?
+-- src/spare.rt:85:61
+element-copy-out-widened : tie.Need-element-copy-out-widened Inv-loop μ-loop
+element-copy-out-widened c = ?
 
 -- src/spare.rt:85:53
-cast-cell-spare : tie.Need-cast-cell-spare Inv-loop μ-loop
-cast-cell-spare c = ?
+widened-requires : tie.Need-widened-requires Inv-loop μ-loop
+widened-requires c κs = ?
 
 -- src/spare.rt:85:25
 cell-spare-requires : tie.Need-cell-spare-requires Inv-loop μ-loop
@@ -59,8 +60,8 @@ cells-spare-spec =
     sub-cells
     mul-cells
     loop-holds
-    element-copy-out-cell-spare
-    cast-cell-spare
+    element-copy-out-widened
+    widened-requires
     cell-spare-requires
     add-k
     loop-less
