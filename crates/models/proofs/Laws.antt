@@ -20,6 +20,7 @@ use Rattle.logic.proofs.Tests.{same-test, every-at, every-intro, and-left, and-
 use Rattle.blocks.specs.Bytes.{Bytes, within}
 use Rattle.blocks.specs.Block.{block-count, whole-blocks}
 use Rattle.models.specs.Layout.{state-count, action-count, state-mask, pre-of, post-count, cell-at, entries}
+use Rattle.models.specs.Grounds.{cell-in-range, cell-consistent}
 use Rattle.models.specs.Used.{Sized}
 
 module _ (f : ℕ → Bool) (i : ℕ) {r t : Bool} where
@@ -77,6 +78,15 @@ module _ (b : Bytes) where
       go : (t : Bool) → cond (t && false && true-of (pre-of b a) (state-mask b s)) (post-count b a) 0 ≡ 0
       go true = refl
       go false = refl
+
+  -- A cell of no action passes every test.
+  pub in-range-past : (s a : ℕ) → action-count b ≤ a → cell-in-range b s a ≡ true
+  unfolding cell-in-range every
+  in-range-past s a h = rw (entries-past-actions s a h) refl
+
+  pub consistent-past : (s a : ℕ) → action-count b ≤ a → cell-consistent b s a ≡ true
+  unfolding cell-consistent every
+  consistent-past s a h = rw (entries-past-actions s a h) refl
 
   pub entries-inside : (s a : ℕ) → s < state-count b → a < action-count b → entries b s a ≡ cond (true-of (pre-of b a) (state-mask b s)) (post-count b a) 0
   unfolding entries

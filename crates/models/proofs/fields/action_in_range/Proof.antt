@@ -1,3 +1,9 @@
+use mathlib.Core.Path.{_≡_, refl, sym, ap, ap₂, _∙_}
+use mathlib.Core.Bool.{_&&_}
+use Rattle.logic.specs.Lists.{every}
+use Rattle.blocks.specs.Bytes.{within}
+use Rattle.models.specs.Grounds.{action-in-range, literals-in-range}
+use Rattle.models.specs.Layout.{pre-of, post-of}
 use borrow.Author.Needs.{needs}
 use Rattle.models.proofs.fields.action_in_range.Statement.{statement}
 use Rattle.models.proofs.fields.action_in_range.Tie as tie
@@ -34,7 +40,12 @@ posts-in-range-requires c κs = search needs
 
 -- src/fields.rt:62:1
 returns : tie.Need-returns
-returns c = ?
+unfolding action-in-range pre-of
+returns c = let b = c .before .before .before .before .before .args .b .now in
+    let a = c .before .before .before .before .before .args .a in
+    let n = c .before .before .before .post-count .ensures .0 in
+    ap₂ _&&_ (ap₂ _&&_ (c .before .before .literals-in-range .ensures) (c .before .within .ensures ∙ ap (within 1 4) n))
+    (c .posts-in-range .ensures ∙ ap (λ m. every m (λ i. literals-in-range b (post-of b a i))) n)
 
 pub action-in-range-spec : {M : Type 1} → statement M
 action-in-range-spec =

@@ -1,3 +1,4 @@
+use Rattle.models.specs.Grounds.{head-spare}
 use borrow.Author.Needs.{needs}
 use Rattle.models.proofs.spare.head_spare.Statement.{statement}
 use Rattle.models.proofs.spare.head_spare.Tie as tie
@@ -57,7 +58,8 @@ zeros-requires-3 c κs = search needs
 
 -- src/spare.rt:38:1
 returns : tie.Need-returns
-returns c = ?
+unfolding head-spare
+returns c = cc
 
 pub head-spare-spec : {M : Type 1} → statement M
 head-spare-spec =
