@@ -1,3 +1,6 @@
+use mathlib.Core.Path.{_≡_, refl, sym, ap, ap₂, _∙_}
+use mathlib.Core.Bool.{_&&_}
+use Rattle.models.specs.Grounds.{consistent}
 use borrow.Author.Needs.{needs}
 use Rattle.models.proofs.consistent.consistent.Statement.{statement}
 use Rattle.models.proofs.consistent.consistent.Tie as tie
@@ -16,7 +19,8 @@ cells-consistent-requires c κs = search needs
 
 -- src/consistent.rt:119:1
 returns : tie.Need-returns
-returns c = ?
+unfolding consistent
+returns c = ap₂ _&&_ (c .before .actions-contradict .ensures) (c .cells-consistent .ensures)
 
 pub consistent-spec : {M : Type 1} → statement M
 consistent-spec =

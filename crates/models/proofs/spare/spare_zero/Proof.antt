@@ -1,3 +1,5 @@
+use mathlib.Core.Path.{_≡_, refl, sym, ap, ap₂, _∙_}
+use mathlib.Core.Bool.{_&&_}
 use borrow.Author.Needs.{needs}
 use Rattle.models.proofs.spare.spare_zero.Statement.{statement}
 use Rattle.models.proofs.spare.spare_zero.Tie as tie
@@ -21,7 +23,7 @@ cells-spare-requires c κs = search needs
 
 -- src/spare.rt:91:1
 returns : tie.Need-returns
-returns c = ?
+returns c = ap₂ _&&_ (ap₂ _&&_ (c .before .before .head-spare .ensures) (c .before .rows-spare .ensures)) (c .cells-spare .ensures)
 
 pub spare-zero-spec : {M : Type 1} → statement M
 spare-zero-spec =
