@@ -1,0 +1,47 @@
+-- What the tests on a sheet's blocks say, as the readers use it.
+use Prim.Native.Nat.{ℕ, _+_, _*_, _/_, _%_, _≤_, _<_}
+use native.Mathlib.Omega.{arith}
+use native.Mathlib.Nat.{div-add-mod'}
+use mathlib.Core.Path.{_≡_, refl, sym, ap, _∙_}
+use mathlib.Core.Bool.{Bool, true, false, cond, _&&_}
+use mathlib.Core.List.{List}
+use lib.Dec.{eqb, ltb, leb}
+use lib.ListN.{length}
+use borrow.Author.Tests.{eqb-true, leb-true, ltb-true, ltb-false}
+use Rattle.logic.proofs.Tests.{and-left, and-right}
+use Rattle.blocks.specs.Bytes.{within}
+use Rattle.blocks.specs.Block.{block-count, whole-blocks}
+use Rattle.sheets.specs.Layout.{count-of}
+use Rattle.sheets.specs.Grounds.{count-right}
+
+pub within-says : (l m x : ℕ) → within l m x ≡ true → (l ≤ x) × (x ≤ m)
+unfolding within
+within-says l m x e = (leb-true l x (and-left (leb l x) (leb x m) e), leb-true x m (and-right (leb l x) (leb x m) e))
+
+pub record Whole (b : List ℕ) : Type 0 where
+  pub length-is : length b ≡ 512 * block-count b
+  pub some : 1 ≤ block-count b
+  pub few : block-count b ≤ 3
+
+pub whole-says : (b : List ℕ) → whole-blocks 1 3 b ≡ true → Whole b
+unfolding whole-blocks block-count
+whole-says b e =
+    let z : length b % 512 ≡ 0 = eqb-true (length b % 512) 0 (and-left (eqb (length b % 512) 0) (within 1 3 (length b / 512)) e) in
+    let w = within-says 1 3 (length b / 512) (and-right (eqb (length b % 512) 0) (within 1 3 (length b / 512)) e) in
+    record { length-is = omega (arith, div-add-mod' (length b) 512); some = w .0; few = w .1 }
+
+-- What ground 5 says of block k's count.
+pub record Count (b : List ℕ) (k : ℕ) : Type 0 where
+  pub full : k + 1 < block-count b → count-of b k ≡ 490
+  pub some : 1 ≤ count-of b k
+  pub few : count-of b k ≤ 490
+
+pub count-says : (b : List ℕ) (k : ℕ) → count-right b k ≡ true → Count b k
+unfolding count-right
+count-says b k e = by (ltb (k + 1) (block-count b)) refl e
+  where
+    by : (t : Bool) → ltb (k + 1) (block-count b) ≡ t → cond t (eqb (count-of b k) 490) (within 1 490 (count-of b k)) ≡ true → Count b k
+    by true q h = let z : count-of b k ≡ 490 = eqb-true (count-of b k) 490 h in record { full = λ l. z; some = omega arith; few = omega arith }
+    by false q h =
+        let w = within-says 1 490 (count-of b k) h in
+        record { full = λ l. absurd (omega (arith, ltb-false (k + 1) (block-count b) q)); some = w .0; few = w .1 }
