@@ -8,11 +8,14 @@ use mathlib.Core.List.{List}
 use lib.Dec.{eqb, ltb, leb}
 use lib.ListN.{length}
 use borrow.Author.Tests.{eqb-true, leb-true, ltb-true, ltb-false}
-use Rattle.logic.proofs.Tests.{and-left, and-right}
+use Rattle.logic.specs.Lists.{every}
+use Rattle.logic.specs.Checked.{refusal}
+use Rattle.logic.proofs.Tests.{and-left, and-right, every-at, every-intro}
 use Rattle.blocks.specs.Bytes.{within}
-use Rattle.blocks.specs.Block.{block-count, whole-blocks}
+use Rattle.blocks.specs.Block.{block-count, whole-blocks, sums-right}
 use Rattle.sheets.specs.Layout.{count-of}
-use Rattle.sheets.specs.Grounds.{count-right}
+use Rattle.sheets.specs.Grounds.{count-right, weight-right, read-sheet}
+use Rattle.sheets.specs.Reader.{passes}
 
 pub within-says : (l m x : ℕ) → within l m x ≡ true → (l ≤ x) × (x ≤ m)
 unfolding within
@@ -45,3 +48,22 @@ count-says b k e = by (ltb (k + 1) (block-count b)) refl e
     by false q h =
         let w = within-says 1 490 (count-of b k) h in
         record { full = λ l. absurd (omega (arith, ltb-false (k + 1) (block-count b) q)); some = w .0; few = w .1 }
+
+-- The refusal by what the six tests say; those after the first that fails may say anything.
+module _ (n start : ℕ) (b : List ℕ) where
+  pub refusal-by : (t₁ t₂ t₃ t₄ t₅ t₆ : Bool) → whole-blocks 1 3 b ≡ t₁ → sums-right b ≡ t₂ → every (block-count b) (passes 3 n start b) ≡ t₃ → every (block-count b) (passes 4 n start b) ≡ t₄
+      → every (block-count b) (passes 5 n start b) ≡ t₅ → every (block-count b) (passes 6 n start b) ≡ t₆
+      → refusal (read-sheet n start b) ≡ cond t₁ (cond t₂ (cond t₃ (cond t₄ (cond t₅ (cond t₆ 0 6) 5) 4) 3) 2) 1
+  unfolding read-sheet passes
+  refusal-by false t₂ t₃ t₄ t₅ t₆ e₁ e₂ e₃ e₄ e₅ e₆ = rw e₁ refl
+  refusal-by true false t₃ t₄ t₅ t₆ e₁ e₂ e₃ e₄ e₅ e₆ = rw (e₁, e₂) refl
+  refusal-by true true false t₄ t₅ t₆ e₁ e₂ e₃ e₄ e₅ e₆ = rw (e₁, e₂, e₃) refl
+  refusal-by true true true false t₅ t₆ e₁ e₂ e₃ e₄ e₅ e₆ = rw (e₁, e₂, e₃, e₄) refl
+  refusal-by true true true true false t₆ e₁ e₂ e₃ e₄ e₅ e₆ = rw (e₁, e₂, e₃, e₄, e₅) refl
+  refusal-by true true true true true false e₁ e₂ e₃ e₄ e₅ e₆ = rw (e₁, e₂, e₃, e₄, e₅, e₆) refl
+  refusal-by true true true true true true e₁ e₂ e₃ e₄ e₅ e₆ = rw (e₁, e₂, e₃, e₄, e₅, e₆) refl
+
+  -- What passes ground 5 has its counts right.
+  pub counts-of : every (block-count b) (passes 5 n start b) ≡ true → every (block-count b) (count-right b) ≡ true
+  unfolding passes
+  counts-of e = every-intro (count-right b) (block-count b) (λ k l. and-left (count-right b k) (weight-right b k) (every-at (passes 5 n start b) (block-count b) e l))
