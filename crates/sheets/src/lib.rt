@@ -10,6 +10,8 @@ ghost use Rattle.sheets.specs.Layout.{weight-of, count-of};
 ghost use Rattle.sheets.specs.Grounds.{head-right, count-right, weight-right, spare-right, read-sheet};
 ghost use Rattle.sheets.specs.Reader.{passes, Blocks};
 
+pub mod writer;
+
 // How many choices block k says it holds.
 fn count_at(b: &[u8], k: usize) -> usize
     requires { ⌜ k < 3 ⌝ }
