@@ -1,21 +1,26 @@
 -- What the tests on a sheet's blocks say, as the readers use it.
-use Prim.Native.Nat.{ℕ, _+_, _*_, _/_, _%_, _≤_, _<_}
+use Prim.Native.Nat.{ℕ, _+_, _*_, _-_, _/_, _%_, _≤_, _<_}
 use native.Mathlib.Omega.{arith}
 use native.Mathlib.Nat.{div-add-mod'}
-use mathlib.Core.Path.{_≡_, refl, sym, ap, _∙_}
+use native.Mathlib.Numerals.{add-one}
+use mathlib.Core.Path.{_≡_, refl, sym, ap, ap₂, _∙_}
 use mathlib.Core.Bool.{Bool, true, false, cond, _&&_}
-use mathlib.Core.List.{List}
+use mathlib.Core.List.{List, _++_}
 use lib.Dec.{eqb, ltb, leb}
-use lib.ListN.{length}
+use lib.ListN.{length, take, drop, length-append, length-drop}
+use lib.Seq.{length-take-le}
+use borrow.Rule.Slice.PartMut.{midOf, putMid}
 use borrow.Author.Tests.{eqb-true, leb-true, ltb-true, ltb-false}
 use Rattle.logic.specs.Lists.{every}
 use Rattle.logic.specs.Checked.{refusal}
 use Rattle.logic.proofs.Tests.{and-left, and-right, every-at, every-intro}
 use Rattle.blocks.specs.Bytes.{within}
 use Rattle.blocks.specs.Block.{block-count, whole-blocks, sums-right}
-use Rattle.sheets.specs.Layout.{count-of}
+use Rattle.sheets.specs.Layout.{count-of, choices-of}
 use Rattle.sheets.specs.Grounds.{count-right, weight-right, read-sheet}
-use Rattle.sheets.specs.Reader.{passes}
+use Rattle.sheets.specs.Reader.{passes, Blocks}
+use Rattle.sheets.proofs.Parts.{put-front}
+use Rattle.sheets.proofs.Pieces.{pieces, pieces-more}
 
 pub within-says : (l m x : ℕ) → within l m x ≡ true → (l ≤ x) × (x ≤ m)
 unfolding within
@@ -67,3 +72,35 @@ module _ (n start : ℕ) (b : List ℕ) where
   pub counts-of : every (block-count b) (passes 5 n start b) ≡ true → every (block-count b) (count-right b) ≡ true
   unfolding passes
   counts-of e = every-intro (count-right b) (block-count b) (λ k l. and-left (count-right b k) (weight-right b k) (every-at (passes 5 n start b) (block-count b) e l))
+
+-- What is known of block k of a sheet that passed ground 5.
+pub record Block (b : List ℕ) (k : ℕ) : Type 0 where
+  pub number : k < 3
+  pub inside : 512 * k + 512 ≤ length b
+  pub few : count-of b k ≤ 490
+
+pub block-says : (b : List ℕ) → Blocks 6 b → (k : ℕ) → k < block-count b → Block b k
+block-says b B k l =
+    let w = whole-says b (B .whole) in
+    record {
+      number = omega arith;
+      inside = omega arith;
+      few = count-says b k (every-at (count-right b) (block-count b) (B .counted (omega arith)) l) .few;
+    }
+
+-- The choices of one block more, put in behind those before it.
+pub gather-more : (b d₀ d p : List ℕ) (k at c : ℕ) → Block b k → c ≡ count-of b k → at ≡ length (pieces (choices-of b) k) → at + c ≤ length d → d ≡ pieces (choices-of b) k ++ drop at d₀
+    → (let s = take (512 * k + 18 + c - (512 * k + 18)) (drop (512 * k + 18) b) in
+      p ≡ s ++ drop (length s) (midOf at (length d - at) d)
+      → (putMid at (length d - at) d p ≡ pieces (choices-of b) (k + 1) ++ drop (at + c) d₀) × (at + c ≡ length (pieces (choices-of b) (k + 1))))
+unfolding choices-of
+gather-more b d₀ d p k at c B ec ea le e g =
+    let s : List ℕ = take (512 * k + 18 + c - (512 * k + 18)) (drop (512 * k + 18) b) in
+    let j : 512 * k + 18 + c - (512 * k + 18) ≡ c = omega arith in
+    let n : length s ≡ c = length-take-le _ (drop (512 * k + 18) b) (omega (arith, length-drop (512 * k + 18) b, B .inside, B .few)) ∙ j in
+    let m : pieces (choices-of b) k ++ s ≡ pieces (choices-of b) (k + 1) =
+        ap (λ i. pieces (choices-of b) k ++ take i (drop (512 * k + 18) b)) (j ∙ ec) ∙ sym (pieces-more (choices-of b) k) ∙ ap (pieces (choices-of b)) (sym (add-one k)) in
+    (
+      put-front (pieces (choices-of b) k) d₀ d at e (sym ea) s p (omega arith) g ∙ ap₂ (λ x y. x ++ drop (at + y) d₀) m n,
+      ap₂ _+_ ea (sym n) ∙ sym (length-append (pieces (choices-of b) k) s) ∙ ap length m,
+    )

@@ -2,7 +2,9 @@
 use Prim.Native.Nat.{ℕ, _<_, _≤_}
 use mathlib.Core.Bool.{Bool, true, cond, _&&_}
 use mathlib.Core.Path.{_≡_}
+use mathlib.Core.List.{List, _++_}
 use lib.Dec.{eqb}
+use lib.ListN.{length, drop}
 use Rattle.logic.specs.Lists.{every}
 use Rattle.blocks.specs.Bytes.{Bytes}
 use Rattle.blocks.specs.Block.{block-count, whole-blocks, headed}
@@ -19,3 +21,9 @@ pub record Blocks (ground : ℕ) (b : Bytes) : Type 0 where
   pub from : 3 ≤ ground
   pub whole : whole-blocks 1 3 b ≡ true
   pub counted : 5 < ground → every (block-count b) (count-right b) ≡ true
+
+-- The choices of a sheet stand at the front of out′, r of them, and after them what out had.
+pub record Gathered (choices out out′ : List ℕ) (r : ℕ) : Type 0 where
+  pub front : out′ ≡ choices ++ drop r out
+  pub count : r ≡ length choices
+  pub few : r ≤ 1470

@@ -6,9 +6,9 @@ ghost use lib.ListN.{length};
 ghost use Rattle.logic.specs.Lists.{every};
 ghost use Rattle.logic.specs.Checked.{refusal};
 ghost use Rattle.blocks.specs.Block.{block-count};
-ghost use Rattle.sheets.specs.Layout.{weight-of, count-of};
+ghost use Rattle.sheets.specs.Layout.{weight-of, count-of, sheet-of};
 ghost use Rattle.sheets.specs.Grounds.{head-right, count-right, weight-right, spare-right, read-sheet};
-ghost use Rattle.sheets.specs.Reader.{passes, Blocks};
+ghost use Rattle.sheets.specs.Reader.{passes, Blocks, Gathered};
 
 pub mod writer;
 
@@ -118,4 +118,23 @@ pub fn sheet_refusal(b: &[u8], n: usize, start: usize) -> u32
         return 6;
     }
     0
+}
+
+// The choices of all blocks, one after the other, at the front of `out`; gives their number.
+pub fn gather(b: &[u8], out: &mut [u8]) -> usize
+    requires { ⌜ Blocks 6 (now b) × (1470 ≤ length (now out)) ⌝ }
+    ensures { λ r. ⌜ Gathered ((sheet-of (now (b .entry))) .choices) (now (out .entry)) (now (out .exit)) r ⌝ }
+{
+    let count = b.len() / 512;
+    let mut at: usize = 0;
+    let mut k: usize = 0;
+    while k < count {
+        let from = 512 * k + 18;
+        let c = count_at(b, k);
+        let to = from + c;
+        writer::copy(&mut out[at..], &b[from..to]);
+        at += c;
+        k += 1;
+    }
+    at
 }
