@@ -96,7 +96,8 @@ pub fn word_sum(b: &[u8], k: usize) -> u32
     let mut sum: u32 = 0;
     let mut j: usize = 0;
     while j < 256 {
-        sum += b[at + 2 * j] as u32 + 256 * b[at + 2 * j + 1] as u32;
+        let i = at + 2 * j;
+        sum += b[i] as u32 + 256 * b[i + 1] as u32;
         j += 1;
     }
     sum
@@ -122,7 +123,13 @@ pub fn whole_blocks(b: &[u8], least: usize, most: usize) -> bool
     ensures { λ r. ⌜ r ≡ whole-blocks least most (now (b .entry)) ⌝ }
 {
     let n = b.len() / 512;
-    b.len() % 512 == 0 && least <= n && n <= most
+    if b.len() % 512 != 0 {
+        return false;
+    }
+    if n < least {
+        return false;
+    }
+    n <= most
 }
 
 // Ground 3 of block k: whether it has this kind and number.
@@ -131,5 +138,8 @@ pub fn headed(b: &[u8], k: usize, kind: usize, number: usize) -> bool
     ensures { λ r. ⌜ r ≡ spec-block.headed (now (b .entry)) k kind number ⌝ }
 {
     let at = 512 * k;
-    wide(b, at) == kind && wide(b, at + 1) == number
+    if wide(b, at) != kind {
+        return false;
+    }
+    wide(b, at + 1) == number
 }

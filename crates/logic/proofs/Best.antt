@@ -32,15 +32,15 @@ pub record Ordered (Q : Quantity) : Type 0 where
 -- The least of a quantity is the greatest of it reversed.
 pub reversed-ordered : (Q : Quantity) → Ordered Q → Ordered (reversed Q)
 reversed-ordered Q O =
-    record
-    { le-self = O .le-self
-    ; trans = λ a b c p q. O .trans c b a q p
-    ; lt-le = λ a b p. O .lt-le b a p
-    ; plus-le = λ a b c d p q. O .plus-le b a d c p q
-    ; plus-lt-le = λ a b c d p q. O .plus-lt-le b a d c p q
-    ; plus-le-lt = λ a b c d p q. O .plus-le-lt b a d c p q
-    ; times-le = λ k a b p. O .times-le k b a p
-    ; times-lt = λ k a b h p. O .times-lt k b a h p
+    record {
+      le-self = O .le-self;
+      trans = λ a b c p q. O .trans c b a q p;
+      lt-le = λ a b p. O .lt-le b a p;
+      plus-le = λ a b c d p q. O .plus-le b a d c p q;
+      plus-lt-le = λ a b c d p q. O .plus-lt-le b a d c p q;
+      plus-le-lt = λ a b c d p q. O .plus-le-lt b a d c p q;
+      times-le = λ k a b p. O .times-le k b a p;
+      times-lt = λ k a b h p. O .times-lt k b a h p;
     }
 
 lt→nleb : (a b : ℕ) → a < b → T (not (leb b a))
@@ -48,15 +48,15 @@ lt→nleb a b h = not-T (leb b a) (λ t. not-le-of-lt h (leb→le b a t))
 
 pub naturals-ordered : Ordered naturals
 naturals-ordered =
-    record
-    { le-self = λ a. le→leb a a (le-refl a)
-    ; trans = λ a b c p q. le→leb a c (le-trans (leb→le a b p) (leb→le b c q))
-    ; lt-le = λ a b p. le→leb a b (le-of-lt (nleb→lt b a p))
-    ; plus-le = λ a b c d p q. le→leb _ _ (add-le-add (leb→le a b p) (leb→le c d q))
-    ; plus-lt-le = λ a b c d p q. lt→nleb _ _ (add-lt-add-of-lt-of-le (nleb→lt b a p) (leb→le c d q))
-    ; plus-le-lt = λ a b c d p q. lt→nleb _ _ (add-lt-add-of-le-of-lt (leb→le a b p) (nleb→lt d c q))
-    ; times-le = λ k a b p. le→leb _ _ (mul-le-mul-left k (leb→le a b p))
-    ; times-lt = λ k a b h p. lt→nleb _ _ (mul-lt-mul-of-pos-left (nleb→lt b a p) h)
+    record {
+      le-self = λ a. le→leb a a (le-refl a);
+      trans = λ a b c p q. le→leb a c (le-trans (leb→le a b p) (leb→le b c q));
+      lt-le = λ a b p. le→leb a b (le-of-lt (nleb→lt b a p));
+      plus-le = λ a b c d p q. le→leb _ _ (add-le-add (leb→le a b p) (leb→le c d q));
+      plus-lt-le = λ a b c d p q. lt→nleb _ _ (add-lt-add-of-lt-of-le (nleb→lt b a p) (leb→le c d q));
+      plus-le-lt = λ a b c d p q. lt→nleb _ _ (add-lt-add-of-le-of-lt (leb→le a b p) (nleb→lt d c q));
+      times-le = λ k a b p. le→leb _ _ (mul-le-mul-left k (leb→le a b p));
+      times-lt = λ k a b h p. lt→nleb _ _ (mul-lt-mul-of-pos-left (nleb→lt b a p) h);
     }
 
 module _ (Q : Quantity) where
@@ -112,7 +112,7 @@ module _ (Q : Quantity) (O : Ordered Q) where
   best-blocks t block c k (here {x} {l} h) =
       best-left t (flatMap block l) (k x (List·Memᴰ·head refl))
       (λ z i. let w = flatMap-member block l i in
-        O .trans (t z) (t (c (w .0))) (t (c x)) (best-le t (k (w .0) (List·Memᴰ·tail (w .1))) z (w .2)) (h (w .0) (w .1)))
+      O .trans (t z) (t (c (w .0))) (t (c x)) (best-le t (k (w .0) (List·Memᴰ·tail (w .1))) z (w .2)) (h (w .0) (w .1)))
   best-blocks t block c k (later {x} {y} p b) =
       best-right t (block y) (best-blocks t block c (λ a i. k a (List·Memᴰ·tail i)) b)
       (λ z i. le-lt (t z) (t (c y)) (t (c x)) (best-le t (k y (List·Memᴰ·head refl)) z i) p)
@@ -128,10 +128,10 @@ module _ (Q : Quantity) (O : Ordered Q) where
     best-pairs x xs ys zs pos h (here {x = y} {l} k) =
         best-left (value (x ∷ xs)) (flatMap (λ b. map (λ r. b ∷ r) ys) l) (best-head x xs ys zs y h)
         (λ u i.
-          let p = flatMap-member (λ b. map (λ r. b ∷ r) ys) l i in
-          let q = map-member (λ r. p .0 ∷ r) ys (p .2) in
-          subst (λ z. Le Q (value (x ∷ xs) z) (value (x ∷ xs) (y ∷ zs))) (sym (q .2))
-          (O .plus-le _ _ _ _ (O .times-le (w x) _ _ (k (p .0) (p .1))) (best-le (value xs) h (q .0) (q .1))))
+        let p = flatMap-member (λ b. map (λ r. b ∷ r) ys) l i in
+        let q = map-member (λ r. p .0 ∷ r) ys (p .2) in
+        subst (λ z. Le Q (value (x ∷ xs) z) (value (x ∷ xs) (y ∷ zs))) (sym (q .2))
+        (O .plus-le _ _ _ _ (O .times-le (w x) _ _ (k (p .0) (p .1))) (best-le (value xs) h (q .0) (q .1))))
       where
         best-head : (x : A) (xs : List A) (ys : List (List B)) (zs : List B) (y : B) → Best Q (value xs) ys zs → Best Q (value (x ∷ xs)) (map (λ r. y ∷ r) ys) (y ∷ zs)
         best-head x xs ys zs y h =
@@ -140,9 +140,9 @@ module _ (Q : Quantity) (O : Ordered Q) where
     best-pairs x xs ys zs pos h (later {x = y} {y = u} p b) =
         best-right (value (x ∷ xs)) (map (λ r. u ∷ r) ys) (best-pairs x xs ys zs pos h b)
         (λ e i.
-          let q = map-member (λ r. u ∷ r) ys i in
-          subst (λ z. Lt Q (value (x ∷ xs) z) (value (x ∷ xs) (y ∷ zs))) (sym (q .2))
-          (O .plus-lt-le _ _ _ _ (O .times-lt (w x) _ _ pos p) (best-le (value xs) h (q .0) (q .1))))
+        let q = map-member (λ r. u ∷ r) ys i in
+        subst (λ z. Lt Q (value (x ∷ xs) z) (value (x ∷ xs) (y ∷ zs))) (sym (q .2))
+        (O .plus-lt-le _ _ _ _ (O .times-lt (w x) _ _ pos p) (best-le (value xs) h (q .0) (q .1))))
 
     pub best-product : (l : List A) → ((a : A) → List·Memᴰ a l → 0 < w a) → ((a : A) → List·Memᴰ a l → Best Q (v a) (g a) (c a))
         → Best Q (λ bs. sum-pairs Q (λ a b. Q .times (w a) (v a b)) l bs) (product (map g l)) (map c l)

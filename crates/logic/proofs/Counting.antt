@@ -31,7 +31,7 @@ module _ (m : Model) where
   path-count (suc n) s =
       length-flatMap (block n s) (enabled m s)
       ∙ sum-ext naturals naturals-additive _ _ (enabled m s)
-        (λ a. length-first (below n) (λ o. path-total m n (o .target)) (λ o. path-count n (o .target)) (outcomes m s a))
+      (λ a. length-first (below n) (λ o. path-total m n (o .target)) (λ o. path-count n (o .target)) (outcomes m s a))
 
   listed-path : (n s : ℕ) {r : List Step} → List·Memᴰ r (all-paths m n s) → (length r ≡ n) × Path-from m s r
   unfolding all-paths below block
@@ -61,11 +61,11 @@ module _ (m : Model) where
     all-paths-once (suc n) s k =
         rising-flatMap (λ a b. a < b) Differ (block n s)
         (λ a b r t i j l u v e.
-          let x = block-choice n s a (record { state = k; choice = i }) u in
-          let y = block-choice n s b (record { state = k; choice = j }) v in
-          let q : a ≡ b = sym (x .3) ∙ ap (λ o. o .choice) (heads (sym (x .2) ∙ e ∙ y .2)) ∙ y .3 in
-          omega arith)
+        let x = block-choice n s a (record { state = k; choice = i }) u in
+        let y = block-choice n s b (record { state = k; choice = j }) v in
+        let q : a ≡ b = sym (x .3) ∙ ap (λ o. o .choice) (heads (sym (x .2) ∙ e ∙ y .2)) ∙ y .3 in
+        omega arith)
         (λ a i.
-          let x : Executable m s a = record { state = k; choice = i } in
-          first-once (below n) (accepted .apart x) (λ o j. all-paths-once n (o .target) (accepted .inside x o j)))
+        let x : Executable m s a = record { state = k; choice = i } in
+        first-once (below n) (accepted .apart x) (λ o j. all-paths-once n (o .target) (accepted .inside x o j)))
         (enabled-rising m s)

@@ -33,9 +33,9 @@ plan-count m zero s = refl
 plan-count m (suc n) s =
     length-flatMap (λ a. map {B = Plan (suc n)} (λ qs. (a, qs)) (product (map (λ o. plans m n (o .target)) (outcomes m s a)))) (enabled m s)
     ∙ sum-ext naturals naturals-additive _ _ (enabled m s)
-      (λ a.
-        length-map (product (map (λ o. plans m n (o .target)) (outcomes m s a))) (λ qs. (a, qs))
-        ∙ length-product (λ o. plans m n (o .target)) (λ o. plan-total m n (o .target)) (λ o. plan-count m n (o .target)) (outcomes m s a))
+    (λ a.
+    length-map (product (map (λ o. plans m n (o .target)) (outcomes m s a))) (λ qs. (a, qs))
+    ∙ length-product (λ o. plans m n (o .target)) (λ o. plan-total m n (o .target)) (λ o. plan-count m n (o .target)) (outcomes m s a))
 
 -- ---- the members
 
@@ -43,9 +43,10 @@ plan-count m (suc n) s =
 pub plans-are : (m : Model) (n s : ℕ) (p : Plan n) → List·Memᴰ p (plans m n s) ↔ Is-plan m n s p
 unfolding plans
 plans-are m zero s p = (λ i. tt, λ u. List·Memᴰ·head refl)
-plans-are m (suc n) s p =
-    (λ i. let w = plan-member m n s p i in (w .0, match-weaken (λ o q j. plans-are m n (o .target) q .0 j) (w .1)),
-     λ w. in-plans m n s p (w .0) (match-weaken (λ o q j. plans-are m n (o .target) q .1 j) (w .1)))
+plans-are m (suc n) s p = (
+  λ i. let w = plan-member m n s p i in (w .0, match-weaken (λ o q j. plans-are m n (o .target) q .0 j) (w .1)),
+  λ w. in-plans m n s p (w .0) (match-weaken (λ o q j. plans-are m n (o .target) q .1 j) (w .1)),
+)
 
 -- ---- the order
 
@@ -69,10 +70,10 @@ module _ {A B : Type 0} (key : B → List ℕ) (g : A → List B) where
   rising-product (x ∷ xs) h =
       rising-flatMap (λ x y. Before (key x) (key y)) (λ x y. Before (flatMap key x) (flatMap key y)) (λ b. map (λ r. b ∷ r) (product (map g xs)))
       (λ b c u v _ _ p i j.
-        let e = map-member (λ r. b ∷ r) (product (map g xs)) i in
-        let f = map-member (λ r. c ∷ r) (product (map g xs)) j in
-        subst (λ z. Before (flatMap key z) (flatMap key v)) (sym (e .2))
-        (subst (λ z. Before (flatMap key (b ∷ e .0)) (flatMap key z)) (sym (f .2)) (longer (flatMap key (e .0)) (flatMap key (f .0)) p)))
+      let e = map-member (λ r. b ∷ r) (product (map g xs)) i in
+      let f = map-member (λ r. c ∷ r) (product (map g xs)) j in
+      subst (λ z. Before (flatMap key z) (flatMap key v)) (sym (e .2))
+      (subst (λ z. Before (flatMap key (b ∷ e .0)) (flatMap key z)) (sym (f .2)) (longer (flatMap key (e .0)) (flatMap key (f .0)) p)))
       (λ b i. rising-map (λ x y. Before (flatMap key x) (flatMap key y)) (λ x y. Before (flatMap key x) (flatMap key y)) (λ r. b ∷ r) (λ u v p. after (key b) p) (rising-product xs h))
       (h x)
 
@@ -88,12 +89,12 @@ plans-rising m zero s = rising-one _ tt
 plans-rising m (suc n) s =
     rising-flatMap {B = Plan (suc n)} (λ a b. a < b) (λ p q. Before (choices (suc n) p) (choices (suc n) q)) (λ a. map (λ qs. (a, qs)) (product (map (λ o. plans m n (o .target)) (outcomes m s a))))
     (λ a b u v _ _ p i j.
-      let x = map-member {B = Plan (suc n)} (λ qs. (a, qs)) (product (map (λ o. plans m n (o .target)) (outcomes m s a))) i in
-      let y = map-member {B = Plan (suc n)} (λ qs. (b, qs)) (product (map (λ o. plans m n (o .target)) (outcomes m s b))) j in
-      subst (λ z. Before (choices (suc n) z) (choices (suc n) v)) (sym (x .2))
-      (subst (λ z. Before (choices (suc n) (a, x .0)) (choices (suc n) z)) (sym (y .2)) (differ p)))
+    let x = map-member {B = Plan (suc n)} (λ qs. (a, qs)) (product (map (λ o. plans m n (o .target)) (outcomes m s a))) i in
+    let y = map-member {B = Plan (suc n)} (λ qs. (b, qs)) (product (map (λ o. plans m n (o .target)) (outcomes m s b))) j in
+    subst (λ z. Before (choices (suc n) z) (choices (suc n) v)) (sym (x .2))
+    (subst (λ z. Before (choices (suc n) (a, x .0)) (choices (suc n) z)) (sym (y .2)) (differ p)))
     (λ a i. rising-map {B = Plan (suc n)} (λ x y. Before (flatMap (choices n) x) (flatMap (choices n) y)) (λ p q. Before (choices (suc n) p) (choices (suc n) q)) (λ qs. (a, qs)) (λ x y p. agree refl p)
-      (rising-product (choices n) (λ o. plans m n (o .target)) (outcomes m s a) (λ o. plans-rising m n (o .target))))
+    (rising-product (choices n) (λ o. plans m n (o .target)) (outcomes m s a) (λ o. plans-rising m n (o .target))))
     (enabled-rising m s)
 
 -- Each plan stands in the list once.

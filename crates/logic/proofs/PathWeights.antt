@@ -38,7 +38,7 @@ module _ (m : Model) (accepted : Accepted m) where
       let x : Executable m s (p .0) = record { state = k; choice = u .0 } in
       total-step naturals naturals-additive m n s p (λ r. 1)
       ∙ constant (λ o. o .weight) (λ o q. total naturals m n (o .target) q (λ r. 1)) (m .denominator ^ n) (u .1)
-        (λ o q i e. total-ones n (o .target) (accepted .inside x o i) q e)
+      (λ o q i e. total-ones n (o .target) (accepted .inside x o i) q e)
       ∙ ap (λ v. v * m .denominator ^ n) (accepted .sums x)
       ∙ mul-comm (m .denominator) (m .denominator ^ n)
       ∙ sym (pow-suc (m .denominator) n)

@@ -79,7 +79,7 @@ module _ (m : Model) where
       let u = plan-member m n s p h in
       ap (λ t. guard 10 t >> (read-each (λ o. read-plan m n (o .target)) (outcomes m s (p .0)) (flatMap (choices n) (p .1) ++ r) >>= (λ qs. ok ((p .0, qs .0), qs .1)))) (member-any (u .0))
       ∙ ap (λ z. z >>= (λ qs. ok ((p .0, qs .0), qs .1)))
-        (each-complete (λ o. read-plan m n (o .target)) (choices n) (λ o q. List·Memᴰ q (plans m n (o .target))) (λ o q ds i. read-complete n (o .target) q ds i) r (u .1))
+      (each-complete (λ o. read-plan m n (o .target)) (choices n) (λ o q. List·Memᴰ q (plans m n (o .target))) (λ o q ds i. read-complete n (o .target) q ds i) r (u .1))
 
   pub plan-of-sound : (n s : ℕ) (cs : List ℕ) (p : Plan n) → plan-of m n s cs ≡ ok p → List·Memᴰ p (plans m n s) × (choices n p ≡ cs)
   unfolding plan-of is-empty

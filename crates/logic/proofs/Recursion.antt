@@ -56,9 +56,9 @@ module _ (Q : Quantity) (L : Additive Q) (O : Ordered Q) (m : Model) (accepted :
   best-of-block n s a f x h =
       best-map Q O (λ p. total Q m (suc n) s p f) (λ qs. (a, qs))
       (subst (λ v. Best Q v (product (map (λ o. plans m n (o .target)) (outcomes m s a))) (map (λ o. best-plan Q m n (o .target) (λ r. f (o ∷ r))) (outcomes m s a)))
-        (fun-ext (λ qs. sym (total-step Q L m n s (a, qs) f)))
-        (best-product Q O (λ o. o .weight) (λ o q. total Q m n (o .target) q (λ r. f (o ∷ r))) (λ o. plans m n (o .target)) (λ o. best-plan Q m n (o .target) (λ r. f (o ∷ r))) (outcomes m s a)
-          (accepted .weighs x) h))
+      (fun-ext (λ qs. sym (total-step Q L m n s (a, qs) f)))
+      (best-product Q O (λ o. o .weight) (λ o q. total Q m n (o .target) q (λ r. f (o ∷ r))) (λ o. plans m n (o .target)) (λ o. best-plan Q m n (o .target) (λ r. f (o ∷ r))) (outcomes m s a)
+      (accepted .weighs x) h))
 
   -- The plan of first-best choices is the first of all plans in dictionary order that has the greatest total.
   pub best-plan-first : (n s : ℕ) (f : List Step → Q .Value) → s < length (m .states) → Best Q (λ p. total Q m n s p f) (plans m n s) (best-plan Q m n s f)
@@ -67,18 +67,19 @@ module _ (Q : Quantity) (L : Additive Q) (O : Ordered Q) (m : Model) (accepted :
   best-plan-first (suc n) s f k =
       best-blocks Q O (λ p. total Q m (suc n) s p f) (block n s) (chosen n s f)
       (λ a i.
-        let x : Executable m s a = record { state = k; choice = i } in
-        best-of-block n s a f x (λ o j. best-plan-first n (o .target) (λ r. f (o ∷ r)) (accepted .inside x o j)))
+      let x : Executable m s a = record { state = k; choice = i } in
+      best-of-block n s a f x (λ o j. best-plan-first n (o .target) (λ r. f (o ∷ r)) (accepted .inside x o j)))
       (subst (λ v. Best Q v (enabled m s) (best-choice Q (λ a. sum Q (λ o. Q .times (o .weight) (greatest Q m n (o .target) (λ r. f (o ∷ r)))) (outcomes m s a)) (enabled m s)))
-        (fun-ext (λ a. sym (chosen-total n s f a)))
-        (best-of-choices _ (enabled m s) (accepted .some-choice s k)))
+      (fun-ext (λ a. sym (chosen-total n s f a)))
+      (best-of-choices _ (enabled m s) (accepted .some-choice s k)))
 
   -- The greatest total by recursion is reached by some plan and passed by none.
   pub greatest-is-maximum : (n s : ℕ) (f : List Step → Q .Value) → s < length (m .states)
       → ((p : Plan n) × List·Memᴰ p (plans m n s) × (total Q m n s p f ≡ greatest Q m n s f))
-        × ((p : Plan n) → List·Memᴰ p (plans m n s) → Le Q (total Q m n s p f) (greatest Q m n s f))
+      × ((p : Plan n) → List·Memᴰ p (plans m n s) → Le Q (total Q m n s p f) (greatest Q m n s f))
   greatest-is-maximum n s f k =
       let b = best-plan-first n s f k in
-      let e = best-plan-total Q L m n s f in
-      ((best-plan Q m n s f, best-member Q O (λ p. total Q m n s p f) b, e),
-       λ p i. subst (λ z. Le Q (total Q m n s p f) z) e (best-le Q O (λ p. total Q m n s p f) b p i))
+      let e = best-plan-total Q L m n s f in (
+        (best-plan Q m n s f, best-member Q O (λ p. total Q m n s p f) b, e),
+        λ p i. subst (λ z. Le Q (total Q m n s p f) z) e (best-le Q O (λ p. total Q m n s p f) b p i),
+      )

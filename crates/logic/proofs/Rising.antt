@@ -43,8 +43,8 @@ module _ {A B : Type 0} (R : A → A → Type 0) (S : B → B → Type 0) where
       rising-append S (k x (List·Memᴰ·head refl))
       (rising-flatMap g (λ x y u v i j. h x y u v (List·Memᴰ·tail i) (List·Memᴰ·tail j)) (λ y i. k y (List·Memᴰ·tail i)) a)
       (λ u v i j.
-        let w = flatMap-member g l j in
-        h x (w .0) u v (List·Memᴰ·head refl) (List·Memᴰ·tail (w .1)) (p (w .0) (w .1)) i (w .2))
+      let w = flatMap-member g l j in
+      h x (w .0) u v (List·Memᴰ·head refl) (List·Memᴰ·tail (w .1)) (p (w .0) (w .1)) i (w .2))
 
 pub rising-weaken : {A : Type 0} (R S : A → A → Type 0) → ((x y : A) → R x y → S x y) → {l : List A} → Rising R l → Rising S l
 rising-weaken R S h nothing = nothing

@@ -98,6 +98,7 @@ module _ (m : Model) (s : ℕ) (g : Goal) where
 pub sat-shown : (m : Model) (s n : ℕ) (φ : Formula) (r : Relation) (p q : ℕ) (ρ : List Step)
     → (sat m (plan n φ r p q) s ρ ≡ true) ↔ ((x : ℕ × Plan n) × (shown m s (plan-goal m s n φ r p q) ≡ some x))
 unfolding sat goal W
-sat-shown m s n φ r p q ρ =
-    (λ h. let w = any-some _ (plans m n s) h in shown-there m s (plan-goal m s n φ r p q) (goal-led m s (plan n φ r p q) _ refl) (w .0) (w .1) (w .2),
-     λ x. let w = shown-meets m s (plan-goal m s n φ r p q) (x .0) (x .1) in any-there (plan-goal m s n φ r p q .met) (w .0) (w .1))
+sat-shown m s n φ r p q ρ = (
+  λ h. let w = any-some _ (plans m n s) h in shown-there m s (plan-goal m s n φ r p q) (goal-led m s (plan n φ r p q) _ refl) (w .0) (w .1) (w .2),
+  λ x. let w = shown-meets m s (plan-goal m s n φ r p q) (x .0) (x .1) in any-there (plan-goal m s n φ r p q .met) (w .0) (w .1),
+)

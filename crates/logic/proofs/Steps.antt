@@ -43,8 +43,8 @@ module _ (g : Step → List (List Step)) where
   first-once {l} d h =
       rising-flatMap (λ x y. x .target ≡ y .target → ⊥) Differ (λ o. map (λ r. o ∷ r) (g o))
       (λ x y u v _ _ p i j e.
-        let a = map-member (λ r. x ∷ r) (g x) i in
-        let b = map-member (λ r. y ∷ r) (g y) j in
-        p (mathlib.Core.Path.ap (λ o. o .target) (heads (sym (a .2) ∙ e ∙ b .2))))
+      let a = map-member (λ r. x ∷ r) (g x) i in
+      let b = map-member (λ r. y ∷ r) (g y) j in
+      p (mathlib.Core.Path.ap (λ o. o .target) (heads (sym (a .2) ∙ e ∙ b .2))))
       (λ o i. rising-map Differ Differ (λ r. o ∷ r) (λ r t p e. p (tails e)) (h o i))
       d

@@ -23,21 +23,21 @@ to a t w r = record { choice = a; target = t; weight = w; reward = r }
 unfoldable pub two-shelf : Model
 unfolding needs lit to
 two-shelf =
-    record
-    { propositions = 2
-    ; denominator = 10
-    ; states = 0 ∷ 1 ∷ 2 ∷ []
-    ; actions =
-        needs 0 3 (lit 1 0 ∷ lit 0 1 ∷ [])
-        ∷ needs 0 3 (lit 1 0 ∷ lit 0 1 ∷ [])
-        ∷ needs 1 0 (lit 2 0 ∷ lit 0 2 ∷ [])
-        ∷ needs 2 0 (lit 2 0 ∷ [])
-        ∷ []
-    ; rows =
-        ((to 0 1 8 (negsuc 1) ∷ to 0 0 2 (negsuc 1) ∷ []) ∷ (to 1 1 5 (negsuc 0) ∷ to 1 0 5 (negsuc 0) ∷ []) ∷ [] ∷ [] ∷ [])
-        ∷ ([] ∷ [] ∷ (to 2 2 9 (pos 10) ∷ to 2 1 1 (pos 0) ∷ []) ∷ [] ∷ [])
-        ∷ ([] ∷ [] ∷ [] ∷ (to 3 2 10 (pos 0) ∷ []) ∷ [])
-        ∷ []
+    record {
+      propositions = 2;
+      denominator = 10;
+      states = 0 ∷ 1 ∷ 2 ∷ [];
+      actions =
+          needs 0 3 (lit 1 0 ∷ lit 0 1 ∷ [])
+          ∷ needs 0 3 (lit 1 0 ∷ lit 0 1 ∷ [])
+          ∷ needs 1 0 (lit 2 0 ∷ lit 0 2 ∷ [])
+          ∷ needs 2 0 (lit 2 0 ∷ [])
+          ∷ [];
+      rows =
+          ((to 0 1 8 (negsuc 1) ∷ to 0 0 2 (negsuc 1) ∷ []) ∷ (to 1 1 5 (negsuc 0) ∷ to 1 0 5 (negsuc 0) ∷ []) ∷ [] ∷ [] ∷ [])
+          ∷ ([] ∷ [] ∷ (to 2 2 9 (pos 10) ∷ to 2 1 1 (pos 0) ∷ []) ∷ [] ∷ [])
+          ∷ ([] ∷ [] ∷ [] ∷ (to 3 2 10 (pos 0) ∷ []) ∷ [])
+          ∷ [];
     }
 
 pub record Row : Type 0 where

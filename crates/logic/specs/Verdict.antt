@@ -35,12 +35,12 @@ pub record Goal : Type 0 where
 -- The goal of operator 8, from a start state.
 abbrev pub plan-goal : Model → ℕ → ℕ → Formula → Relation → ℕ → ℕ → Goal
 plan-goal m s n φ r p q =
-    record
-    { steps = n
-    ; total = λ π. pos (W m φ n s π)
-    ; met = λ π. meets naturals m n r p q (W m φ n s π)
-    ; lead = leads naturals (W m φ n s) r (plans m n s)
-    ; counts = is-equal r
+    record {
+      steps = n;
+      total = λ π. pos (W m φ n s π);
+      met = λ π. meets naturals m n r p q (W m φ n s π);
+      lead = leads naturals (W m φ n s) r (plans m n s);
+      counts = is-equal r;
     }
 
 -- The goal of a root, or refusal 22: root not "plan".

@@ -57,10 +57,10 @@ entries b s a = cond (ltb s (state-count b) && ltb a (action-count b) && true-of
 -- The model in the blocks.
 unfoldable pub model-of : Bytes → Model
 model-of b =
-    record
-    { propositions = prop-count b
-    ; denominator = denominator-of b
-    ; states = tabulate (state-count b) (state-mask b)
-    ; actions = tabulate (action-count b) (λ a. record { pre = pre-of b a; posts = tabulate (post-count b a) (post-of b a) })
-    ; rows = tabulate (state-count b) (λ s. tabulate (action-count b) (λ a. tabulate (entries b s a) (outcome-of b s a)))
+    record {
+      propositions = prop-count b;
+      denominator = denominator-of b;
+      states = tabulate (state-count b) (state-mask b);
+      actions = tabulate (action-count b) (λ a. record { pre = pre-of b a; posts = tabulate (post-count b a) (post-of b a) });
+      rows = tabulate (state-count b) (λ s. tabulate (action-count b) (λ a. tabulate (entries b s a) (outcome-of b s a)));
     }

@@ -24,13 +24,13 @@ node-at i = 8 + 12 * i
 
 unfoldable pub node-of : Bytes → ℕ → Node
 node-of b i =
-    record
-    { operator = byte b (node-at i)
-    ; n = byte b (node-at i + 1)
-    ; left = byte b (node-at i + 2)
-    ; right = byte b (node-at i + 3)
-    ; p = i32 b (node-at i + 4)
-    ; q = u32 b (node-at i + 8)
+    record {
+      operator = byte b (node-at i);
+      n = byte b (node-at i + 1);
+      left = byte b (node-at i + 2);
+      right = byte b (node-at i + 3);
+      p = i32 b (node-at i + 4);
+      q = u32 b (node-at i + 8);
     }
 
 unfoldable pub formulas-of : Bytes → List Formula

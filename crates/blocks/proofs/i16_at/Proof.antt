@@ -1,33 +1,41 @@
+use Prim.Native.Nat.{_-_, _≤_}
+use native.Mathlib.Omega.{arith}
+use mathlib.Core.Path.{_≡_, sym, ap, _∙_}
+use lib.IntN.{pos, negsuc, _-ℤ_}
+use mir.Syntax.{w32}
+use mir.Val.{toZ, ofZ}
+use mir.ValLaws.{toZ-pos, toZ-ofZ}
+use Rattle.blocks.specs.Bytes.{i16, signed}
+use Rattle.blocks.proofs.Laws.{signed-low, signed-high, small, high16}
 use borrow.Author.Needs.{needs}
 use Rattle.blocks.proofs.i16_at.Statement.{statement}
 use Rattle.blocks.proofs.i16_at.Tie as tie
-use Rattle.blocks.proofs.i16_at.Reads as reads
-use Rattle.blocks.proofs.i16_at.Lts as lts
-use Rattle.blocks.proofs.u16_at.Reads as u16-at-reads
 
--- src/lib.rt:57:9
 u16-at-requires : tie.Need-u16-at-requires
 u16-at-requires c κs = search needs
 
--- src/lib.rt:59:16
 cast-result : tie.Need-cast-result
 cast-result c = search needs
 
--- src/lib.rt:59:9
 returns : tie.Need-returns
-returns c = ?
+unfolding i16
+returns c = let x = c .before .u16-at .result in
+    let e : toZ w32 x ≡ pos x = toZ-pos w32 x (omega arith) in
+    (e ∙ sym (signed-low 15 x (c .if1 .taken)) ∙ ap (signed 15) (c .before .u16-at .ensures .0), rw e (omega arith))
 
--- src/lib.rt:61:5
 cast-result-2 : tie.Need-cast-result-2
 cast-result-2 c = search needs
 
--- src/lib.rt:61:5
 sub-result : tie.Need-sub-result
-sub-result c = ?
+sub-result c = let x = c .before .u16-at .result in rw (high16 x (c .if1 .left) (c .before .u16-at .ensures .1)) (small (negsuc (65535 - x)) 32768 (omega arith) (omega arith))
 
--- src/lib.rt:53:1
 returns-2 : tie.Need-returns-2
-returns-2 c = ?
+unfolding i16
+returns-2 c = let x = c .before .u16-at .result in
+    let h : 32768 ≤ x = c .if1 .left in
+    let e : toZ w32 (ofZ w32 (toZ w32 x -ℤ pos 65536)) ≡ negsuc (65535 - x) =
+    rw (high16 x h (c .before .u16-at .ensures .1)) (toZ-ofZ w32 (negsuc (65535 - x)) (small (negsuc (65535 - x)) 32768 (omega arith) (omega arith))) in
+    (e ∙ sym (signed-high 15 x h) ∙ ap (signed 15) (c .before .u16-at .ensures .0), rw e (omega arith))
 
 pub i16-at-spec : {M : Type 1} → statement M
 i16-at-spec =

@@ -1,37 +1,43 @@
+use Prim.Native.Nat.{_-_, _≤_}
+use native.Mathlib.Omega.{arith}
+use mathlib.Core.Path.{sym, ap, _∙_}
+use lib.IntN.{negsuc}
+use mir.Syntax.{w32}
+use mir.ValLaws.{toZ-pos, toZ-ofZ}
+use Rattle.blocks.specs.Bytes.{i32, signed}
+use Rattle.blocks.proofs.Laws.{signed-low, signed-high, small, high32}
 use borrow.Author.Needs.{needs}
 use Rattle.blocks.proofs.i32_at.Statement.{statement}
 use Rattle.blocks.proofs.i32_at.Tie as tie
-use Rattle.blocks.proofs.i32_at.Reads as reads
-use Rattle.blocks.proofs.i32_at.Lts as lts
-use Rattle.blocks.proofs.u32_at.Reads as u32-at-reads
 
--- src/lib.rt:69:9
 u32-at-requires : tie.Need-u32-at-requires
 u32-at-requires c κs = search needs
 
--- src/lib.rt:71:16
 cast-result : tie.Need-cast-result
 cast-result c = search needs
 
--- src/lib.rt:71:9
 returns : tie.Need-returns
-returns c = ?
+unfolding i32
+returns c = let x = c .before .u32-at .result in
+    toZ-pos w32 x (c .if1 .taken) ∙ sym (signed-low 31 x (c .if1 .taken)) ∙ ap (signed 31) (c .before .u32-at .ensures)
 
--- src/lib.rt:73:11
 sub-result : tie.Need-sub-result
 sub-result c = search needs
 
--- src/lib.rt:73:10
 cast-result-2 : tie.Need-cast-result-2
 cast-result-2 c = search needs
 
--- src/lib.rt:73:5
 sub-result-2 : tie.Need-sub-result-2
-sub-result-2 c = ?
+sub-result-2 c = let x = c .before .u32-at .result in
+    let h : 2147483648 ≤ x = c .if1 .left in
+    rw (high32 x h (search needs)) (small (negsuc (4294967295 - x)) 2147483647 (omega arith) (omega arith))
 
--- src/lib.rt:65:1
 returns-2 : tie.Need-returns-2
-returns-2 c = ?
+unfolding i32
+returns-2 c = let x = c .before .u32-at .result in
+    let h : 2147483648 ≤ x = c .if1 .left in
+    rw (high32 x h (search needs)) (toZ-ofZ w32 (negsuc (4294967295 - x)) (small (negsuc (4294967295 - x)) 2147483647 (omega arith) (omega arith)))
+    ∙ sym (signed-high 31 x h) ∙ ap (signed 31) (c .before .u32-at .ensures)
 
 pub i32-at-spec : {M : Type 1} → statement M
 i32-at-spec =

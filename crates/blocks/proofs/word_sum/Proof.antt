@@ -1,85 +1,73 @@
+use Prim.Native.Nat.{_+_, _-_, _*_, _≤_}
+use native.Mathlib.Omega.{arith}
+use native.Mathlib.Numerals.{add-one}
+use mathlib.Core.Path.{_≡_, refl, ap, _∙_}
+use Rattle.blocks.specs.Bytes.{u16}
+use Rattle.blocks.specs.Block.{sum-below, word-sum}
 use Rattle.blocks.proofs.word_sum.Statement.{statement}
 use Rattle.blocks.proofs.word_sum.Tie as tie
-use Rattle.blocks.proofs.word_sum.Reads as reads
-use Rattle.blocks.proofs.word_sum.Lts as lts
 
 abbrev Inv-loop : tie.InvT-loop
-Inv-loop b k at sum₀ j₀ sum j = ?
+Inv-loop b k at sum₀ j₀ sum j = (at ≡ 512 * k) × (j ≤ 256) × (sum ≤ 65535 * j) × (sum ≡ sum-below j (λ i. u16 b (512 * k + 2 * i)))
 
 abbrev μ-loop : tie.MeasureT-loop
-μ-loop b k at sum₀ j₀ sum j = ?
+μ-loop b k at sum₀ j₀ sum j = 256 - j
 
--- src/lib.rt:95:14
 mul-at : tie.Need-mul-at Inv-loop μ-loop
-mul-at c = ?
+mul-at c = omega arith
 
--- src/lib.rt:98:5
 loop-holds : tie.Need-loop-holds Inv-loop μ-loop
-loop-holds c = ?
+unfolding sum-below
+loop-holds c = (refl, omega arith, omega arith, refl)
 
--- src/lib.rt:99:23
-mul-sum : tie.Need-mul-sum Inv-loop μ-loop
-mul-sum c = ?
+mul-i : tie.Need-mul-i Inv-loop μ-loop
+mul-i c = omega arith
 
--- src/lib.rt:99:18
-add-sum : tie.Need-add-sum Inv-loop μ-loop
-add-sum c = ?
+add-i : tie.Need-add-i Inv-loop μ-loop
+add-i c = omega arith
 
--- src/lib.rt:99:16
 shared-slice-read-sum : tie.Need-shared-slice-read-sum Inv-loop μ-loop
-shared-slice-read-sum c = ?
+shared-slice-read-sum c = omega arith
 
--- src/lib.rt:99:16
 cast-sum : tie.Need-cast-sum Inv-loop μ-loop
-cast-sum c = ?
+cast-sum c = omega (arith, c .shared-slice-known .given (512 * c .before .before .before .args .k + 2 * c .before .before .loop .j))
 
--- src/lib.rt:99:52
-mul-sum-2 : tie.Need-mul-sum-2 Inv-loop μ-loop
-mul-sum-2 c = ?
+add-sum : tie.Need-add-sum Inv-loop μ-loop
+add-sum c = omega arith
 
--- src/lib.rt:99:47
-add-sum-2 : tie.Need-add-sum-2 Inv-loop μ-loop
-add-sum-2 c = ?
-
--- src/lib.rt:99:47
-add-sum-3 : tie.Need-add-sum-3 Inv-loop μ-loop
-add-sum-3 c = ?
-
--- src/lib.rt:99:45
 shared-slice-read-sum-2 : tie.Need-shared-slice-read-sum-2 Inv-loop μ-loop
-shared-slice-read-sum-2 c = ?
+shared-slice-read-sum-2 c = omega arith
 
--- src/lib.rt:99:45
 cast-sum-2 : tie.Need-cast-sum-2 Inv-loop μ-loop
-cast-sum-2 c = ?
+cast-sum-2 c = omega (arith, c .shared-slice-known2 .given (512 * c .before .before .before .before .args .k + 2 * c .before .before .before .loop .j), c .shared-slice-known2 .given (512 * c .before .before .before .before .args .k + 2 * c .before .before .before .loop .j + 1))
 
--- src/lib.rt:99:39
-mul-sum-3 : tie.Need-mul-sum-3 Inv-loop μ-loop
-mul-sum-3 c = ?
+mul-sum : tie.Need-mul-sum Inv-loop μ-loop
+mul-sum c = omega (arith, c .shared-slice-known2 .given (512 * c .before .before .before .before .args .k + 2 * c .before .before .before .loop .j), c .shared-slice-known2 .given (512 * c .before .before .before .before .args .k + 2 * c .before .before .before .loop .j + 1))
 
--- src/lib.rt:99:16
-add-sum-4 : tie.Need-add-sum-4 Inv-loop μ-loop
-add-sum-4 c = ?
+add-sum-2 : tie.Need-add-sum-2 Inv-loop μ-loop
+add-sum-2 c = omega (arith, c .shared-slice-known2 .given (512 * c .before .before .before .before .args .k + 2 * c .before .before .before .loop .j), c .shared-slice-known2 .given (512 * c .before .before .before .before .args .k + 2 * c .before .before .before .loop .j + 1))
 
--- src/lib.rt:99:9
-add-sum-5 : tie.Need-add-sum-5 Inv-loop μ-loop
-add-sum-5 c = ?
+add-sum-3 : tie.Need-add-sum-3 Inv-loop μ-loop
+add-sum-3 c = omega (arith, c .shared-slice-known2 .given (512 * c .before .before .before .before .args .k + 2 * c .before .before .before .loop .j), c .shared-slice-known2 .given (512 * c .before .before .before .before .args .k + 2 * c .before .before .before .loop .j + 1))
 
--- src/lib.rt:100:9
 add-j : tie.Need-add-j Inv-loop μ-loop
-add-j c = ?
+add-j c = omega arith
 
--- src/lib.rt:98:5
 loop-less : tie.Need-loop-less Inv-loop μ-loop
-loop-less c = ?
+loop-less c = omega arith
 
--- src/lib.rt:98:5
 loop-again : tie.Need-loop-again Inv-loop μ-loop
-loop-again c = ?
+unfolding sum-below u16
+loop-again c = let j = c .before .before .before .loop .j in
+    let e = c .before .before .before .loop .inv .3 in
+    (refl, omega arith, omega (arith, c .shared-slice-known2 .given (512 * c .before .before .before .before .args .k + 2 * c .before .before .before .loop .j), c .shared-slice-known2 .given (512 * c .before .before .before .before .args .k + 2 * c .before .before .before .loop .j + 1)), rw (add-one j, e) refl)
 
--- src/lib.rt:91:1
 returns : tie.Need-returns Inv-loop μ-loop
-returns c = ?
+unfolding word-sum
+returns c = let b = c .before .before .args .b .now in
+    let k = c .before .before .args .k in
+    let e : c .before .loop .j ≡ 256 = omega arith in
+    c .before .loop .inv .3 ∙ ap (λ n. sum-below n (λ i. u16 b (512 * k + 2 * i))) e
 
 pub word-sum-spec : {M : Type 1} → statement M
 word-sum-spec =
@@ -89,18 +77,16 @@ word-sum-spec =
     μ-loop
     mul-at
     loop-holds
-    mul-sum
-    add-sum
+    mul-i
+    add-i
     shared-slice-read-sum
     cast-sum
-    mul-sum-2
-    add-sum-2
-    add-sum-3
+    add-sum
     shared-slice-read-sum-2
     cast-sum-2
-    mul-sum-3
-    add-sum-4
-    add-sum-5
+    mul-sum
+    add-sum-2
+    add-sum-3
     add-j
     loop-less
     loop-again

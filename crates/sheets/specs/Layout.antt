@@ -1,0 +1,46 @@
+-- Where a sheet's fields stand in its blocks, what they hold, and the blocks that are written of a plan. A sheet is document 01's word for
+-- a certificate: a plan's choices with the total claimed for them. Document 01, "Blocks of 512 bytes", Sheet.
+use Prim.Native.Nat.{ℕ, zero, suc, _+_, _*_, _-_, _/_, _%_}
+use mathlib.Core.List.{List, [], _∷_, _++_, flatMap}
+use lib.IntN.{ℤ, pos}
+use lib.ListN.{length, take, drop, replicate}
+use Rattle.logic.specs.Lists.{count-from}
+use Rattle.blocks.specs.Bytes.{Bytes, u16, u64, little-endian}
+use Rattle.blocks.specs.Block.{sum-below, block-count}
+
+-- What a sheet says.
+pub record Sheet : Type 0 where
+  pub weight : ℤ
+  pub choices : List ℕ
+
+-- In block k: at 8 the weight, at 16 the count of choices here, from 18 the choices, one action byte each.
+unfoldable pub weight-of : Bytes → ℕ → ℕ
+weight-of b k = u64 b (512 * k + 8)
+
+unfoldable pub count-of : Bytes → ℕ → ℕ
+count-of b k = u16 b (512 * k + 16)
+
+unfoldable pub choices-of : Bytes → ℕ → List ℕ
+choices-of b k = take (count-of b k) (drop (512 * k + 18) b)
+
+unfoldable pub sheet-of : Bytes → Sheet
+sheet-of b = record { weight = pos (weight-of b 0); choices = flatMap (choices-of b) (count-from 0 (block-count b)) }
+
+-- ---- what is written
+
+-- 510 bytes with the word that makes the 256 words sum to 0 modulo 65,536.
+unfoldable pub with-word-sum : Bytes → Bytes
+with-word-sum l = l ++ little-endian 2 ((65536 - sum-below 255 (λ j. u16 l (2 * j)) % 65536) % 65536)
+
+-- Block k of a sheet: kind 4, its number, n, the start state, the weight, and these choices of it.
+unfoldable pub sheet-block : (n start weight : ℕ) → ℕ → List ℕ → Bytes
+sheet-block n start w k cs =
+    with-word-sum
+    (4 ∷ k ∷ n ∷ start ∷ 0 ∷ 0 ∷ 0 ∷ 0 ∷ (little-endian 8 w ++ (little-endian 2 (length cs) ++ (cs ++ replicate (492 - length cs) 0))))
+
+-- Every block but the last holds exactly 490 choices.
+unfoldable pub blocks-for : ℕ → ℕ
+blocks-for count = (count + 489) / 490
+
+unfoldable pub sheet-bytes : (n start weight : ℕ) → List ℕ → Bytes
+sheet-bytes n start w cs = flatMap (λ k. sheet-block n start w k (take 490 (drop (490 * k) cs))) (count-from 0 (blocks-for (length cs)))

@@ -1,0 +1,1 @@
+// Sheets: reading, writing, and the plan that the choices spell.

@@ -1,0 +1,126 @@
+//! Load, put, judge, write and check.
+
+use crate::blocks::{read_model, read_question, read_sheet, Sheet};
+use crate::ground::{demand, Ground};
+use crate::logic::{check_limits, fast, plain, Judged, Model, Plan, PlanNode};
+use crate::logic::{Question, Totals, Verdict};
+
+/// Which of the two judges a desk uses.
+#[derive(Clone, Copy, Debug, Default, PartialEq, Eq)]
+pub enum JudgeKind {
+    #[default]
+    Fast,
+    Plain,
+}
+
+/// "Desk" is document 01's word for the judge's state: the model of the last
+/// load done, the question of the last put done since, and its verdict once
+/// judged. A refused call changes nothing.
+#[derive(Clone, Debug, Default, PartialEq, Eq)]
+pub struct Desk {
+    model: Option<Model>,
+    question: Option<Question>,
+    judged: Option<Judged>,
+    kind: JudgeKind,
+}
+
+impl Desk {
+    /// The empty desk.
+    pub fn new(kind: JudgeKind) -> Desk {
+        Desk {
+            kind,
+            ..Desk::default()
+        }
+    }
+
+    /// The held model.
+    pub fn model(&self) -> Result<&Model, Ground> {
+        self.model.as_ref().ok_or(Ground::NoModel)
+    }
+
+    /// The held question.
+    pub fn question(&self) -> Result<&Question, Ground> {
+        self.model()?;
+        self.question.as_ref().ok_or(Ground::NoQuestion)
+    }
+
+    /// The question's root, which must be a plan node.
+    fn root_plan(&self) -> Result<PlanNode, Ground> {
+        self.question()?.root_plan().ok_or(Ground::RootNotPlan)
+    }
+
+    /// Loads a model, clearing question and verdict.
+    pub fn load(&mut self, bytes: &[u8]) -> Result<(), Ground> {
+        let model = read_model(bytes)?;
+        *self = Desk {
+            model: Some(model),
+            ..Desk::new(self.kind)
+        };
+        Ok(())
+    }
+
+    /// Puts a question, clearing the verdict.
+    pub fn put(&mut self, bytes: &[u8]) -> Result<(), Ground> {
+        let question = read_question(bytes, self.model()?)?;
+        self.question = Some(question);
+        self.judged = None;
+        Ok(())
+    }
+
+    /// Judges the held question and holds the verdict.
+    pub fn judge(&mut self) -> Result<&Judged, Ground> {
+        let model = self.model()?;
+        let question = self.question()?;
+        let totals = Totals::of(model);
+        check_limits(question, &totals)?;
+        let judged = match self.kind {
+            JudgeKind::Fast => fast::judge(model, question, &totals),
+            JudgeKind::Plain => plain::judge(model, question),
+        };
+        Ok(self.judged.insert(judged))
+    }
+
+    /// Writes the shown plan's sheet into the first blocks of the buffer and
+    /// gives the number of bytes written.
+    pub fn write(&self, buffer: &mut [u8]) -> Result<usize, Ground> {
+        self.root_plan()?;
+        let (weight, steps, choices) = self.shown().ok_or(Ground::NoShownPlan)?;
+        let sheet = Sheet {
+            steps,
+            start: self.question()?.start,
+            weight,
+            choices: choices.to_vec(),
+        };
+        let packed = sheet.pack();
+        let place = buffer.get_mut(..packed.len()).ok_or(Ground::ShortBuffer)?;
+        place.copy_from_slice(&packed);
+        Ok(packed.len())
+    }
+
+    /// The weight, steps and choices of the plan that a yes shows.
+    fn shown(&self) -> Option<(u64, u8, &[u8])> {
+        let judged = self.judged.as_ref()?;
+        match judged.verdict {
+            Verdict::YesPlan(record) => Some((record.weight, record.steps, &judged.choices)),
+            _ => None,
+        }
+    }
+
+    /// Checks a sheet; on accepting it, tells whether its weight meets the
+    /// bound.
+    pub fn check(&self, bytes: &[u8]) -> Result<bool, Ground> {
+        let root = self.root_plan()?;
+        let (model, question) = (self.model()?, self.question()?);
+        let totals = Totals::of(model);
+        check_limits(question, &totals)?;
+        let sheet = read_sheet(bytes, root.steps, question.start)?;
+        let plan = Plan::from_choices(model, question.start, root.steps(), &sheet.choices)
+            .ok_or(Ground::Choices)?;
+        let weight = match self.kind {
+            JudgeKind::Fast => fast::weight_of(model, question, &root, &plan, &totals),
+            JudgeKind::Plain => plain::weight_of(model, question, &root, &plan),
+        };
+        demand(weight == sheet.weight, Ground::Weight)?;
+        Ok(root.met_by(weight, model.whole(root.steps())))
+    }
+}

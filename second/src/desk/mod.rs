@@ -1,0 +1,9 @@
+//! The desk and its five calls, and lists of calls.
+
+mod calls;
+mod line;
+mod list;
+
+pub use calls::{Desk, JudgeKind};
+pub use line::{verdict_line, verdict_of};
+pub use list::{adler, next_call, Answer, Call};

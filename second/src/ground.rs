@@ -1,0 +1,41 @@
+//! The grounds of refusal, numbered as in document 01.
+
+/// A refusal yields one of these; where several apply, the first in the
+/// document's order.
+#[derive(Clone, Copy, Debug, PartialEq, Eq, PartialOrd, Ord)]
+pub enum Ground {
+    Length = 1,
+    WordSum = 2,
+    Kind = 3,
+    Counts = 4,
+    Range = 5,
+    Spare = 6,
+    Outcomes = 7,
+    NoEnabledAction = 8,
+    Formula = 9,
+    Choices = 10,
+    Weight = 11,
+    ShortBuffer = 12,
+    NoModel = 20,
+    NoQuestion = 21,
+    RootNotPlan = 22,
+    NoShownPlan = 23,
+    TooManyPaths = 24,
+    TooManyPlans = 25,
+}
+
+impl Ground {
+    /// The document's number of this ground.
+    pub fn number(self) -> u8 {
+        self as u8
+    }
+}
+
+/// Passes where `allowed`, and is otherwise refused on `ground`.
+pub fn demand(allowed: bool, ground: Ground) -> Result<(), Ground> {
+    if allowed {
+        Ok(())
+    } else {
+        Err(ground)
+    }
+}

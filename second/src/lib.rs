@@ -1,0 +1,9 @@
+//! A second implementation of the plan judge, written from its documents
+//! alone, to be laid beside the proved one call by call.
+
+pub mod blocks;
+pub mod bytes;
+pub mod desk;
+pub mod ground;
+pub mod logic;
+pub mod text;

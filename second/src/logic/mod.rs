@@ -1,0 +1,19 @@
+//! The logic of bounded policies with rewards along a path: models, formulas,
+//! plans and two judges of plan questions.
+
+mod formula;
+mod limits;
+mod model;
+mod path;
+mod plan;
+mod verdict;
+
+pub mod fast;
+pub mod plain;
+
+pub use formula::{Bound, Node, PlanNode, Question, Relation};
+pub use limits::{check_limits, Totals, MOST_PATHS, MOST_PLANS};
+pub use model::{Action, Literals, Model, Move, Outcome};
+pub use path::Path;
+pub use plan::Plan;
+pub use verdict::{Judged, PlanRecord, Verdict};

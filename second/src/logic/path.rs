@@ -1,0 +1,30 @@
+//! A path: the states passed, with the action and reward of each step.
+
+/// A path of document 001, Definition 2, with the rewards of its steps.
+#[derive(Clone, Debug, PartialEq, Eq)]
+pub struct Path {
+    /// One more than there are steps.
+    pub states: Vec<u8>,
+    pub actions: Vec<u8>,
+    pub rewards: Vec<i16>,
+    /// The product of the weights of its steps.
+    pub weight: u64,
+}
+
+impl Path {
+    /// The path of no steps, which only stands in a state.
+    pub fn standing(state: u8) -> Path {
+        Path {
+            states: vec![state],
+            actions: Vec::new(),
+            rewards: Vec::new(),
+            weight: 1,
+        }
+    }
+
+    /// The sum of `steps` rewards from a place on.
+    pub fn gain(&self, place: usize, steps: usize) -> i32 {
+        let rewards = self.rewards.iter().skip(place).take(steps);
+        rewards.map(|reward| i32::from(*reward)).sum()
+    }
+}

@@ -1,0 +1,154 @@
+//! The judge straight from the definitions: every plan in dictionary order,
+//! every path of each, every formula by recursion. Slow, and plain to check.
+
+use super::{Judged, Model, Node, Path, Plan, PlanNode, PlanRecord, Question};
+use super::{Relation, Totals, Verdict};
+
+/// The verdict on a question.
+pub fn judge(model: &Model, question: &Question) -> Judged {
+    let reader = Reader { model, question };
+    if let Some(plan) = question.root_plan() {
+        return reader.judge_plan(&plan);
+    }
+    let place = Path::standing(question.start);
+    let yes = reader.holds(question.root(), &place, 0);
+    Judged::plain(if yes {
+        Verdict::Yes
+    } else {
+        Verdict::No { count: 0 }
+    })
+}
+
+/// The summed weights of those of the plan's paths on which the condition of
+/// the question's root is true.
+pub fn weight_of(model: &Model, question: &Question, root: &PlanNode, plan: &Plan) -> u64 {
+    Reader { model, question }.weight(root, plan)
+}
+
+/// About how many nodes `judge` will look at: plans times paths times the
+/// formula followed as a tree.
+pub fn cost(model: &Model, question: &Question, totals: &Totals) -> u128 {
+    let mut costs: Vec<u128> = Vec::new();
+    for node in &question.nodes {
+        let of = |child: u8| costs.get(usize::from(child)).copied().unwrap_or(0);
+        let below = match *node {
+            Node::Not(child) | Node::Next(child) => of(child),
+            Node::And(left, right) => of(left).saturating_add(of(right)),
+            Node::Plan(plan) => of(plan.condition)
+                .saturating_add(8)
+                .saturating_mul(plan_paths(model, plan.steps(), totals)),
+            _ => 0,
+        };
+        costs.push(below.saturating_add(1));
+    }
+    costs.last().copied().unwrap_or(0)
+}
+
+/// The most (plan, path) pairs from any state.
+fn plan_paths(model: &Model, steps: usize, totals: &Totals) -> u128 {
+    let states = 0..u8::try_from(model.states()).unwrap_or(u8::MAX);
+    let pairs = states.map(|state| {
+        let paths = 4u128.pow(u32::try_from(steps).unwrap_or(6));
+        let paths = paths.min(u128::from(totals.paths(steps, state)));
+        u128::from(totals.plans(steps, state)).saturating_mul(paths)
+    });
+    pairs.max().unwrap_or(0)
+}
+
+struct Reader<'a> {
+    model: &'a Model,
+    question: &'a Question,
+}
+
+impl Reader<'_> {
+    /// Whether a node is true on a path from a place on (Definition 4).
+    fn holds(&self, node: usize, path: &Path, place: usize) -> bool {
+        let Some(node) = self.question.nodes.get(node) else {
+            return false;
+        };
+        let state = path.states.get(place).copied().unwrap_or(u8::MAX);
+        let child = |number: u8, place: usize| self.holds(usize::from(number), path, place);
+        match *node {
+            Node::False => false,
+            Node::Proposition(number) => self.model.holds(state, number),
+            Node::Not(number) => !child(number, place),
+            Node::And(left, right) => child(left, place) && child(right, place),
+            Node::Do(action) => path.actions.get(place) == Some(&action),
+            Node::Next(number) => child(number, place + 1),
+            Node::Gain {
+                steps,
+                relation,
+                bound,
+            } => relation.relates(path.gain(place, usize::from(steps)), bound),
+            Node::Plan(plan) => self.some_plan(&plan, state),
+        }
+    }
+
+    /// Whether some plan from the state meets the node's bound.
+    fn some_plan(&self, node: &PlanNode, state: u8) -> bool {
+        let whole = self.model.whole(node.steps());
+        let mut plan = Plan::first(self.model, state, node.steps());
+        loop {
+            if node.met_by(self.weight(node, &plan), whole) {
+                return true;
+            }
+            if !plan.advance(self.model) {
+                return false;
+            }
+        }
+    }
+
+    fn weight(&self, node: &PlanNode, plan: &Plan) -> u64 {
+        let paths = plan.paths(self.model).into_iter();
+        let condition = usize::from(node.condition);
+        let meeting = paths.filter(|path| self.holds(condition, path, 0));
+        meeting.map(|path| path.weight).sum()
+    }
+
+    /// The verdict on a plan root: all plans are tried, the best first one is
+    /// shown.
+    fn judge_plan(&self, node: &PlanNode) -> Judged {
+        let whole = self.model.whole(node.steps());
+        let mut plan = Plan::first(self.model, self.question.start, node.steps());
+        let mut shown: Option<(u64, u64, Plan)> = None;
+        let mut place = 0;
+        loop {
+            place += 1;
+            let weight = self.weight(node, &plan);
+            let met = node.met_by(weight, whole);
+            if met && better(node.relation, weight, shown.as_ref().map(|best| best.0)) {
+                shown = Some((weight, place, plan.clone()));
+            }
+            if !plan.advance(self.model) {
+                break;
+            }
+        }
+        self.verdict(node, shown, place)
+    }
+
+    fn verdict(&self, node: &PlanNode, shown: Option<(u64, u64, Plan)>, all: u64) -> Judged {
+        let counted = |count: u64| match node.relation {
+            Relation::Equal => count,
+            _ => 0,
+        };
+        let Some((weight, place, plan)) = shown else {
+            return Judged::plain(Verdict::No {
+                count: counted(all),
+            });
+        };
+        Judged {
+            verdict: Verdict::YesPlan(PlanRecord {
+                weight,
+                steps: node.steps,
+                count: counted(place),
+            }),
+            choices: plan.choices(self.model),
+        }
+    }
+}
+
+/// Whether a plan of this weight is shown rather than the best so far: only a
+/// greater weight for "greater", a lesser for "less", none for "equal".
+fn better(relation: Relation, weight: u64, best: Option<u64>) -> bool {
+    best.is_none_or(|best| relation != Relation::Equal && relation.relates(weight, best))
+}

@@ -1,0 +1,39 @@
+//! The lines of a sheet.
+
+use super::names::ModelNames;
+use super::words::Words;
+use crate::blocks::Sheet;
+
+/// A sheet has room for no more choices than its three blocks; a text may
+/// make a fourth block to be refused.
+const MOST_CHOICES: usize = 4 * 490;
+
+/// `sheet n 2 start 0 weight 45`.
+pub(super) fn begin(words: &mut Words, names: &ModelNames) -> Result<Sheet, String> {
+    words.take_word("n")?;
+    let steps = words.take_number("n")?;
+    words.take_word("start")?;
+    let start = names.states.number(&words.take("the start state")?)?;
+    words.take_word("weight")?;
+    let weight = words.take_number("the weight")?;
+    words.end()?;
+    Ok(Sheet {
+        steps,
+        start,
+        weight,
+        choices: Vec::new(),
+    })
+}
+
+/// `choices 1 2 0`: further choices, by number or name.
+pub(super) fn line(sheet: &mut Sheet, words: &mut Words, names: &ModelNames) -> Result<(), String> {
+    words.take_word("choices")?;
+    while words.peek().is_some() {
+        let choice = names.actions.number(&words.take("a choice")?)?;
+        sheet.choices.push(choice);
+    }
+    if sheet.choices.len() > MOST_CHOICES {
+        return Err(format!("a text has at most {MOST_CHOICES} choices"));
+    }
+    Ok(())
+}
