@@ -1,15 +1,16 @@
 -- What the proofs of the reading of questions share: the formulas of the first k nodes are the first k formulas, so a table filled node
 -- by node holds what is asked of each; and a refusal is read off the guards one after the other.
 use Prim.Native.Nat.{ℕ, zero, suc, _+_, _*_, _≤_, _<_, max, zero-le, suc-le-suc}
-use native.Mathlib.Nat.{not-suc-le-zero, le-of-suc-le-suc, eq-or-lt-of-le, add-suc}
+use native.Mathlib.Nat.{not-suc-le-zero, le-of-suc-le-suc, eq-or-lt-of-le, add-zero, add-suc}
 use native.Mathlib.Numerals.{add-one}
+use native.Mathlib.Decide.{decLt, ℕ-discrete}
 use native.Mathlib.Omega.{arith}
 use mathlib.Core.Path.{_≡_, refl, sym, ap, ap₂, subst, _∙_}
 use mathlib.Core.Logic.{⊎-elim}
 use mathlib.Core.Bool.{Bool, true, false, _&&_, and-true}
 use mathlib.Core.List.{List, [], _∷_, _++_, map, map-append, append-assoc}
 use lib.Dec.{eqb}
-use lib.ListN.{length, getD, take, set, length-append, length-set, length-map, List·getD-append, List·getD-eq-default}
+use lib.ListN.{length, getD, take, set, length-append, length-set, length-take, length-map, List·getD-append, List·getD-eq-default}
 use lib.Seq.{getD-at, getD-take, take-at, take-all, take-append-le, ext-getD, getD-set-same, getD-set-other}
 use Rattle.logic.specs.Lists.{all, every, count-from, tabulate}
 use Rattle.logic.specs.Checked.{Checked, ok, refused, refusal, guard, _>>_}
@@ -41,7 +42,7 @@ and-assoc false b c = refl
 
 every-join : (f : ℕ → Bool) (m n : ℕ) → every (m + n) f ≡ (every m f && every n (λ i. f (m + i)))
 unfolding every
-every-join f m zero = ap (λ k. every k f) (omega arith) ∙ sym (and-true (every m f))
+every-join f m zero = rw (add-zero m) (sym (and-true (every m f)))
 every-join f m (suc n) = rw (add-suc m n) (ap (λ t. t && f (m + n)) (every-join f m n) ∙ and-assoc (every m f) (every n (λ i. f (m + i))) (f (m + n)))
 
 pub every-same : {f g : ℕ → Bool} (n : ℕ) → ((i : ℕ) → i < n → f i ≡ g i) → every n f ≡ every n g
@@ -78,14 +79,15 @@ by-operator P p0 p1 p2 p3 p4 p5 p6 p7 p8 p9 (suc (suc (suc (suc (suc (suc (suc (
 
 -- ---- the formulas of the first k nodes
 
-count-more : (k n : ℕ) → count-from k (suc n) ≡ count-from k n ++ (k + n ∷ [])
+count-more : (k n : ℕ) → count-from k (suc n) ≡ count-from k n ++ ((k + n) ∷ [])
 unfolding count-from
-count-more k zero = ap (λ x. x ∷ []) (omega arith)
-count-more k (suc n) = ap (λ l. k ∷ l) (count-more (suc k) n ∙ ap (λ x. count-from (suc k) n ++ (x ∷ [])) (omega arith))
+count-more k zero = let e : k ≡ k + 0 = omega arith in ap (λ (x : ℕ). x ∷ []) e
+count-more k (suc n) = let e : suc k + n ≡ k + suc n = omega arith in
+    ap (λ (l : List ℕ). k ∷ l) (count-more (suc k) n ∙ ap (λ (x : ℕ). count-from (suc k) n ++ (x ∷ [])) e)
 
 tabulate-more : {A : Type 0} (f : ℕ → A) (n : ℕ) → tabulate (suc n) f ≡ tabulate n f ++ (f n ∷ [])
 unfolding tabulate
-tabulate-more f n = ap (map f) (count-more 0 n) ∙ map-append f (count-from 0 n) (0 + n ∷ []) ∙ ap (λ x. map f (count-from 0 n) ++ (f x ∷ [])) (omega arith)
+tabulate-more f n = let e : 0 + n ≡ n = omega arith in ap (map f) (count-more 0 n) ∙ map-append f (count-from 0 n) ((0 + n) ∷ []) ∙ ap (λ (x : ℕ). map f (count-from 0 n) ++ (f x ∷ [])) e
 
 formulas-append : (fs : List Formula) (xs ys : List Node) → formulas fs (xs ++ ys) ≡ formulas (formulas fs xs) ys
 unfolding formulas
@@ -110,8 +112,8 @@ module _ (b : Bytes) where
   before-take i zero h = take-all i (formulas-before b zero) (rw (before-length zero) zero-le) ∙ ap (formulas-before b) (omega arith)
   before-take i (suc k) h =
       ⊎-elim
-      (λ e. take-all i (formulas-before b (suc k)) (rw (before-length (suc k)) (omega arith)) ∙ ap (formulas-before b) (sym e))
-      (λ l. rw (before-more k) (take-append-le i (formulas-before b k) (formula-at k ∷ []) (rw (before-length k) (le-of-suc-le-suc l)) ∙ before-take i k (le-of-suc-le-suc l)))
+      (λ (e : i ≡ suc k). take-all i (formulas-before b (suc k)) (rw (before-length (suc k)) (omega arith)) ∙ ap (formulas-before b) (sym e))
+      (λ (l : i < suc k). rw (before-more k) (take-append-le i (formulas-before b k) (formula-at k ∷ []) (rw (before-length k) (le-of-suc-le-suc l)) ∙ before-take i k (le-of-suc-le-suc l)))
       (eq-or-lt-of-le h)
 
   -- The formula at a node is the one that its operator makes of those before it.
@@ -121,17 +123,61 @@ module _ (b : Bytes) where
       ∙ ap (λ fs. getD fs i never) (before-take (suc i) k h ∙ before-more i)
       ∙ getD-at (formulas-before b i) (formula-at i) [] never i (before-length i)
 
+  -- Node i changes no other place.
+  pub before-other : (i j : ℕ) → (j ≡ i → ⊥) → getD (formulas-before b i) j never ≡ getD (formulas-before b (suc i)) j never
+  before-other i j n = go (decLt j i)
+    where
+      go : Dec (j < i) → getD (formulas-before b i) j never ≡ getD (formulas-before b (suc i)) j never
+      go (yes l) = before-at j i l ∙ sym (before-at j (suc i) (omega arith))
+      go (no g) =
+          List·getD-eq-default (formulas-before b i) never (rw (before-length i) (omega arith))
+          ∙ sym (List·getD-eq-default (formulas-before b (suc i)) never (rw (before-length (suc i)) (omega arith)))
+
 -- ---- tables
 
 module _ {A : Type 0} (f : Formula → A) (b : Bytes) where
+  pub table-length : (fs : List Formula) → length (table f fs) ≡ 40
+  unfolding table
+  table-length fs = length-tabulate (λ i. f (getD fs i never)) 40
+
+  table-at : (fs : List Formula) (i : ℕ) → i < 40 → getD (table f fs) i (f never) ≡ f (getD fs i never)
+  unfolding table
+  table-at fs i h = getD-tabulate (λ i. f (getD fs i never)) 40 (f never) h
+
   -- What a table says of a child: the first i places are those of the formulas before node i.
   pub child-at : (i j k : ℕ) → i ≤ k → i ≤ 40 → getD (take i (table f (formulas-before b k))) j (f never) ≡ f (getD (formulas-before b i) j never)
-  child-at i j k h g = ?
+  child-at i j k h g = go (decLt j i)
+    where
+      go : Dec (j < i) → getD (take i (table f (formulas-before b k))) j (f never) ≡ f (getD (formulas-before b i) j never)
+      go (yes l) =
+          getD-take i (table f (formulas-before b k)) j (f never) l
+          ∙ table-at (formulas-before b k) j (omega arith)
+          ∙ ap f (before-at b j k (omega arith) ∙ sym (before-at b j i l))
+      go (no l) =
+          List·getD-eq-default (take i (table f (formulas-before b k))) (f never) (simp (length-take, table-length) (omega arith))
+          ∙ ap f (sym (List·getD-eq-default (formulas-before b i) never (rw (before-length b i) (omega arith))))
+
+  table-same : (fs gs : List Formula) → ((i : ℕ) → i < 40 → getD fs i never ≡ getD gs i never) → table f fs ≡ table f gs
+  table-same fs gs h =
+      ext-getD (f never) (table f fs) (table f gs) (table-length fs ∙ sym (table-length gs))
+      (λ i l. let g : i < 40 = rw (table-length fs) at l in table-at fs i g ∙ ap f (h i g) ∙ sym (table-at gs i g))
 
   -- The table after one node more.
   pub table-more : (i : ℕ) → i < 40 → set (table f (formulas-before b i)) i (f (formula-at b i)) ≡ table f (formulas-before b (suc i))
-  table-more i h = ?
+  table-more i h =
+      ext-getD (f never) (set (table f (formulas-before b i)) i (f (formula-at b i))) (table f (formulas-before b (suc i)))
+      (length-set (table f (formulas-before b i)) i (f (formula-at b i)) ∙ table-length (formulas-before b i) ∙ sym (table-length (formulas-before b (suc i))))
+      (λ j l. go j (rw (length-set (table f (formulas-before b i)) i (f (formula-at b i)) ∙ table-length (formulas-before b i)) at l) (ℕ-discrete j i))
+    where
+      go : (j : ℕ) → j < 40 → Dec (j ≡ i) → getD (set (table f (formulas-before b i)) i (f (formula-at b i))) j (f never) ≡ getD (table f (formulas-before b (suc i))) j (f never)
+      go j l (yes e) =
+          rw e (getD-set-same (table f (formulas-before b i)) i (f (formula-at b i)) (f never) (rw (table-length (formulas-before b i)) h)
+          ∙ ap f (sym (before-at b i (suc i) (omega arith)))
+          ∙ sym (table-at (formulas-before b (suc i)) i h))
+      go j l (no n) =
+          getD-set-other (table f (formulas-before b i)) i j (f (formula-at b i)) (f never) n
+          ∙ table-at (formulas-before b i) j l ∙ ap f (before-other b i j n) ∙ sym (table-at (formulas-before b (suc i)) j l)
 
   -- Only the first 40 nodes stand in a table.
-  pub table-full : (k : ℕ) → 40 ≤ k → table f (formulas-before b k) ≡ table f (formulas-before b 40)
-  table-full k h = ?
+  pub table-full : (k : ℕ) → 40 ≤ k → table f (formulas-before b 40) ≡ table f (formulas-before b k)
+  table-full k h = table-same (formulas-before b 40) (formulas-before b k) (λ i l. before-at b i 40 l ∙ sym (before-at b i k (omega arith)))
