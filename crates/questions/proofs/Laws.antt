@@ -6,18 +6,20 @@ use native.Mathlib.Numerals.{add-one}
 use native.Mathlib.Decide.{decLt, ℕ-discrete}
 use native.Mathlib.Omega.{arith}
 use mathlib.Core.Path.{_≡_, refl, sym, ap, ap₂, subst, _∙_}
-use mathlib.Core.Logic.{⊎-elim}
+use mathlib.Core.Logic.{_⊎_, inl, inr, ⊎-elim}
 use mathlib.Core.Bool.{Bool, true, false, _&&_, and-true}
 use mathlib.Core.List.{List, [], _∷_, _++_, map, map-append, append-assoc}
-use lib.Dec.{eqb}
+use lib.Dec.{eqb, leb}
 use lib.ListN.{length, getD, take, set, length-append, length-set, length-take, length-map, List·getD-append, List·getD-eq-default}
 use lib.Seq.{getD-at, getD-take, take-at, take-all, take-append-le, ext-getD, getD-set-same, getD-set-other}
+use borrow.Author.Tests.{leb-true}
 use Rattle.logic.specs.Lists.{all, every, count-from, tabulate}
 use Rattle.logic.specs.Checked.{Checked, ok, refused, refusal, guard, _>>_}
 use Rattle.logic.specs.Formula.{Formula, never, Node, depth, formula-of, formulas}
-use Rattle.logic.proofs.Tests.{length-tabulate, getD-tabulate, all-tabulate}
-use Rattle.blocks.specs.Bytes.{Bytes, byte, zeros}
+use Rattle.logic.proofs.Tests.{length-tabulate, getD-tabulate, all-tabulate, and-left, and-right}
+use Rattle.blocks.specs.Bytes.{Bytes, byte, zeros, within}
 use Rattle.questions.specs.Layout.{node-at, node-of, node-count, formulas-of}
+use Rattle.questions.specs.Grounds.{node-in-range}
 use Rattle.questions.specs.Tables.{formulas-before, table}
 
 -- ---- guards
@@ -35,6 +37,13 @@ module _ {A : Type 0} where
   passed k false c e = absurd (omega arith)
 
 -- ---- tests
+
+-- What `a && b` answers: b where a passes, and a where it fails.
+pub both-tests : {a b t : Bool} → a ≡ true → t ≡ b → t ≡ (a && b)
+both-tests {b = b} e f = f ∙ ap (λ x. x && b) (sym e)
+
+pub first-fails : {a t : Bool} (b : Bool) → a ≡ false → t ≡ a → t ≡ (a && b)
+first-fails b e f = f ∙ e ∙ ap (λ x. x && b) (sym e)
 
 and-assoc : (a b c : Bool) → (a && b && c) ≡ (a && (b && c))
 and-assoc true b c = refl
@@ -62,10 +71,18 @@ pub all-every : {A : Type 0} (t : A → Bool) (d : A) (l : List A) → all t l �
 unfolding all
 all-every t d l = ap (all t) (ext-getD d l (tabulate (length l) (λ i. getD l i d)) (sym (length-tabulate (λ i. getD l i d) (length l))) (λ i h. sym (getD-tabulate (λ i. getD l i d) (length l) d h))) ∙ all-tabulate (λ i. getD l i d) t (length l)
 
+pub within-least : (least most x : ℕ) → within least most x ≡ true → least ≤ x
+unfolding within
+within-least least most x e = leb-true least x (and-left (leb least x) (leb x most) e)
+
+pub within-most : (least most x : ℕ) → within least most x ≡ true → x ≤ most
+unfolding within
+within-most least most x e = leb-true x most (and-right (leb least x) (leb x most) e)
+
 -- ---- by an operator's number
 
 -- A claim of every number, from the rows of the table of operators and the numbers above them.
-pub by-operator : (P : ℕ → Type 0) → P 0 → P 1 → P 2 → P 3 → P 4 → P 5 → P 6 → P 7 → P 8 → ((k : ℕ) → P (9 + k)) → (n : ℕ) → P n
+pub by-operator : (P : ℕ → Type 0) → P 0 → P 1 → P 2 → P 3 → P 4 → P 5 → P 6 → P 7 → P 8 → ((k : ℕ) → P (suc (suc (suc (suc (suc (suc (suc (suc (suc k)))))))))) → (n : ℕ) → P n
 by-operator P p0 p1 p2 p3 p4 p5 p6 p7 p8 p9 zero = p0
 by-operator P p0 p1 p2 p3 p4 p5 p6 p7 p8 p9 (suc zero) = p1
 by-operator P p0 p1 p2 p3 p4 p5 p6 p7 p8 p9 (suc (suc zero)) = p2
@@ -75,7 +92,26 @@ by-operator P p0 p1 p2 p3 p4 p5 p6 p7 p8 p9 (suc (suc (suc (suc (suc zero))))) =
 by-operator P p0 p1 p2 p3 p4 p5 p6 p7 p8 p9 (suc (suc (suc (suc (suc (suc zero)))))) = p6
 by-operator P p0 p1 p2 p3 p4 p5 p6 p7 p8 p9 (suc (suc (suc (suc (suc (suc (suc zero))))))) = p7
 by-operator P p0 p1 p2 p3 p4 p5 p6 p7 p8 p9 (suc (suc (suc (suc (suc (suc (suc (suc zero)))))))) = p8
-by-operator P p0 p1 p2 p3 p4 p5 p6 p7 p8 p9 (suc (suc (suc (suc (suc (suc (suc (suc (suc k))))))))) = subst P (omega arith) (p9 k)
+by-operator P p0 p1 p2 p3 p4 p5 p6 p7 p8 p9 (suc (suc (suc (suc (suc (suc (suc (suc (suc k))))))))) = p9 k
+
+-- The numbers that are no operator are out of range.
+pub other-in-range : (A N i n : ℕ) (x : Node) → x .operator ≡ n → (n ≡ 1 → ⊥) → (n ≡ 2 → ⊥) → ((n ≡ 3) ⊎ (n ≡ 6) → ⊥) → (n ≡ 4 → ⊥) → (n ≡ 5 → ⊥) → (n ≡ 7 → ⊥) → (n ≡ 8 → ⊥)
+    → false ≡ node-in-range A N i x
+unfolding node-in-range
+other-in-range A N i n x =
+    by-operator
+    (λ n. x .operator ≡ n → (n ≡ 1 → ⊥) → (n ≡ 2 → ⊥) → ((n ≡ 3) ⊎ (n ≡ 6) → ⊥) → (n ≡ 4 → ⊥) → (n ≡ 5 → ⊥) → (n ≡ 7 → ⊥) → (n ≡ 8 → ⊥) → false ≡ node-in-range A N i x)
+    (λ o _ _ _ _ _ _ _. rw o refl)
+    (λ o h _ _ _ _ _ _. absurd (h refl))
+    (λ o _ h _ _ _ _ _. absurd (h refl))
+    (λ o _ _ h _ _ _ _. absurd (h (inl refl)))
+    (λ o _ _ _ h _ _ _. absurd (h refl))
+    (λ o _ _ _ _ h _ _. absurd (h refl))
+    (λ o _ _ h _ _ _ _. absurd (h (inr refl)))
+    (λ o _ _ _ _ _ h _. absurd (h refl))
+    (λ o _ _ _ _ _ _ h. absurd (h refl))
+    (λ k o _ _ _ _ _ _ _. rw o refl)
+    n
 
 -- ---- the formulas of the first k nodes
 
