@@ -19,7 +19,7 @@ use Rattle.logic.specs.Formula.{Formula, never, Node, depth, formula-of, formul
 use Rattle.logic.proofs.Tests.{length-tabulate, getD-tabulate, all-tabulate, and-left, and-right}
 use Rattle.blocks.specs.Bytes.{Bytes, byte, zeros, within}
 use Rattle.questions.specs.Layout.{node-at, node-of, node-count, formulas-of}
-use Rattle.questions.specs.Grounds.{node-in-range}
+use Rattle.questions.specs.Grounds.{node-in-range, node-spare}
 use Rattle.questions.specs.Tables.{formulas-before, table}
 
 -- ---- guards
@@ -66,6 +66,20 @@ zeros-join b from m n =
     every-join (λ i. eqb (byte b (from + i)) 0) m n
     ∙ ap (λ t. every m (λ i. eqb (byte b (from + i)) 0) && t) (every-same n (λ i l. ap (λ k. eqb (byte b k) 0) (omega arith)))
 
+-- The cells of a node from byte 3 on, and from byte 1 on.
+pub spare-right : (b : Bytes) (k : ℕ) → zeros b (k + 3) 9 ≡ (zeros b (k + 3) 1 && zeros b (k + 4) 8)
+spare-right b k = let e : k + 3 + 1 ≡ k + 4 = omega arith in zeros-join b (k + 3) 1 8 ∙ ap (λ j. zeros b (k + 3) 1 && zeros b j 8) e
+
+pub spare-all : (b : Bytes) (k : ℕ) → zeros b (k + 1) 11 ≡ (zeros b (k + 1) 1 && zeros b (k + 2) 1 && zeros b (k + 3) 1 && zeros b (k + 4) 8)
+spare-all b k =
+    let e2 : k + 1 + 1 ≡ k + 2 = omega arith in
+    let e3 : k + 1 + 2 ≡ k + 3 = omega arith in
+    let e4 : k + 1 + 3 ≡ k + 4 = omega arith in
+    zeros-join b (k + 1) 3 8
+    ∙ ap₂ _&&_
+    (zeros-join b (k + 1) 2 1 ∙ ap₂ _&&_ (zeros-join b (k + 1) 1 1 ∙ ap (λ j. zeros b (k + 1) 1 && zeros b j 1) e2) (ap (λ j. zeros b j 1) e3))
+    (ap (λ j. zeros b j 8) e4)
+
 -- A test of all of a list is a test of every place.
 pub all-every : {A : Type 0} (t : A → Bool) (d : A) (l : List A) → all t l ≡ every (length l) (λ i. t (getD l i d))
 unfolding all
@@ -111,6 +125,24 @@ other-in-range A N i n x =
     (λ o _ _ _ _ _ h _. absurd (h refl))
     (λ o _ _ _ _ _ _ h. absurd (h refl))
     (λ k o _ _ _ _ _ _ _. rw o refl)
+    n
+
+-- They have no spare cell, nor has "plan".
+pub other-spare : (b : Bytes) (i n : ℕ) → byte b (node-at i) ≡ n → (n ≡ 1 → ⊥) → ((n ≡ 2) ⊎ (n ≡ 5) → ⊥) → ((n ≡ 3) ⊎ (n ≡ 6) → ⊥) → (n ≡ 4 → ⊥) → (n ≡ 7 → ⊥) → true ≡ node-spare b i
+unfolding node-spare
+other-spare b i n =
+    by-operator
+    (λ n. byte b (node-at i) ≡ n → (n ≡ 1 → ⊥) → ((n ≡ 2) ⊎ (n ≡ 5) → ⊥) → ((n ≡ 3) ⊎ (n ≡ 6) → ⊥) → (n ≡ 4 → ⊥) → (n ≡ 7 → ⊥) → true ≡ node-spare b i)
+    (λ o _ _ _ _ _. rw o refl)
+    (λ o h _ _ _ _. absurd (h refl))
+    (λ o _ h _ _ _. absurd (h (inl refl)))
+    (λ o _ _ h _ _. absurd (h (inl refl)))
+    (λ o _ _ _ h _. absurd (h refl))
+    (λ o _ h _ _ _. absurd (h (inr refl)))
+    (λ o _ _ h _ _. absurd (h (inr refl)))
+    (λ o _ _ _ _ h. absurd (h refl))
+    (λ o _ _ _ _ _. rw o refl)
+    (λ k o _ _ _ _ _. rw o refl)
     n
 
 -- ---- the formulas of the first k nodes
