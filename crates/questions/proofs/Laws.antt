@@ -7,7 +7,7 @@ use native.Mathlib.Decide.{decLt, ℕ-discrete}
 use native.Mathlib.Omega.{arith}
 use mathlib.Core.Path.{_≡_, refl, sym, ap, ap₂, subst, _∙_}
 use mathlib.Core.Logic.{_⊎_, inl, inr, ⊎-elim}
-use mathlib.Core.Bool.{Bool, true, false, _&&_, and-true}
+use mathlib.Core.Bool.{Bool, true, false, _&&_, _||_, and-true}
 use mathlib.Core.List.{List, [], _∷_, _++_, map, map-append, append-assoc}
 use lib.Dec.{eqb, leb}
 use lib.ListN.{length, getD, take, set, length-append, length-set, length-take, length-map, List·getD-append, List·getD-eq-default}
@@ -44,6 +44,10 @@ both-tests {b = b} e f = f ∙ ap (λ x. x && b) (sym e)
 
 pub first-fails : {a t : Bool} (b : Bool) → a ≡ false → t ≡ a → t ≡ (a && b)
 first-fails b e f = f ∙ e ∙ ap (λ x. x && b) (sym e)
+
+-- What `a || b` answers where a passes.
+pub either-first : {a t : Bool} (b : Bool) → a ≡ true → t ≡ a → t ≡ (a || b)
+either-first b e f = f ∙ e ∙ ap (λ x. x || b) (sym e)
 
 and-assoc : (a b c : Bool) → (a && b && c) ≡ (a && (b && c))
 and-assoc true b c = refl
@@ -145,6 +149,16 @@ other-spare b i n =
     (λ k o _ _ _ _ _. rw o refl)
     n
 
+-- ---- children
+
+module _ {A : Type 0} where
+  -- What is read of the first i places: the place if it is one of them, and nothing if not.
+  pub read-below : (i : ℕ) (l : List A) (j : ℕ) (d : A) → j < i → getD l j d ≡ getD (take i l) j d
+  read-below i l j d h = sym (getD-take i l j d h)
+
+  pub read-beyond : (i : ℕ) (l : List A) (j : ℕ) (d : A) → i ≤ j → d ≡ getD (take i l) j d
+  read-beyond i l j d h = sym (List·getD-eq-default (take i l) d (simp length-take (omega arith)))
+
 -- ---- the formulas of the first k nodes
 
 count-more : (k n : ℕ) → count-from k (suc n) ≡ count-from k n ++ ((k + n) ∷ [])
@@ -229,6 +243,9 @@ module _ {A : Type 0} (f : Formula → A) (b : Bytes) where
   table-same fs gs h =
       ext-getD (f never) (table f fs) (table f gs) (table-length fs ∙ sym (table-length gs))
       (λ i l. let g : i < 40 = rw (table-length fs) at l in table-at fs i g ∙ ap f (h i g) ∙ sym (table-at gs i g))
+
+  pub child-value : {l : List A} {j j′ : ℕ} (i k : ℕ) → i ≤ k → i ≤ 40 → l ≡ table f (formulas-before b k) → j ≡ j′ → getD (take i l) j (f never) ≡ f (getD (formulas-before b i) j′ never)
+  child-value {j′ = j′} i k h g t e = ap₂ (λ (l : List A) (j : ℕ). getD (take i l) j (f never)) t e ∙ child-at i j′ k h g
 
   -- The table after one node more.
   pub table-more : (i : ℕ) → i < 40 → set (table f (formulas-before b i)) i (f (formula-at b i)) ≡ table f (formulas-before b (suc i))

@@ -1,39 +1,36 @@
+-- The start is tested and then the node count, as in ground 4.
+use Prim.Native.Nat.{_≤_, _<_}
+use mathlib.Core.Path.{sym, ap, subst, _∙_}
+use lib.Dec.{ltb}
+use borrow.Author.Tests.{lt-ltb, le-ltb}
+use Rattle.blocks.specs.Bytes.{within}
+use Rattle.questions.proofs.Laws.{both-tests, first-fails}
 use borrow.Author.Needs.{needs}
 use Rattle.questions.proofs.counts_right.Statement.{statement}
 use Rattle.questions.proofs.counts_right.Tie as tie
-use Rattle.questions.proofs.counts_right.Reads as reads
-use Rattle.questions.proofs.counts_right.Lts as lts
-use Rattle.questions.proofs.node_count.Reads as node-count-reads
-use Rattle.questions.proofs.start.Reads as start-reads
-use Rattle.questions.proofs.within.Reads as within-reads
 
--- src/lib.rt:358:6
 start-requires : tie.Need-start-requires
 start-requires c κs = search needs
 
--- src/lib.rt:358:6
 cast-if1 : tie.Need-cast-if1
 cast-if1 c = search needs
 
--- src/lib.rt:358:51
 node-count-requires : tie.Need-node-count-requires
 node-count-requires c κs = search needs
 
--- src/lib.rt:358:51
 cast-within : tie.Need-cast-within
 cast-within c = search needs
 
--- src/lib.rt:358:37
 within-requires : tie.Need-within-requires
 within-requires c κs = search needs
 
--- src/lib.rt:355:1
 returns : tie.Need-returns
-returns c = ?
+returns c = let n = c .before .before .before .before .before .args .states in
+    both-tests (lt-ltb _ n (subst (λ k. k < n) (c .before .before .before .start .ensures) (c .before .before .if1 .taken))) (c .within .ensures ∙ ap (within 1 40) (c .before .node-count .ensures))
 
--- src/lib.rt:355:1
 returns-2 : tie.Need-returns-2
-returns-2 c = ?
+returns-2 c = let n = c .before .before .before .args .states in
+    first-fails _ (le-ltb _ n (subst (λ k. n ≤ k) (c .before .start .ensures) (c .if1 .left))) (ap (λ k. ltb k n) (c .before .start .ensures))
 
 pub counts-right-spec : {M : Type 1} → statement M
 counts-right-spec =
