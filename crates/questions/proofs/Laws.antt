@@ -1,6 +1,6 @@
 -- What the proofs of the reading of questions share: the formulas of the first k nodes are the first k formulas, so a table filled node
 -- by node holds what is asked of each; and a refusal is read off the guards one after the other.
-use Prim.Native.Nat.{ℕ, zero, suc, _+_, _*_, _≤_, _<_, max, zero-le, suc-le-suc}
+use Prim.Native.Nat.{ℕ, zero, suc, _+_, _*_, _≤_, _<_, min, zero-le, suc-le-suc}
 use native.Mathlib.Nat.{not-suc-le-zero, le-of-suc-le-suc, eq-or-lt-of-le, add-zero, add-suc}
 use native.Mathlib.Numerals.{add-one}
 use native.Mathlib.Decide.{decLt, ℕ-discrete}
@@ -215,6 +215,15 @@ module _ (b : Bytes) where
           List·getD-eq-default (formulas-before b i) never (rw (before-length i) (omega arith))
           ∙ sym (List·getD-eq-default (formulas-before b (suc i)) never (rw (before-length (suc i)) (omega arith)))
 
+-- A question's formulas are those of the nodes before its count.
+pub all-before : (b : Bytes) → formulas-before b (node-count b) ≡ formulas-of b
+unfolding formulas-before formulas-of
+all-before b = refl
+
+-- The formula at node i of a question, from those before it.
+pub formula-here : (b : Bytes) (i : ℕ) → i < node-count b → getD (formulas-of b) i never ≡ formula-at b i
+formula-here b i h = ap (λ fs. getD fs i never) (sym (all-before b)) ∙ before-at b i (node-count b) h
+
 -- ---- tables
 
 module _ {A : Type 0} (f : Formula → A) (b : Bytes) where
@@ -266,3 +275,11 @@ module _ {A : Type 0} (f : Formula → A) (b : Bytes) where
   -- Only the first 40 nodes stand in a table.
   pub table-full : (k : ℕ) → 40 ≤ k → table f (formulas-before b 40) ≡ table f (formulas-before b k)
   table-full k h = table-same (formulas-before b 40) (formulas-before b k) (λ i l. before-at b i 40 l ∙ sym (before-at b i k (omega arith)))
+
+  -- So the table of the nodes held, the node count or 40, is the table of all.
+  pub table-held : (i : ℕ) → i ≡ min (node-count b) 40 → table f (formulas-before b i) ≡ table f (formulas-of b)
+  table-held i e = go (decLt (node-count b) 40) ∙ ap (table f) (all-before b)
+    where
+      go : Dec (node-count b < 40) → table f (formulas-before b i) ≡ table f (formulas-before b (node-count b))
+      go (yes h) = let g : i ≡ node-count b = omega arith in ap (λ k. table f (formulas-before b k)) g
+      go (no h) = let g : i ≡ 40 = omega arith in ap (λ k. table f (formulas-before b k)) g ∙ table-full (node-count b) (omega arith)
