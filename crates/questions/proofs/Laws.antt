@@ -1,7 +1,7 @@
 -- What the proofs of the reading of questions share: the formulas of the first k nodes are the first k formulas, so a table filled node
 -- by node holds what is asked of each; and a refusal is read off the guards one after the other.
-use Prim.Native.Nat.{ℕ, zero, suc, _+_, _*_, _≤_, _<_, min, zero-le, suc-le-suc}
-use native.Mathlib.Nat.{not-suc-le-zero, le-of-suc-le-suc, eq-or-lt-of-le, add-zero, add-suc}
+use Prim.Native.Nat.{ℕ, zero, suc, _+_, _*_, _/_, _%_, _≤_, _<_, min, zero-le, suc-le-suc}
+use native.Mathlib.Nat.{not-suc-le-zero, le-of-suc-le-suc, eq-or-lt-of-le, add-zero, add-suc, div-add-mod'}
 use native.Mathlib.Numerals.{add-one}
 use native.Mathlib.Decide.{decLt, ℕ-discrete}
 use native.Mathlib.Omega.{arith}
@@ -12,12 +12,13 @@ use mathlib.Core.List.{List, [], _∷_, _++_, map, map-append, append-assoc}
 use lib.Dec.{eqb, leb}
 use lib.ListN.{length, getD, take, set, length-append, length-set, length-take, length-map, List·getD-append, List·getD-eq-default}
 use lib.Seq.{getD-at, getD-take, take-at, take-all, take-append-le, ext-getD, getD-set-same, getD-set-other}
-use borrow.Author.Tests.{leb-true}
+use borrow.Author.Tests.{leb-true, eqb-true}
 use Rattle.logic.specs.Lists.{all, every, count-from, tabulate}
 use Rattle.logic.specs.Checked.{Checked, ok, refused, refusal, guard, _>>_}
 use Rattle.logic.specs.Formula.{Formula, never, Node, depth, formula-of, formulas}
 use Rattle.logic.proofs.Tests.{length-tabulate, getD-tabulate, all-tabulate, and-left, and-right}
 use Rattle.blocks.specs.Bytes.{Bytes, byte, zeros, within}
+use Rattle.blocks.specs.Block.{whole-blocks, block-count}
 use Rattle.questions.specs.Layout.{node-at, node-of, node-count, formulas-of}
 use Rattle.questions.specs.Grounds.{node-in-range, node-spare}
 use Rattle.questions.specs.Tables.{formulas-before, table}
@@ -96,6 +97,14 @@ within-least least most x e = leb-true least x (and-left (leb least x) (leb x mo
 pub within-most : (least most x : ℕ) → within least most x ≡ true → x ≤ most
 unfolding within
 within-most least most x e = leb-true x most (and-right (leb least x) (leb x most) e)
+
+-- A question that passes ground 1 is one block.
+pub one-block : (b : Bytes) → whole-blocks 1 1 b ≡ true → length b ≡ 512
+unfolding whole-blocks block-count
+one-block b e =
+    let m : length b % 512 ≡ 0 = eqb-true (length b % 512) 0 (and-left (eqb (length b % 512) 0) (within 1 1 (length b / 512)) e) in
+    let d : within 1 1 (length b / 512) ≡ true = and-right (eqb (length b % 512) 0) (within 1 1 (length b / 512)) e in
+    omega (arith, div-add-mod' (length b) 512, within-least 1 1 (length b / 512) d, within-most 1 1 (length b / 512) d)
 
 -- ---- by an operator's number
 
@@ -231,7 +240,7 @@ module _ {A : Type 0} (f : Formula → A) (b : Bytes) where
   unfolding table
   table-length fs = length-tabulate (λ i. f (getD fs i never)) 40
 
-  table-at : (fs : List Formula) (i : ℕ) → i < 40 → getD (table f fs) i (f never) ≡ f (getD fs i never)
+  pub table-at : (fs : List Formula) (i : ℕ) → i < 40 → getD (table f fs) i (f never) ≡ f (getD fs i never)
   unfolding table
   table-at fs i h = getD-tabulate (λ i. f (getD fs i never)) 40 (f never) h
 

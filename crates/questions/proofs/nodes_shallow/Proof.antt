@@ -32,7 +32,7 @@ unfolding every
 loop-holds c = (omega arith, refl)
 
 node-shallow-requires : tie.Need-node-shallow-requires Inv-loop μ-loop
-node-shallow-requires c κs = ?
+node-shallow-requires c κs = (rw (c .before .before .before .before .node-count .ensures) at (c .before .loop-test .taken), omega arith, c .before .before .before .depth-table .ensures)
 
 returns : tie.Need-returns Inv-loop μ-loop
 returns c = let b = c .before .before .before .before .before .before .before .before .args .b .now in
