@@ -1,22 +1,21 @@
 -- What is known of a question that is not refused: its bytes are read as a question, and each of the grounds 1 to 6 and 9 says in plain
 -- facts what it ruled out. The formula at a node is, by its operator, made of the formulas at its children.
-use Prim.Native.Nat.{ℕ, suc, _+_, _-_, _≤_, _<_}
+use Prim.Native.Nat.{ℕ, _≤_, _<_}
 use native.Mathlib.Omega.{arith}
 use mathlib.Core.Path.{_≡_, refl, sym, ap, ap₂, _∙_}
-use mathlib.Core.Bool.{Bool, true, false, not, _&&_, false≢true}
-use mathlib.Core.List.{List}
-use lib.Dec.{eqb, ltb, leb}
+use mathlib.Core.Bool.{true, false, not, _&&_, false≢true}
+use lib.Dec.{eqb, ltb}
 use lib.IntN.{ℤ, pos, negsuc}
 use lib.ListN.{length, getD, take}
 use lib.Signed.{mag, leZ}
 use borrow.Author.Tests.{ltb-true, leb-true, eqb-true, not-true}
 use Rattle.logic.specs.Lists.{all, every}
-use Rattle.logic.specs.Checked.{Checked, ok, refused, refusal, guard, _>>_}
-use Rattle.logic.specs.Formula.{Formula, never, prop, neg, both, does, next, gain, plan, Node, depth, is-path, shallow, relation, nonnegative, formula-of}
+use Rattle.logic.specs.Checked.{ok, refusal}
+use Rattle.logic.specs.Formula.{never, prop, neg, both, does, next, gain, plan, Node, depth, is-path, shallow, relation, nonnegative, formula-of}
 use Rattle.logic.proofs.Tests.{and-left, and-right, every-at}
 use Rattle.blocks.specs.Bytes.{Bytes, within}
 use Rattle.blocks.specs.Block.{whole-blocks, sums-right, headed}
-use Rattle.questions.specs.Layout.{Question, start-of, node-count, node-of, formulas-of, question-of}
+use Rattle.questions.specs.Layout.{start-of, node-count, node-of, formulas-of, question-of}
 use Rattle.questions.specs.Grounds.{compares, gain-bound, plan-bound, plan-in-range, node-in-range, spare-zero, formed, read-question}
 use Rattle.questions.specs.Tables.{formulas-before}
 use Rattle.questions.proofs.Laws.{passed, within-least, within-most, one-block, by-operator, all-before, before-take, before-at, formula-here}
@@ -60,11 +59,11 @@ unfolding compares
 compares-facts x e =
     let s : within 1 6 (x .n) ≡ true = and-left (within 1 6 (x .n)) (within 1 3 (x .right)) e in
     let r : within 1 3 (x .right) ≡ true = and-right (within 1 6 (x .n)) (within 1 3 (x .right)) e in
-    record
-    { some-step = within-least 1 6 (x .n) s
-    ; few-steps = within-most 1 6 (x .n) s
-    ; relation-from = within-least 1 3 (x .right) r
-    ; relation-to = within-most 1 3 (x .right) r
+    record {
+      some-step = within-least 1 6 (x .n) s;
+      few-steps = within-most 1 6 (x .n) s;
+      relation-from = within-least 1 3 (x .right) r;
+      relation-to = within-most 1 3 (x .right) r;
     }
 
 mag-gain : (p : ℤ) → leZ (negsuc 5999) p ≡ true → leZ p (pos 6000) ≡ true → mag p ≤ 6000
@@ -76,10 +75,10 @@ unfolding gain-bound
 gain-facts x e =
     let g = and-right (compares x) (gain-bound (x .p) (x .q)) e in
     let f = and-left (eqb (x .q) 1 && leZ (negsuc 5999) (x .p)) (leZ (x .p) (pos 6000)) g in
-    record
-    { compares = compares-facts x (and-left (compares x) (gain-bound (x .p) (x .q)) e)
-    ; bound = mag-gain (x .p) (and-right (eqb (x .q) 1) (leZ (negsuc 5999) (x .p)) f) (and-right (eqb (x .q) 1 && leZ (negsuc 5999) (x .p)) (leZ (x .p) (pos 6000)) g)
-    ; whole = eqb-true (x .q) 1 (and-left (eqb (x .q) 1) (leZ (negsuc 5999) (x .p)) f)
+    record {
+      compares = compares-facts x (and-left (compares x) (gain-bound (x .p) (x .q)) e);
+      bound = mag-gain (x .p) (and-right (eqb (x .q) 1) (leZ (negsuc 5999) (x .p)) f) (and-right (eqb (x .q) 1 && leZ (negsuc 5999) (x .p)) (leZ (x .p) (pos 6000)) g);
+      whole = eqb-true (x .q) 1 (and-left (eqb (x .q) 1) (leZ (negsuc 5999) (x .p)) f);
     }
 
 plan-part : (p : ℤ) (q : ℕ) → leZ (pos 0) p ≡ true → leZ p (pos q) ≡ true → (p ≡ pos (nonnegative p)) × (nonnegative p ≤ q)
@@ -95,13 +94,13 @@ plan-facts i x e =
     let l = and-left (within 1 1000000 (x .q) && leZ (pos 0) (x .p)) (leZ (x .p) (pos (x .q))) w in
     let q = and-left (within 1 1000000 (x .q)) (leZ (pos 0) (x .p)) l in
     let p = plan-part (x .p) (x .q) (and-right (within 1 1000000 (x .q)) (leZ (pos 0) (x .p)) l) (and-right (within 1 1000000 (x .q) && leZ (pos 0) (x .p)) (leZ (x .p) (pos (x .q))) w) in
-    record
-    { compares = compares-facts x (and-left (compares x) (ltb (x .left) i) c)
-    ; child = ltb-true (x .left) i (and-right (compares x) (ltb (x .left) i) c)
-    ; some-part = within-least 1 1000000 (x .q) q
-    ; few-parts = within-most 1 1000000 (x .q) q
-    ; whole = p .0
-    ; bound = p .1
+    record {
+      compares = compares-facts x (and-left (compares x) (ltb (x .left) i) c);
+      child = ltb-true (x .left) i (and-right (compares x) (ltb (x .left) i) c);
+      some-part = within-least 1 1000000 (x .q) q;
+      few-parts = within-most 1 1000000 (x .q) q;
+      whole = p .0;
+      bound = p .1;
     }
 
 operator-facts : (A N i n : ℕ) (x : Node) → x .operator ≡ n → node-in-range A N i x ≡ true → (1 ≤ n) × (n ≤ 8)
@@ -125,17 +124,17 @@ pub in-range-facts : (A N i : ℕ) (x : Node) → node-in-range A N i x ≡ true
 unfolding node-in-range
 in-range-facts A N i x e =
     let o = operator-facts A N i (x .operator) x refl e in
-    record
-    { operator-from = o .0
-    ; operator-to = o .1
-    ; of-prop = λ o. ltb-true (x .left) N (rw o at e)
-    ; of-neg = λ o. ltb-true (x .left) i (rw o at e)
-    ; of-both = λ o. let f : (ltb (x .left) i && ltb (x .right) i) ≡ true = rw o at e in
-        (ltb-true (x .left) i (and-left (ltb (x .left) i) (ltb (x .right) i) f), ltb-true (x .right) i (and-right (ltb (x .left) i) (ltb (x .right) i) f))
-    ; of-does = λ o. ltb-true (x .left) A (rw o at e)
-    ; of-next = λ o. ltb-true (x .left) i (rw o at e)
-    ; of-gain = λ o. gain-facts x (sym (gain-row o) ∙ e)
-    ; of-plan = λ o. plan-facts i x (sym (plan-row o) ∙ e)
+    record {
+      operator-from = o .0;
+      operator-to = o .1;
+      of-prop = λ o. ltb-true (x .left) N (rw o at e);
+      of-neg = λ o. ltb-true (x .left) i (rw o at e);
+      of-both = λ o. let f : (ltb (x .left) i && ltb (x .right) i) ≡ true = rw o at e in
+          (ltb-true (x .left) i (and-left (ltb (x .left) i) (ltb (x .right) i) f), ltb-true (x .right) i (and-right (ltb (x .left) i) (ltb (x .right) i) f));
+      of-does = λ o. ltb-true (x .left) A (rw o at e);
+      of-next = λ o. ltb-true (x .left) i (rw o at e);
+      of-gain = λ o. gain-facts x (sym (gain-row o) ∙ e);
+      of-plan = λ o. plan-facts i x (sym (plan-row o) ∙ e);
     }
   where
     gain-row : x .operator ≡ 7 → node-in-range A N i x ≡ (compares x && gain-bound (x .p) (x .q))
@@ -169,17 +168,17 @@ accepted S A N b e =
     let g9 = passed 8 (formed (question-of b)) _ (g6 .1) in
     let n = and-right (ltb (start-of b) S) (within 1 40 (node-count b)) (g4 .0) in
     let root = not-true (is-path (question-of b .root)) (and-left (not (is-path (question-of b .root))) (all shallow (formulas-of b)) (g9 .0)) in
-    record
-    { size = one-block b (g1 .0)
-    ; read = rw (g1 .0, g2 .0, g3 .0, g4 .0, g5 .0, g6 .0, g9 .0) refl
-    ; starts = ltb-true (start-of b) S (and-left (ltb (start-of b) S) (within 1 40 (node-count b)) (g4 .0))
-    ; some-node = within-least 1 40 (node-count b) n
-    ; few-nodes = within-most 1 40 (node-count b) n
-    ; in-range = λ i h. in-range-facts A N i (node-of b i) (every-at (λ i. node-in-range A N i (node-of b i)) (node-count b) (g5 .0) h)
-    ; formed = g9 .0
-    ; root-state = root
-    ; shallow = λ i h. every-at (λ i. shallow (getD (formulas-of b) i never)) (node-count b)
-        (sym (all-shallow b) ∙ and-right (not (is-path (question-of b .root))) (all shallow (formulas-of b)) (g9 .0)) h
+    record {
+      size = one-block b (g1 .0);
+      read = rw (g1 .0, g2 .0, g3 .0, g4 .0, g5 .0, g6 .0, g9 .0) refl;
+      starts = ltb-true (start-of b) S (and-left (ltb (start-of b) S) (within 1 40 (node-count b)) (g4 .0));
+      some-node = within-least 1 40 (node-count b) n;
+      few-nodes = within-most 1 40 (node-count b) n;
+      in-range = λ i h. in-range-facts A N i (node-of b i) (every-at (λ i. node-in-range A N i (node-of b i)) (node-count b) (g5 .0) h);
+      formed = g9 .0;
+      root-state = root;
+      shallow = λ i h. every-at (λ i. shallow (getD (formulas-of b) i never)) (node-count b)
+          (sym (all-shallow b) ∙ and-right (not (is-path (question-of b .root))) (all shallow (formulas-of b)) (g9 .0)) h;
     }
 
 -- ---- the formulas

@@ -236,7 +236,10 @@ fn node_depth(b: &[u8], depths: &[u32; 40], i: u8) -> u32
     let op = operator(b, i);
     match op {
         3 => child_depth(depths, i, left(b, i)),
-        4 => larger(child_depth(depths, i, left(b, i)), child_depth(depths, i, right(b, i))),
+        4 => larger(
+            child_depth(depths, i, left(b, i)),
+            child_depth(depths, i, right(b, i)),
+        ),
         5 => 1,
         6 => child_depth(depths, i, left(b, i)) + 1,
         7 => steps(b, i) as u32,
