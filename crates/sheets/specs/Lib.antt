@@ -1,2 +1,4 @@
 pub mod Layout
 pub mod Grounds
+pub mod Reader
+pub mod Writer
