@@ -1,21 +1,20 @@
 -- What the proofs of the reading of questions share: the formulas of the first k nodes are the first k formulas, so a table filled node
 -- by node holds what is asked of each; and a refusal is read off the guards one after the other.
-use Prim.Native.Nat.{ℕ, zero, suc, _+_, _*_, _/_, _%_, _≤_, _<_, min, zero-le, suc-le-suc}
-use native.Mathlib.Nat.{not-suc-le-zero, le-of-suc-le-suc, eq-or-lt-of-le, add-zero, add-suc, div-add-mod'}
-use native.Mathlib.Numerals.{add-one}
+use Prim.Native.Nat.{ℕ, zero, suc, _+_, _/_, _%_, _≤_, _<_, min, zero-le}
+use native.Mathlib.Nat.{le-of-suc-le-suc, eq-or-lt-of-le, add-zero, add-suc, div-add-mod'}
 use native.Mathlib.Decide.{decLt, ℕ-discrete}
 use native.Mathlib.Omega.{arith}
-use mathlib.Core.Path.{_≡_, refl, sym, ap, ap₂, subst, _∙_}
+use mathlib.Core.Path.{_≡_, refl, sym, ap, ap₂, _∙_}
 use mathlib.Core.Logic.{_⊎_, inl, inr, ⊎-elim}
 use mathlib.Core.Bool.{Bool, true, false, _&&_, _||_, and-true}
-use mathlib.Core.List.{List, [], _∷_, _++_, map, map-append, append-assoc}
+use mathlib.Core.List.{List, [], _∷_, _++_, map, map-append}
 use lib.Dec.{eqb, leb}
-use lib.ListN.{length, getD, take, set, length-append, length-set, length-take, length-map, List·getD-append, List·getD-eq-default}
-use lib.Seq.{getD-at, getD-take, take-at, take-all, take-append-le, ext-getD, getD-set-same, getD-set-other}
+use lib.ListN.{length, getD, take, set, length-append, length-set, length-take, List·getD-eq-default}
+use lib.Seq.{getD-at, getD-take, take-all, take-append-le, ext-getD, getD-set-same, getD-set-other}
 use borrow.Author.Tests.{leb-true, eqb-true}
 use Rattle.logic.specs.Lists.{all, every, count-from, tabulate}
-use Rattle.logic.specs.Checked.{Checked, ok, refused, refusal, guard, _>>_}
-use Rattle.logic.specs.Formula.{Formula, never, Node, depth, formula-of, formulas}
+use Rattle.logic.specs.Checked.{Checked, refusal, guard, _>>_}
+use Rattle.logic.specs.Formula.{Formula, never, Node, formula-of, formulas}
 use Rattle.logic.proofs.Tests.{length-tabulate, getD-tabulate, all-tabulate, and-left, and-right}
 use Rattle.blocks.specs.Bytes.{Bytes, byte, zeros, within}
 use Rattle.blocks.specs.Block.{whole-blocks, block-count}
@@ -26,12 +25,6 @@ use Rattle.questions.specs.Tables.{formulas-before, table}
 -- ---- guards
 
 module _ {A : Type 0} where
-  pub passes : (k : ℕ) {t : Bool} (c : Checked A) → t ≡ true → refusal (guard k t >> c) ≡ refusal c
-  passes k c e = rw e refl
-
-  pub fails : (k : ℕ) {t : Bool} (c : Checked A) → t ≡ false → refusal (guard k t >> c) ≡ k
-  fails k c e = rw e refl
-
   -- No refusal behind a guard: its test passed, and there is none after it.
   pub passed : (k : ℕ) (t : Bool) (c : Checked A) → refusal (guard (suc k) t >> c) ≡ 0 → (t ≡ true) × (refusal c ≡ 0)
   passed k true c e = (refl, e)

@@ -1,11 +1,9 @@
 -- The formula of a node by its operator, and what depth, path formulas and ground 9 make of it: a row of document 01's table each.
-use Prim.Native.Nat.{ℕ, suc, _≤_, max}
+use Prim.Native.Nat.{ℕ, suc, _≤_}
 use native.Mathlib.Omega.{arith}
 use mathlib.Core.Path.{_≡_, refl, sym, ap, _∙_}
-use mathlib.Core.Logic.{_⊎_}
-use mathlib.Core.Bool.{Bool, true, false}
+use mathlib.Core.Bool.{true}
 use mathlib.Core.List.{List}
-use lib.IntN.{ℤ}
 use lib.ListN.{length, getD}
 use Rattle.logic.specs.Lists.{all, every}
 use Rattle.logic.specs.Quantity.{Relation}

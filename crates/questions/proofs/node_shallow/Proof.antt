@@ -1,7 +1,6 @@
 -- The child of "plan" stands in the table with its depth; ground 9 asks nothing of the other operators.
-use Prim.Native.Nat.{_≤_, _<_}
 use native.Mathlib.Omega.{arith}
-use mathlib.Core.Path.{_≡_, refl, sym, ap, ap₂, _∙_}
+use mathlib.Core.Path.{_≡_, sym, ap, ap₂, _∙_}
 use lib.Dec.{leb}
 use lib.ListN.{getD}
 use Rattle.logic.specs.Formula.{never, depth, shallow}

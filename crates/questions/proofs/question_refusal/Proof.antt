@@ -68,7 +68,7 @@ returns-7 c = rw (sym (c .before .before .before .before .before .before .before
 
 returns-8 : tie.Need-returns-8
 unfolding read-question
-returns-8 c = rw (sym (c .before .before .before .before .before .before .before .before .before .before .before .before .before .whole-blocks .ensures) ∙ not-false _ (c .before .before .before .before .before .before .before .before .before .before .before .before .if1 .left), sym (c .before .before .before .before .before .before .before .before .before .before .before .sums-right .ensures) ∙ not-false _ (c .before .before .before .before .before .before .before .before .before .before .if2 .left), sym (c .before .before .before .before .before .before .before .before .before .headed .ensures) ∙ not-false _ (c .before .before .before .before .before .before .before .before .if3 .left), sym (c .before .before .before .before .before .before .before .counts-right .ensures) ∙ not-false _ (c .before .before .before .before .before .before .if4 .left), sym (c .before .before .before .before .before .nodes-in-range .ensures) ∙ not-false _ (c .before .before .before .before .if5 .left), sym (c .before .before .before .spare-zero .ensures) ∙ not-false _ (c .before .before .if6 .left), sym (c .before .formed .ensures) ∙ not-false _ (c  .if7 .left)) refl
+returns-8 c = rw (sym (c .before .before .before .before .before .before .before .before .before .before .before .before .before .whole-blocks .ensures) ∙ not-false _ (c .before .before .before .before .before .before .before .before .before .before .before .before .if1 .left), sym (c .before .before .before .before .before .before .before .before .before .before .before .sums-right .ensures) ∙ not-false _ (c .before .before .before .before .before .before .before .before .before .before .if2 .left), sym (c .before .before .before .before .before .before .before .before .before .headed .ensures) ∙ not-false _ (c .before .before .before .before .before .before .before .before .if3 .left), sym (c .before .before .before .before .before .before .before .counts-right .ensures) ∙ not-false _ (c .before .before .before .before .before .before .if4 .left), sym (c .before .before .before .before .before .nodes-in-range .ensures) ∙ not-false _ (c .before .before .before .before .if5 .left), sym (c .before .before .before .spare-zero .ensures) ∙ not-false _ (c .before .before .if6 .left), sym (c .before .formed .ensures) ∙ not-false _ (c .if7 .left)) refl
 
 pub question-refusal-spec : {M : Type 1} → statement M
 question-refusal-spec =
