@@ -21,6 +21,7 @@ use Rattle.models.proofs.Passed.{passed-all, read-passed}
 use Rattle.models.proofs.Held.{states-held}
 use Rattle.questions.specs.Layout.{Question, question-of}
 use Rattle.questions.specs.Grounds.{read-question}
+use Rattle.questions.proofs.Accepted.{accepted}
 use Rattle.calls.specs.Calls.{question-for, do-put}
 use Rattle.calls.specs.History.{got}
 
@@ -148,7 +149,7 @@ module _ (d : Desk) where
 
       module _ (e : refusal put-question ≡ 0) where
         question-read : put-question ≡ ok (question-of b)
-        question-read = accepted-question (byte (d .model) 2) (byte (d .model) 3) (byte (d .model) 4) b e
+        question-read = accepted (byte (d .model) 2) (byte (d .model) 3) (byte (d .model) 4) b e .read
 
         pub put-fits : length b ≤ 512
         put-fits = let l = question-length (byte (d .model) 2) (byte (d .model) 3) (byte (d .model) 4) b question-read in omega arith

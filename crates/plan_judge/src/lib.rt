@@ -2,6 +2,9 @@
 // its caller; a refusal leaves the desk, and each lent buffer, as found.
 ghost use mathlib.Core.Path.{_≡_};
 ghost use Prim.Native.Nat.{_*_, min};
+ghost use Rattle.logic.specs.Checked.{refusal};
+ghost use Rattle.blocks.specs.Bytes.{byte};
+ghost use Rattle.questions.specs.Grounds.{read-question};
 ghost use Rattle.plan_judge.specs.View.{held-size};
 ghost use Rattle.plan_judge.specs.Values.{nothing, loaded-by, put-by};
 
@@ -129,6 +132,16 @@ fn held_bytes(model: &[u8], blocks: usize) -> usize
     n
 }
 
+// The ground on which a question is refused for the model in these bytes: 1 to 6 and 9; 0 where there is none.
+fn question_ground(b: &[u8], model: &[u8]) -> u32
+    ensures { λ r. ⌜ r ≡ refusal (read-question (byte (now (model .entry)) 2) (byte (now (model .entry)) 3) (byte (now (model .entry)) 4) (now (b .entry))) ⌝ }
+{
+    let states = blocks::wide(model, 2);
+    let actions = blocks::wide(model, 3);
+    let props = blocks::wide(model, 4);
+    questions::question_refusal(b, states, actions, props)
+}
+
 // Puts a question, which clears the verdict; or refuses it by grounds 20, then 1 to 6 and 9.
 pub fn put(d: Desk, b: &[u8]) -> Taking
     ensures { λ r. ⌜ r ≡ put-by d (now (b .entry)) ⌝ }
@@ -139,10 +152,7 @@ pub fn put(d: Desk, b: &[u8]) -> Taking
             desk: d,
         };
     }
-    let states = blocks::wide(&d.model, 2);
-    let actions = blocks::wide(&d.model, 3);
-    let props = blocks::wide(&d.model, 4);
-    let k = questions::question_refusal(b, states, actions, props);
+    let k = question_ground(b, &d.model);
     if k != 0 {
         return Taking {
             answer: Taken::Refused(k),
