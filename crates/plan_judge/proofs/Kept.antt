@@ -164,7 +164,7 @@ replies d (check b) = reply-check d b
 -- ---- the desks
 
 -- Bytes that were read as whole blocks fill their place.
-whole-length : (least most : ℕ) (b : Bytes) → whole-blocks least most b ≡ true → (length b ≡ 512 * (length b / 512)) × (least ≤ length b / 512) × (length b / 512 ≤ most)
+pub whole-length : (least most : ℕ) (b : Bytes) → whole-blocks least most b ≡ true → (length b ≡ 512 * (length b / 512)) × (least ≤ length b / 512) × (length b / 512 ≤ most)
 unfolding whole-blocks within block-count
 whole-length least most b e =
     let r : length b % 512 ≡ 0 = eqb-eq _ _ (and-left (eqb (length b % 512) 0) _ e) in
@@ -173,17 +173,17 @@ whole-length least most b e =
     let m : length b / 512 ≤ most = leb-true _ _ (and-right (leb least (length b / 512)) (leb (length b / 512) most) w) in
     (omega arith, l, m)
 
-model-length : (b : Bytes) {m : Model} → read-model b ≡ ok m → length b ≡ 512 * (length b / 512)
+pub model-length : (b : Bytes) {m : Model} → read-model b ≡ ok m → (length b ≡ 512 * (length b / 512)) × (2 ≤ length b / 512) × (length b / 512 ≤ 12)
 unfolding read-model
-model-length b e = whole-length 2 12 b (guard-ok 1 (whole-blocks 2 12 b) _ e .0) .0
+model-length b e = whole-length 2 12 b (guard-ok 1 (whole-blocks 2 12 b) _ e .0)
 
-question-length : (S A N : ℕ) (b : Bytes) {q : Question} → read-question S A N b ≡ ok q → length b ≡ 512
+pub question-length : (S A N : ℕ) (b : Bytes) {q : Question} → read-question S A N b ≡ ok q → length b ≡ 512
 unfolding read-question
 question-length S A N b e = let w = whole-length 1 1 b (guard-ok 1 (whole-blocks 1 1 b) _ e .0) in omega (arith, w .0, w .1, w .2)
 
 holding-bytes : (b : Bytes) {m : Model} → read-model b ≡ ok m → model-bytes (holding b) ≡ b
 unfolding model-bytes holding padded
-holding-bytes b e = take-at b (replicate (6144 - length b) 0) (512 * (length b / 512)) (model-length b e)
+holding-bytes b e = take-at b (replicate (6144 - length b) 0) (512 * (length b / 512)) (model-length b e .0)
 
 pad-full : (b : Bytes) → length b ≡ 512 → padded 512 b ≡ b
 unfolding padded
