@@ -133,7 +133,8 @@ module _ (Q : Quantity) (O : Ordered Q) where
         subst (λ z. Le Q (value (x ∷ xs) z) (value (x ∷ xs) (y ∷ zs))) (sym (q .2))
         (O .plus-le _ _ _ _ (O .times-le (w x) _ _ (k (p .0) (p .1))) (best-le (value xs) h (q .0) (q .1))))
       where
-        best-head : (x : A) (xs : List A) (ys : List (List B)) (zs : List B) (y : B) → Best Q (value xs) ys zs → Best Q (value (x ∷ xs)) (map (λ r. y ∷ r) ys) (y ∷ zs)
+        best-head : (x : A) (xs : List A) (ys : List (List B)) (zs : List B) (y : B)
+            → Best Q (value xs) ys zs → Best Q (value (x ∷ xs)) (map (λ r. y ∷ r) ys) (y ∷ zs)
         best-head x xs ys zs y h =
             best-map (value (x ∷ xs)) (λ r. y ∷ r)
             (best-mono (value xs) (λ r. value (x ∷ xs) (y ∷ r)) (λ a b p. O .plus-le _ _ _ _ (O .le-self _) p) (λ a b p. O .plus-le-lt _ _ _ _ (O .le-self _) p) h)

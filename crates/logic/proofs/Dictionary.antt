@@ -12,7 +12,7 @@ use Rattle.logic.specs.Plan.{Plan, plans, choices}
 use Rattle.logic.specs.Order.{Before, differ, agree, Rising, Is-plan}
 use Rattle.logic.specs.Quantity.{naturals}
 use Rattle.logic.specs.Limits.{multiply, plan-total}
-use Rattle.logic.proofs.Members.{map-member, match-weaken, plan-member, in-plans}
+use Rattle.logic.proofs.Members.{map-member, match-weaken, block, block-member, plan-member, in-plans}
 use Rattle.logic.proofs.Sums.{naturals-additive, sum-ext, sum-constant, length-flatMap}
 use Rattle.logic.proofs.Rising.{rising-one, rising-map, rising-flatMap, rising-keep, rising-weaken, rising-count}
 
@@ -31,7 +31,7 @@ pub plan-count : (m : Model) (n s : ℕ) → length (plans m n s) ≡ plan-total
 unfolding plans plan-total
 plan-count m zero s = refl
 plan-count m (suc n) s =
-    length-flatMap (λ a. map {B = Plan (suc n)} (λ qs. (a, qs)) (product (map (λ o. plans m n (o .target)) (outcomes m s a)))) (enabled m s)
+    length-flatMap (block m n s) (enabled m s)
     ∙ sum-ext naturals naturals-additive _ _ (enabled m s)
     (λ a.
     length-map (product (map (λ o. plans m n (o .target)) (outcomes m s a))) (λ qs. (a, qs))
@@ -44,8 +44,8 @@ pub plans-are : (m : Model) (n s : ℕ) (p : Plan n) → List·Memᴰ p (plans m
 unfolding plans
 plans-are m zero s p = (λ i. tt, λ u. List·Memᴰ·head refl)
 plans-are m (suc n) s p = (
-  λ i. let w = plan-member m n s p i in (w .0, match-weaken (λ o q j. plans-are m n (o .target) q .0 j) (w .1)),
-  λ w. in-plans m n s p (w .0) (match-weaken (λ o q j. plans-are m n (o .target) q .1 j) (w .1)),
+  λ i. let w = plan-member m n s p i in (w .0, match-weaken (λ o q _ j. plans-are m n (o .target) q .0 j) (w .1)),
+  λ w. in-plans m n s p (w .0) (match-weaken (λ o q _ j. plans-are m n (o .target) q .1 j) (w .1)),
 )
 
 -- ---- the order
@@ -62,19 +62,22 @@ pub before-differs : {l r : List ℕ} → Before l r → l ≡ r → ⊥
 before-differs (differ {a} {b} h) e = let q : a ≡ b = cc in omega arith
 before-differs (agree {l = l} {r} q b) e = before-differs b (let t : l ≡ r = cc in t)
 
+-- x comes before y by the choices that its key gives.
+abbrev By : {B : Type 0} → (B → List ℕ) → B → B → Type 0
+By key x y = Before (key x) (key y)
+
 module _ {A B : Type 0} (key : B → List ℕ) (g : A → List B) where
-  rising-product : (l : List A) → ((a : A) → Rising (λ x y. Before (key x) (key y)) (g a))
-      → Rising (λ x y. Before (flatMap key x) (flatMap key y)) (product (map g l))
+  rising-product : (l : List A) → ((a : A) → Rising (By key) (g a)) → Rising (By (flatMap key)) (product (map g l))
   unfolding product flatMap
   rising-product [] h = rising-one _ []
   rising-product (x ∷ xs) h =
-      rising-flatMap (λ x y. Before (key x) (key y)) (λ x y. Before (flatMap key x) (flatMap key y)) (λ b. map (λ r. b ∷ r) (product (map g xs)))
+      rising-flatMap (By key) (By (flatMap key)) (λ b. map (λ r. b ∷ r) (product (map g xs)))
       (λ b c u v _ _ p i j.
       let e = map-member (λ r. b ∷ r) (product (map g xs)) i in
       let f = map-member (λ r. c ∷ r) (product (map g xs)) j in
-      subst (λ z. Before (flatMap key z) (flatMap key v)) (sym (e .2))
-      (subst (λ z. Before (flatMap key (b ∷ e .0)) (flatMap key z)) (sym (f .2)) (longer (flatMap key (e .0)) (flatMap key (f .0)) p)))
-      (λ b i. rising-map (λ x y. Before (flatMap key x) (flatMap key y)) (λ x y. Before (flatMap key x) (flatMap key y)) (λ r. b ∷ r) (λ u v p. after (key b) p) (rising-product xs h))
+      subst (λ z. By (flatMap key) z v) (sym (e .2))
+      (subst (λ z. By (flatMap key) (b ∷ e .0) z) (sym (f .2)) (longer (flatMap key (e .0)) (flatMap key (f .0)) p)))
+      (λ b i. rising-map (By (flatMap key)) (By (flatMap key)) (λ r. b ∷ r) (λ u v p. after (key b) p) (rising-product xs h))
       (h x)
 
 -- The choices in a state stand in rising order.
@@ -87,16 +90,16 @@ pub plans-rising : (m : Model) (n s : ℕ) → Rising (λ p q. Before (choices n
 unfolding plans choices
 plans-rising m zero s = rising-one _ tt
 plans-rising m (suc n) s =
-    rising-flatMap {B = Plan (suc n)} (λ a b. a < b) (λ p q. Before (choices (suc n) p) (choices (suc n) q)) (λ a. map (λ qs. (a, qs)) (product (map (λ o. plans m n (o .target)) (outcomes m s a))))
+    rising-flatMap (λ a b. a < b) (By (choices (suc n))) (block m n s)
     (λ a b u v _ _ p i j.
-    let x = map-member {B = Plan (suc n)} (λ qs. (a, qs)) (product (map (λ o. plans m n (o .target)) (outcomes m s a))) i in
-    let y = map-member {B = Plan (suc n)} (λ qs. (b, qs)) (product (map (λ o. plans m n (o .target)) (outcomes m s b))) j in
-    subst (λ z. Before (choices (suc n) z) (choices (suc n) v)) (sym (x .2))
-    (subst (λ z. Before (choices (suc n) (a, x .0)) (choices (suc n) z)) (sym (y .2)) (differ p)))
-    (λ a i. rising-map {B = Plan (suc n)} (λ x y. Before (flatMap (choices n) x) (flatMap (choices n) y)) (λ p q. Before (choices (suc n) p) (choices (suc n) q)) (λ qs. (a, qs)) (λ x y p. agree refl p)
+    let x = block-member m n s a i in
+    let y = block-member m n s b j in
+    subst (λ z. By (choices (suc n)) z v) (sym (x .2)) (subst (λ z. By (choices (suc n)) (a, x .0) z) (sym (y .2)) (differ p)))
+    (λ a i.
+    rising-map {B = Plan (suc n)} (By (flatMap (choices n))) (By (choices (suc n))) (λ qs. (a, qs)) (λ x y p. agree refl p)
     (rising-product (choices n) (λ o. plans m n (o .target)) (outcomes m s a) (λ o. plans-rising m n (o .target))))
     (enabled-rising m s)
 
 -- Each plan stands in the list once.
 pub plans-once : (m : Model) (n s : ℕ) → Rising (λ p q. p ≡ q → ⊥) (plans m n s)
-plans-once m n s = rising-weaken (λ p q. Before (choices n p) (choices n q)) _ (λ p q b e. before-differs b (ap (choices n) e)) (plans-rising m n s)
+plans-once m n s = rising-weaken (By (choices n)) _ (λ p q b e. before-differs b (ap (choices n) e)) (plans-rising m n s)

@@ -1,6 +1,7 @@
 pub mod Members
 pub mod Sums
 pub mod Tests
+pub mod Checked
 pub mod Rising
 pub mod Dictionary
 pub mod PathWeights
@@ -10,3 +11,9 @@ pub mod Best
 pub mod Recursion
 pub mod Reading
 pub mod Shown
+pub mod Search
+pub mod Contradiction
+pub mod PolicyPaths
+pub mod Policies
+pub mod Acceptance
+pub mod Examples

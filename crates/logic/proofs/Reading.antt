@@ -1,40 +1,23 @@
 -- Reading a plan from its choices: what is read is a plan with these choices, and every plan is read back.
 use Prim.Native.Nat.{ℕ, zero, suc}
-use native.Mathlib.Omega.{arith}
 use mathlib.Core.Path.{_≡_, refl, sym, ap, subst, _∙_}
-use mathlib.Core.Bool.{Bool, true, false, false≢true}
+use mathlib.Core.Bool.{true, false≢true}
 use mathlib.Core.List.{List, [], _∷_, _++_, flatMap, append-assoc, append-nil, List·Memᴰ, List·Memᴰ·head, Memᴰ·cast}
-use lib.Dec.{eqb, eqb→eq, eqb-refl}
+use lib.Dec.{eqb}
 use Rattle.logic.specs.Lists.{any, is-empty}
 use Rattle.logic.specs.Model.{Model, enabled, outcomes}
 use Rattle.logic.specs.Plan.{Plan, plans, choices, Match, ends, pair}
-use Rattle.logic.specs.Checked.{Checked, ok, refused, _>>=_, _>>_, guard}
+use Rattle.logic.specs.Checked.{Checked, ok, _>>=_, _>>_, guard}
 use Rattle.logic.specs.Choices.{read-each, read-plan, plan-of}
 use Rattle.logic.proofs.Members.{plan-member, in-plans}
-use Rattle.logic.proofs.Tests.{T→true, true→T, any-some, any-there}
-
--- ---- what a passed chain of tests says
-
-module _ {A : Type 0} where
-  pub not-ok : {k : ℕ} {a : A} → refused k ≡ ok a → ⊥
-  not-ok e = let z : _≡_ {A = ℕ} 0 1 = cc in omega arith
-
-  pub ok-same : {a b : A} → ok a ≡ ok b → a ≡ b
-  ok-same e = cc
-
-pub bind-ok : {A B : Type 0} (c : Checked A) (f : A → Checked B) {b : B} → (c >>= f) ≡ ok b → (a : A) × (c ≡ ok a) × (f a ≡ ok b)
-bind-ok (ok a) f e = (a, refl, e)
-bind-ok (refused k) f e = absurd (not-ok e)
-
-pub guard-ok : {B : Type 0} (k : ℕ) (t : Bool) (c : Checked B) {b : B} → (guard k t >> c) ≡ ok b → (t ≡ true) × (c ≡ ok b)
-guard-ok k true c e = (refl, e)
-guard-ok k false c e = absurd (not-ok e)
+use Rattle.logic.proofs.Checked.{not-ok, ok-same, bind-ok, guard-ok}
+use Rattle.logic.proofs.Tests.{eqb-eq, eq-eqb, any-some, any-there}
 
 any-member : (a : ℕ) (l : List ℕ) → any (eqb a) l ≡ true → List·Memᴰ a l
-any-member a l e = let w = any-some (eqb a) l e in Memᴰ·cast (eqb→eq a (w .0) (true→T (w .2))) (w .1)
+any-member a l e = let w = any-some (eqb a) l e in Memᴰ·cast (eqb-eq a (w .0) (w .2)) (w .1)
 
 member-any : {a : ℕ} {l : List ℕ} → List·Memᴰ a l → any (eqb a) l ≡ true
-member-any {a} i = any-there (eqb a) i (T→true (eqb a a) (eqb-refl a))
+member-any {a} i = any-there (eqb a) i (eq-eqb {a = a} refl)
 
 module _ {A B : Type 0} (f : A → List ℕ → Checked (B × List ℕ)) (key : B → List ℕ) (R : A → B → Type 0) where
   each-sound : ((x : A) (cs : List ℕ) (y : B × List ℕ) → f x cs ≡ ok y → R x (y .0) × (cs ≡ key (y .0) ++ y .1))
@@ -68,7 +51,8 @@ module _ (m : Model) where
   read-sound (suc n) s (a ∷ cs) x e =
       let u = guard-ok 10 (any (eqb a) (enabled m s)) _ e in
       let v = bind-ok (read-each (λ o. read-plan m n (o .target)) (outcomes m s a) cs) _ (u .1) in
-      let w = each-sound (λ o. read-plan m n (o .target)) (choices n) (λ o q. List·Memᴰ q (plans m n (o .target))) (λ o ds y q. read-sound n (o .target) ds y q) (outcomes m s a) cs (v .0) (v .1) in
+      let w = each-sound (λ o. read-plan m n (o .target)) (choices n) (λ o q. List·Memᴰ q (plans m n (o .target)))
+      (λ o ds y q. read-sound n (o .target) ds y q) (outcomes m s a) cs (v .0) (v .1) in
       subst (λ z. List·Memᴰ (z .0) (plans m (suc n) s) × (a ∷ cs ≡ choices (suc n) (z .0) ++ z .1)) (ok-same (v .2))
       (in-plans m n s (a, v .0 .0) (any-member a (enabled m s) (u .0)) (w .0), ap (λ z. a ∷ z) (w .1))
 
@@ -77,9 +61,11 @@ module _ (m : Model) where
   read-complete zero s p r h = refl
   read-complete (suc n) s p r h =
       let u = plan-member m n s p h in
-      ap (λ t. guard 10 t >> (read-each (λ o. read-plan m n (o .target)) (outcomes m s (p .0)) (flatMap (choices n) (p .1) ++ r) >>= (λ qs. ok ((p .0, qs .0), qs .1)))) (member-any (u .0))
+      let below = read-each (λ o. read-plan m n (o .target)) (outcomes m s (p .0)) (flatMap (choices n) (p .1) ++ r) in
+      ap (λ t. guard 10 t >> (below >>= (λ qs. ok ((p .0, qs .0), qs .1)))) (member-any (u .0))
       ∙ ap (λ z. z >>= (λ qs. ok ((p .0, qs .0), qs .1)))
-      (each-complete (λ o. read-plan m n (o .target)) (choices n) (λ o q. List·Memᴰ q (plans m n (o .target))) (λ o q ds i. read-complete n (o .target) q ds i) r (u .1))
+      (each-complete (λ o. read-plan m n (o .target)) (choices n) (λ o q. List·Memᴰ q (plans m n (o .target)))
+      (λ o q ds i. read-complete n (o .target) q ds i) r (u .1))
 
   pub plan-of-sound : (n s : ℕ) (cs : List ℕ) (p : Plan n) → plan-of m n s cs ≡ ok p → List·Memᴰ p (plans m n s) × (choices n p ≡ cs)
   unfolding plan-of is-empty

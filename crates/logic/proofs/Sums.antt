@@ -7,7 +7,7 @@ use mathlib.Core.List.{List, [], _∷_, _++_, map, flatMap}
 use Rattle.logic.specs.Lists.{join}
 use Rattle.logic.specs.Model.{Model, Step, outcomes}
 use Rattle.logic.specs.Plan.{Plan, paths, weight}
-use Rattle.logic.specs.Quantity.{Quantity, naturals, sum}
+use Rattle.logic.specs.Quantity.{Quantity, naturals, reversed, sum}
 use Rattle.logic.specs.Total.{total}
 
 -- What a quantity must obey for totals to split by the first step.
@@ -21,7 +21,16 @@ pub record Additive (Q : Quantity) : Type 0 where
   pub one-times : (a : Q .Value) → Q .times 1 a ≡ a
 
 pub naturals-additive : Additive naturals
-naturals-additive = record { none-plus = zero-add; plus-none = add-zero; plus-assoc = add-assoc; times-none = mul-zero; times-plus = mul-add; times-times = mul-assoc; one-times = one-mul }
+naturals-additive =
+    record {
+      none-plus = zero-add;
+      plus-none = add-zero;
+      plus-assoc = add-assoc;
+      times-none = mul-zero;
+      times-plus = mul-add;
+      times-times = mul-assoc;
+      one-times = one-mul;
+    }
 
 module _ (Q : Quantity) where
   -- The sum over two lists of one length, pairwise.
@@ -53,7 +62,8 @@ module _ (Q : Quantity) (L : Additive Q) where
   sum-map f g (x ∷ xs) = ap (Q .plus (f (g x))) (sum-map f g xs)
 
   module _ {A B : Type 0} where
-    pub sum-join : {C : Type 0} (f : C → Q .Value) (g : A → B → List C) (xs : List A) (ys : List B) → sum Q f (join g xs ys) ≡ sum-pairs Q (λ x y. sum Q f (g x y)) xs ys
+    pub sum-join : {C : Type 0} (f : C → Q .Value) (g : A → B → List C) (xs : List A) (ys : List B)
+        → sum Q f (join g xs ys) ≡ sum-pairs Q (λ x y. sum Q f (g x y)) xs ys
     unfolding sum join sum-pairs
     sum-join f g [] ys = refl
     sum-join f g (x ∷ xs) [] = refl
@@ -85,6 +95,24 @@ module _ (Q : Quantity) (L : Additive Q) where
             sum-map (λ r. Q .times (weight r) (f r)) (λ r. o ∷ r) l
             ∙ sum-ext _ _ l (λ r. L .times-times (o .weight) (weight r) (f (o ∷ r)))
             ∙ sum-times (o .weight) (λ r. Q .times (weight r) (f (o ∷ r))) l
+
+-- Reversing the order of a quantity changes no sum.
+pub reversed-additive : (Q : Quantity) → Additive Q → Additive (reversed Q)
+reversed-additive Q L =
+    record {
+      none-plus = L .none-plus;
+      plus-none = L .plus-none;
+      plus-assoc = L .plus-assoc;
+      times-none = L .times-none;
+      times-plus = L .times-plus;
+      times-times = L .times-times;
+      one-times = L .one-times;
+    }
+
+pub sum-reversed : (Q : Quantity) {A : Type 0} (f : A → Q .Value) (l : List A) → sum (reversed Q) f l ≡ sum Q f l
+unfolding sum
+sum-reversed Q f [] = refl
+sum-reversed Q f (x ∷ l) = ap (Q .plus (f x)) (sum-reversed Q f l)
 
 pub sum-constant : {A : Type 0} (k : ℕ) (l : List A) → sum naturals (λ a. k) l ≡ length l * k
 unfolding sum

@@ -8,7 +8,7 @@ use mathlib.Core.Logic.{⊎-elim}
 use mathlib.Core.Bool.{Bool, true, false, cond, _&&_, _||_, false≢true, or-true}
 use mathlib.Core.Option.{none, some}
 use mathlib.Core.List.{List, [], _∷_, map, List·Memᴰ, List·Memᴰ·head, List·Memᴰ·tail, List·Memᴰ·not-nil, List·Memᴰ·cases-cons}
-use lib.Dec.{T}
+use lib.Dec.{T, eqb, ltb, eqb→eq, eqb-refl, ltb→lt}
 use lib.ListN.{length, getD, length-map}
 use Rattle.logic.specs.Lists.{keep, any, all, find, count-from, tabulate, every, some-below}
 use Rattle.logic.proofs.Members.{map-member, in-map}
@@ -30,6 +30,9 @@ pub and-right : (a b : Bool) → (a && b) ≡ true → b ≡ true
 and-right true b e = e
 and-right false b e = absurd (false≢true e)
 
+pub and-both : (a b : Bool) → (a && b) ≡ true → (a ≡ true) × (b ≡ true)
+and-both a b e = (and-left a b e, and-right a b e)
+
 pub not-true : (t : Bool) → (t ≡ true → ⊥) → t ≡ false
 not-true true h = absurd (h refl)
 not-true false h = refl
@@ -37,6 +40,18 @@ not-true false h = refl
 pub same-test : (a b : Bool) → (a ≡ true → b ≡ true) → (b ≡ true → a ≡ true) → a ≡ b
 same-test true b f g = sym (f refl)
 same-test false b f g = sym (not-true b (λ e. false≢true (g e)))
+
+pub eqb-eq : (a b : ℕ) → eqb a b ≡ true → a ≡ b
+eqb-eq a b e = eqb→eq a b (true→T e)
+
+pub eq-eqb : {a b : ℕ} → a ≡ b → eqb a b ≡ true
+eq-eqb {a} e = subst (λ z. eqb a z ≡ true) e (T→true (eqb a a) (eqb-refl a))
+
+pub ne-eqb : (a b : ℕ) → (a ≡ b → ⊥) → eqb a b ≡ false
+ne-eqb a b h = not-true (eqb a b) (λ e. h (eqb-eq a b e))
+
+pub ltb-lt : (a b : ℕ) → ltb a b ≡ true → a < b
+ltb-lt a b e = ltb→lt a b (true→T e)
 
 module _ {A : Type 0} where
   pub none≢some : {x : A} → none ≡ some x → ⊥
@@ -46,6 +61,10 @@ module _ {A : Type 0} where
   some-same e = cc
 
 -- ---- over a list
+
+pub member-place : {A : Type 0} {l : List A} {a : A} → List·Memᴰ a l → (d : A) → (i : ℕ) × (i < length l) × (getD l i d ≡ a)
+member-place (List·Memᴰ·head e) d = (0, omega arith, sym e)
+member-place (List·Memᴰ·tail t) d = let w = member-place t d in (suc (w .0), suc-le-suc (w .1), w .2)
 
 module _ {A : Type 0} (f : A → Bool) where
   pub all-true : (l : List A) → ((y : A) → List·Memᴰ y l → f y ≡ true) → all f l ≡ true
@@ -58,9 +77,6 @@ module _ {A : Type 0} (f : A → Bool) where
   all-at [] e h = absurd (List·Memᴰ·not-nil h)
   all-at (x ∷ l) e h =
       ⊎-elim (λ q. ap f q ∙ and-left (f x) (all f l) e) (λ t. all-at l (and-right (f x) (all f l) e) t) (List·Memᴰ·cases-cons h)
-
-  pub all-false : (l : List A) {y : A} → List·Memᴰ y l → f y ≡ false → all f l ≡ false
-  all-false l i e = not-true (all f l) (λ h. false≢true (sym e ∙ all-at l h i))
 
   pub any-there : {l : List A} {a : A} → List·Memᴰ a l → f a ≡ true → any f l ≡ true
   unfolding any
@@ -76,9 +92,6 @@ module _ {A : Type 0} (f : A → Bool) where
       pick k true q h = (x, List·Memᴰ·head refl, q)
       pick k false q h = let w = k h in (w .0, List·Memᴰ·tail (w .1), w .2)
 
-  pub any-none : (l : List A) → ((y : A) → List·Memᴰ y l → f y ≡ false) → any f l ≡ false
-  any-none l h = not-true (any f l) (λ e. let w = any-some l e in false≢true (sym (h (w .0) (w .1)) ∙ w .2))
-
   pub in-keep : {l : List A} {a : A} → List·Memᴰ a l → f a ≡ true → List·Memᴰ a (keep f l)
   unfolding keep
   in-keep {a = a} (List·Memᴰ·head {x} {xs} e) h = subst (λ t. List·Memᴰ a (cond t (x ∷ keep f xs) (keep f xs))) (sym (ap f (sym e) ∙ h)) (List·Memᴰ·head e)
@@ -93,7 +106,8 @@ module _ {A : Type 0} (f : A → Bool) where
   keep-member [] h = absurd (List·Memᴰ·not-nil h)
   keep-member (x ∷ l) {y} h = pick (keep-member l) (f x) refl h
     where
-      pick : (List·Memᴰ y (keep f l) → List·Memᴰ y l × (f y ≡ true)) → (t : Bool) → f x ≡ t → List·Memᴰ y (cond t (x ∷ keep f l) (keep f l)) → List·Memᴰ y (x ∷ l) × (f y ≡ true)
+      pick : (List·Memᴰ y (keep f l) → List·Memᴰ y l × (f y ≡ true)) → (t : Bool) → f x ≡ t
+          → List·Memᴰ y (cond t (x ∷ keep f l) (keep f l)) → List·Memᴰ y (x ∷ l) × (f y ≡ true)
       pick k true q i = ⊎-elim (λ e. (List·Memᴰ·head e, ap f e ∙ q)) (λ t. let w = k t in (List·Memᴰ·tail (w .0), w .1)) (List·Memᴰ·cases-cons i)
       pick k false q i = let w = k i in (List·Memᴰ·tail (w .0), w .1)
 
@@ -118,6 +132,11 @@ module _ {A : Type 0} (f : A → Bool) where
       pick g true q = ((k, y), refl)
       pick g false q = ⊎-elim (λ r. absurd (false≢true (sym q ∙ ap f (sym r) ∙ e))) g (List·Memᴰ·cases-cons h)
 
+  pub find-none : (k : ℕ) (l : List A) → ((y : A) → List·Memᴰ y l → f y ≡ false) → find f k l ≡ none
+  unfolding find
+  find-none k [] h = refl
+  find-none k (x ∷ l) h = ap (λ t. cond t (some (k, x)) (find f (suc k) l)) (h x (List·Memᴰ·head refl)) ∙ find-none (suc k) l (λ y i. h y (List·Memᴰ·tail i))
+
   module _ (d : A) where
     -- The first place that passes is found, with its count from c.
     pub find-at : (c k : ℕ) (l : List A) → k < length l → f (getD l k d) ≡ true → ((j : ℕ) → j < k → f (getD l j d) ≡ false) → find f c l ≡ some (c + k, getD l k d)
@@ -130,9 +149,7 @@ module _ {A : Type 0} (f : A → Bool) where
         ∙ ap (λ z. some (z, getD l k d)) (omega arith)
 
     pub find-nowhere : (c : ℕ) (l : List A) → ((j : ℕ) → j < length l → f (getD l j d) ≡ false) → find f c l ≡ none
-    unfolding find
-    find-nowhere c [] g = refl
-    find-nowhere c (x ∷ l) g = ap (λ t. cond t (some (c, x)) (find f (suc c) l)) (g 0 (omega arith)) ∙ find-nowhere (suc c) l (λ j i. g (suc j) (suc-le-suc i))
+    find-nowhere c l g = find-none c l (λ y i. let w = member-place i d in ap f (sym (w .2)) ∙ g (w .0) (w .1))
 
 -- ---- over the numbers below n
 
@@ -155,7 +172,8 @@ module _ (f : ℕ → Bool) where
   unfolding some-below
   some-below-at zero h e = absurd (not-suc-le-zero h)
   some-below-at (suc n) h e =
-      ⊎-elim (λ q. ap (λ t. some-below n f || t) (ap f (sym q) ∙ e) ∙ or-true (some-below n f)) (λ l. ap (λ t. t || f n) (some-below-at n l e)) (eq-or-lt-of-le (le-of-suc-le-suc h))
+      ⊎-elim (λ q. ap (λ t. some-below n f || t) (ap f (sym q) ∙ e) ∙ or-true (some-below n f))
+      (λ l. ap (λ t. t || f n) (some-below-at n l e)) (eq-or-lt-of-le (le-of-suc-le-suc h))
 
   pub some-below-index : (n : ℕ) → some-below n f ≡ true → (i : ℕ) × (i < n) × (f i ≡ true)
   unfolding some-below

@@ -21,7 +21,7 @@ pub data Match {A B : Type 0} (R : A → B → Type 0) : List A → List B → T
   pair : {x : A} {y : B} {xs : List A} {ys : List B} → R x y → Match R xs ys → Match R (x ∷ xs) (y ∷ ys)
 
 -- All n-step plans from a state: an enabled choice first, with every plan below each of its outcomes. That this is every plan, once, in
--- dictionary order, is proved (`Order`).
+-- dictionary order, is proved (`Dictionary`).
 unfoldable pub plans : Model → (n : ℕ) → ℕ → List (Plan n)
 plans m zero s = tt ∷ []
 plans m (suc n) s = flatMap (λ a. map (λ qs. (a, qs)) (product (map (λ o. plans m n (o .target)) (outcomes m s a)))) (enabled m s)

@@ -27,7 +27,7 @@ pub data Follows (m : Model) (act : List ℕ → ℕ) : List ℕ → ℕ → Lis
       → List·Memᴰ o (outcomes m s (act h)) → Follows m act (h ++ (o .target ∷ [])) (o .target) r → Follows m act h s (o ∷ r)
 
 -- Those of n steps, listed: Paths of Definition 2, without the sequences of chance 0. That they are just these, each once, is proved
--- (`Policies`).
+-- (`PolicyPaths`); that plans and policies have the same paths, in `Policies`.
 unfoldable pub policy-paths : Model → (List ℕ → ℕ) → ℕ → List ℕ → ℕ → List (List Step)
 policy-paths m act zero h s = [] ∷ []
 policy-paths m act (suc n) h s = flatMap (λ o. map (λ r. o ∷ r) (policy-paths m act n (h ++ (o .target ∷ [])) (o .target))) (outcomes m s (act h))

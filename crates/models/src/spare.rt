@@ -3,26 +3,33 @@ ghost use mathlib.Core.Path.{_≡_};
 ghost use Prim.Native.Nat.{_+_, _*_, _-_, _<_, _≤_};
 ghost use mathlib.Core.Bool.{true, _&&_};
 ghost use Rattle.logic.specs.Lists.{every};
-ghost use Rattle.blocks.specs.Bytes as bytes;
-ghost use Rattle.models.specs.Layout.{action-count, action-at, cell-at, post-count};
-ghost use Rattle.models.specs.Grounds.{head-spare, rows-spare, cells-spare};
+ghost use lib.ListN.{length};
+ghost use Rattle.models.specs.Layout.{action-count, cell-at, entries, post-count};
+ghost use Rattle.models.specs.Grounds.{action-spare, head-spare, row-spare, rows-spare, cell-spare, cells-spare};
 ghost use Rattle.models.specs.Used.{Used, Sized};
 
 use blocks::{wide, zeros};
-use crate::{outcome_at, post_count};
+use crate::{outcome_at, post_count, widened};
 
-// The spare bytes of each action: 3 after the count, and the postconditions beyond it.
+// Of an action: the 3 bytes after the count, and the postconditions beyond it.
+fn action_spare(b: &[u8], a: usize) -> bool
+    requires { ⌜ (a < 8) × (post-count (now b) a ≤ 4) × (1024 ≤ length (now b)) ⌝ }
+    ensures { λ r. ⌜ r ≡ action-spare (now (b .entry)) a ⌝ }
+{
+    let at = 136 + 44 * a;
+    let used = 8 * post_count(b, a);
+    zeros(b, at + 9, 3) & zeros(b, at + 12 + used, 32 - used)
+}
+
 fn actions_spare(b: &[u8]) -> bool
     requires { ⌜ Sized (now b) ⌝ }
-    ensures { λ r. ⌜ r ≡ actions-spare (now (b .entry)) ⌝ }
+    ensures { λ r. ⌜ r ≡ every (action-count (now (b .entry))) (action-spare (now (b .entry))) ⌝ }
 {
     let actions = wide(b, 3);
     let mut right = true;
     let mut a: usize = 0;
     while a < actions {
-        let at = 136 + 44 * a;
-        let used = 8 * post_count(b, a);
-        right = right & (zeros(b, at + 9, 3) & zeros(b, at + 12 + used, 32 - used));
+        right = right & action_spare(b, a);
         a += 1;
     }
     right
@@ -37,6 +44,14 @@ fn head_spare(b: &[u8]) -> bool
     zeros(b, 6, 2) & zeros(b, 8 + masks, 128 - masks) & actions_spare(b) & zeros(b, end, 510 - end)
 }
 
+fn row_spare(b: &[u8], k: usize) -> bool
+    requires { ⌜ (k < 128) × (512 * k + 512 ≤ length (now b)) ⌝ }
+    ensures { λ r. ⌜ r ≡ row-spare (now (b .entry)) k ⌝ }
+{
+    let at = 512 * k;
+    zeros(b, at + 2, 2) & zeros(b, at + 388, 122)
+}
+
 fn rows_spare(b: &[u8]) -> bool
     requires { ⌜ Sized (now b) ⌝ }
     ensures { λ r. ⌜ r ≡ rows-spare (now (b .entry)) ⌝ }
@@ -45,17 +60,16 @@ fn rows_spare(b: &[u8]) -> bool
     let mut right = true;
     let mut k: usize = 0;
     while k < n {
-        let at = 512 * (k + 1);
-        right = right & (zeros(b, at + 2, 2) & zeros(b, at + 388, 122));
+        right = right & row_spare(b, k + 1);
         k += 1;
     }
     right
 }
 
-// What follows the first n outcomes of a cell.
+// Of a cell with n used outcomes: what follows them.
 fn cell_spare(b: &[u8], s: usize, a: usize, n: usize) -> bool
-    requires { ⌜ (s < 256) × (a < 8) × (n ≤ 4) × (cell-at s a + 16 ≤ length (now b)) ⌝ }
-    ensures { λ r. ⌜ r ≡ bytes.zeros (now (b .entry)) (cell-at s a + 4 * n) (16 - 4 * n) ⌝ }
+    requires { ⌜ (s < 256) × (a < 8) × (n ≤ 4) × (n ≡ entries (now b) s a) × (cell-at s a + 16 ≤ length (now b)) ⌝ }
+    ensures { λ r. ⌜ r ≡ cell-spare (now (b .entry)) s a ⌝ }
 {
     zeros(b, outcome_at(s, a, n), 16 - 4 * n)
 }
@@ -68,7 +82,7 @@ fn cells_spare(b: &[u8], used: &[u8; 264]) -> bool
     let mut right = true;
     let mut k: usize = 0;
     while k < cells {
-        right = right & cell_spare(b, k / 8, k % 8, used[k] as usize);
+        right = right & cell_spare(b, k / 8, k % 8, widened(used[k]));
         k += 1;
     }
     right
