@@ -56,7 +56,7 @@ module _ (m : Model) where
       subst (λ z. List·Memᴰ (z .0) (plans m (suc n) s) × (a ∷ cs ≡ choices (suc n) (z .0) ++ z .1)) (ok-same (v .2))
       (in-plans m n s (a, v .0 .0) (any-member a (enabled m s) (u .0)) (w .0), ap (λ z. a ∷ z) (w .1))
 
-  read-complete : (n s : ℕ) (p : Plan n) (r : List ℕ) → List·Memᴰ p (plans m n s) → read-plan m n s (choices n p ++ r) ≡ ok (p, r)
+  pub read-complete : (n s : ℕ) (p : Plan n) (r : List ℕ) → List·Memᴰ p (plans m n s) → read-plan m n s (choices n p ++ r) ≡ ok (p, r)
   unfolding read-plan choices
   read-complete zero s p r h = refl
   read-complete (suc n) s p r h =

@@ -30,10 +30,12 @@ impl Size {
 
 /// A random accepted model, up to a size.
 pub fn random_model(rng: &mut Rng, size: Size) -> ModelImage {
+    // A model of one state or one action has little to tell.
+    let least = if rng.once_in(8) { 1 } else { 2 };
     let mut image = ModelImage {
-        states: rng.byte(1, size.states),
-        actions: rng.byte(1, size.actions),
-        propositions: rng.byte(1, size.propositions),
+        states: rng.byte(least, size.states),
+        actions: rng.byte(least, size.actions),
+        propositions: rng.byte(least, size.propositions),
         denominator: random_denominator(rng),
         ..ModelImage::default()
     };
@@ -173,12 +175,14 @@ fn fill_outcomes(
 fn random_weights(rng: &mut Rng, denominator: u8, count: usize) -> Vec<u8> {
     let mut weights = vec![1; count];
     let mut left = denominator.saturating_sub(count as u8);
-    for place in 1..count {
+    for weight in weights.iter_mut().skip(1) {
         let more = rng.byte(0, left);
-        weights[place] += more;
+        *weight += more;
         left -= more;
     }
-    weights[0] += left;
+    if let Some(first) = weights.first_mut() {
+        *first += left;
+    }
     rng.shuffle(&mut weights);
     weights
 }
