@@ -10,6 +10,7 @@ ghost use Rattle.sheets.specs.Layout.{weight-of, count-of, sheet-of};
 ghost use Rattle.sheets.specs.Grounds.{head-right, count-right, weight-right, spare-right, read-sheet};
 ghost use Rattle.sheets.specs.Reader.{passes, Blocks, Gathered};
 
+pub mod plans;
 pub mod writer;
 
 // How many choices block k says it holds.
