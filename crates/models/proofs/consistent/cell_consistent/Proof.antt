@@ -1,33 +1,25 @@
-use mathlib.Core.Path.{_≡_, refl, sym, ap, ap₂, _∙_}
+-- The two tests are the definition, at the count that the caller hands in.
+use mathlib.Core.Path.{ap, ap₂, _∙_}
 use mathlib.Core.Bool.{_&&_, _||_}
 use lib.Dec.{eqb}
+use borrow.Author.Needs.{needs}
 use Rattle.logic.specs.Lists.{every}
 use Rattle.logic.specs.Model.{true-of}
 use Rattle.blocks.specs.Block.{sum-below}
 use Rattle.models.specs.Grounds.{cell-consistent}
 use Rattle.models.specs.Layout.{post-of, state-mask, outcome-of}
-use borrow.Author.Needs.{needs}
 use Rattle.models.proofs.consistent.cell_consistent.Statement.{statement}
 use Rattle.models.proofs.consistent.cell_consistent.Tie as tie
-use Rattle.models.proofs.consistent.cell_consistent.Reads as reads
-use Rattle.models.proofs.consistent.cell_consistent.Lts as lts
-use Rattle.blocks.proofs.wide.Reads as wide-reads
-use Rattle.models.proofs.consistent.targets_true.Reads as targets-true-reads
-use Rattle.models.proofs.consistent.weight_sum.Reads as weight-sum-reads
 
--- src/consistent.rt:102:5
 targets-true-requires : tie.Need-targets-true-requires
 targets-true-requires c κs = search needs
 
--- src/consistent.rt:102:45
 weight-sum-requires : tie.Need-weight-sum-requires
 weight-sum-requires c κs = search needs
 
--- src/consistent.rt:102:71
 wide-requires : tie.Need-wide-requires
 wide-requires c κs = search needs
 
--- src/consistent.rt:98:1
 returns : tie.Need-returns
 unfolding cell-consistent
 returns c = let S = c .before .before .before .before in
