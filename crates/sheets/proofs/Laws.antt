@@ -1,20 +1,19 @@
 -- What the tests on a sheet's blocks say, as the readers use it.
-use Prim.Native.Nat.{ℕ, _+_, _*_, _-_, _/_, _%_, _≤_, _<_}
+use Prim.Native.Nat.{ℕ, _+_, _*_, _-_, _≤_, _<_}
 use native.Mathlib.Omega.{arith}
-use native.Mathlib.Nat.{div-add-mod'}
 use native.Mathlib.Numerals.{add-one}
 use mathlib.Core.Path.{_≡_, refl, sym, ap, ap₂, _∙_}
 use mathlib.Core.Bool.{Bool, true, false, cond, _&&_}
 use mathlib.Core.List.{List, _++_}
-use lib.Dec.{eqb, ltb, leb}
+use lib.Dec.{eqb, ltb}
 use lib.ListN.{length, take, drop, length-append, length-drop}
 use lib.Seq.{length-take-le}
 use borrow.Rule.Slice.PartMut.{midOf, putMid}
-use borrow.Author.Tests.{eqb-true, leb-true, ltb-true, ltb-false}
+use borrow.Author.Tests.{eqb-true, ltb-false}
 use Rattle.logic.specs.Lists.{every}
-use Rattle.logic.specs.Checked.{Checked, ok, refusal}
+use Rattle.logic.specs.Checked.{ok, refusal}
 use Rattle.logic.proofs.Checked.{guard-passed}
-use Rattle.logic.proofs.Tests.{and-left, and-right, every-at, every-intro}
+use Rattle.logic.proofs.Tests.{and-left, every-at, every-intro}
 use Rattle.blocks.specs.Bytes.{within}
 use Rattle.blocks.specs.Block.{block-count, whole-blocks, sums-right, headed}
 use Rattle.models.proofs.Laws.{blocks-within, at-least, at-most}
@@ -82,8 +81,7 @@ module _ (n start : ℕ) (b : List ℕ) (e : refusal (read-sheet n start b) ≡ 
       let t₃ = guard-passed 2 (every (block-count b) (λ k. headed b k 4 k)) _ (t₂ .1) in
       let t₄ = guard-passed 3 (every (block-count b) (head-right n start b)) _ (t₃ .1) in
       let t₅ = guard-passed 4 (every (block-count b) (λ k. count-right b k && weight-right b k)) _ (t₄ .1) in
-      let t₆ = guard-passed 5 (every (block-count b) (spare-right b)) _ (t₅ .1) in
-      (
+      let t₆ = guard-passed 5 (every (block-count b) (spare-right b)) _ (t₅ .1) in (
         record { from = omega arith; whole = t₁ .0; counted = λ l. counts-of n start b (t₅ .0) },
         rw (t₁ .0, t₂ .0, t₃ .0, t₄ .0, t₅ .0, t₆ .0) refl,
       )
@@ -106,16 +104,15 @@ block-says b B k l =
 -- The choices of one block more, put in behind those before it.
 pub gather-more : (b d₀ d p : List ℕ) (k at c : ℕ) → Block b k → c ≡ count-of b k → at ≡ length (pieces (choices-of b) k) → at + c ≤ length d → d ≡ pieces (choices-of b) k ++ drop at d₀
     → (let s = take (512 * k + 18 + c - (512 * k + 18)) (drop (512 * k + 18) b) in
-      p ≡ s ++ drop (length s) (midOf at (length d - at) d)
-      → (putMid at (length d - at) d p ≡ pieces (choices-of b) (k + 1) ++ drop (at + c) d₀) × (at + c ≡ length (pieces (choices-of b) (k + 1))))
+    p ≡ s ++ drop (length s) (midOf at (length d - at) d)
+    → (putMid at (length d - at) d p ≡ pieces (choices-of b) (k + 1) ++ drop (at + c) d₀) × (at + c ≡ length (pieces (choices-of b) (k + 1))))
 unfolding choices-of
 gather-more b d₀ d p k at c B ec ea le e g =
     let s : List ℕ = take (512 * k + 18 + c - (512 * k + 18)) (drop (512 * k + 18) b) in
     let j : 512 * k + 18 + c - (512 * k + 18) ≡ c = omega arith in
     let n : length s ≡ c = length-take-le _ (drop (512 * k + 18) b) (omega (arith, length-drop (512 * k + 18) b, B .inside, B .few)) ∙ j in
     let m : pieces (choices-of b) k ++ s ≡ pieces (choices-of b) (k + 1) =
-        ap (λ i. pieces (choices-of b) k ++ take i (drop (512 * k + 18) b)) (j ∙ ec) ∙ sym (pieces-more (choices-of b) k) ∙ ap (pieces (choices-of b)) (sym (add-one k)) in
-    (
+    ap (λ i. pieces (choices-of b) k ++ take i (drop (512 * k + 18) b)) (j ∙ ec) ∙ sym (pieces-more (choices-of b) k) ∙ ap (pieces (choices-of b)) (sym (add-one k)) in (
       put-front (pieces (choices-of b) k) d₀ d at e (sym ea) s p (omega arith) g ∙ ap₂ (λ x y. x ++ drop (at + y) d₀) m n,
       ap₂ _+_ ea (sym n) ∙ sym (length-append (pieces (choices-of b) k) s) ∙ ap length m,
     )
