@@ -6,6 +6,7 @@ use mathlib.Core.Bool.{Bool, true, false, _&&_}
 use Rattle.logic.specs.Lists.{every, some-below}
 use Rattle.logic.specs.Checked.{Checked, ok, refused, _>>_, guard, refusal}
 use Rattle.logic.specs.Model.{true-of}
+use Rattle.logic.proofs.Checked.{guard-passed}
 use Rattle.logic.proofs.Tests.{and-both, every-at}
 use Rattle.blocks.specs.Bytes.{Bytes, within}
 use Rattle.blocks.specs.Block.{whole-blocks, sums-right}
@@ -24,22 +25,18 @@ pub record Passed (b : Bytes) : Type 0 where
   pub agrees : consistent b ≡ true
   pub lives : no-dead-ends b ≡ true
 
-next : {A : Type 0} (k : ℕ) (t : Bool) (c : Checked A) → refusal (guard (suc k) t >> c) ≡ 0 → (t ≡ true) × (refusal c ≡ 0)
-next k true c e = (refl, e)
-next k false c e = absurd (omega arith)
-
 module _ (b : Bytes) (e : refusal (read-model b) ≡ 0) where
   pub passed-all : Passed b
   unfolding read-model
   passed-all =
-      let t1 = next 0 (whole-blocks 2 12 b) _ e in
-      let t2 = next 1 (sums-right b) _ (t1 .1) in
-      let t3 = next 2 (kinds-right b) _ (t2 .1) in
-      let t4 = next 3 (sizes-right b) _ (t3 .1) in
-      let t5 = next 4 (fields-right b) _ (t4 .1) in
-      let t6 = next 5 (head-spare b && rows-spare b && cells-spare b) _ (t5 .1) in
-      let t7 = next 6 (consistent b) _ (t6 .1) in
-      let t8 = next 7 (no-dead-ends b) _ (t7 .1) in
+      let t1 = guard-passed 0 (whole-blocks 2 12 b) _ e in
+      let t2 = guard-passed 1 (sums-right b) _ (t1 .1) in
+      let t3 = guard-passed 2 (kinds-right b) _ (t2 .1) in
+      let t4 = guard-passed 3 (sizes-right b) _ (t3 .1) in
+      let t5 = guard-passed 4 (fields-right b) _ (t4 .1) in
+      let t6 = guard-passed 5 (head-spare b && rows-spare b && cells-spare b) _ (t5 .1) in
+      let t7 = guard-passed 6 (consistent b) _ (t6 .1) in
+      let t8 = guard-passed 7 (no-dead-ends b) _ (t7 .1) in
       record
       { whole = t1 .0
       ; sums = t2 .0

@@ -1,5 +1,5 @@
 -- A block in the making, field after field: what is written so far stands in front, and the rest is zero.
-use Prim.Native.Nat.{ℕ, _+_, _*_, _-_, _≤_, _<_}
+use Prim.Native.Nat.{ℕ, _+_, _*_, _-_, _≤_}
 use native.Mathlib.Omega.{arith}
 use mathlib.Core.Path.{_≡_, refl, sym, ap, _∙_}
 use mathlib.Core.List.{List, [], _∷_, _++_, append-assoc}
@@ -53,10 +53,9 @@ module _ (n start w k : ℕ) (cs : List ℕ) (few : length cs ≤ 490) where
       let tail : List ℕ = replicate (492 - length cs) 0 in
       let j : 512 - (18 + length cs) ≡ 492 - length cs + 2 = omega arith in
       let r : drop (18 + length cs) zero-block ≡ tail ++ replicate 2 0 =
-          drop-replicate (18 + length cs) 512 0 (omega arith) ∙ ap (λ i. replicate i 0) j ∙ sym (replicate-append-replicate (492 - length cs) 2 0) in
+      drop-replicate (18 + length cs) 512 0 (omega arith) ∙ ap (λ i. replicate i 0) j ∙ sym (replicate-append-replicate (492 - length cs) 2 0) in
       let e : d ≡ (fields ++ tail) ++ replicate 2 0 = z .is ∙ ap (λ l. fields ++ l) r ∙ sym (append-assoc fields tail (replicate 2 0)) in
-      let m : length (fields ++ tail) ≡ 510 = length-append fields tail ∙ omega (arith, z .front, length-replicate {A = ℕ} (492 - length cs) 0) in
-      (
+      let m : length (fields ++ tail) ≡ 510 = length-append fields tail ∙ omega (arith, z .front, length-replicate {A = ℕ} (492 - length cs) 0) in (
         written-length fields (18 + length cs) d z,
         ap (drop 510) e ∙ drop-at (fields ++ tail) (replicate 2 0) 510 m,
         ap (λ l. with-word-sum (take 510 l)) e ∙ ap with-word-sum (take-at (fields ++ tail) (replicate 2 0) 510 m ∙ simp append-assoc),
@@ -65,10 +64,10 @@ module _ (n start w k : ℕ) (cs : List ℕ) (few : length cs ≤ 490) where
   -- The weight, the count and the choices go in one after the other.
   pub block-fields : (d₀ p₁ p₂ p₃ : List ℕ) → d₀ ≡ started n start k
       → (let d₁ = putMid 8 (length d₀ - 8) d₀ p₁ in let d₂ = putMid 16 (length d₁ - 16) d₁ p₂ in let d = putMid 18 (length d₂ - 18) d₂ p₃ in
-        p₁ ≡ little-endian 8 w ++ drop 8 (midOf 8 (length d₀ - 8) d₀)
-        → p₂ ≡ little-endian 2 (length cs) ++ drop 2 (midOf 16 (length d₁ - 16) d₁)
-        → p₃ ≡ cs ++ drop (length cs) (midOf 18 (length d₂ - 18) d₂)
-        → (length d ≡ 512) × (drop 510 d ≡ replicate 2 0) × (with-word-sum (take 510 d) ≡ sheet-block n start w k cs))
+      p₁ ≡ little-endian 8 w ++ drop 8 (midOf 8 (length d₀ - 8) d₀)
+      → p₂ ≡ little-endian 2 (length cs) ++ drop 2 (midOf 16 (length d₁ - 16) d₁)
+      → p₃ ≡ cs ++ drop (length cs) (midOf 18 (length d₂ - 18) d₂)
+      → (length d ≡ 512) × (drop 510 d ≡ replicate 2 0) × (with-word-sum (take 510 d) ≡ sheet-block n start w k cs))
   unfolding little-endian started zero-block first fields
   block-fields d₀ p₁ p₂ p₃ e g₁ g₂ g₃ =
       let w₀ : Written (first n start k) 8 d₀ = record { is = e; front = refl; inside = omega arith } in

@@ -21,8 +21,8 @@ use Rattle.logic.proofs.Reading.{any-member, member-any, read-sound}
 use Rattle.blocks.specs.Bytes.{Bytes, within}
 use Rattle.models.specs.Layout.{state-count, action-count, outcome-of, entries, model-of}
 use Rattle.models.specs.Grounds.{outcome-in-range, read-model}
-use Rattle.models.proofs.Laws.{Sizes, sizes, entries-past-actions}
-use Rattle.models.proofs.Passed.{Passed, passed-all, outcome-passed}
+use Rattle.models.proofs.Laws.{sizes, entries-past-actions}
+use Rattle.models.proofs.Passed.{passed-all, outcome-passed}
 use Rattle.models.proofs.Held.{outcomes-held, enabled-entries}
 use Rattle.sheets.specs.declared.plans.End.{End}
 use Rattle.sheets.specs.declared.plans.End.the-variants.{At, Refused}
@@ -44,8 +44,10 @@ module _ (b : Bytes) (e : refusal (read-model b) ≡ 0) (s : ℕ) (h : s < state
     where
       held : enabled (model-of b) s ≡ keep (λ x. ltb 0 (entries b s x)) (count-from 0 (action-count b))
       held = enabled-entries b (passed-all b e) s h
+
       there : List·Memᴰ a (enabled (model-of b) s) → ltb 0 (entries b s a) ≡ true
       there i = keep-member (λ x. ltb 0 (entries b s x)) (count-from 0 (action-count b)) (subst (List·Memᴰ a) held i) .1
+
       back : ltb 0 (entries b s a) ≡ true → List·Memᴰ a (enabled (model-of b) s)
       back q =
           let l = some-entries a (ltb-true 0 (entries b s a) q) in
@@ -124,9 +126,9 @@ module _ (M : Model) (cs : List ℕ) where
         let rest = read-each (λ o. read-plan M n (o .target)) (outcomes M s a) (drop (suc at) cs) in
         ap₂ (λ j i. end-of (length cs) (read-each (λ o. read-plan M j (o .target)) (outcomes M s a) (drop i cs))) d (add-one at)
         ∙ sym
-          (ap (λ l. end-of (length cs) (read-plan M (suc n) s l)) (drop-cons cs at 0 h)
-          ∙ ap (λ t. end-of {A = Plan (suc n)} (length cs) (guard 10 t >> (rest >>= (λ qs. ok ((a, qs .0), qs .1))))) e
-          ∙ end-bind (length cs) rest (λ qs. (a, qs .0)))
+        (ap (λ l. end-of (length cs) (read-plan M (suc n) s l)) (drop-cons cs at 0 h)
+        ∙ ap (λ t. end-of {A = Plan (suc n)} (length cs) (guard 10 t >> (rest >>= (λ qs. ok ((a, qs .0), qs .1))))) e
+        ∙ end-bind (length cs) rest (λ qs. (a, qs .0)))
 
   -- ---- the outcomes
 
@@ -139,12 +141,11 @@ module _ (M : Model) (cs : List ℕ) where
       → (p ≤ length cs) × (end-of (length cs) (read-each (λ o. read-plan M k (o .target)) (o ∷ os) (drop at cs)) ≡ end-of (length cs) (read-each (λ o. read-plan M k (o .target)) os (drop p cs)))
   unfolding read-each
   walk-on k o os at p h e =
-      let w = left-at (read-plan M k (o .target) (drop at cs)) cs at p h (plan-left k (o .target) (drop at cs)) e in
-      (
+      let w = left-at (read-plan M k (o .target) (drop at cs)) cs at p h (plan-left k (o .target) (drop at cs)) e in (
         w .3,
         ap (λ c. end-of (length cs) (c >>= (λ y. read-each (λ o. read-plan M k (o .target)) os (y .1) >>= (λ ys. ok (y .0 ∷ ys .0, ys .1))))) (w .1)
-        ∙ end-bind (length cs) (read-each (λ o. read-plan M k (o .target)) os (w .0 .1)) (λ ys. w .0 .0 ∷ ys .0)
-        ∙ ap (λ l. end-of (length cs) (read-each (λ o. read-plan M k (o .target)) os l)) (w .2),
+            ∙ end-bind (length cs) (read-each (λ o. read-plan M k (o .target)) os (w .0 .1)) (λ ys. w .0 .0 ∷ ys .0)
+            ∙ ap (λ l. end-of (length cs) (read-each (λ o. read-plan M k (o .target)) os l)) (w .2),
       )
 
 -- ---- by the model's bytes
@@ -159,7 +160,7 @@ module _ (b : Bytes) (e : refusal (read-model b) ≡ 0) where
 
     pub choice-taken : (entries b s (getD cs at 0) ≡ 0 → ⊥)
         → end-of (length cs) (read-each (λ o. read-plan (model-of b) (n - 1) (o .target)) (outcomes (model-of b) s (getD cs at 0)) (drop (at + 1) cs))
-            ≡ end-of (length cs) (read-plan (model-of b) n s (drop at cs))
+        ≡ end-of (length cs) (read-plan (model-of b) n s (drop at cs))
     choice-taken q = end-choice (model-of b) cs s at l n z (enabled-test b e s h (getD cs at 0) ∙ lt-ltb 0 (entries b s (getD cs at 0)) (positive (entries b s (getD cs at 0)) q))
       where
         positive : (x : ℕ) → (x ≡ 0 → ⊥) → 0 < x

@@ -1,10 +1,10 @@
 -- Numbers in bytes: the bytes of a number, lowest first, read back as the number.
-use Prim.Native.Nat.{ℕ, zero, suc, _+_, _*_, _-_, _/_, _%_, _≤_, _<_}
+use Prim.Native.Nat.{ℕ, zero, suc, _+_, _*_, _-_, _/_, _%_, _<_}
 use native.Mathlib.Numerals.{add-one}
 use native.Mathlib.Nat.{mod-eq-of-lt}
 use native.Mathlib.Omega.{arith}
 use mathlib.Core.Path.{_≡_, refl, sym, ap, ap₂, _∙_}
-use mathlib.Core.List.{List, [], _∷_, _++_}
+use mathlib.Core.List.{List, _∷_, _++_}
 use lib.ListN.{length, drop, getD}
 use lib.Seq.{drop-cons, getD-drop}
 use Rattle.blocks.specs.Bytes.{u16, u32, u64, little-endian}
@@ -45,7 +45,7 @@ unfolding u64 u32 u16 little-endian
 reads-64 b t i x h e =
     let at : (j : ℕ) → getD b (i + j) 0 ≡ getD (little-endian 8 x ++ t) j 0 = λ j. sym (getD-drop i b j 0) ∙ ap (λ l. getD l j 0) e in
     let word : (j : ℕ) (y : ℕ) → getD (little-endian 8 x ++ t) j 0 ≡ y % 256 → getD (little-endian 8 x ++ t) (j + 1) 0 ≡ y / 256 % 256 → u16 b (i + j) ≡ y % 65536 =
-        λ j y p q. let z : i + j + 1 ≡ i + (j + 1) = omega arith in ap₂ (λ u v. u + 256 * v) (at j ∙ p) (ap (λ k. getD b k 0) z ∙ at (j + 1) ∙ q) ∙ two-bytes y in
+    λ j y p q. let z : i + j + 1 ≡ i + (j + 1) = omega arith in ap₂ (λ u v. u + 256 * v) (at j ∙ p) (ap (λ k. getD b k 0) z ∙ at (j + 1) ∙ q) ∙ two-bytes y in
     let z₀ : i ≡ i + 0 = omega arith in
     let z₆ : i + 4 + 2 ≡ i + 6 = omega arith in
     ap₂ (λ u v. u + 4294967296 * v)

@@ -1,22 +1,22 @@
 -- What is written is read back: block k of the sheet's bytes holds its number, the head fields, the weight and its part of the choices;
 -- every test passes, and the parts are the choices again.
-use Prim.Native.Nat.{ℕ, zero, suc, _+_, _*_, _-_, _/_, _%_, _≤_, _<_, min}
+use Prim.Native.Nat.{ℕ, _+_, _*_, _-_, _/_, _%_, _≤_, _<_, min}
 use native.Mathlib.Nat.{mul-div-right, mul-mod-right}
 use native.Mathlib.Omega.{arith}
 use mathlib.Core.Path.{_≡_, refl, sym, ap, ap₂, _∙_}
 use mathlib.Core.Bool.{Bool, true, false, cond, _&&_}
-use mathlib.Core.List.{List, [], _∷_, _++_, flatMap, append-assoc}
-use lib.Dec.{eqb, ltb, leb}
+use mathlib.Core.List.{List, _++_, append-assoc}
+use lib.Dec.{eqb, ltb}
 use lib.IntN.{pos}
 use lib.ListN.{length, take, drop, getD, replicate, length-append, length-take, length-drop, length-replicate, getD-replicate, List·getD-append}
 use lib.Seq.{getD-drop, drop-drop, drop-at, take-at, take-all}
 use borrow.Author.Tests.{eq-eqb, le-leb, ltb-true}
-use Rattle.logic.specs.Lists.{every, count-from}
-use Rattle.logic.specs.Checked.{Checked, ok}
+use Rattle.logic.specs.Lists.{every}
+use Rattle.logic.specs.Checked.{ok}
 use Rattle.logic.proofs.Tests.{every-intro}
 use Rattle.blocks.specs.Bytes.{Bytes, zeros, within, little-endian}
 use Rattle.blocks.specs.Block.{block-count, whole-blocks, sums-right, word-sum, headed}
-use Rattle.sheets.specs.Layout.{Sheet, weight-of, count-of, choices-of, sheet-of, with-word-sum, sheet-block, blocks-for, sheet-bytes}
+use Rattle.sheets.specs.Layout.{weight-of, count-of, choices-of, sheet-of, with-word-sum, sheet-block, blocks-for, sheet-bytes}
 use Rattle.sheets.specs.Grounds.{head-right, count-right, weight-right, spare-right, read-sheet}
 use Rattle.sheets.proofs.Numbers.{reads-16, reads-64}
 use Rattle.sheets.proofs.Words.{sealed-sum}
@@ -118,11 +118,11 @@ module _ (n start w : ℕ) (cs : List ℕ) where
       unfolding spare-right spare sheet-block with-word-sum little-endian
       spare-test =
           let e : drop (512 * k + 18 + count-of bytes k) bytes ≡ replicate (492 - count-of bytes k) 0 ++ choices-at .0 =
-              ap (λ c. drop (512 * k + 18 + c) bytes) count-at
-              ∙ sym (drop-drop (length (chunk k)) (512 * k + 18) bytes)
-              ∙ ap (drop (length (chunk k))) (choices-at .1)
-              ∙ drop-at (chunk k) (spare ++ choices-at .0) (length (chunk k)) refl
-              ∙ ap (λ c. replicate (492 - c) 0 ++ choices-at .0) (sym count-at) in
+          ap (λ c. drop (512 * k + 18 + c) bytes) count-at
+          ∙ sym (drop-drop (length (chunk k)) (512 * k + 18) bytes)
+          ∙ ap (drop (length (chunk k))) (choices-at .1)
+          ∙ drop-at (chunk k) (spare ++ choices-at .0) (length (chunk k)) refl
+          ∙ ap (λ c. replicate (492 - c) 0 ++ choices-at .0) (sym count-at) in
           ap₂ _&&_ (zeros-test bytes _ (512 * k + 4) 4 (at 4)) (zeros-test bytes (choices-at .0) (512 * k + 18 + count-of bytes k) (492 - count-of bytes k) e)
 
       part-at : choices-of bytes k ≡ chunk k
@@ -155,6 +155,6 @@ module _ (n start w : ℕ) (cs : List ℕ) where
         let kinds : every (block-count bytes) (λ k. headed bytes k 4 k) ≡ true = every-intro (λ k. headed bytes k 4 k) (block-count bytes) kind-test in
         let heads : every (block-count bytes) (head-right n start bytes) ≡ true = every-intro (head-right n start bytes) (block-count bytes) head-test in
         let counts : every (block-count bytes) (λ k. count-right bytes k && weight-right bytes k) ≡ true =
-            every-intro (λ k. count-right bytes k && weight-right bytes k) (block-count bytes) (λ k l. ap₂ _&&_ (count-passes k l) (weight-test k l)) in
+        every-intro (λ k. count-right bytes k && weight-right bytes k) (block-count bytes) (λ k l. ap₂ _&&_ (count-passes k l) (weight-test k l)) in
         let spares : every (block-count bytes) (spare-right bytes) ≡ true = every-intro (spare-right bytes) (block-count bytes) spare-test in
         rw (whole-test, sums-test, kinds, heads, counts, spares) (ap₂ (λ x y. ok (record { weight = pos x; choices = y })) (weight-at 0 (omega (arith, counted))) choices-back)

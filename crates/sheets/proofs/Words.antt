@@ -1,9 +1,9 @@
 -- The word sum of a block: the last word counts as what it is, and the one that is written makes the sum 0 modulo 65,536.
-use Prim.Native.Nat.{ℕ, zero, suc, _+_, _*_, _-_, _/_, _%_, _≤_, _<_}
+use Prim.Native.Nat.{ℕ, zero, suc, _+_, _*_, _-_, _%_, _<_}
 use native.Mathlib.Nat.{mod-lt}
 use native.Mathlib.Omega.{arith}
 use mathlib.Core.Path.{_≡_, refl, sym, ap, ap₂, _∙_}
-use mathlib.Core.List.{List, [], _∷_, _++_, append-assoc, append-nil}
+use mathlib.Core.List.{List, _++_, append-assoc, append-nil}
 use lib.ListN.{length, take, drop, getD, replicate, take-append-drop, drop-of-length-le, List·getD-append}
 use lib.Seq.{getD-drop, getD-take, length-take-le, drop-drop, drop-at}
 use borrow.Rule.Slice.PartMut.{midOf, putMid}
@@ -74,6 +74,6 @@ sealed-sum l t b k n e =
     same : (u : List ℕ) → drop (512 * k) b ≡ l ++ u → (j : ℕ) → j < 255 → u16 b (512 * k + 2 * j) ≡ u16 l (2 * j)
     same u q j h =
         let at : (i : ℕ) → i < 510 → getD b (512 * k + i) 0 ≡ getD l i 0 =
-            λ i g. sym (getD-drop (512 * k) b i 0) ∙ ap (λ x. getD x i 0) q ∙ List·getD-append l u 0 i (omega arith) in
+        λ i g. sym (getD-drop (512 * k) b i 0) ∙ ap (λ x. getD x i 0) q ∙ List·getD-append l u 0 i (omega arith) in
         let z : 512 * k + 2 * j + 1 ≡ 512 * k + (2 * j + 1) = omega arith in
         same-16 b l (512 * k + 2 * j) (2 * j) (at (2 * j) (omega arith)) (ap (λ i. getD b i 0) z ∙ at (2 * j + 1) (omega arith))

@@ -1,7 +1,7 @@
 -- Where a sheet's fields stand in its blocks, what they hold, and the blocks that are written of a plan. A sheet is document 01's word for
 -- a certificate: a plan's choices with the total claimed for them. Document 01, "Blocks of 512 bytes", Sheet.
-use Prim.Native.Nat.{ℕ, zero, suc, _+_, _*_, _-_, _/_, _%_}
-use mathlib.Core.List.{List, [], _∷_, _++_, flatMap}
+use Prim.Native.Nat.{ℕ, _+_, _*_, _-_, _/_, _%_}
+use mathlib.Core.List.{List, _∷_, _++_, flatMap}
 use lib.IntN.{ℤ, pos}
 use lib.ListN.{length, take, drop, replicate}
 use Rattle.logic.specs.Lists.{count-from}

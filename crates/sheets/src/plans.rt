@@ -10,7 +10,10 @@ ghost use Rattle.models.specs.Grounds.{read-model};
 ghost use Rattle.sheets.specs.Ends.{end-of};
 
 // Where the choices of a plan end, or the number of a refusal.
-enum End { At(usize), Refused(u32) }
+enum End {
+    At(usize),
+    Refused(u32),
+}
 
 // Reads the choices from `at` on as an n-step plan from the state s.
 fn plan_end(m: &[u8], choices: &[u8], n: usize, s: usize, at: usize) -> End

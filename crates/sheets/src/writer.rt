@@ -102,7 +102,14 @@ pub fn write_sheet(buf: &mut [u8], n: u8, start: u8, weight: u64, choices: &[u8]
         let e = a + 512;
         let from = 490 * k;
         let to = chunk_end(from, count);
-        block(&mut buf[a..e], k as u8, n, start, weight, &choices[from..to]);
+        block(
+            &mut buf[a..e],
+            k as u8,
+            n,
+            start,
+            weight,
+            &choices[from..to],
+        );
         k += 1;
     }
     512 * blocks

@@ -1,20 +1,17 @@
-use mathlib.Core.Path.{_≡_, sym, refl, ap, ap₂, _∙_}
+-- The loop has tested the blocks before k; the counts that ground 6 needs are those that passed ground 5. The measure is what is left of the count.
 use Prim.Native.Nat.{_-_, _/_, _≤_, _<_}
-use mathlib.Core.Bool.{_&&_}
 use native.Mathlib.Omega.{arith}
-use native.Mathlib.Numerals.{add-one}
+use mathlib.Core.Path.{_≡_, refl, ap, _∙_}
 use lib.ListN.{length}
 use Rattle.logic.specs.Lists.{every}
 use Rattle.logic.proofs.Tests.{every-at}
 use Rattle.blocks.specs.Block.{block-count}
+use Rattle.models.proofs.Laws.{every-more}
 use Rattle.sheets.specs.Grounds.{count-right}
 use Rattle.sheets.specs.Reader.{passes}
 use Rattle.sheets.proofs.Laws.{whole-says, count-says}
 use Rattle.sheets.proofs.all_pass.Statement.{statement}
 use Rattle.sheets.proofs.all_pass.Tie as tie
-use Rattle.sheets.proofs.all_pass.Reads as reads
-use Rattle.sheets.proofs.all_pass.Lts as lts
-use Rattle.sheets.proofs.block_passes.Reads as block-passes-reads
 
 abbrev Inv-loop : tie.InvT-loop
 Inv-loop b ground n start count right₀ k₀ right k = (k ≤ count) × (right ≡ every k (passes ground n start b))
@@ -22,12 +19,10 @@ Inv-loop b ground n start count right₀ k₀ right k = (k ≤ count) × (right 
 abbrev μ-loop : tie.MeasureT-loop
 μ-loop b ground n start count right₀ k₀ right k = count - k
 
--- src/lib.rt:89:5
 loop-holds : tie.Need-loop-holds Inv-loop μ-loop
 unfolding every
 loop-holds c = (omega arith, refl)
 
--- src/lib.rt:90:25
 block-passes-requires : tie.Need-block-passes-requires Inv-loop μ-loop
 unfolding block-count
 block-passes-requires c κs = let S = c .before .before .before in
@@ -35,21 +30,17 @@ block-passes-requires c κs = let S = c .before .before .before in
     let l : c .before .loop .k < block-count (S .args .b .now) = c .loop-test .taken in
     (S .pre .from, omega arith, omega arith, λ g. count-says (S .args .b .now) (c .before .loop .k) (every-at (count-right (S .args .b .now)) (block-count (S .args .b .now)) (S .pre .counted g) l) .few)
 
--- src/lib.rt:91:9
 add-k : tie.Need-add-k Inv-loop μ-loop
 add-k c = omega arith
 
--- src/lib.rt:89:5
 loop-less : tie.Need-loop-less Inv-loop μ-loop
 loop-less c = omega arith
 
--- src/lib.rt:89:5
 loop-again : tie.Need-loop-again Inv-loop μ-loop
-unfolding every
-loop-again c = let k = c .before .before .loop .k in
-    (omega arith, rw (add-one k) (ap₂ _&&_ (c .before .before .loop .inv .1) (c .block-passes .ensures)))
+loop-again c = let S = c .before .before .before .before in
+    let L = c .before .before .loop in
+    (omega arith, every-more (passes (S .args .ground) (S .args .n) (S .args .start) (S .args .b .now)) (L .k) (L .inv .1) (c .block-passes .ensures))
 
--- src/lib.rt:82:1
 returns : tie.Need-returns Inv-loop μ-loop
 unfolding block-count
 returns c = let S = c .before .before .before in

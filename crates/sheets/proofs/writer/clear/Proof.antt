@@ -1,14 +1,12 @@
-use lib.ListN.{set}
-use mathlib.Core.List.{List}
-use Rattle.sheets.proofs.Parts.{fill-end}
-use mathlib.Core.Path.{_≡_, refl, sym, ap, _∙_}
-use native.Mathlib.Omega.{arith}
-use borrow.Author.Needs.{needs}
+-- The loop has made the bytes before i zero. The measure is what is left.
 use Prim.Native.Nat.{ℕ, _≤_, _<_, _-_}
-use mathlib.Core.List.{_++_}
-use lib.ListN.{length, take, drop, replicate, length-set}
-use lib.Seq.{paste, paste-zero}
-use borrow.Author.Fill.{fill-none, fill-more}
+use native.Mathlib.Omega.{arith}
+use mathlib.Core.List.{List, _++_}
+use mathlib.Core.Path.{_≡_, refl, ap, _∙_}
+use lib.ListN.{set, length, drop, replicate, length-set}
+use borrow.Author.Needs.{needs}
+use borrow.Author.Fill.{fill-more}
+use Rattle.sheets.proofs.Parts.{fill-end}
 use Rattle.sheets.proofs.writer.clear.Statement.{statement}
 use Rattle.sheets.proofs.writer.clear.Tie as tie
 

@@ -1,12 +1,10 @@
-use lib.ListN.{getD}
-use mathlib.Core.Path.{_≡_, refl, sym, ap, _∙_}
+-- The loop has put in the bytes before i. The measure is what is left of src.
+use Prim.Native.Nat.{_≤_, _<_, _-_}
 use native.Mathlib.Omega.{arith}
-use borrow.Author.Needs.{needs}
-use Prim.Native.Nat.{ℕ, _≤_, _<_, _-_}
-use mathlib.Core.List.{_++_}
-use lib.ListN.{length, take, drop, replicate, length-set}
+use mathlib.Core.Path.{_≡_, refl, _∙_}
+use lib.ListN.{getD, length, length-set}
 use lib.Seq.{paste, paste-zero}
-use borrow.Author.Fill.{fill-none, fill-more}
+use borrow.Author.Needs.{needs}
 use Rattle.sheets.proofs.Parts.{copy-more, copy-end}
 use Rattle.sheets.proofs.writer.copy.Statement.{statement}
 use Rattle.sheets.proofs.writer.copy.Tie as tie
