@@ -1,7 +1,7 @@
 // Reading questions: the grounds of refusal 1 to 6 and 9, and the fields of a node. A node's number is a byte, so the readers are total.
 ghost use mathlib.Core.Path.{_≡_};
-ghost use mathlib.Core.Bool.{true, false, _&&_};
-ghost use Prim.Native.Nat.{_+_, _*_, _≤_, _<_, max, min};
+ghost use mathlib.Core.Bool.{false, _&&_};
+ghost use Prim.Native.Nat.{_+_, _≤_, _<_, max, min};
 ghost use lib.Dec.{ltb};
 ghost use lib.ListN.{length, getD, take};
 ghost use Rattle.logic.specs.Lists.{all, every};

@@ -32,7 +32,8 @@ returns c = both-tests (ap (within 1 6) (sym (c .before .before .before .before 
 
 returns-2 : tie.Need-returns-2
 unfolding compares
-returns-2 c = let x = node-of (c .before .before .before .before .args .b .now) (c .before .before .before .before .args .i) in
+returns-2 c = let S = c .before .before .before .before in
+    let x = node-of (S .args .b .now) (S .args .i) in
     let e : c .before .within .result ≡ within 1 6 (x .n) = c .before .within .ensures ∙ ap (within 1 6) (c .before .before .steps .ensures) in
     first-fails (within 1 3 (x .right)) (sym e ∙ c .if1 .left) e
 

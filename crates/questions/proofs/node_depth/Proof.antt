@@ -46,12 +46,13 @@ child-depth-requires-4 c κs = search needs
 
 add-result : tie.Need-add-result
 unfolding depth
-add-result c = let b = c .before .before .before .before .before .args .b .now in
-    let i = c .before .before .before .before .before .args .i in
+add-result c = let S = c .before .before .before .before .before in
+    let b = S .args .b .now in
+    let i = S .args .i in
     let x = node-of b i in
     let fs = formulas-before b i in
-    let v : c .child-depth4 .result ≡ depth (getD fs (x .left) never) = c .child-depth4 .ensures ∙ child-value depth b i i (omega arith) (omega (arith, c .before .before .before .before .before .pre .0)) (c .before .before .before .before .before .pre .1) (c .before .left3 .ensures) in
-    omega (arith, v, depth-bound b (λ k. c .before .before .before .before .shared-slice-known .given k .fits) i (x .left), c .before .before .before .before .before .pre .0)
+    let v : c .child-depth4 .result ≡ depth (getD fs (x .left) never) = c .child-depth4 .ensures ∙ child-value depth b i i (omega arith) (omega (arith, S .pre .0)) (S .pre .1) (c .before .left3 .ensures) in
+    omega (arith, v, depth-bound b (λ k. c .before .before .before .before .shared-slice-known .given k .fits) i (x .left), S .pre .0)
 
 steps-requires : tie.Need-steps-requires
 steps-requires c κs = search needs
@@ -61,29 +62,32 @@ cast-result c = search needs
 
 returns : tie.Need-returns
 unfolding depth
-returns c = let b = c .before .before .before .before .before .args .b .now in
-    let i = c .before .before .before .before .before .args .i in
+returns c = let S = c .before .before .before .before .before in
+    let b = S .args .b .now in
+    let i = S .args .i in
     let x = node-of b i in
     let fs = formulas-before b i in
     let o : x .operator ≡ 3 = sym (c .before .before .before .operator .ensures) ∙ c .before .before .match .keys1 in
-    let v : c .child-depth .result ≡ depth (getD fs (x .left) never) = c .child-depth .ensures ∙ child-value depth b i i (omega arith) (omega (arith, c .before .before .before .before .before .pre .0)) (c .before .before .before .before .before .pre .1) (c .before .left .ensures) in
+    let v : c .child-depth .result ≡ depth (getD fs (x .left) never) = c .child-depth .ensures ∙ child-value depth b i i (omega arith) (omega (arith, S .pre .0)) (S .pre .1) (c .before .left .ensures) in
     v ∙ sym (ap depth (row-3 fs x o))
 
 returns-2 : tie.Need-returns-2
 unfolding depth
-returns-2 c = let b = c .before .before .before .before .before .before .before .before .args .b .now in
-    let i = c .before .before .before .before .before .before .before .before .args .i in
+returns-2 c = let S = c .before .before .before .before .before .before .before .before in
+    let b = S .args .b .now in
+    let i = S .args .i in
     let x = node-of b i in
     let fs = formulas-before b i in
     let o : x .operator ≡ 4 = sym (c .before .before .before .before .before .before .operator .ensures) ∙ c .before .before .before .before .before .match .keys2 in
-    let v : c .before .before .before .child-depth2 .result ≡ depth (getD fs (x .left) never) = c .before .before .before .child-depth2 .ensures ∙ child-value depth b i i (omega arith) (omega (arith, c .before .before .before .before .before .before .before .before .pre .0)) (c .before .before .before .before .before .before .before .before .pre .1) (c .before .before .before .before .left2 .ensures) in
-    let w : c .before .child-depth3 .result ≡ depth (getD fs (x .right) never) = c .before .child-depth3 .ensures ∙ child-value depth b i i (omega arith) (omega (arith, c .before .before .before .before .before .before .before .before .pre .0)) (c .before .before .before .before .before .before .before .before .pre .1) (c .before .before .right .ensures) in
+    let v : c .before .before .before .child-depth2 .result ≡ depth (getD fs (x .left) never) = c .before .before .before .child-depth2 .ensures ∙ child-value depth b i i (omega arith) (omega (arith, S .pre .0)) (S .pre .1) (c .before .before .before .before .left2 .ensures) in
+    let w : c .before .child-depth3 .result ≡ depth (getD fs (x .right) never) = c .before .child-depth3 .ensures ∙ child-value depth b i i (omega arith) (omega (arith, S .pre .0)) (S .pre .1) (c .before .before .right .ensures) in
     c .larger .ensures ∙ ap₂ max v w ∙ sym (ap depth (row-4 fs x o))
 
 returns-3 : tie.Need-returns-3
 unfolding depth
-returns-3 c = let b = c .before .before .before .args .b .now in
-    let i = c .before .before .before .args .i in
+returns-3 c = let S = c .before .before .before in
+    let b = S .args .b .now in
+    let i = S .args .i in
     let x = node-of b i in
     let fs = formulas-before b i in
     let o : x .operator ≡ 5 = sym (c .before .operator .ensures) ∙ c .match .keys3 in
@@ -91,18 +95,20 @@ returns-3 c = let b = c .before .before .before .args .b .now in
 
 returns-4 : tie.Need-returns-4
 unfolding depth
-returns-4 c = let b = c .before .before .before .before .before .args .b .now in
-    let i = c .before .before .before .before .before .args .i in
+returns-4 c = let S = c .before .before .before .before .before in
+    let b = S .args .b .now in
+    let i = S .args .i in
     let x = node-of b i in
     let fs = formulas-before b i in
     let o : x .operator ≡ 6 = sym (c .before .before .before .operator .ensures) ∙ c .before .before .match .keys4 in
-    let v : c .child-depth4 .result ≡ depth (getD fs (x .left) never) = c .child-depth4 .ensures ∙ child-value depth b i i (omega arith) (omega (arith, c .before .before .before .before .before .pre .0)) (c .before .before .before .before .before .pre .1) (c .before .left3 .ensures) in
+    let v : c .child-depth4 .result ≡ depth (getD fs (x .left) never) = c .child-depth4 .ensures ∙ child-value depth b i i (omega arith) (omega (arith, S .pre .0)) (S .pre .1) (c .before .left3 .ensures) in
     ap (λ k. k + 1) v ∙ add-one _ ∙ sym (ap depth (row-6 fs x o))
 
 returns-5 : tie.Need-returns-5
 unfolding depth
-returns-5 c = let b = c .before .before .before .before .args .b .now in
-    let i = c .before .before .before .before .args .i in
+returns-5 c = let S = c .before .before .before .before in
+    let b = S .args .b .now in
+    let i = S .args .i in
     let x = node-of b i in
     let fs = formulas-before b i in
     let o : x .operator ≡ 7 = sym (c .before .before .operator .ensures) ∙ c .before .match .keys5 in
@@ -110,8 +116,9 @@ returns-5 c = let b = c .before .before .before .before .args .b .now in
 
 returns-6 : tie.Need-returns-6
 unfolding depth
-returns-6 c = let b = c .before .before .before .args .b .now in
-    let i = c .before .before .before .args .i in
+returns-6 c = let S = c .before .before .before in
+    let b = S .args .b .now in
+    let i = S .args .i in
     let x = node-of b i in
     let fs = formulas-before b i in
     let r = c .match .rest in

@@ -35,39 +35,43 @@ child-is-path-requires-3 c κs = search needs
 
 returns : tie.Need-returns
 unfolding is-path
-returns c = let b = c .before .before .before .before .before .args .b .now in
-    let i = c .before .before .before .before .before .args .i in
+returns c = let S = c .before .before .before .before .before in
+    let b = S .args .b .now in
+    let i = S .args .i in
     let x = node-of b i in
     let fs = formulas-before b i in
     let o : x .operator ≡ 3 = sym (c .before .before .before .operator .ensures) ∙ c .before .before .match .keys1 in
-    let v : c .child-is-path .result ≡ is-path (getD fs (x .left) never) = c .child-is-path .ensures ∙ child-value is-path b i i (omega arith) (omega (arith, c .before .before .before .before .before .pre .0)) (c .before .before .before .before .before .pre .1) (c .before .left .ensures) in
+    let v : c .child-is-path .result ≡ is-path (getD fs (x .left) never) = c .child-is-path .ensures ∙ child-value is-path b i i (omega arith) (omega (arith, S .pre .0)) (S .pre .1) (c .before .left .ensures) in
     v ∙ sym (ap is-path (row-3 fs x o))
 
 returns-2 : tie.Need-returns-2
 unfolding is-path
-returns-2 c = let b = c .before .before .before .before .before .before .args .b .now in
-    let i = c .before .before .before .before .before .before .args .i in
+returns-2 c = let S = c .before .before .before .before .before .before in
+    let b = S .args .b .now in
+    let i = S .args .i in
     let x = node-of b i in
     let fs = formulas-before b i in
     let o : x .operator ≡ 4 = sym (c .before .before .before .before .operator .ensures) ∙ c .before .before .before .match .keys2 in
-    let v : c .before .child-is-path2 .result ≡ is-path (getD fs (x .left) never) = c .before .child-is-path2 .ensures ∙ child-value is-path b i i (omega arith) (omega (arith, c .before .before .before .before .before .before .pre .0)) (c .before .before .before .before .before .before .pre .1) (c .before .before .left2 .ensures) in
+    let v : c .before .child-is-path2 .result ≡ is-path (getD fs (x .left) never) = c .before .child-is-path2 .ensures ∙ child-value is-path b i i (omega arith) (omega (arith, S .pre .0)) (S .pre .1) (c .before .before .left2 .ensures) in
     either-first _ (sym v ∙ c .if1 .taken) v ∙ sym (ap is-path (row-4 fs x o))
 
 returns-3 : tie.Need-returns-3
 unfolding is-path
-returns-3 c = let b = c .before .before .before .before .before .before .before .before .args .b .now in
-    let i = c .before .before .before .before .before .before .before .before .args .i in
+returns-3 c = let S = c .before .before .before .before .before .before .before .before in
+    let b = S .args .b .now in
+    let i = S .args .i in
     let x = node-of b i in
     let fs = formulas-before b i in
     let o : x .operator ≡ 4 = sym (c .before .before .before .before .before .before .operator .ensures) ∙ c .before .before .before .before .before .match .keys2 in
-    let v : c .before .before .before .child-is-path2 .result ≡ is-path (getD fs (x .left) never) = c .before .before .before .child-is-path2 .ensures ∙ child-value is-path b i i (omega arith) (omega (arith, c .before .before .before .before .before .before .before .before .pre .0)) (c .before .before .before .before .before .before .before .before .pre .1) (c .before .before .before .before .left2 .ensures) in
-    let w : c .child-is-path3 .result ≡ is-path (getD fs (x .right) never) = c .child-is-path3 .ensures ∙ child-value is-path b i i (omega arith) (omega (arith, c .before .before .before .before .before .before .before .before .pre .0)) (c .before .before .before .before .before .before .before .before .pre .1) (c .before .right .ensures) in
+    let v : c .before .before .before .child-is-path2 .result ≡ is-path (getD fs (x .left) never) = c .before .before .before .child-is-path2 .ensures ∙ child-value is-path b i i (omega arith) (omega (arith, S .pre .0)) (S .pre .1) (c .before .before .before .before .left2 .ensures) in
+    let w : c .child-is-path3 .result ≡ is-path (getD fs (x .right) never) = c .child-is-path3 .ensures ∙ child-value is-path b i i (omega arith) (omega (arith, S .pre .0)) (S .pre .1) (c .before .right .ensures) in
     ap₂ _||_ (sym (sym v ∙ c .before .before .if1 .left)) w ∙ sym (ap is-path (row-4 fs x o))
 
 returns-4 : tie.Need-returns-4
 unfolding is-path
-returns-4 c = let b = c .before .before .before .args .b .now in
-    let i = c .before .before .before .args .i in
+returns-4 c = let S = c .before .before .before in
+    let b = S .args .b .now in
+    let i = S .args .i in
     let x = node-of b i in
     let fs = formulas-before b i in
     let o : x .operator ≡ 5 = sym (c .before .operator .ensures) ∙ c .match .keys3 in
@@ -75,8 +79,9 @@ returns-4 c = let b = c .before .before .before .args .b .now in
 
 returns-5 : tie.Need-returns-5
 unfolding is-path
-returns-5 c = let b = c .before .before .before .args .b .now in
-    let i = c .before .before .before .args .i in
+returns-5 c = let S = c .before .before .before in
+    let b = S .args .b .now in
+    let i = S .args .i in
     let x = node-of b i in
     let fs = formulas-before b i in
     let o : x .operator ≡ 6 = sym (c .before .operator .ensures) ∙ c .match .keys4 in
@@ -84,8 +89,9 @@ returns-5 c = let b = c .before .before .before .args .b .now in
 
 returns-6 : tie.Need-returns-6
 unfolding is-path
-returns-6 c = let b = c .before .before .before .args .b .now in
-    let i = c .before .before .before .args .i in
+returns-6 c = let S = c .before .before .before in
+    let b = S .args .b .now in
+    let i = S .args .i in
     let x = node-of b i in
     let fs = formulas-before b i in
     let o : x .operator ≡ 7 = sym (c .before .operator .ensures) ∙ c .match .keys5 in
@@ -93,8 +99,9 @@ returns-6 c = let b = c .before .before .before .args .b .now in
 
 returns-7 : tie.Need-returns-7
 unfolding is-path
-returns-7 c = let b = c .before .before .before .args .b .now in
-    let i = c .before .before .before .args .i in
+returns-7 c = let S = c .before .before .before in
+    let b = S .args .b .now in
+    let i = S .args .i in
     let x = node-of b i in
     let fs = formulas-before b i in
     let r = c .match .rest in

@@ -29,18 +29,20 @@ cast-result c = search needs
 
 returns : tie.Need-returns
 unfolding depth shallow
-returns c = let b = c .before .before .before .before .before .before .args .b .now in
-    let i = c .before .before .before .before .before .before .args .i in
+returns c = let S = c .before .before .before .before .before .before in
+    let b = S .args .b .now in
+    let i = S .args .i in
     let x = node-of b i in
     let fs = formulas-before b i in
     let o : x .operator ≡ 8 = sym (c .before .before .before .before .operator .ensures) ∙ c .before .before .before .match .keys1 in
-    let v : c .before .child-depth .result ≡ depth (getD fs (x .left) never) = c .before .child-depth .ensures ∙ child-value depth b i (node-count b) (omega arith) (omega arith) (c .before .before .before .before .before .before .pre .2 ∙ ap (table depth) (sym (all-before b))) (c .before .before .left .ensures) in
-    ap₂ leb v (c .steps .ensures) ∙ sym (ap shallow (formula-here b i (c .before .before .before .before .before .before .pre .0) ∙ row-8 fs x o))
+    let v : c .before .child-depth .result ≡ depth (getD fs (x .left) never) = c .before .child-depth .ensures ∙ child-value depth b i (node-count b) (omega arith) (omega arith) (S .pre .2 ∙ ap (table depth) (sym (all-before b))) (c .before .before .left .ensures) in
+    ap₂ leb v (c .steps .ensures) ∙ sym (ap shallow (formula-here b i (S .pre .0) ∙ row-8 fs x o))
 
 returns-2 : tie.Need-returns-2
-returns-2 c = let b = c .before .before .before .args .b .now in
-    let i = c .before .before .before .args .i in
-    other-shallow (formulas-before b i) (node-of b i) (c .before .operator .result) (sym (c .before .operator .ensures)) (c .match .rest .1) ∙ sym (ap shallow (formula-here b i (c .before .before .before .pre .0)))
+returns-2 c = let S = c .before .before .before in
+    let b = S .args .b .now in
+    let i = S .args .i in
+    other-shallow (formulas-before b i) (node-of b i) (c .before .operator .result) (sym (c .before .operator .ensures)) (c .match .rest .1) ∙ sym (ap shallow (formula-here b i (S .pre .0)))
 
 pub node-shallow-spec : {M : Type 1} → statement M
 node-shallow-spec =

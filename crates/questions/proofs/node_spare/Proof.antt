@@ -49,16 +49,18 @@ zeros-requires-4 c κs = search needs
 
 returns : tie.Need-returns
 unfolding node-of node-spare
-returns c = let b = c .before .before .before .before .before .args .b .now in
-    let i = c .before .before .before .before .before .args .i in
+returns c = let S = c .before .before .before .before .before in
+    let b = S .args .b .now in
+    let i = S .args .i in
     let a : c .before .before .before .node-at .result ≡ node-at i = c .before .before .before .node-at .ensures .0 in
     let o : byte b (node-at i) ≡ 1 = sym (c .before .before .operator .ensures) ∙ c .before .match .keys1 in
     rw o (c .zeros .ensures ∙ ap (λ k. zeros b (k + 1) 11) a ∙ spare-all b (node-at i))
 
 returns-2 : tie.Need-returns-2
 unfolding node-of node-spare
-returns-2 c = let b = c .before .before .before .before .before .args .b .now in
-    let i = c .before .before .before .before .before .args .i in
+returns-2 c = let S = c .before .before .before .before .before in
+    let b = S .args .b .now in
+    let i = S .args .i in
     let a : c .before .before .before .node-at .result ≡ node-at i = c .before .before .before .node-at .ensures .0 in
     let e = c .only-left .ensures ∙ ap (λ k. zeros b (k + 1) 1 && zeros b (k + 3) 1 && zeros b (k + 4) 8) a in
     let o : byte b (node-at i) ≡ c .before .before .operator .result = sym (c .before .before .operator .ensures) in
@@ -66,8 +68,9 @@ returns-2 c = let b = c .before .before .before .before .before .args .b .now in
 
 returns-3 : tie.Need-returns-3
 unfolding node-of node-spare
-returns-3 c = let b = c .before .before .before .before .before .args .b .now in
-    let i = c .before .before .before .before .before .args .i in
+returns-3 c = let S = c .before .before .before .before .before in
+    let b = S .args .b .now in
+    let i = S .args .i in
     let a : c .before .before .before .node-at .result ≡ node-at i = c .before .before .before .node-at .ensures .0 in
     let e = c .only-left2 .ensures ∙ ap (λ k. zeros b (k + 1) 1 && zeros b (k + 3) 1 && zeros b (k + 4) 8) a in
     let o : byte b (node-at i) ≡ c .before .before .operator .result = sym (c .before .before .operator .ensures) in
@@ -75,16 +78,18 @@ returns-3 c = let b = c .before .before .before .before .before .args .b .now in
 
 returns-4 : tie.Need-returns-4
 unfolding node-of node-spare
-returns-4 c = let b = c .before .before .before .before .before .before .before .args .b .now in
-    let i = c .before .before .before .before .before .before .before .args .i in
+returns-4 c = let S = c .before .before .before .before .before .before .before in
+    let b = S .args .b .now in
+    let i = S .args .i in
     let a : c .before .before .before .before .before .node-at .result ≡ node-at i = c .before .before .before .before .before .node-at .ensures .0 in
     let o : byte b (node-at i) ≡ 4 = sym (c .before .before .before .before .operator .ensures) ∙ c .before .before .before .match .keys4 in
     rw o (both-tests (ap (λ k. zeros b (k + 1) 1) (sym a) ∙ sym (c .before .before .zeros2 .ensures) ∙ c .before .if1 .taken) (c .zeros3 .ensures ∙ ap (λ k. zeros b (k + 4) 8) a))
 
 returns-5 : tie.Need-returns-5
 unfolding node-of node-spare
-returns-5 c = let b = c .before .before .before .before .before .before .args .b .now in
-    let i = c .before .before .before .before .before .before .args .i in
+returns-5 c = let S = c .before .before .before .before .before .before in
+    let b = S .args .b .now in
+    let i = S .args .i in
     let a : c .before .before .before .before .node-at .result ≡ node-at i = c .before .before .before .before .node-at .ensures .0 in
     let o : byte b (node-at i) ≡ 4 = sym (c .before .before .before .operator .ensures) ∙ c .before .before .match .keys4 in
     let e : c .before .zeros2 .result ≡ zeros b (node-at i + 1) 1 = c .before .zeros2 .ensures ∙ ap (λ k. zeros b (k + 1) 1) a in
@@ -92,16 +97,18 @@ returns-5 c = let b = c .before .before .before .before .before .before .args .b
 
 returns-6 : tie.Need-returns-6
 unfolding node-of node-spare
-returns-6 c = let b = c .before .before .before .before .before .args .b .now in
-    let i = c .before .before .before .before .before .args .i in
+returns-6 c = let S = c .before .before .before .before .before in
+    let b = S .args .b .now in
+    let i = S .args .i in
     let a : c .before .before .before .node-at .result ≡ node-at i = c .before .before .before .node-at .ensures .0 in
     let o : byte b (node-at i) ≡ 7 = sym (c .before .before .operator .ensures) ∙ c .before .match .keys5 in
     rw o (c .zeros4 .ensures ∙ ap (λ k. zeros b (k + 2) 1) a)
 
 returns-7 : tie.Need-returns-7
 unfolding node-of
-returns-7 c = let r = c .match .rest in
-    other-spare (c .before .before .before .before .args .b .now) (c .before .before .before .before .args .i) (c .before .operator .result) (sym (c .before .operator .ensures)) (r .0 .0 .0 .0 .1) (r .0 .0 .0 .1) (r .0 .0 .1) (r .0 .1) (r .1)
+returns-7 c = let S = c .before .before .before .before in
+    let r = c .match .rest in
+    other-spare (S .args .b .now) (S .args .i) (c .before .operator .result) (sym (c .before .operator .ensures)) (r .0 .0 .0 .0 .1) (r .0 .0 .0 .1) (r .0 .0 .1) (r .0 .1) (r .1)
 
 pub node-spare-spec : {M : Type 1} → statement M
 node-spare-spec =

@@ -32,8 +32,9 @@ node-in-range-requires : tie.Need-node-in-range-requires Inv-loop μ-loop
 node-in-range-requires c κs = search needs
 
 returns : tie.Need-returns Inv-loop μ-loop
-returns c = let b = c .before .before .before .before .before .before .args .b .now in
-    let actions = c .before .before .before .before .before .before .args .actions in let props = c .before .before .before .before .before .before .args .props in
+returns c = let S = c .before .before .before .before .before .before in
+    let b = S .args .b .now in
+    let actions = S .args .actions in let props = S .args .props in
     let e : node-in-range actions props (c .before .before .before .loop .i) (node-of b (c .before .before .before .loop .i)) ≡ false = sym (c .before .node-in-range .ensures) ∙ not-true _ (c .if1 .taken) in
     let l : c .before .before .before .loop .i < node-count b = rw (c .before .before .before .before .node-count .ensures) at (c .before .before .loop-test .taken) in
     sym (every-false (λ i. node-in-range actions props i (node-of b i)) (node-count b) l e)
@@ -46,13 +47,15 @@ loop-less c = omega arith
 
 loop-again : tie.Need-loop-again Inv-loop μ-loop
 unfolding every
-loop-again c = let b = c .before .before .before .before .before .before .args .b .now in
-    let actions = c .before .before .before .before .before .before .args .actions in let props = c .before .before .before .before .before .before .args .props in
+loop-again c = let S = c .before .before .before .before .before .before in
+    let b = S .args .b .now in
+    let actions = S .args .actions in let props = S .args .props in
     (omega arith, rw add-one (ap₂ _&&_ (c .before .before .before .loop .inv .1) (sym (c .before .node-in-range .ensures) ∙ not-false _ (c .if1 .left))))
 
 returns-2 : tie.Need-returns-2 Inv-loop μ-loop
-returns-2 c = let b = c .before .before .before .before .args .b .now in
-    let actions = c .before .before .before .before .args .actions in let props = c .before .before .before .before .args .props in
+returns-2 c = let S = c .before .before .before .before in
+    let b = S .args .b .now in
+    let actions = S .args .actions in let props = S .args .props in
     let e : c .before .loop .i ≡ node-count b = omega arith in
     sym (ap (λ k. every k (λ i. node-in-range actions props i (node-of b i))) (sym e) ∙ c .before .loop .inv .1)
 

@@ -18,7 +18,8 @@ zeros-requires-2 : tie.Need-zeros-requires-2
 zeros-requires-2 c κs = search needs
 
 returns : tie.Need-returns
-returns c = rw (sym (c .before .before .zeros .ensures) ∙ c .before .if1 .taken) (c .zeros2 .ensures ∙ spare-right (c .before .before .before .before .args .b .now) (c .before .before .before .before .args .at))
+returns c = let S = c .before .before .before .before in
+    rw (sym (c .before .before .zeros .ensures) ∙ c .before .if1 .taken) (c .zeros2 .ensures ∙ spare-right (S .args .b .now) (S .args .at))
 
 returns-2 : tie.Need-returns-2
 returns-2 c = rw (sym (c .before .zeros .ensures) ∙ c .if1 .left) (c .if1 .left)

@@ -26,21 +26,24 @@ unfolding plan-bound
 returns c = rw (sym (c .before .within .ensures) ∙ not-true _ (c .if1 .taken)) refl
 
 cast-result : tie.Need-cast-result
-cast-result c = let e : within 1 1000000 (c .before .before .before .args .q) ≡ true = sym (c .before .before .within .ensures) ∙ not-false _ (c .before .if1 .left) in
-    record { sfits = omega (arith, within-most 1 1000000 (c .before .before .before .args .q) e) }
+cast-result c = let S = c .before .before .before in
+    let e : within 1 1000000 (S .args .q) ≡ true = sym (c .before .before .within .ensures) ∙ not-false _ (c .before .if1 .left) in
+    record { sfits = omega (arith, within-most 1 1000000 (S .args .q) e) }
 
 returns-2 : tie.Need-returns-2
 unfolding plan-bound
-returns-2 c = let z : toZ w32 (ofZ w32 (c .before .before .before .args .p)) ≡ c .before .before .before .args .p = search needs in
-    let e : within 1 1000000 (c .before .before .before .args .q) ≡ true = sym (c .before .before .within .ensures) ∙ not-false _ (c .before .if1 .left) in
-    let l : leZ (pos 0) (c .before .before .before .args .p) ≡ true = ap (leZ (pos 0)) (sym z) ∙ c .if2 .taken in
-    rw (e, l) (ap₂ leZ z (toZ-pos w32 (c .before .before .before .args .q) (omega (arith, within-most 1 1000000 (c .before .before .before .args .q) e))))
+returns-2 c = let S = c .before .before .before in
+    let z : toZ w32 (ofZ w32 (S .args .p)) ≡ S .args .p = search needs in
+    let e : within 1 1000000 (S .args .q) ≡ true = sym (c .before .before .within .ensures) ∙ not-false _ (c .before .if1 .left) in
+    let l : leZ (pos 0) (S .args .p) ≡ true = ap (leZ (pos 0)) (sym z) ∙ c .if2 .taken in
+    rw (e, l) (ap₂ leZ z (toZ-pos w32 (S .args .q) (omega (arith, within-most 1 1000000 (S .args .q) e))))
 
 returns-3 : tie.Need-returns-3
 unfolding plan-bound
-returns-3 c = let z : toZ w32 (ofZ w32 (c .before .before .before .args .p)) ≡ c .before .before .before .args .p = search needs in
-    let e : within 1 1000000 (c .before .before .before .args .q) ≡ true = sym (c .before .before .within .ensures) ∙ not-false _ (c .before .if1 .left) in
-    let l : leZ (pos 0) (c .before .before .before .args .p) ≡ false = ap (leZ (pos 0)) (sym z) ∙ c .if2 .left in
+returns-3 c = let S = c .before .before .before in
+    let z : toZ w32 (ofZ w32 (S .args .p)) ≡ S .args .p = search needs in
+    let e : within 1 1000000 (S .args .q) ≡ true = sym (c .before .before .within .ensures) ∙ not-false _ (c .before .if1 .left) in
+    let l : leZ (pos 0) (S .args .p) ≡ false = ap (leZ (pos 0)) (sym z) ∙ c .if2 .left in
     rw (e, l) (c .if2 .left)
 
 pub plan-bound-spec : {M : Type 1} → statement M

@@ -35,15 +35,17 @@ plan-bound-requires c κs = search needs
 
 returns-2 : tie.Need-returns-2
 unfolding plan-in-range
-returns-2 c = let x = node-of (c .before .before .before .before .before .before .before .before .args .b .now) (c .before .before .before .before .before .before .before .before .args .i) in
+returns-2 c = let S = c .before .before .before .before .before .before .before .before in
+    let x = node-of (S .args .b .now) (S .args .i) in
     let z : toZ w32 (ofZ w32 (c .before .before .p .result)) ≡ c .before .before .p .result = search needs in
-    let l : ltb (x .left) (c .before .before .before .before .before .before .before .before .args .i) ≡ true = lt-ltb (x .left) (c .before .before .before .before .before .before .before .before .args .i) (subst (λ k. k < c .before .before .before .before .before .before .before .before .args .i) (c .before .before .before .before .left .ensures) (c .before .before .before .if2 .taken)) in
+    let l : ltb (x .left) (S .args .i) ≡ true = lt-ltb (x .left) (S .args .i) (subst (λ k. k < S .args .i) (c .before .before .before .before .left .ensures) (c .before .before .before .if2 .taken)) in
     rw (sym (c .before .before .before .before .before .before .compares .ensures) ∙ not-false _ (c .before .before .before .before .before .if1 .left), l) (c .plan-bound .ensures ∙ ap₂ plan-bound (z ∙ c .before .before .p .ensures) (c .before .q .ensures))
 
 returns-3 : tie.Need-returns-3
 unfolding plan-in-range
-returns-3 c = let x = node-of (c .before .before .before .before .before .args .b .now) (c .before .before .before .before .before .args .i) in
-    let i = c .before .before .before .before .before .args .i in
+returns-3 c = let S = c .before .before .before .before .before in
+    let x = node-of (S .args .b .now) (S .args .i) in
+    let i = S .args .i in
     let l : ltb (x .left) i ≡ false = le-ltb (x .left) i (subst (λ k. i ≤ k) (c .before .left .ensures) (c .if2 .left)) in
     rw (sym (c .before .before .before .compares .ensures) ∙ not-false _ (c .before .before .if1 .left), l) (ap (λ k. ltb k i) (c .before .left .ensures) ∙ l)
 

@@ -1,17 +1,43 @@
 -- Each return is at the first test that fails; those before it passed, and grounds 1 and 4 are what the later tests ask for.
-use lib.Dec.{ltb}
-use Rattle.questions.specs.Layout.{start-of, node-count}
--- Each return is at the first test that fails; those before it passed, and grounds 1 and 4 are what the later tests ask for.
 use mathlib.Core.Path.{_≡_, refl, sym, _∙_}
-use mathlib.Core.Bool.{true}
+use mathlib.Core.Bool.{true, _&&_}
+use lib.Dec.{ltb}
+use borrow.Author.Needs.{needs}
 use borrow.Author.Tests.{not-true, not-false}
+use Rattle.logic.specs.Lists.{every}
 use Rattle.logic.proofs.Tests.{and-right}
 use Rattle.blocks.specs.Bytes.{within}
-use Rattle.questions.specs.Grounds.{read-question}
+use Rattle.blocks.specs.Block.{whole-blocks, sums-right, headed}
+use Rattle.questions.specs.Layout.{start-of, node-count, node-of, question-of}
+use Rattle.questions.specs.Grounds.{node-in-range, spare-zero, formed, read-question}
 use Rattle.questions.proofs.Laws.{one-block, within-least, within-most}
-use borrow.Author.Needs.{needs}
 use Rattle.questions.proofs.question_refusal.Statement.{statement}
 use Rattle.questions.proofs.question_refusal.Tie as tie
+
+-- The grounds, by their numbers, once their tests are passed.
+
+one : (c : tie.Else1) → whole-blocks 1 1 (c .before .before .before .args .b .now) ≡ true
+one c = sym (c .before .whole-blocks .ensures) ∙ not-false _ (c .if1 .left)
+
+two : (c : tie.Else2) → sums-right (c .before .before .before .before .before .args .b .now) ≡ true
+two c = sym (c .before .sums-right .ensures) ∙ not-false _ (c .if2 .left)
+
+three : (c : tie.Else3) → headed (c .before .before .before .before .before .before .before .args .b .now) 0 3 0 ≡ true
+three c = sym (c .before .headed .ensures) ∙ not-false _ (c .if3 .left)
+
+four : (c : tie.Else4) → let S = c .before .before .before .before .before .before .before .before .before in
+    (ltb (start-of (S .args .b .now)) (S .args .states) && within 1 40 (node-count (S .args .b .now))) ≡ true
+four c = sym (c .before .counts-right .ensures) ∙ not-false _ (c .if4 .left)
+
+five : (c : tie.Else5) → let S = c .before .before .before .before .before .before .before .before .before .before .before in
+    every (node-count (S .args .b .now)) (λ i. node-in-range (S .args .actions) (S .args .props) i (node-of (S .args .b .now) i)) ≡ true
+five c = sym (c .before .nodes-in-range .ensures) ∙ not-false _ (c .if5 .left)
+
+six : (c : tie.Else6) → spare-zero (c .before .before .before .before .before .before .before .before .before .before .before .before .before .args .b .now) ≡ true
+six c = sym (c .before .spare-zero .ensures) ∙ not-false _ (c .if6 .left)
+
+nine : (c : tie.Else7) → formed (question-of (c .before .before .before .before .before .before .before .before .before .before .before .before .before .before .before .args .b .now)) ≡ true
+nine c = sym (c .before .formed .ensures) ∙ not-false _ (c .if7 .left)
 
 whole-blocks-requires : tie.Need-whole-blocks-requires
 whole-blocks-requires c κs = search needs
@@ -25,50 +51,50 @@ sums-right-requires c κs = search needs
 
 returns-2 : tie.Need-returns-2
 unfolding read-question
-returns-2 c = rw (sym (c .before .before .before .whole-blocks .ensures) ∙ not-false _ (c .before .before .if1 .left), sym (c .before .sums-right .ensures) ∙ not-true _ (c .if2 .taken)) refl
+returns-2 c = rw (one (c .before .before), sym (c .before .sums-right .ensures) ∙ not-true _ (c .if2 .taken)) refl
 
 headed-requires : tie.Need-headed-requires
 headed-requires c κs = search needs
 
 returns-3 : tie.Need-returns-3
 unfolding read-question
-returns-3 c = rw (sym (c .before .before .before .before .before .whole-blocks .ensures) ∙ not-false _ (c .before .before .before .before .if1 .left), sym (c .before .before .before .sums-right .ensures) ∙ not-false _ (c .before .before .if2 .left), sym (c .before .headed .ensures) ∙ not-true _ (c .if3 .taken)) refl
+returns-3 c = rw (one (c .before .before .before .before), two (c .before .before), sym (c .before .headed .ensures) ∙ not-true _ (c .if3 .taken)) refl
 
 counts-right-requires : tie.Need-counts-right-requires
 counts-right-requires c κs = search needs
 
 returns-4 : tie.Need-returns-4
 unfolding read-question
-returns-4 c = rw (sym (c .before .before .before .before .before .before .before .whole-blocks .ensures) ∙ not-false _ (c .before .before .before .before .before .before .if1 .left), sym (c .before .before .before .before .before .sums-right .ensures) ∙ not-false _ (c .before .before .before .before .if2 .left), sym (c .before .before .before .headed .ensures) ∙ not-false _ (c .before .before .if3 .left), sym (c .before .counts-right .ensures) ∙ not-true _ (c .if4 .taken)) refl
+returns-4 c = rw (one (c .before .before .before .before .before .before), two (c .before .before .before .before), three (c .before .before), sym (c .before .counts-right .ensures) ∙ not-true _ (c .if4 .taken)) refl
 
 nodes-in-range-requires : tie.Need-nodes-in-range-requires
 nodes-in-range-requires c κs = search needs
 
 returns-5 : tie.Need-returns-5
 unfolding read-question
-returns-5 c = rw (sym (c .before .before .before .before .before .before .before .before .before .whole-blocks .ensures) ∙ not-false _ (c .before .before .before .before .before .before .before .before .if1 .left), sym (c .before .before .before .before .before .before .before .sums-right .ensures) ∙ not-false _ (c .before .before .before .before .before .before .if2 .left), sym (c .before .before .before .before .before .headed .ensures) ∙ not-false _ (c .before .before .before .before .if3 .left), sym (c .before .before .before .counts-right .ensures) ∙ not-false _ (c .before .before .if4 .left), sym (c .before .nodes-in-range .ensures) ∙ not-true _ (c .if5 .taken)) refl
+returns-5 c = rw (one (c .before .before .before .before .before .before .before .before), two (c .before .before .before .before .before .before), three (c .before .before .before .before), four (c .before .before), sym (c .before .nodes-in-range .ensures) ∙ not-true _ (c .if5 .taken)) refl
 
 spare-zero-requires : tie.Need-spare-zero-requires
 spare-zero-requires c κs = let b = c .before .before .before .before .before .before .before .before .before .before .before .args .b .now in
-    let n : within 1 40 (node-count b) ≡ true = and-right (ltb (start-of b) (c .before .before .before .before .before .before .before .before .before .before .before .args .states)) (within 1 40 (node-count b)) (sym (c .before .before .before .counts-right .ensures) ∙ not-false _ (c .before .before .if4 .left)) in
-    (one-block b (sym (c .before .before .before .before .before .before .before .before .before .whole-blocks .ensures) ∙ not-false _ (c .before .before .before .before .before .before .before .before .if1 .left)), within-most 1 40 (node-count b) n)
+    let n : within 1 40 (node-count b) ≡ true = and-right (ltb (start-of b) (c .before .before .before .before .before .before .before .before .before .before .before .args .states)) (within 1 40 (node-count b)) (four (c .before .before)) in
+    (one-block b (one (c .before .before .before .before .before .before .before .before)), within-most 1 40 (node-count b) n)
 
 returns-6 : tie.Need-returns-6
 unfolding read-question
-returns-6 c = rw (sym (c .before .before .before .before .before .before .before .before .before .before .before .whole-blocks .ensures) ∙ not-false _ (c .before .before .before .before .before .before .before .before .before .before .if1 .left), sym (c .before .before .before .before .before .before .before .before .before .sums-right .ensures) ∙ not-false _ (c .before .before .before .before .before .before .before .before .if2 .left), sym (c .before .before .before .before .before .before .before .headed .ensures) ∙ not-false _ (c .before .before .before .before .before .before .if3 .left), sym (c .before .before .before .before .before .counts-right .ensures) ∙ not-false _ (c .before .before .before .before .if4 .left), sym (c .before .before .before .nodes-in-range .ensures) ∙ not-false _ (c .before .before .if5 .left), sym (c .before .spare-zero .ensures) ∙ not-true _ (c .if6 .taken)) refl
+returns-6 c = rw (one (c .before .before .before .before .before .before .before .before .before .before), two (c .before .before .before .before .before .before .before .before), three (c .before .before .before .before .before .before), four (c .before .before .before .before), five (c .before .before), sym (c .before .spare-zero .ensures) ∙ not-true _ (c .if6 .taken)) refl
 
 formed-requires : tie.Need-formed-requires
 formed-requires c κs = let b = c .before .before .before .before .before .before .before .before .before .before .before .before .before .args .b .now in
-    let n : within 1 40 (node-count b) ≡ true = and-right (ltb (start-of b) (c .before .before .before .before .before .before .before .before .before .before .before .before .before .args .states)) (within 1 40 (node-count b)) (sym (c .before .before .before .before .before .counts-right .ensures) ∙ not-false _ (c .before .before .before .before .if4 .left)) in
+    let n : within 1 40 (node-count b) ≡ true = and-right (ltb (start-of b) (c .before .before .before .before .before .before .before .before .before .before .before .before .before .args .states)) (within 1 40 (node-count b)) (four (c .before .before .before .before)) in
     (within-least 1 40 (node-count b) n, within-most 1 40 (node-count b) n)
 
 returns-7 : tie.Need-returns-7
 unfolding read-question
-returns-7 c = rw (sym (c .before .before .before .before .before .before .before .before .before .before .before .before .before .whole-blocks .ensures) ∙ not-false _ (c .before .before .before .before .before .before .before .before .before .before .before .before .if1 .left), sym (c .before .before .before .before .before .before .before .before .before .before .before .sums-right .ensures) ∙ not-false _ (c .before .before .before .before .before .before .before .before .before .before .if2 .left), sym (c .before .before .before .before .before .before .before .before .before .headed .ensures) ∙ not-false _ (c .before .before .before .before .before .before .before .before .if3 .left), sym (c .before .before .before .before .before .before .before .counts-right .ensures) ∙ not-false _ (c .before .before .before .before .before .before .if4 .left), sym (c .before .before .before .before .before .nodes-in-range .ensures) ∙ not-false _ (c .before .before .before .before .if5 .left), sym (c .before .before .before .spare-zero .ensures) ∙ not-false _ (c .before .before .if6 .left), sym (c .before .formed .ensures) ∙ not-true _ (c .if7 .taken)) refl
+returns-7 c = rw (one (c .before .before .before .before .before .before .before .before .before .before .before .before), two (c .before .before .before .before .before .before .before .before .before .before), three (c .before .before .before .before .before .before .before .before), four (c .before .before .before .before .before .before), five (c .before .before .before .before), six (c .before .before), sym (c .before .formed .ensures) ∙ not-true _ (c .if7 .taken)) refl
 
 returns-8 : tie.Need-returns-8
 unfolding read-question
-returns-8 c = rw (sym (c .before .before .before .before .before .before .before .before .before .before .before .before .before .whole-blocks .ensures) ∙ not-false _ (c .before .before .before .before .before .before .before .before .before .before .before .before .if1 .left), sym (c .before .before .before .before .before .before .before .before .before .before .before .sums-right .ensures) ∙ not-false _ (c .before .before .before .before .before .before .before .before .before .before .if2 .left), sym (c .before .before .before .before .before .before .before .before .before .headed .ensures) ∙ not-false _ (c .before .before .before .before .before .before .before .before .if3 .left), sym (c .before .before .before .before .before .before .before .counts-right .ensures) ∙ not-false _ (c .before .before .before .before .before .before .if4 .left), sym (c .before .before .before .before .before .nodes-in-range .ensures) ∙ not-false _ (c .before .before .before .before .if5 .left), sym (c .before .before .before .spare-zero .ensures) ∙ not-false _ (c .before .before .if6 .left), sym (c .before .formed .ensures) ∙ not-false _ (c .if7 .left)) refl
+returns-8 c = rw (one (c .before .before .before .before .before .before .before .before .before .before .before .before), two (c .before .before .before .before .before .before .before .before .before .before), three (c .before .before .before .before .before .before .before .before), four (c .before .before .before .before .before .before), five (c .before .before .before .before), six (c .before .before), nine c) refl
 
 pub question-refusal-spec : {M : Type 1} → statement M
 question-refusal-spec =
