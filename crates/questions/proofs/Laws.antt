@@ -6,18 +6,20 @@ use native.Mathlib.Numerals.{add-one}
 use native.Mathlib.Decide.{decLt, ℕ-discrete}
 use native.Mathlib.Omega.{arith}
 use mathlib.Core.Path.{_≡_, refl, sym, ap, ap₂, subst, _∙_}
-use mathlib.Core.Logic.{⊎-elim}
-use mathlib.Core.Bool.{Bool, true, false, _&&_, and-true}
+use mathlib.Core.Logic.{_⊎_, inl, inr, ⊎-elim}
+use mathlib.Core.Bool.{Bool, true, false, _&&_, _||_, and-true}
 use mathlib.Core.List.{List, [], _∷_, _++_, map, map-append, append-assoc}
-use lib.Dec.{eqb}
+use lib.Dec.{eqb, leb}
 use lib.ListN.{length, getD, take, set, length-append, length-set, length-take, length-map, List·getD-append, List·getD-eq-default}
 use lib.Seq.{getD-at, getD-take, take-at, take-all, take-append-le, ext-getD, getD-set-same, getD-set-other}
+use borrow.Author.Tests.{leb-true}
 use Rattle.logic.specs.Lists.{all, every, count-from, tabulate}
 use Rattle.logic.specs.Checked.{Checked, ok, refused, refusal, guard, _>>_}
 use Rattle.logic.specs.Formula.{Formula, never, Node, depth, formula-of, formulas}
-use Rattle.logic.proofs.Tests.{length-tabulate, getD-tabulate, all-tabulate}
-use Rattle.blocks.specs.Bytes.{Bytes, byte, zeros}
+use Rattle.logic.proofs.Tests.{length-tabulate, getD-tabulate, all-tabulate, and-left, and-right}
+use Rattle.blocks.specs.Bytes.{Bytes, byte, zeros, within}
 use Rattle.questions.specs.Layout.{node-at, node-of, node-count, formulas-of}
+use Rattle.questions.specs.Grounds.{node-in-range, node-spare}
 use Rattle.questions.specs.Tables.{formulas-before, table}
 
 -- ---- guards
@@ -35,6 +37,17 @@ module _ {A : Type 0} where
   passed k false c e = absurd (omega arith)
 
 -- ---- tests
+
+-- What `a && b` answers: b where a passes, and a where it fails.
+pub both-tests : {a b t : Bool} → a ≡ true → t ≡ b → t ≡ (a && b)
+both-tests {b = b} e f = f ∙ ap (λ x. x && b) (sym e)
+
+pub first-fails : {a t : Bool} (b : Bool) → a ≡ false → t ≡ a → t ≡ (a && b)
+first-fails b e f = f ∙ e ∙ ap (λ x. x && b) (sym e)
+
+-- What `a || b` answers where a passes.
+pub either-first : {a t : Bool} (b : Bool) → a ≡ true → t ≡ a → t ≡ (a || b)
+either-first b e f = f ∙ e ∙ ap (λ x. x || b) (sym e)
 
 and-assoc : (a b c : Bool) → (a && b && c) ≡ (a && (b && c))
 and-assoc true b c = refl
@@ -57,15 +70,37 @@ zeros-join b from m n =
     every-join (λ i. eqb (byte b (from + i)) 0) m n
     ∙ ap (λ t. every m (λ i. eqb (byte b (from + i)) 0) && t) (every-same n (λ i l. ap (λ k. eqb (byte b k) 0) (omega arith)))
 
+-- The cells of a node from byte 3 on, and from byte 1 on.
+pub spare-right : (b : Bytes) (k : ℕ) → zeros b (k + 3) 9 ≡ (zeros b (k + 3) 1 && zeros b (k + 4) 8)
+spare-right b k = let e : k + 3 + 1 ≡ k + 4 = omega arith in zeros-join b (k + 3) 1 8 ∙ ap (λ j. zeros b (k + 3) 1 && zeros b j 8) e
+
+pub spare-all : (b : Bytes) (k : ℕ) → zeros b (k + 1) 11 ≡ (zeros b (k + 1) 1 && zeros b (k + 2) 1 && zeros b (k + 3) 1 && zeros b (k + 4) 8)
+spare-all b k =
+    let e2 : k + 1 + 1 ≡ k + 2 = omega arith in
+    let e3 : k + 1 + 2 ≡ k + 3 = omega arith in
+    let e4 : k + 1 + 3 ≡ k + 4 = omega arith in
+    zeros-join b (k + 1) 3 8
+    ∙ ap₂ _&&_
+    (zeros-join b (k + 1) 2 1 ∙ ap₂ _&&_ (zeros-join b (k + 1) 1 1 ∙ ap (λ j. zeros b (k + 1) 1 && zeros b j 1) e2) (ap (λ j. zeros b j 1) e3))
+    (ap (λ j. zeros b j 8) e4)
+
 -- A test of all of a list is a test of every place.
 pub all-every : {A : Type 0} (t : A → Bool) (d : A) (l : List A) → all t l ≡ every (length l) (λ i. t (getD l i d))
 unfolding all
 all-every t d l = ap (all t) (ext-getD d l (tabulate (length l) (λ i. getD l i d)) (sym (length-tabulate (λ i. getD l i d) (length l))) (λ i h. sym (getD-tabulate (λ i. getD l i d) (length l) d h))) ∙ all-tabulate (λ i. getD l i d) t (length l)
 
+pub within-least : (least most x : ℕ) → within least most x ≡ true → least ≤ x
+unfolding within
+within-least least most x e = leb-true least x (and-left (leb least x) (leb x most) e)
+
+pub within-most : (least most x : ℕ) → within least most x ≡ true → x ≤ most
+unfolding within
+within-most least most x e = leb-true x most (and-right (leb least x) (leb x most) e)
+
 -- ---- by an operator's number
 
 -- A claim of every number, from the rows of the table of operators and the numbers above them.
-pub by-operator : (P : ℕ → Type 0) → P 0 → P 1 → P 2 → P 3 → P 4 → P 5 → P 6 → P 7 → P 8 → ((k : ℕ) → P (9 + k)) → (n : ℕ) → P n
+pub by-operator : (P : ℕ → Type 0) → P 0 → P 1 → P 2 → P 3 → P 4 → P 5 → P 6 → P 7 → P 8 → ((k : ℕ) → P (suc (suc (suc (suc (suc (suc (suc (suc (suc k)))))))))) → (n : ℕ) → P n
 by-operator P p0 p1 p2 p3 p4 p5 p6 p7 p8 p9 zero = p0
 by-operator P p0 p1 p2 p3 p4 p5 p6 p7 p8 p9 (suc zero) = p1
 by-operator P p0 p1 p2 p3 p4 p5 p6 p7 p8 p9 (suc (suc zero)) = p2
@@ -75,7 +110,54 @@ by-operator P p0 p1 p2 p3 p4 p5 p6 p7 p8 p9 (suc (suc (suc (suc (suc zero))))) =
 by-operator P p0 p1 p2 p3 p4 p5 p6 p7 p8 p9 (suc (suc (suc (suc (suc (suc zero)))))) = p6
 by-operator P p0 p1 p2 p3 p4 p5 p6 p7 p8 p9 (suc (suc (suc (suc (suc (suc (suc zero))))))) = p7
 by-operator P p0 p1 p2 p3 p4 p5 p6 p7 p8 p9 (suc (suc (suc (suc (suc (suc (suc (suc zero)))))))) = p8
-by-operator P p0 p1 p2 p3 p4 p5 p6 p7 p8 p9 (suc (suc (suc (suc (suc (suc (suc (suc (suc k))))))))) = subst P (omega arith) (p9 k)
+by-operator P p0 p1 p2 p3 p4 p5 p6 p7 p8 p9 (suc (suc (suc (suc (suc (suc (suc (suc (suc k))))))))) = p9 k
+
+-- The numbers that are no operator are out of range.
+pub other-in-range : (A N i n : ℕ) (x : Node) → x .operator ≡ n → (n ≡ 1 → ⊥) → (n ≡ 2 → ⊥) → ((n ≡ 3) ⊎ (n ≡ 6) → ⊥) → (n ≡ 4 → ⊥) → (n ≡ 5 → ⊥) → (n ≡ 7 → ⊥) → (n ≡ 8 → ⊥)
+    → false ≡ node-in-range A N i x
+unfolding node-in-range
+other-in-range A N i n x =
+    by-operator
+    (λ n. x .operator ≡ n → (n ≡ 1 → ⊥) → (n ≡ 2 → ⊥) → ((n ≡ 3) ⊎ (n ≡ 6) → ⊥) → (n ≡ 4 → ⊥) → (n ≡ 5 → ⊥) → (n ≡ 7 → ⊥) → (n ≡ 8 → ⊥) → false ≡ node-in-range A N i x)
+    (λ o _ _ _ _ _ _ _. rw o refl)
+    (λ o h _ _ _ _ _ _. absurd (h refl))
+    (λ o _ h _ _ _ _ _. absurd (h refl))
+    (λ o _ _ h _ _ _ _. absurd (h (inl refl)))
+    (λ o _ _ _ h _ _ _. absurd (h refl))
+    (λ o _ _ _ _ h _ _. absurd (h refl))
+    (λ o _ _ h _ _ _ _. absurd (h (inr refl)))
+    (λ o _ _ _ _ _ h _. absurd (h refl))
+    (λ o _ _ _ _ _ _ h. absurd (h refl))
+    (λ k o _ _ _ _ _ _ _. rw o refl)
+    n
+
+-- They have no spare cell, nor has "plan".
+pub other-spare : (b : Bytes) (i n : ℕ) → byte b (node-at i) ≡ n → (n ≡ 1 → ⊥) → ((n ≡ 2) ⊎ (n ≡ 5) → ⊥) → ((n ≡ 3) ⊎ (n ≡ 6) → ⊥) → (n ≡ 4 → ⊥) → (n ≡ 7 → ⊥) → true ≡ node-spare b i
+unfolding node-spare
+other-spare b i n =
+    by-operator
+    (λ n. byte b (node-at i) ≡ n → (n ≡ 1 → ⊥) → ((n ≡ 2) ⊎ (n ≡ 5) → ⊥) → ((n ≡ 3) ⊎ (n ≡ 6) → ⊥) → (n ≡ 4 → ⊥) → (n ≡ 7 → ⊥) → true ≡ node-spare b i)
+    (λ o _ _ _ _ _. rw o refl)
+    (λ o h _ _ _ _. absurd (h refl))
+    (λ o _ h _ _ _. absurd (h (inl refl)))
+    (λ o _ _ h _ _. absurd (h (inl refl)))
+    (λ o _ _ _ h _. absurd (h refl))
+    (λ o _ h _ _ _. absurd (h (inr refl)))
+    (λ o _ _ h _ _. absurd (h (inr refl)))
+    (λ o _ _ _ _ h. absurd (h refl))
+    (λ o _ _ _ _ _. rw o refl)
+    (λ k o _ _ _ _ _. rw o refl)
+    n
+
+-- ---- children
+
+module _ {A : Type 0} where
+  -- What is read of the first i places: the place if it is one of them, and nothing if not.
+  pub read-below : (i : ℕ) (l : List A) (j : ℕ) (d : A) → j < i → getD l j d ≡ getD (take i l) j d
+  read-below i l j d h = sym (getD-take i l j d h)
+
+  pub read-beyond : (i : ℕ) (l : List A) (j : ℕ) (d : A) → i ≤ j → d ≡ getD (take i l) j d
+  read-beyond i l j d h = sym (List·getD-eq-default (take i l) d (simp length-take (omega arith)))
 
 -- ---- the formulas of the first k nodes
 
@@ -161,6 +243,9 @@ module _ {A : Type 0} (f : Formula → A) (b : Bytes) where
   table-same fs gs h =
       ext-getD (f never) (table f fs) (table f gs) (table-length fs ∙ sym (table-length gs))
       (λ i l. let g : i < 40 = rw (table-length fs) at l in table-at fs i g ∙ ap f (h i g) ∙ sym (table-at gs i g))
+
+  pub child-value : {l : List A} {j j′ : ℕ} (i k : ℕ) → i ≤ k → i ≤ 40 → l ≡ table f (formulas-before b k) → j ≡ j′ → getD (take i l) j (f never) ≡ f (getD (formulas-before b i) j′ never)
+  child-value {j′ = j′} i k h g t e = ap₂ (λ (l : List A) (j : ℕ). getD (take i l) j (f never)) t e ∙ child-at i j′ k h g
 
   -- The table after one node more.
   pub table-more : (i : ℕ) → i < 40 → set (table f (formulas-before b i)) i (f (formula-at b i)) ≡ table f (formulas-before b (suc i))
