@@ -1,3 +1,4 @@
+use borrow.Author.Tests.{not-true, not-false}
 use Prim.Native.Nat.{_+_, _*_}
 use native.Mathlib.Omega.{arith}
 use mathlib.Core.Path.{sym, ap₂, _∙_}
@@ -23,7 +24,7 @@ bounded-requires c κs = search needs
 
 -- src/lib.rt:153:9
 returns : tie.Need-returns
-returns c = unbounded-fits _ _ (c .before .before .before .before .pre .2) _ (sym (c .before .bounded .ensures) ∙ c .if1 .taken)
+returns c = unbounded-fits _ _ (c .before .before .before .before .pre .2) _ (sym (c .before .bounded .ensures) ∙ not-true _ (c .if1 .taken))
 
 -- src/lib.rt:155:21
 steps-requires : tie.Need-steps-requires
@@ -39,11 +40,11 @@ wide-requires c κs = search needs
 
 -- src/lib.rt:155:5
 row-fits-requires : tie.Need-row-fits-requires
-row-fits-requires c κs = (omega (arith, (c .before .before .before .before .before .before .pre .2) .steps (bounded-operator (c .before .before .before .before .before .before .args .plans) _ (sym (c .before .before .before .bounded .ensures) ∙ c .before .before .if1 .left)), c .before .steps .ensures), omega (arith, (c .before .before .before .before .before .before .pre .0) .states, c .wide .ensures .0))
+row-fits-requires c κs = (omega (arith, (c .before .before .before .before .before .before .pre .2) .steps (bounded-operator (c .before .before .before .before .before .before .args .plans) _ (sym (c .before .before .before .bounded .ensures) ∙ not-false _ (c .before .before .if1 .left))), c .before .steps .ensures), omega (arith, (c .before .before .before .before .before .before .pre .0) .states, c .wide .ensures .0))
 
 -- src/lib.rt:148:1
 returns-2 : tie.Need-returns-2
-returns-2 c = c .row-fits .ensures ∙ ap₂ (λ k n. every k (λ s. leb (getD (c .before .before .before .before .before .before .before .args .table .now) (32 * n + s) 0) (limit (c .before .before .before .before .before .before .before .args .plans)))) (c .before .wide .ensures .0 ∙ sym (states-are (c .before .before .before .before .before .before .before .args .m .now))) (c .before .before .steps .ensures) ∙ bounded-fits _ _ (c .before .before .before .before .before .before .before .pre .2) (c .before .before .before .before .before .before .before .args .plans) (c .before .before .before .before .before .before .before .args .table .now) (sym (c .before .before .before .before .bounded .ensures) ∙ c .before .before .before .if1 .left) (c .before .before .before .before .before .before .before .pre .1)
+returns-2 c = c .row-fits .ensures ∙ ap₂ (λ k n. every k (λ s. leb (getD (c .before .before .before .before .before .before .before .args .table .now) (32 * n + s) 0) (limit (c .before .before .before .before .before .before .before .args .plans)))) (c .before .wide .ensures .0 ∙ sym (states-are (c .before .before .before .before .before .before .before .args .m .now))) (c .before .before .steps .ensures) ∙ bounded-fits _ _ (c .before .before .before .before .before .before .before .pre .2) (c .before .before .before .before .before .before .before .args .plans) (c .before .before .before .before .before .before .before .args .table .now) (sym (c .before .before .before .before .bounded .ensures) ∙ not-false _ (c .before .before .before .if1 .left)) (c .before .before .before .before .before .before .before .pre .1)
 
 pub node-fits-spec : {M : Type 1} → statement M
 node-fits-spec =

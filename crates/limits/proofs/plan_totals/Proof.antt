@@ -6,7 +6,7 @@ use Rattle.limits.proofs.totals.Reads as totals-reads
 
 -- src/lib.rt:120:5
 totals-requires : tie.Need-totals-requires
-totals-requires c κs = c .pre
+totals-requires c κs = c .before .pre
 
 -- src/lib.rt:116:1
 returns : tie.Need-returns
