@@ -106,7 +106,7 @@ fn extend_below(m: &[u8], used: &[u8; 264], src: &[u8], dst: &mut [u8], s: usize
 // Writes the choices of the n-step plan that extends the d-step plan whose choices `src` begins with; gives their number.
 pub fn extend(m: &[u8], used: &[u8; 264], src: &[u8], dst: &mut [u8], s: usize, d: usize, n: usize) -> usize
     requires { ⌜ Readable (now m) × Used (now m) (now used) × (s < state-count (now m)) ⌝ }
-    requires { ⌜ (n ≤ 6) × (room n ≤ length (now dst)) ⌝ }
+    requires { ⌜ (n ≤ 6) × (1365 ≤ length (now dst)) ⌝ }
     ensures { λ r. ⌜ (now (dst .exit) ≡ splice (now (dst .entry)) 0 (spec.extend (model-of (now (m .entry))) d n s (now (src .entry)) .0)) × (r ≡ length (spec.extend (model-of (now (m .entry))) d n s (now (src .entry)) .0)) ⌝ }
 {
     let r = extend_from(m, used, src, dst, s, d, n, 0, 0);
