@@ -20,7 +20,8 @@ use Rattle.blocks.specs.Bytes.{Bytes}
 use Rattle.models.specs.Layout.{state-count, action-count, outcome-of, entries, model-of}
 use Rattle.models.specs.Readable.{Readable}
 use Rattle.models.specs.Used.{Used}
-use Rattle.models.proofs.Rows.{outcomes-are, enabled-are, entries-few, entries-past-actions}
+use Rattle.models.proofs.Laws.{entries-past-actions}
+use Rattle.models.proofs.Rows.{outcomes-are, enabled-are, entries-few}
 use Rattle.extension.specs.Choices.{Run, each, choice-at, after-choice, extend, count-in, first-in, splice, room, Ran}
 
 -- ---- splices

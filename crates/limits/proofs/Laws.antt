@@ -18,12 +18,12 @@ use Rattle.logic.specs.Model.{Model, Step, enabled, outcomes}
 use Rattle.logic.specs.Quantity.{naturals, sum}
 use Rattle.logic.specs.Limits.{path-total, plan-total, multiply}
 use Rattle.logic.proofs.Sums.{naturals-additive, sum-append, sum-ext}
-use Rattle.logic.proofs.Members.{map-member}
-use Rattle.logic.proofs.Tests.{count-more, counted-range, tabulate-more, length-tabulate, keep-append}
+use Rattle.logic.proofs.Tests.{count-more, tabulate-more, keep-append}
 use Rattle.blocks.specs.Bytes.{Bytes}
-use Rattle.models.specs.Layout.{state-count, state-mask, outcome-of, entries, model-of}
+use Rattle.models.specs.Layout.{state-count, outcome-of, entries, model-of}
 use Rattle.models.specs.Readable.{Readable}
 use Rattle.models.specs.Used.{Used}
+use Rattle.models.proofs.Held.{states-held, tabulate-member}
 use Rattle.models.proofs.Rows.{outcomes-are, enabled-are}
 use Rattle.limits.specs.Totals.{total, none, joined, gather, step-total, limit, cap, Totals}
 
@@ -214,14 +214,9 @@ module _ (b : Bytes) where
     is-enabled h = ap (λ t. cond t x 0) (sym (lt-ltb 0 (entries b s a) (omega arith)))
 
   pub outcome-inside : Readable b → (s a : ℕ) (o : Step) → List·Memᴰ o (outcomes (model-of b) s a) → o .target < state-count b
-  unfolding tabulate
   outcome-inside r s a o i =
-      let w = map-member (outcome-of b s a) (count-from 0 (entries b s a)) (subst (λ l. List·Memᴰ o l) (outcomes-are b s a) i) in
-      subst (λ z. z .target < state-count b) (sym (w .2)) (r .inside s a (omega (arith, counted-range 0 (entries b s a) (w .1) .1)))
-
-  pub states-are : length ((model-of b) .states) ≡ state-count b
-  unfolding model-of
-  states-are = length-tabulate (state-mask b) (state-count b)
+      let w = tabulate-member (outcome-of b s a) (entries b s a) (subst (λ l. List·Memᴰ o l) (outcomes-are b s a) i) in
+      subst (λ z. z .target < state-count b) (sym (w .2)) (r .inside s a (w .1))
 
 module _ (b : Bytes) (s a : ℕ) (plans : Bool) (f : Step → ℕ) where
   -- The loop over a cell ends with all outcomes of the choice.
@@ -339,4 +334,4 @@ module _ (plans : Bool) (b : Bytes) (r : Readable b) where
         counted n s l g (no q) = getD-set-other table k (32 * n + s) v 0 q ∙ f .counted n s (omega arith) g
 
   pub filled-all : (table : List ℕ) → Filled plans b table 224 → Totals plans (model-of b) table
-  filled-all table f = record { at = λ n s h g. let k : s < state-count b = rw (states-are b) at g in f .counted n s (omega (arith, r .states)) k }
+  filled-all table f = record { at = λ n s h g. let k : s < state-count b = rw (states-held b) at g in f .counted n s (omega (arith, r .states)) k }

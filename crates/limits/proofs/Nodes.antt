@@ -7,25 +7,24 @@ use mathlib.Core.Path.{_≡_, refl, sym, ap, ap₂, _∙_}
 use mathlib.Core.Logic.{⊎-elim}
 use mathlib.Core.Bool.{Bool, true, false, not, _&&_, _||_, and-true, false≢true}
 use mathlib.Core.List.{List, [], _∷_, _++_}
-use lib.Dec.{eqb, leb, ltb}
+use lib.Dec.{eqb, leb}
 use lib.IntN.{ℤ}
 use lib.ListN.{getD, length}
 use borrow.Author.Tests.{le-leb, lt-leb, leb-true, eq-eqb, ne-eqb}
 use Rattle.logic.specs.Lists.{all, every, tabulate, count-from}
-use Rattle.logic.specs.Checked.{Checked, ok, guard, _>>_, refusal}
+use Rattle.logic.specs.Checked.{guard, _>>_, refusal}
 use Rattle.logic.specs.Model.{Model}
 use Rattle.logic.specs.Quantity.{Relation}
 use Rattle.logic.specs.Verdict.{is-equal}
 use Rattle.logic.specs.Formula.{Formula, Node, relation, formula-of, formulas}
 use Rattle.logic.specs.Limits.{every-plan, path-total, plan-total, limits}
-use Rattle.logic.proofs.Tests.{same-test, and-left, and-right, every-at, every-intro}
-use Rattle.logic.proofs.Checked.{guard-passed}
-use Rattle.blocks.specs.Bytes.{Bytes, within}
-use Rattle.blocks.specs.Block.{whole-blocks, sums-right, headed}
-use Rattle.questions.specs.Layout.{Question, start-of, node-count, node-of, formulas-of, question-of}
-use Rattle.questions.specs.Grounds.{compares, plan-bound, plan-in-range, node-in-range, spare-zero, formed, read-question}
+use Rattle.logic.proofs.Tests.{same-test, every-intro}
+use Rattle.blocks.specs.Bytes.{Bytes}
+use Rattle.questions.specs.Layout.{node-count, node-of, formulas-of}
+use Rattle.questions.specs.Grounds.{read-question}
 use Rattle.questions.specs.Tables.{formulas-before}
-use Rattle.questions.proofs.Laws.{before-more, formula-at, every-same, within-least, within-most}
+use Rattle.questions.proofs.Laws.{before-more, formula-at, every-same}
+use Rattle.questions.proofs.Accepted.{accepted}
 use Rattle.limits.specs.Totals.{total, limit, cap, Totals, fits, node-fits, bounded, Numbered}
 
 -- ---- every plan, node by node
@@ -163,37 +162,14 @@ module _ (m : Model) (x : Node) (w : Numbered x) where
 
 -- ---- an accepted question
 
-plan-compares : (A N i : ℕ) (x : Node) → node-in-range A N i x ≡ true → x .operator ≡ 8 → compares x ≡ true
-unfolding node-in-range plan-in-range compares
-plan-compares A N i x h e =
-    let c : Bool = compares x in
-    let l : Bool = ltb (x .left) i in
-    let r : plan-in-range i x ≡ true = rw e at h in
-    and-left c l (and-left (c && l) _ r)
-
-pub compared : (x : Node) → (x .operator ≡ 8 → compares x ≡ true) → Numbered x
-unfolding compares
-compared x h =
-    let steps : Bool = within 1 6 (x .n) in
-    let r : Bool = within 1 3 (x .right) in
-    record {
-      steps = λ e. within-most 1 6 (x .n) (and-left steps r (h e));
-      some-relation = λ e. within-least 1 3 (x .right) (and-right steps r (h e));
-      last-relation = λ e. within-most 1 3 (x .right) (and-right steps r (h e));
-    }
-
 pub numbered : (S A N : ℕ) (b : Bytes) → refusal (read-question S A N b) ≡ 0 → (i : ℕ) → i < node-count b → Numbered (node-of b i)
-unfolding read-question
 numbered S A N b e i h =
-    let f : ℕ → Bool = λ i. node-in-range A N i (node-of b i) in
-    let c6 : Checked Question = guard 6 (spare-zero b) >> (guard 9 (formed (question-of b)) >> ok (question-of b)) in
-    let c5 : Checked Question = guard 5 (every (node-count b) f) >> c6 in
-    let c4 : Checked Question = guard 4 (ltb (start-of b) S && within 1 40 (node-count b)) >> c5 in
-    let c3 : Checked Question = guard 3 (headed b 0 3 0) >> c4 in
-    let c2 : Checked Question = guard 2 (sums-right b) >> c3 in
-    let e3 = guard-passed 1 (sums-right b) c3 (guard-passed 0 (whole-blocks 1 1 b) c2 e .1) .1 in
-    let e5 = guard-passed 3 (ltb (start-of b) S && within 1 40 (node-count b)) c5 (guard-passed 2 (headed b 0 3 0) c4 e3 .1) .1 in
-    compared (node-of b i) (plan-compares A N i (node-of b i) (every-at f (node-count b) (guard-passed 4 (every (node-count b) f) c6 e5 .0) h))
+    let r = accepted S A N b e .in-range i h in
+    record {
+      steps = λ o. r .of-plan o .compares .few-steps;
+      some-relation = λ o. r .of-plan o .compares .relation-from;
+      last-relation = λ o. r .of-plan o .compares .relation-to;
+    }
 
 -- ---- the answers
 

@@ -1,9 +1,9 @@
 -- What a chain of tests that ends in `ok` says: each test passed, and each part was held.
-use Prim.Native.Nat.{ℕ, suc}
+use Prim.Native.Nat.{ℕ}
 use native.Mathlib.Omega.{arith}
 use mathlib.Core.Path.{_≡_, refl}
 use mathlib.Core.Bool.{Bool, true, false}
-use Rattle.logic.specs.Checked.{Checked, ok, refused, _>>=_, _>>_, guard, refusal}
+use Rattle.logic.specs.Checked.{Checked, ok, refused, _>>=_, _>>_, guard}
 
 module _ {A : Type 0} where
   pub not-ok : {k : ℕ} {a : A} → refused k ≡ ok a → ⊥
@@ -19,8 +19,3 @@ bind-ok (refused k) f e = absurd (not-ok e)
 pub guard-ok : {B : Type 0} (k : ℕ) (t : Bool) (c : Checked B) {b : B} → (guard k t >> c) ≡ ok b → (t ≡ true) × (c ≡ ok b)
 guard-ok k true c e = (refl, e)
 guard-ok k false c e = absurd (not-ok e)
-
--- No refusal behind a guard: its test passed, and there is none after it.
-pub guard-passed : {A : Type 0} (k : ℕ) (t : Bool) (c : Checked A) → refusal (guard (suc k) t >> c) ≡ 0 → (t ≡ true) × (refusal c ≡ 0)
-guard-passed k true c e = (refl, e)
-guard-passed k false c e = absurd (omega arith)

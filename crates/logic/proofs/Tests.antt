@@ -2,7 +2,6 @@
 -- (`all`, `every`) or at some member (`any`, `some-below`, `find`); a tabulated list holds the function's values at its places.
 use Prim.Native.Nat.{ℕ, zero, suc, _+_, _<_, _≤_, suc-le-suc}
 use native.Mathlib.Omega.{arith}
-use native.Mathlib.Numerals.{add-one}
 use native.Mathlib.Nat.{not-suc-le-zero, le-of-suc-le-suc, le-of-suc-le, eq-or-lt-of-le}
 use mathlib.Core.Path.{_≡_, refl, sym, ap, ap₂, subst, _∙_}
 use mathlib.Core.Logic.{⊎-elim}
@@ -175,11 +174,6 @@ module _ (f : ℕ → Bool) where
   every-at zero e h = absurd (not-suc-le-zero h)
   every-at (suc n) e h =
       ⊎-elim (λ q. ap f q ∙ and-right (every n f) (f n) e) (λ l. every-at n (and-left (every n f) (f n) e) l) (eq-or-lt-of-le (le-of-suc-le-suc h))
-
-  -- One turn more of a loop that tests every number.
-  pub every-more : (i : ℕ) {r t : Bool} → r ≡ every i f → t ≡ f i → (r && t) ≡ every (i + 1) f
-  unfolding every
-  every-more i e h = rw (add-one i) (ap₂ _&&_ e h)
 
   pub every-intro : (n : ℕ) → ((i : ℕ) → i < n → f i ≡ true) → every n f ≡ true
   unfolding every

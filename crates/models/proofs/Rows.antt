@@ -5,24 +5,18 @@ use native.Mathlib.Omega.{arith}
 use native.Mathlib.Decide.{decLt}
 use native.Mathlib.Nat.{add-zero, add-suc}
 use mathlib.Core.Path.{_≡_, refl, sym, ap, ap₂, _∙_}
-use mathlib.Core.Bool.{Bool, true, false, cond, _&&_}
+use mathlib.Core.Bool.{Bool, true, false, cond}
 use mathlib.Core.List.{List, [], _∷_, _++_, append-nil}
 use lib.Dec.{ltb}
 use lib.ListN.{length, getD, List·getD-eq-default}
-use borrow.Author.Tests.{lt-ltb, le-ltb}
+use borrow.Author.Tests.{lt-ltb}
 use Rattle.logic.specs.Lists.{keep, count-from, tabulate}
 use Rattle.logic.specs.Model.{Model, Step, true-of, mask, enabled, outcomes, no-action}
 use Rattle.logic.proofs.Tests.{length-tabulate, getD-tabulate, counted-range, count-more, keep-append, keep-same}
 use Rattle.blocks.specs.Bytes.{Bytes}
 use Rattle.models.specs.Layout.{state-count, action-count, state-mask, pre-of, post-count, post-of, outcome-of, entries, model-of}
 use Rattle.models.specs.Readable.{Readable}
-
-none-kept : (t : Bool) (k : ℕ) → t ≡ false → cond t k 0 ≡ 0
-none-kept t k e = rw e refl
-
-and-false : (t : Bool) {u : Bool} → u ≡ false → (t && u) ≡ false
-and-false true e = e
-and-false false e = refl
+use Rattle.models.proofs.Laws.{entries-past-states, entries-past-actions, entries-inside}
 
 -- Beyond the actions nothing is kept.
 keep-more : (f : ℕ → Bool) (n k : ℕ) → ((i : ℕ) → n ≤ i → f i ≡ false) → keep f (count-from 0 (n + k)) ≡ keep f (count-from 0 n)
@@ -38,20 +32,6 @@ keep-more f n (suc k) h =
     ∙ keep-more f n k h)
 
 module _ (b : Bytes) where
-  entries-inside : (s a : ℕ) → s < state-count b → a < action-count b → entries b s a ≡ cond (true-of (pre-of b a) (state-mask b s)) (post-count b a) 0
-  unfolding entries
-  entries-inside s a h g = rw (lt-ltb s (state-count b) h, lt-ltb a (action-count b) g) refl
-
-  pub entries-past-states : (s a : ℕ) → state-count b ≤ s → entries b s a ≡ 0
-  unfolding entries
-  entries-past-states s a h = rw (le-ltb s (state-count b) h) refl
-
-  pub entries-past-actions : (s a : ℕ) → action-count b ≤ a → entries b s a ≡ 0
-  unfolding entries
-  entries-past-actions s a h =
-      none-kept _ (post-count b a)
-      (ap (λ t. t && true-of (pre-of b a) (state-mask b s)) (and-false (ltb s (state-count b)) (le-ltb a (action-count b) h)))
-
   pub entries-few : Readable b → (s a : ℕ) → entries b s a ≤ 4
   entries-few r s a = go (decLt s (state-count b)) (decLt a (action-count b))
     where
@@ -59,9 +39,9 @@ module _ (b : Bytes) where
       kept true h = h
       kept false h = omega arith
       go : Dec (s < state-count b) → Dec (a < action-count b) → entries b s a ≤ 4
-      go (yes h) (yes g) = rw (entries-inside s a h g) (kept (true-of (pre-of b a) (state-mask b s)) (r .few-posts g))
-      go (yes h) (no g) = rw (entries-past-actions s a (omega arith)) (omega arith)
-      go (no h) g = rw (entries-past-states s a (omega arith)) (omega arith)
+      go (yes h) (yes g) = rw (entries-inside b s a h g) (kept (true-of (pre-of b a) (state-mask b s)) (r .few-posts g))
+      go (yes h) (no g) = rw (entries-past-actions b s a (omega arith)) (omega arith)
+      go (no h) g = rw (entries-past-states b s a (omega arith)) (omega arith)
 
   -- A row, and a cell of it, as `rows` holds them.
   cell : ℕ → ℕ → List Step
@@ -83,15 +63,15 @@ module _ (b : Bytes) where
       go (yes h) (no g) =
           ap (λ l. getD l a []) (getD-tabulate row (state-count b) [] h)
           ∙ List·getD-eq-default (row s) [] (rw (length-tabulate (cell s) (action-count b)) (omega arith))
-          ∙ nothing (entries-past-actions s a (omega arith))
+          ∙ nothing (entries-past-actions b s a (omega arith))
       go (no h) g =
           ap (λ l. getD l a []) (List·getD-eq-default rows [] (rw (length-tabulate row (state-count b)) (omega arith)))
-          ∙ nothing (entries-past-states s a (omega arith))
+          ∙ nothing (entries-past-states b s a (omega arith))
 
   -- An action is enabled just where it has used entries.
   module _ (r : Readable b) (s : ℕ) (k : s < state-count b) where
     enabled-here : (a : ℕ) → a < action-count b → true-of (pre-of b a) (state-mask b s) ≡ ltb 0 (entries b s a)
-    enabled-here a h = go (true-of (pre-of b a) (state-mask b s)) ∙ ap (ltb 0) (sym (entries-inside s a k h))
+    enabled-here a h = go (true-of (pre-of b a) (state-mask b s)) ∙ ap (ltb 0) (sym (entries-inside b s a k h))
       where
         go : (t : Bool) → t ≡ ltb 0 (cond t (post-count b a) 0)
         go true = sym (lt-ltb 0 (post-count b a) (omega (arith, r .some-post h)))
@@ -107,5 +87,5 @@ module _ (b : Bytes) where
         ∙ keep-same _ f (count-from 0 (action-count b))
           (λ a i. let h : a < action-count b = omega (arith, counted-range 0 (action-count b) i .1) in
           ap₂ true-of (ap (λ x. x .pre) (getD-tabulate _ (action-count b) no-action h)) (getD-tabulate (state-mask b) (state-count b) 0 k) ∙ enabled-here a h)
-        ∙ sym (keep-more f (action-count b) (8 - action-count b) (λ i h. ap (ltb 0) (entries-past-actions s i h)))
+        ∙ sym (keep-more f (action-count b) (8 - action-count b) (λ i h. ap (ltb 0) (entries-past-actions b s i h)))
         ∙ ap (λ n. keep f (count-from 0 n)) e

@@ -3,9 +3,9 @@ use Prim.Native.Nat.{ℕ, zero, suc, _+_, _*_, _≤_, _<_, zero-le}
 use native.Mathlib.Decide.{ℕ-discrete}
 use native.Mathlib.Nat.{le-trans}
 use native.Mathlib.Omega.{arith}
-use mathlib.Core.Path.{_≡_, refl, sym, ap, subst, _∙_}
+use mathlib.Core.Path.{_≡_}
 use lib.ListN.{getD, List·getD-eq-default}
-use Rattle.logic.specs.Formula.{Formula, never, depth, formula-of}
+use Rattle.logic.specs.Formula.{never, depth}
 use Rattle.blocks.specs.Bytes.{Bytes, byte}
 use Rattle.questions.specs.Layout.{node-of}
 use Rattle.questions.specs.Tables.{formulas-before}

@@ -1,23 +1,23 @@
 -- What the proofs of the reading of questions share: the formulas of the first k nodes are the first k formulas, so a table filled node
 -- by node holds what is asked of each; and a refusal is read off the guards one after the other.
-use Prim.Native.Nat.{ℕ, zero, suc, _+_, _*_, _≤_, _<_, max, zero-le, suc-le-suc}
-use native.Mathlib.Nat.{not-suc-le-zero, le-of-suc-le-suc, eq-or-lt-of-le, add-zero, add-suc}
-use native.Mathlib.Numerals.{add-one}
+use Prim.Native.Nat.{ℕ, zero, suc, _+_, _/_, _%_, _≤_, _<_, min, zero-le}
+use native.Mathlib.Nat.{le-of-suc-le-suc, eq-or-lt-of-le, add-zero, add-suc, div-add-mod'}
 use native.Mathlib.Decide.{decLt, ℕ-discrete}
 use native.Mathlib.Omega.{arith}
-use mathlib.Core.Path.{_≡_, refl, sym, ap, ap₂, subst, _∙_}
+use mathlib.Core.Path.{_≡_, refl, sym, ap, ap₂, _∙_}
 use mathlib.Core.Logic.{_⊎_, inl, inr, ⊎-elim}
 use mathlib.Core.Bool.{Bool, true, false, _&&_, _||_, and-true}
-use mathlib.Core.List.{List, [], _∷_, _++_, map, map-append, append-assoc}
+use mathlib.Core.List.{List, [], _∷_, _++_, map, map-append}
 use lib.Dec.{eqb, leb}
-use lib.ListN.{length, getD, take, set, length-append, length-set, length-take, length-map, List·getD-append, List·getD-eq-default}
-use lib.Seq.{getD-at, getD-take, take-at, take-all, take-append-le, ext-getD, getD-set-same, getD-set-other}
-use borrow.Author.Tests.{leb-true}
+use lib.ListN.{length, getD, take, set, length-append, length-set, length-take, List·getD-eq-default}
+use lib.Seq.{getD-at, getD-take, take-all, take-append-le, ext-getD, getD-set-same, getD-set-other}
+use borrow.Author.Tests.{leb-true, eqb-true}
 use Rattle.logic.specs.Lists.{all, every, count-from, tabulate}
-use Rattle.logic.specs.Checked.{Checked, ok, refused, refusal, guard, _>>_}
-use Rattle.logic.specs.Formula.{Formula, never, Node, depth, formula-of, formulas}
-use Rattle.logic.proofs.Tests.{length-tabulate, getD-tabulate, all-tabulate, and-left, and-right}
+use Rattle.logic.specs.Checked.{Checked, refusal, guard, _>>_}
+use Rattle.logic.specs.Formula.{Formula, never, Node, formula-of, formulas}
+use Rattle.logic.proofs.Tests.{length-tabulate, getD-tabulate, all-tabulate, and-left, and-right, tabulate-more}
 use Rattle.blocks.specs.Bytes.{Bytes, byte, zeros, within}
+use Rattle.blocks.specs.Block.{whole-blocks, block-count}
 use Rattle.questions.specs.Layout.{node-at, node-of, node-count, formulas-of}
 use Rattle.questions.specs.Grounds.{node-in-range, node-spare}
 use Rattle.questions.specs.Tables.{formulas-before, table}
@@ -25,12 +25,6 @@ use Rattle.questions.specs.Tables.{formulas-before, table}
 -- ---- guards
 
 module _ {A : Type 0} where
-  pub passes : (k : ℕ) {t : Bool} (c : Checked A) → t ≡ true → refusal (guard k t >> c) ≡ refusal c
-  passes k c e = rw e refl
-
-  pub fails : (k : ℕ) {t : Bool} (c : Checked A) → t ≡ false → refusal (guard k t >> c) ≡ k
-  fails k c e = rw e refl
-
   -- No refusal behind a guard: its test passed, and there is none after it.
   pub passed : (k : ℕ) (t : Bool) (c : Checked A) → refusal (guard (suc k) t >> c) ≡ 0 → (t ≡ true) × (refusal c ≡ 0)
   passed k true c e = (refl, e)
@@ -97,6 +91,14 @@ pub within-most : (least most x : ℕ) → within least most x ≡ true → x �
 unfolding within
 within-most least most x e = leb-true x most (and-right (leb least x) (leb x most) e)
 
+-- A question that passes ground 1 is one block.
+pub one-block : (b : Bytes) → whole-blocks 1 1 b ≡ true → length b ≡ 512
+unfolding whole-blocks block-count
+one-block b e =
+    let m : length b % 512 ≡ 0 = eqb-true (length b % 512) 0 (and-left (eqb (length b % 512) 0) (within 1 1 (length b / 512)) e) in
+    let d : within 1 1 (length b / 512) ≡ true = and-right (eqb (length b % 512) 0) (within 1 1 (length b / 512)) e in
+    omega (arith, div-add-mod' (length b) 512, within-least 1 1 (length b / 512) d, within-most 1 1 (length b / 512) d)
+
 -- ---- by an operator's number
 
 -- A claim of every number, from the rows of the table of operators and the numbers above them.
@@ -161,16 +163,6 @@ module _ {A : Type 0} where
 
 -- ---- the formulas of the first k nodes
 
-count-more : (k n : ℕ) → count-from k (suc n) ≡ count-from k n ++ ((k + n) ∷ [])
-unfolding count-from
-count-more k zero = let e : k ≡ k + 0 = omega arith in ap (λ (x : ℕ). x ∷ []) e
-count-more k (suc n) = let e : suc k + n ≡ k + suc n = omega arith in
-    ap (λ (l : List ℕ). k ∷ l) (count-more (suc k) n ∙ ap (λ (x : ℕ). count-from (suc k) n ++ (x ∷ [])) e)
-
-tabulate-more : {A : Type 0} (f : ℕ → A) (n : ℕ) → tabulate (suc n) f ≡ tabulate n f ++ (f n ∷ [])
-unfolding tabulate
-tabulate-more f n = let e : 0 + n ≡ n = omega arith in ap (map f) (count-more 0 n) ∙ map-append f (count-from 0 n) ((0 + n) ∷ []) ∙ ap (λ (x : ℕ). map f (count-from 0 n) ++ (f x ∷ [])) e
-
 formulas-append : (fs : List Formula) (xs ys : List Node) → formulas fs (xs ++ ys) ≡ formulas (formulas fs xs) ys
 unfolding formulas
 formulas-append fs [] ys = refl
@@ -215,6 +207,15 @@ module _ (b : Bytes) where
           List·getD-eq-default (formulas-before b i) never (rw (before-length i) (omega arith))
           ∙ sym (List·getD-eq-default (formulas-before b (suc i)) never (rw (before-length (suc i)) (omega arith)))
 
+-- A question's formulas are those of the nodes before its count.
+pub all-before : (b : Bytes) → formulas-before b (node-count b) ≡ formulas-of b
+unfolding formulas-before formulas-of
+all-before b = refl
+
+-- The formula at node i of a question, from those before it.
+pub formula-here : (b : Bytes) (i : ℕ) → i < node-count b → getD (formulas-of b) i never ≡ formula-at b i
+formula-here b i h = ap (λ fs. getD fs i never) (sym (all-before b)) ∙ before-at b i (node-count b) h
+
 -- ---- tables
 
 module _ {A : Type 0} (f : Formula → A) (b : Bytes) where
@@ -222,7 +223,7 @@ module _ {A : Type 0} (f : Formula → A) (b : Bytes) where
   unfolding table
   table-length fs = length-tabulate (λ i. f (getD fs i never)) 40
 
-  table-at : (fs : List Formula) (i : ℕ) → i < 40 → getD (table f fs) i (f never) ≡ f (getD fs i never)
+  pub table-at : (fs : List Formula) (i : ℕ) → i < 40 → getD (table f fs) i (f never) ≡ f (getD fs i never)
   unfolding table
   table-at fs i h = getD-tabulate (λ i. f (getD fs i never)) 40 (f never) h
 
@@ -266,3 +267,11 @@ module _ {A : Type 0} (f : Formula → A) (b : Bytes) where
   -- Only the first 40 nodes stand in a table.
   pub table-full : (k : ℕ) → 40 ≤ k → table f (formulas-before b 40) ≡ table f (formulas-before b k)
   table-full k h = table-same (formulas-before b 40) (formulas-before b k) (λ i l. before-at b i 40 l ∙ sym (before-at b i k (omega arith)))
+
+  -- So the table of the nodes held, the node count or 40, is the table of all.
+  pub table-held : (i : ℕ) → i ≡ min (node-count b) 40 → table f (formulas-before b i) ≡ table f (formulas-of b)
+  table-held i e = go (decLt (node-count b) 40) ∙ ap (table f) (all-before b)
+    where
+      go : Dec (node-count b < 40) → table f (formulas-before b i) ≡ table f (formulas-before b (node-count b))
+      go (yes h) = let g : i ≡ node-count b = omega arith in ap (λ k. table f (formulas-before b k)) g
+      go (no h) = let g : i ≡ 40 = omega arith in ap (λ k. table f (formulas-before b k)) g ∙ table-full (node-count b) (omega arith)

@@ -1,15 +1,16 @@
 -- The formula of a node by its operator, and what depth, path formulas and ground 9 make of it: a row of document 01's table each.
-use Prim.Native.Nat.{ℕ, suc, _≤_, max}
+use Prim.Native.Nat.{ℕ, suc, _≤_}
 use native.Mathlib.Omega.{arith}
 use mathlib.Core.Path.{_≡_, refl, sym, ap, _∙_}
-use mathlib.Core.Logic.{_⊎_}
-use mathlib.Core.Bool.{Bool, true, false}
+use mathlib.Core.Bool.{true}
 use mathlib.Core.List.{List}
-use lib.IntN.{ℤ}
-use lib.ListN.{getD}
+use lib.ListN.{length, getD}
+use Rattle.logic.specs.Lists.{all, every}
 use Rattle.logic.specs.Quantity.{Relation}
 use Rattle.logic.specs.Formula.{Formula, never, prop, neg, both, does, next, gain, plan, Node, depth, shallow, relation, nonnegative, formula-of}
-use Rattle.questions.proofs.Laws.{by-operator}
+use Rattle.blocks.specs.Bytes.{Bytes}
+use Rattle.questions.specs.Layout.{node-count, formulas-of}
+use Rattle.questions.proofs.Laws.{by-operator, all-every, all-before, before-length}
 
 module _ (fs : List Formula) (x : Node) where
   pub row-1 : x .operator ≡ 1 → formula-of fs x ≡ never
@@ -97,3 +98,7 @@ module _ (fs : List Formula) (x : Node) where
       (λ k o. rw o (omega arith))
       (x .operator)
       refl
+
+-- Ground 9 asks of all nodes what it asks of each.
+pub all-shallow : (b : Bytes) → all shallow (formulas-of b) ≡ every (node-count b) (λ i. shallow (getD (formulas-of b) i never))
+all-shallow b = all-every shallow never (formulas-of b) ∙ ap (λ k. every k (λ i. shallow (getD (formulas-of b) i never))) (ap length (sym (all-before b)) ∙ before-length b (node-count b))

@@ -71,17 +71,11 @@ pub fn q(b: &[u8], i: u8) -> u32
     blocks::u32_at(b, node_at(i) + 8)
 }
 
-fn within(least: u32, most: u32, x: u32) -> bool
-    ensures { λ r. ⌜ r ≡ spec-bytes.within least most x ⌝ }
-{
-    least <= x && x <= most
-}
-
 // Whether the steps and the relation of node i, a "gain" or a "plan", are in range.
 fn compares(b: &[u8], i: u8) -> bool
     ensures { λ r. ⌜ r ≡ spec.compares (node-of (now (b .entry)) i) ⌝ }
 {
-    within(1, 6, steps(b, i) as u32) && within(1, 3, right(b, i) as u32)
+    blocks::within(1, 6, steps(b, i) as usize) && blocks::within(1, 3, right(b, i) as usize)
 }
 
 fn gain_bound(p: i32, q: u32) -> bool
@@ -96,7 +90,7 @@ fn gain_bound(p: i32, q: u32) -> bool
 fn plan_bound(p: i32, q: u32) -> bool
     ensures { λ r. ⌜ r ≡ plan-bound p q ⌝ }
 {
-    if !within(1, 1000000, q) {
+    if !blocks::within(1, 1000000, q as usize) {
         return false;
     }
     0 <= p && p <= q as i32
@@ -236,7 +230,10 @@ fn node_depth(b: &[u8], depths: &[u32; 40], i: u8) -> u32
     let op = operator(b, i);
     match op {
         3 => child_depth(depths, i, left(b, i)),
-        4 => larger(child_depth(depths, i, left(b, i)), child_depth(depths, i, right(b, i))),
+        4 => larger(
+            child_depth(depths, i, left(b, i)),
+            child_depth(depths, i, right(b, i)),
+        ),
         5 => 1,
         6 => child_depth(depths, i, left(b, i)) + 1,
         7 => steps(b, i) as u32,
@@ -355,7 +352,7 @@ fn formed(b: &[u8]) -> bool
 fn counts_right(b: &[u8], states: usize) -> bool
     ensures { λ r. ⌜ r ≡ (ltb (start-of (now (b .entry))) states && spec-bytes.within 1 40 (spec-layout.node-count (now (b .entry)))) ⌝ }
 {
-    (start(b) as usize) < states && within(1, 40, node_count(b) as u32)
+    (start(b) as usize) < states && blocks::within(1, 40, node_count(b) as usize)
 }
 
 // The first ground on which the question's bytes are refused, for a model of so many states, actions and propositions; 0 for none.

@@ -6,7 +6,7 @@ use lib.Dec.{leb}
 use lib.ListN.{getD}
 use Rattle.logic.specs.Lists.{every}
 use Rattle.limits.specs.Totals.{limit}
-use Rattle.limits.proofs.Laws.{states-are}
+use Rattle.models.proofs.Held.{states-held}
 use Rattle.limits.proofs.Nodes.{unbounded-fits, bounded-fits, bounded-operator}
 use borrow.Author.Needs.{needs}
 use Rattle.limits.proofs.node_fits.Statement.{statement}
@@ -44,7 +44,7 @@ row-fits-requires c κs = (omega (arith, (c .before .before .before .before .bef
 
 -- src/lib.rt:148:1
 returns-2 : tie.Need-returns-2
-returns-2 c = c .row-fits .ensures ∙ ap₂ (λ k n. every k (λ s. leb (getD (c .before .before .before .before .before .before .before .args .table .now) (32 * n + s) 0) (limit (c .before .before .before .before .before .before .before .args .plans)))) (c .before .wide .ensures .0 ∙ sym (states-are (c .before .before .before .before .before .before .before .args .m .now))) (c .before .before .steps .ensures) ∙ bounded-fits _ _ (c .before .before .before .before .before .before .before .pre .2) (c .before .before .before .before .before .before .before .args .plans) (c .before .before .before .before .before .before .before .args .table .now) (sym (c .before .before .before .before .bounded .ensures) ∙ not-false _ (c .before .before .before .if1 .left)) (c .before .before .before .before .before .before .before .pre .1)
+returns-2 c = c .row-fits .ensures ∙ ap₂ (λ k n. every k (λ s. leb (getD (c .before .before .before .before .before .before .before .args .table .now) (32 * n + s) 0) (limit (c .before .before .before .before .before .before .before .args .plans)))) (c .before .wide .ensures .0 ∙ sym (states-held (c .before .before .before .before .before .before .before .args .m .now))) (c .before .before .steps .ensures) ∙ bounded-fits _ _ (c .before .before .before .before .before .before .before .pre .2) (c .before .before .before .before .before .before .before .args .plans) (c .before .before .before .before .before .before .before .args .table .now) (sym (c .before .before .before .before .bounded .ensures) ∙ not-false _ (c .before .before .before .if1 .left)) (c .before .before .before .before .before .before .before .pre .1)
 
 pub node-fits-spec : {M : Type 1} → statement M
 node-fits-spec =

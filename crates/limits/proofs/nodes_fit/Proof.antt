@@ -1,4 +1,4 @@
-use Rattle.logic.proofs.Tests.{every-more}
+use Rattle.models.proofs.Laws.{every-more}
 use Rattle.limits.proofs.Nodes.{nodes-all}
 use Rattle.limits.specs.Totals.{fits}
 use Prim.Native.Nat.{_+_, _*_, _-_, _≤_, _<_, min}

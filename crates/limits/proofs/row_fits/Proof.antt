@@ -1,4 +1,4 @@
-use Rattle.logic.proofs.Tests.{every-more}
+use Rattle.models.proofs.Laws.{every-more}
 use Prim.Native.Nat.{_+_, _*_, _-_, _≤_, _<_, min}
 use native.Mathlib.Omega.{arith}
 use mathlib.Core.Path.{_≡_, refl, sym, ap, ap₂, _∙_}

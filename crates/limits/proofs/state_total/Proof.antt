@@ -1,6 +1,6 @@
 use Rattle.limits.proofs.Laws.{state-end}
 use Rattle.limits.proofs.Laws.{small-of}
-use Rattle.limits.proofs.Laws.{sum-start, sum-next, states-are}
+use Rattle.limits.proofs.Laws.{sum-start, sum-next}
 use Rattle.models.proofs.Rows.{enabled-are}
 use Rattle.limits.proofs.Laws.{sum-start, sum-next}
 use Prim.Native.Nat.{_+_, _*_, _-_, _≤_, _<_, min}

@@ -1,6 +1,6 @@
 -- The start is tested and then the node count, as in ground 4.
 use Prim.Native.Nat.{_≤_, _<_}
-use mathlib.Core.Path.{sym, ap, subst, _∙_}
+use mathlib.Core.Path.{ap, subst, _∙_}
 use lib.Dec.{ltb}
 use borrow.Author.Tests.{lt-ltb, le-ltb}
 use Rattle.blocks.specs.Bytes.{within}

@@ -1,5 +1,3 @@
-
-
 use mathlib.Core.Bool.{true, false}
 -- q is tested and then p from both sides, as in the definition.
 use mathlib.Core.Path.{_≡_, refl, sym, ap, _∙_}
@@ -10,7 +8,6 @@ use mir.Val.{toZ, ofZ}
 use borrow.Author.Needs.{needs}
 use borrow.Author.Tests.{eq-eqb, ne-eqb}
 use Rattle.questions.specs.Grounds.{gain-bound}
-use Rattle.questions.proofs.Laws.{both-tests, first-fails}
 use Rattle.questions.proofs.gain_bound.Statement.{statement}
 use Rattle.questions.proofs.gain_bound.Tie as tie
 

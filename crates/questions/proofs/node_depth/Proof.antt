@@ -1,10 +1,10 @@
 -- Each arm is its operator's row: the children's depths stand in the table, and one more than any of them fits.
-use Prim.Native.Nat.{_+_, _*_, _≤_, _<_, max}
+use Prim.Native.Nat.{_+_, max}
 use native.Mathlib.Numerals.{add-one}
 use native.Mathlib.Omega.{arith}
 use mathlib.Core.Path.{_≡_, refl, sym, ap, ap₂, _∙_}
 use lib.ListN.{getD}
-use Rattle.logic.specs.Formula.{never, depth, formula-of}
+use Rattle.logic.specs.Formula.{never, depth}
 use Rattle.questions.specs.Layout.{node-of}
 use Rattle.questions.specs.Tables.{formulas-before}
 use Rattle.questions.proofs.Laws.{child-value}
@@ -50,7 +50,7 @@ add-result c = let b = c .before .before .before .before .before .args .b .now i
     let i = c .before .before .before .before .before .args .i in
     let x = node-of b i in
     let fs = formulas-before b i in
-    let v : c  .child-depth4 .result ≡ depth (getD fs (x .left) never) = c  .child-depth4 .ensures ∙ child-value depth b i i (omega arith) (omega (arith, c .before .before .before .before .before .pre .0)) (c .before .before .before .before .before .pre .1) (c .before .left3 .ensures) in
+    let v : c .child-depth4 .result ≡ depth (getD fs (x .left) never) = c .child-depth4 .ensures ∙ child-value depth b i i (omega arith) (omega (arith, c .before .before .before .before .before .pre .0)) (c .before .before .before .before .before .pre .1) (c .before .left3 .ensures) in
     omega (arith, v, depth-bound b (λ k. c .before .before .before .before .shared-slice-known .given k .fits) i (x .left), c .before .before .before .before .before .pre .0)
 
 steps-requires : tie.Need-steps-requires
@@ -66,7 +66,7 @@ returns c = let b = c .before .before .before .before .before .args .b .now in
     let x = node-of b i in
     let fs = formulas-before b i in
     let o : x .operator ≡ 3 = sym (c .before .before .before .operator .ensures) ∙ c .before .before .match .keys1 in
-    let v : c  .child-depth .result ≡ depth (getD fs (x .left) never) = c  .child-depth .ensures ∙ child-value depth b i i (omega arith) (omega (arith, c .before .before .before .before .before .pre .0)) (c .before .before .before .before .before .pre .1) (c .before .left .ensures) in
+    let v : c .child-depth .result ≡ depth (getD fs (x .left) never) = c .child-depth .ensures ∙ child-value depth b i i (omega arith) (omega (arith, c .before .before .before .before .before .pre .0)) (c .before .before .before .before .before .pre .1) (c .before .left .ensures) in
     v ∙ sym (ap depth (row-3 fs x o))
 
 returns-2 : tie.Need-returns-2
@@ -86,7 +86,7 @@ returns-3 c = let b = c .before .before .before .args .b .now in
     let i = c .before .before .before .args .i in
     let x = node-of b i in
     let fs = formulas-before b i in
-    let o : x .operator ≡ 5 = sym (c .before .operator .ensures) ∙ c  .match .keys3 in
+    let o : x .operator ≡ 5 = sym (c .before .operator .ensures) ∙ c .match .keys3 in
     sym (ap depth (row-5 fs x o))
 
 returns-4 : tie.Need-returns-4
@@ -96,7 +96,7 @@ returns-4 c = let b = c .before .before .before .before .before .args .b .now in
     let x = node-of b i in
     let fs = formulas-before b i in
     let o : x .operator ≡ 6 = sym (c .before .before .before .operator .ensures) ∙ c .before .before .match .keys4 in
-    let v : c  .child-depth4 .result ≡ depth (getD fs (x .left) never) = c  .child-depth4 .ensures ∙ child-value depth b i i (omega arith) (omega (arith, c .before .before .before .before .before .pre .0)) (c .before .before .before .before .before .pre .1) (c .before .left3 .ensures) in
+    let v : c .child-depth4 .result ≡ depth (getD fs (x .left) never) = c .child-depth4 .ensures ∙ child-value depth b i i (omega arith) (omega (arith, c .before .before .before .before .before .pre .0)) (c .before .before .before .before .before .pre .1) (c .before .left3 .ensures) in
     ap (λ k. k + 1) v ∙ add-one _ ∙ sym (ap depth (row-6 fs x o))
 
 returns-5 : tie.Need-returns-5

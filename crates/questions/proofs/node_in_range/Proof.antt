@@ -55,7 +55,7 @@ plan-in-range-requires c κs = search needs
 
 returns : tie.Need-returns
 unfolding node-in-range
-returns c = let o : node-of (c .before .before .before .args .b .now) (c .before .before .before .args .i) .operator ≡ 1 = sym (c .before .operator .ensures) ∙ c  .match .keys1 in
+returns c = let o : node-of (c .before .before .before .args .b .now) (c .before .before .before .args .i) .operator ≡ 1 = sym (c .before .operator .ensures) ∙ c .match .keys1 in
     rw o refl
 
 returns-2 : tie.Need-returns-2

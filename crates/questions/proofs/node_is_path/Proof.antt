@@ -1,10 +1,9 @@
 -- Each arm is its operator's row: what the children are stands in the table.
-use Prim.Native.Nat.{_≤_, _<_}
 use native.Mathlib.Omega.{arith}
 use mathlib.Core.Path.{_≡_, refl, sym, ap, ap₂, _∙_}
 use mathlib.Core.Bool.{_||_}
 use lib.ListN.{getD}
-use Rattle.logic.specs.Formula.{never, is-path, formula-of}
+use Rattle.logic.specs.Formula.{never, is-path}
 use Rattle.questions.specs.Layout.{node-of}
 use Rattle.questions.specs.Tables.{formulas-before}
 use Rattle.questions.proofs.Laws.{child-value, either-first}
@@ -41,7 +40,7 @@ returns c = let b = c .before .before .before .before .before .args .b .now in
     let x = node-of b i in
     let fs = formulas-before b i in
     let o : x .operator ≡ 3 = sym (c .before .before .before .operator .ensures) ∙ c .before .before .match .keys1 in
-    let v : c  .child-is-path .result ≡ is-path (getD fs (x .left) never) = c  .child-is-path .ensures ∙ child-value is-path b i i (omega arith) (omega (arith, c .before .before .before .before .before .pre .0)) (c .before .before .before .before .before .pre .1) (c .before .left .ensures) in
+    let v : c .child-is-path .result ≡ is-path (getD fs (x .left) never) = c .child-is-path .ensures ∙ child-value is-path b i i (omega arith) (omega (arith, c .before .before .before .before .before .pre .0)) (c .before .before .before .before .before .pre .1) (c .before .left .ensures) in
     v ∙ sym (ap is-path (row-3 fs x o))
 
 returns-2 : tie.Need-returns-2
@@ -62,7 +61,7 @@ returns-3 c = let b = c .before .before .before .before .before .before .before 
     let fs = formulas-before b i in
     let o : x .operator ≡ 4 = sym (c .before .before .before .before .before .before .operator .ensures) ∙ c .before .before .before .before .before .match .keys2 in
     let v : c .before .before .before .child-is-path2 .result ≡ is-path (getD fs (x .left) never) = c .before .before .before .child-is-path2 .ensures ∙ child-value is-path b i i (omega arith) (omega (arith, c .before .before .before .before .before .before .before .before .pre .0)) (c .before .before .before .before .before .before .before .before .pre .1) (c .before .before .before .before .left2 .ensures) in
-    let w : c  .child-is-path3 .result ≡ is-path (getD fs (x .right) never) = c  .child-is-path3 .ensures ∙ child-value is-path b i i (omega arith) (omega (arith, c .before .before .before .before .before .before .before .before .pre .0)) (c .before .before .before .before .before .before .before .before .pre .1) (c .before .right .ensures) in
+    let w : c .child-is-path3 .result ≡ is-path (getD fs (x .right) never) = c .child-is-path3 .ensures ∙ child-value is-path b i i (omega arith) (omega (arith, c .before .before .before .before .before .before .before .before .pre .0)) (c .before .before .before .before .before .before .before .before .pre .1) (c .before .right .ensures) in
     ap₂ _||_ (sym (sym v ∙ c .before .before .if1 .left)) w ∙ sym (ap is-path (row-4 fs x o))
 
 returns-4 : tie.Need-returns-4
@@ -71,7 +70,7 @@ returns-4 c = let b = c .before .before .before .args .b .now in
     let i = c .before .before .before .args .i in
     let x = node-of b i in
     let fs = formulas-before b i in
-    let o : x .operator ≡ 5 = sym (c .before .operator .ensures) ∙ c  .match .keys3 in
+    let o : x .operator ≡ 5 = sym (c .before .operator .ensures) ∙ c .match .keys3 in
     sym (ap is-path (row-5 fs x o))
 
 returns-5 : tie.Need-returns-5
@@ -80,7 +79,7 @@ returns-5 c = let b = c .before .before .before .args .b .now in
     let i = c .before .before .before .args .i in
     let x = node-of b i in
     let fs = formulas-before b i in
-    let o : x .operator ≡ 6 = sym (c .before .operator .ensures) ∙ c  .match .keys4 in
+    let o : x .operator ≡ 6 = sym (c .before .operator .ensures) ∙ c .match .keys4 in
     sym (ap is-path (row-6 fs x o))
 
 returns-6 : tie.Need-returns-6
@@ -89,7 +88,7 @@ returns-6 c = let b = c .before .before .before .args .b .now in
     let i = c .before .before .before .args .i in
     let x = node-of b i in
     let fs = formulas-before b i in
-    let o : x .operator ≡ 7 = sym (c .before .operator .ensures) ∙ c  .match .keys5 in
+    let o : x .operator ≡ 7 = sym (c .before .operator .ensures) ∙ c .match .keys5 in
     sym (ap is-path (row-7 fs x o))
 
 returns-7 : tie.Need-returns-7

@@ -1,3 +1,4 @@
+-- The number at the node's place, which `node_at` gives.
 use Prim.Native.Nat.{_+_}
 use mathlib.Core.Path.{ap, _∙_}
 use Rattle.blocks.specs.Bytes.{u32}

@@ -1,75 +1,74 @@
+-- Each return is at the first test that fails; those before it passed, and grounds 1 and 4 are what the later tests ask for.
+use lib.Dec.{ltb}
+use Rattle.questions.specs.Layout.{start-of, node-count}
+-- Each return is at the first test that fails; those before it passed, and grounds 1 and 4 are what the later tests ask for.
+use mathlib.Core.Path.{_≡_, refl, sym, _∙_}
+use mathlib.Core.Bool.{true}
+use borrow.Author.Tests.{not-true, not-false}
+use Rattle.logic.proofs.Tests.{and-right}
+use Rattle.blocks.specs.Bytes.{within}
+use Rattle.questions.specs.Grounds.{read-question}
+use Rattle.questions.proofs.Laws.{one-block, within-least, within-most}
 use borrow.Author.Needs.{needs}
 use Rattle.questions.proofs.question_refusal.Statement.{statement}
 use Rattle.questions.proofs.question_refusal.Tie as tie
-use Rattle.questions.proofs.question_refusal.Reads as reads
-use Rattle.questions.proofs.question_refusal.Lts as lts
-use Rattle.blocks.proofs.headed.Reads as headed-reads
-use Rattle.blocks.proofs.sums_right.Reads as sums-right-reads
-use Rattle.blocks.proofs.whole_blocks.Reads as whole-blocks-reads
-use Rattle.questions.proofs.counts_right.Reads as counts-right-reads
-use Rattle.questions.proofs.formed.Reads as formed-reads
-use Rattle.questions.proofs.nodes_in_range.Reads as nodes-in-range-reads
-use Rattle.questions.proofs.spare_zero.Reads as spare-zero-reads
 
--- src/lib.rt:365:9
 whole-blocks-requires : tie.Need-whole-blocks-requires
 whole-blocks-requires c κs = search needs
 
--- src/lib.rt:366:9
 returns : tie.Need-returns
-returns c = ?
+unfolding read-question
+returns c = rw (sym (c .before .whole-blocks .ensures) ∙ not-true _ (c .if1 .taken)) refl
 
--- src/lib.rt:368:9
 sums-right-requires : tie.Need-sums-right-requires
 sums-right-requires c κs = search needs
 
--- src/lib.rt:369:9
 returns-2 : tie.Need-returns-2
-returns-2 c = ?
+unfolding read-question
+returns-2 c = rw (sym (c .before .before .before .whole-blocks .ensures) ∙ not-false _ (c .before .before .if1 .left), sym (c .before .sums-right .ensures) ∙ not-true _ (c .if2 .taken)) refl
 
--- src/lib.rt:371:9
 headed-requires : tie.Need-headed-requires
 headed-requires c κs = search needs
 
--- src/lib.rt:372:9
 returns-3 : tie.Need-returns-3
-returns-3 c = ?
+unfolding read-question
+returns-3 c = rw (sym (c .before .before .before .before .before .whole-blocks .ensures) ∙ not-false _ (c .before .before .before .before .if1 .left), sym (c .before .before .before .sums-right .ensures) ∙ not-false _ (c .before .before .if2 .left), sym (c .before .headed .ensures) ∙ not-true _ (c .if3 .taken)) refl
 
--- src/lib.rt:374:9
 counts-right-requires : tie.Need-counts-right-requires
 counts-right-requires c κs = search needs
 
--- src/lib.rt:375:9
 returns-4 : tie.Need-returns-4
-returns-4 c = ?
+unfolding read-question
+returns-4 c = rw (sym (c .before .before .before .before .before .before .before .whole-blocks .ensures) ∙ not-false _ (c .before .before .before .before .before .before .if1 .left), sym (c .before .before .before .before .before .sums-right .ensures) ∙ not-false _ (c .before .before .before .before .if2 .left), sym (c .before .before .before .headed .ensures) ∙ not-false _ (c .before .before .if3 .left), sym (c .before .counts-right .ensures) ∙ not-true _ (c .if4 .taken)) refl
 
--- src/lib.rt:377:9
 nodes-in-range-requires : tie.Need-nodes-in-range-requires
 nodes-in-range-requires c κs = search needs
 
--- src/lib.rt:378:9
 returns-5 : tie.Need-returns-5
-returns-5 c = ?
+unfolding read-question
+returns-5 c = rw (sym (c .before .before .before .before .before .before .before .before .before .whole-blocks .ensures) ∙ not-false _ (c .before .before .before .before .before .before .before .before .if1 .left), sym (c .before .before .before .before .before .before .before .sums-right .ensures) ∙ not-false _ (c .before .before .before .before .before .before .if2 .left), sym (c .before .before .before .before .before .headed .ensures) ∙ not-false _ (c .before .before .before .before .if3 .left), sym (c .before .before .before .counts-right .ensures) ∙ not-false _ (c .before .before .if4 .left), sym (c .before .nodes-in-range .ensures) ∙ not-true _ (c .if5 .taken)) refl
 
--- src/lib.rt:380:9
 spare-zero-requires : tie.Need-spare-zero-requires
-spare-zero-requires c κs = ?
+spare-zero-requires c κs = let b = c .before .before .before .before .before .before .before .before .before .before .before .args .b .now in
+    let n : within 1 40 (node-count b) ≡ true = and-right (ltb (start-of b) (c .before .before .before .before .before .before .before .before .before .before .before .args .states)) (within 1 40 (node-count b)) (sym (c .before .before .before .counts-right .ensures) ∙ not-false _ (c .before .before .if4 .left)) in
+    (one-block b (sym (c .before .before .before .before .before .before .before .before .before .whole-blocks .ensures) ∙ not-false _ (c .before .before .before .before .before .before .before .before .if1 .left)), within-most 1 40 (node-count b) n)
 
--- src/lib.rt:381:9
 returns-6 : tie.Need-returns-6
-returns-6 c = ?
+unfolding read-question
+returns-6 c = rw (sym (c .before .before .before .before .before .before .before .before .before .before .before .whole-blocks .ensures) ∙ not-false _ (c .before .before .before .before .before .before .before .before .before .before .if1 .left), sym (c .before .before .before .before .before .before .before .before .before .sums-right .ensures) ∙ not-false _ (c .before .before .before .before .before .before .before .before .if2 .left), sym (c .before .before .before .before .before .before .before .headed .ensures) ∙ not-false _ (c .before .before .before .before .before .before .if3 .left), sym (c .before .before .before .before .before .counts-right .ensures) ∙ not-false _ (c .before .before .before .before .if4 .left), sym (c .before .before .before .nodes-in-range .ensures) ∙ not-false _ (c .before .before .if5 .left), sym (c .before .spare-zero .ensures) ∙ not-true _ (c .if6 .taken)) refl
 
--- src/lib.rt:383:9
 formed-requires : tie.Need-formed-requires
-formed-requires c κs = ?
+formed-requires c κs = let b = c .before .before .before .before .before .before .before .before .before .before .before .before .before .args .b .now in
+    let n : within 1 40 (node-count b) ≡ true = and-right (ltb (start-of b) (c .before .before .before .before .before .before .before .before .before .before .before .before .before .args .states)) (within 1 40 (node-count b)) (sym (c .before .before .before .before .before .counts-right .ensures) ∙ not-false _ (c .before .before .before .before .if4 .left)) in
+    (within-least 1 40 (node-count b) n, within-most 1 40 (node-count b) n)
 
--- src/lib.rt:384:9
 returns-7 : tie.Need-returns-7
-returns-7 c = ?
+unfolding read-question
+returns-7 c = rw (sym (c .before .before .before .before .before .before .before .before .before .before .before .before .before .whole-blocks .ensures) ∙ not-false _ (c .before .before .before .before .before .before .before .before .before .before .before .before .if1 .left), sym (c .before .before .before .before .before .before .before .before .before .before .before .sums-right .ensures) ∙ not-false _ (c .before .before .before .before .before .before .before .before .before .before .if2 .left), sym (c .before .before .before .before .before .before .before .before .before .headed .ensures) ∙ not-false _ (c .before .before .before .before .before .before .before .before .if3 .left), sym (c .before .before .before .before .before .before .before .counts-right .ensures) ∙ not-false _ (c .before .before .before .before .before .before .if4 .left), sym (c .before .before .before .before .before .nodes-in-range .ensures) ∙ not-false _ (c .before .before .before .before .if5 .left), sym (c .before .before .before .spare-zero .ensures) ∙ not-false _ (c .before .before .if6 .left), sym (c .before .formed .ensures) ∙ not-true _ (c .if7 .taken)) refl
 
--- src/lib.rt:362:1
 returns-8 : tie.Need-returns-8
-returns-8 c = ?
+unfolding read-question
+returns-8 c = rw (sym (c .before .before .before .before .before .before .before .before .before .before .before .before .before .whole-blocks .ensures) ∙ not-false _ (c .before .before .before .before .before .before .before .before .before .before .before .before .if1 .left), sym (c .before .before .before .before .before .before .before .before .before .before .before .sums-right .ensures) ∙ not-false _ (c .before .before .before .before .before .before .before .before .before .before .if2 .left), sym (c .before .before .before .before .before .before .before .before .before .headed .ensures) ∙ not-false _ (c .before .before .before .before .before .before .before .before .if3 .left), sym (c .before .before .before .before .before .before .before .counts-right .ensures) ∙ not-false _ (c .before .before .before .before .before .before .if4 .left), sym (c .before .before .before .before .before .nodes-in-range .ensures) ∙ not-false _ (c .before .before .before .before .if5 .left), sym (c .before .before .before .spare-zero .ensures) ∙ not-false _ (c .before .before .if6 .left), sym (c .before .formed .ensures) ∙ not-false _ (c .if7 .left)) refl
 
 pub question-refusal-spec : {M : Type 1} → statement M
 question-refusal-spec =
