@@ -66,6 +66,6 @@ module _ (m : Model) where
       ap₂ (λ (k : ℕ) (l : List ℕ). after-choice a (each (λ o. extend m k n (o .target)) (outcomes m s a) l)) one
       (ap (λ (k : ℕ). drop k (a ∷ cs)) (min-eq-left {n = 1} {m = suc d} (omega arith)))
       ∙ ap (after-choice a)
-        (each-read (λ o. extend m d n (o .target)) (choices d) (λ o q. choices n (extended m d n (o .target) q)) (outcomes m s a) (p .1) rest
-        (match-map (λ o q j r. extend-choices d n (o .target) q r (le-of-suc-le-suc h) j) (i .1)))
+      (each-read (λ o. extend m d n (o .target)) (choices d) (λ o q. choices n (extended m d n (o .target) q)) (outcomes m s a) (p .1) rest
+      (match-map (λ o q j r. extend-choices d n (o .target) q r (le-of-suc-le-suc h) j) (i .1)))
       ∙ ap (λ (w : List ℕ). (a ∷ w, rest)) (flatMap-join (choices n) (λ o q. extended m d n (o .target) q) (outcomes m s a) (p .1))

@@ -48,11 +48,11 @@ splice-splice l p x y h =
     let e1 : take (p + length x) (T ++ (x ++ D)) ≡ T ++ x = ap (λ (u : List ℕ). take (p + length x) u) e0 ∙ take-at (T ++ x) D (p + length x) n in
     let j : p + length x + length y ≡ p + length (x ++ y) = omega (arith, length-append x y) in
     let e2 : drop ((p + length x) + length y) (T ++ (x ++ D)) ≡ drop (p + length (x ++ y)) l =
-        ap (λ (u : List ℕ). drop ((p + length x) + length y) u) e0
-        ∙ ap (λ (k : ℕ). drop (k + length y) ((T ++ x) ++ D)) (sym n)
-        ∙ drop-append-add (T ++ x) D (length y)
-        ∙ drop-drop (length y) (p + length x) l
-        ∙ ap (λ (k : ℕ). drop k l) j in
+    ap (λ (u : List ℕ). drop ((p + length x) + length y) u) e0
+    ∙ ap (λ (k : ℕ). drop (k + length y) ((T ++ x) ++ D)) (sym n)
+    ∙ drop-append-add (T ++ x) D (length y)
+    ∙ drop-drop (length y) (p + length x) l
+    ∙ ap (λ (k : ℕ). drop k l) j in
     ap₂ (λ (u v : List ℕ). u ++ (y ++ v)) e1 e2
     ∙ append-assoc T x (y ++ drop (p + length (x ++ y)) l)
     ∙ ap (λ (u : List ℕ). T ++ u) (sym (append-assoc x y (drop (p + length (x ++ y)) l)))

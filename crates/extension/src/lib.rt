@@ -8,7 +8,6 @@ ghost use Rattle.models.specs.Readable.{Readable};
 ghost use Rattle.models.specs.Used.{Used};
 ghost use Rattle.extension.specs.Choices.{each, choice-at, count-in, first-in, splice, room, Ran};
 ghost use Rattle.extension.specs.Choices as spec;
-
 use blocks::byte;
 use models::target;
 
@@ -69,7 +68,17 @@ fn taken(d: usize) -> usize
 }
 
 // Writes the choices of n steps from s, of which d are read.
-fn extend_from(m: &[u8], used: &[u8; 264], src: &[u8], dst: &mut [u8], s: usize, d: usize, n: usize, from: usize, at: usize) -> Cursor
+fn extend_from(
+    m: &[u8],
+    used: &[u8; 264],
+    src: &[u8],
+    dst: &mut [u8],
+    s: usize,
+    d: usize,
+    n: usize,
+    from: usize,
+    at: usize,
+) -> Cursor
     requires { ⌜ Readable (now m) × Used (now m) (now used) × (s < state-count (now m)) ⌝ }
     requires { ⌜ (n ≤ 6) × (from + room n ≤ 65536) × (at + room n ≤ length (now dst)) ⌝ }
     ensures { λ r. ⌜ Ran (spec.extend (model-of (now (m .entry))) d n s (drop from (now (src .entry)))) (room n) (now (src .entry)) from (r .from) (now (dst .entry)) (now (dst .exit)) at (r .at) ⌝ }
@@ -84,7 +93,18 @@ fn extend_from(m: &[u8], used: &[u8; 264], src: &[u8], dst: &mut [u8], s: usize,
 }
 
 // Writes the choices below each outcome of a.
-fn extend_below(m: &[u8], used: &[u8; 264], src: &[u8], dst: &mut [u8], s: usize, a: u8, d: usize, n: usize, from: usize, at: usize) -> Cursor
+fn extend_below(
+    m: &[u8],
+    used: &[u8; 264],
+    src: &[u8],
+    dst: &mut [u8],
+    s: usize,
+    a: u8,
+    d: usize,
+    n: usize,
+    from: usize,
+    at: usize,
+) -> Cursor
     requires { ⌜ Readable (now m) × Used (now m) (now used) × (s < state-count (now m)) ⌝ }
     requires { ⌜ (n < 6) × (from + 4 * room n ≤ 65536) × (at + 4 * room n ≤ length (now dst)) ⌝ }
     ensures { λ r. ⌜ Ran (each (λ o. spec.extend (model-of (now (m .entry))) d n (o .target)) (outcomes (model-of (now (m .entry))) s a) (drop from (now (src .entry)))) (4 * room n) (now (src .entry)) from (r .from) (now (dst .entry)) (now (dst .exit)) at (r .at) ⌝ }
@@ -100,11 +120,22 @@ fn extend_below(m: &[u8], used: &[u8; 264], src: &[u8], dst: &mut [u8], s: usize
         next = r.at;
         i += 1;
     }
-    Cursor { from: read, at: next }
+    Cursor {
+        from: read,
+        at: next,
+    }
 }
 
 // Writes the choices of the n-step plan that extends the d-step plan whose choices `src` begins with; gives their number.
-pub fn extend(m: &[u8], used: &[u8; 264], src: &[u8], dst: &mut [u8], s: usize, d: usize, n: usize) -> usize
+pub fn extend(
+    m: &[u8],
+    used: &[u8; 264],
+    src: &[u8],
+    dst: &mut [u8],
+    s: usize,
+    d: usize,
+    n: usize,
+) -> usize
     requires { ⌜ Readable (now m) × Used (now m) (now used) × (s < state-count (now m)) ⌝ }
     requires { ⌜ (n ≤ 6) × (1365 ≤ length (now dst)) ⌝ }
     ensures { λ r. ⌜ (now (dst .exit) ≡ splice (now (dst .entry)) 0 (spec.extend (model-of (now (m .entry))) d n s (now (src .entry)) .0)) × (r ≡ length (spec.extend (model-of (now (m .entry))) d n s (now (src .entry)) .0)) ⌝ }

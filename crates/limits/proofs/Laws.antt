@@ -195,10 +195,10 @@ module _ (c : ℕ) (f : ℕ → ℕ) (t : ℕ → Bool) where
       k ∙ ap₂ (λ p q. min c (p + q)) e h
       ∙ plus-same c (min c (sum naturals f l)) (sum naturals f l) (cond (t a) (min c (f a)) 0) (cond (t a) (f a) 0) (capped-same c (sum naturals f l)) (kept-same (t a) (f a))
       ∙ ap (min c)
-        (ap (λ y. sum naturals f l + y) (sym (one-kept a))
-        ∙ sym (sum-append naturals naturals-additive f l (keep t (a ∷ [])))
-        ∙ ap (sum naturals f) (sym (keep-append t (count-from 0 a) (a ∷ [])) ∙ ap (λ y. keep t (count-from 0 a ++ (y ∷ []))) (sym z) ∙ ap (keep t) (sym (count-more 0 a)))
-        ∙ ap (λ n. sum naturals f (keep t (count-from 0 n))) (sym (add-one a)))
+      (ap (λ y. sum naturals f l + y) (sym (one-kept a))
+      ∙ sym (sum-append naturals naturals-additive f l (keep t (a ∷ [])))
+      ∙ ap (sum naturals f) (sym (keep-append t (count-from 0 a) (a ∷ [])) ∙ ap (λ y. keep t (count-from 0 a ++ (y ∷ []))) (sym z) ∙ ap (keep t) (sym (count-more 0 a)))
+      ∙ ap (λ n. sum naturals f (keep t (count-from 0 n))) (sym (add-one a)))
 
 -- ---- reading a choice's cell
 
@@ -288,9 +288,9 @@ module _ (plans : Bool) (b : Bytes) (r : Readable b) where
         size = length-replicate {A = ℕ} 224 1;
         small = λ i. omega (arith, ones-small 224 i, limit-most plans);
         counted = λ n s h k.
-          let z : n ≡ 0 = omega arith in
-          getD-replicate {A = ℕ} 224 (32 * n + s) 1 0 (omega arith)
-          ∙ sym (ap (λ n. min (cap plans) (total plans (model-of b) n s)) z ∙ ap (min (cap plans)) (total-none plans (model-of b) s) ∙ min-eq-right (omega arith))
+            let z : n ≡ 0 = omega arith in
+            getD-replicate {A = ℕ} 224 (32 * n + s) 1 0 (omega arith)
+            ∙ sym (ap (λ n. min (cap plans) (total plans (model-of b) n s)) z ∙ ap (min (cap plans)) (total-none plans (model-of b) s) ∙ min-eq-right (omega arith));
       }
 
   module _ (table : List ℕ) (k : ℕ) (f : Filled plans b table k) where
@@ -300,7 +300,7 @@ module _ (plans : Bool) (b : Bytes) (r : Readable b) where
         record {
           size = f .size;
           small = f .small;
-          counted = λ n s l g. f .counted n s (omega (arith, r .states)) g
+          counted = λ n s l g. f .counted n s (omega (arith, r .states)) g;
         }
 
     pub filled-more : (v : ℕ) → 32 ≤ k → k < 224 → k % 32 < state-count b
@@ -309,19 +309,21 @@ module _ (plans : Bool) (b : Bytes) (r : Readable b) where
         record {
           size = length-set table k v ∙ f .size;
           small = λ i. small i (ℕ-discrete i k);
-          counted = λ n s l g. counted n s l g (ℕ-discrete (32 * n + s) k)
+          counted = λ n s l g. counted n s l g (ℕ-discrete (32 * n + s) k);
         }
       where
         small : (i : ℕ) → Dec (i ≡ k) → getD (set table k v) i 0 ≤ cap plans
         small i (yes q) = rw (q, getD-set-same table k v 0 (rw (f .size) high), e) (min-le-left (cap plans) _)
         small i (no q) = rw (getD-set-other table k i v 0 q) (f .small i)
+
         here : v ≡ min (cap plans) (total plans (model-of b) (k / 32) (k % 32))
         here =
             let z : suc (k / 32 - 1) ≡ k / 32 = omega arith in
             e
             ∙ step-capped plans (model-of b) (k / 32 - 1) (k % 32) (λ t. getD table (32 * (k / 32 - 1) + t) 0)
-              (λ a o i. let t = outcome-inside b r (k % 32) a o i in f .counted (k / 32 - 1) (o .target) (omega (arith, r .states)) t)
+            (λ a o i. let t = outcome-inside b r (k % 32) a o i in f .counted (k / 32 - 1) (o .target) (omega (arith, r .states)) t)
             ∙ ap (λ n. min (cap plans) (total plans (model-of b) n (k % 32))) z
+
         counted : (n s : ℕ) → 32 * n + s < k + 1 → s < state-count b → Dec (32 * n + s ≡ k)
             → getD (set table k v) (32 * n + s) 0 ≡ min (cap plans) (total plans (model-of b) n s)
         counted n s l g (yes q) =

@@ -142,6 +142,7 @@ module _ (m : Model) (x : Node) (w : Numbered x) where
       free : (t : Bool) → x .operator ≡ 8 → (not t || eqb (x .right) 2) ≡ false → every (length (m .states)) (fits t m (x .n) (relation (x .right))) ≡ true
       free true e k = every-intro _ (length (m .states)) (λ s l. ap (λ u. not u || leb (plan-total m (x .n) s) 65536) (relation-equal e ∙ k))
       free false e k = absurd (false≢true (sym k))
+
       go : Dec (x .operator ≡ 8) → true ≡ node-fits plans m x
       go (yes e) = sym (free plans e (sym (bounded-by plans x e) ∙ h)) ∙ node-fits-plan plans e
       go (no e) = rw (ne-eqb (x .operator) 8 e) refl

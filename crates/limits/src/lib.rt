@@ -16,10 +16,12 @@ ghost use Rattle.questions.specs.Layout.{node-count, node-of, formulas-of, ques
 ghost use Rattle.questions.specs.Grounds.{read-question};
 ghost use Rattle.limits.specs.Totals.{gather, step-total, Totals, fits, node-fits, Numbered};
 ghost use Rattle.limits.specs.Totals as spec;
-
 use blocks::wide;
 use models::target;
-use questions::{node_count, operator, right, steps};
+use questions::node_count;
+use questions::operator;
+use questions::right;
+use questions::steps;
 
 // The most that is served: plans, or else paths.
 fn limit(plans: bool) -> u64
@@ -61,7 +63,15 @@ fn number(x: u8) -> usize
 }
 
 // The total below a choice, from the totals of the states that stand in the table from `at` on; 0 for an action that is not enabled.
-fn choice_total(m: &[u8], used: &[u8; 264], plans: bool, table: &[u64; 224], at: usize, s: usize, a: usize) -> u64
+fn choice_total(
+    m: &[u8],
+    used: &[u8; 264],
+    plans: bool,
+    table: &[u64; 224],
+    at: usize,
+    s: usize,
+    a: usize,
+) -> u64
     requires { ⌜ Readable (now m) × Used (now m) (now used) × (at + 32 ≤ 224) × (s < 32) × (a < 8) ⌝ }
     requires { ⌜ ((i : ℕ) → getD (now table) i 0 ≤ spec.cap plans) ⌝ }
     ensures { λ r. ⌜ (r ≡ cond (ltb 0 (entries (now (m .entry)) s a)) (min (spec.cap plans) (gather plans (λ o. getD (now (table .entry)) (at + o .target) 0) (outcomes (model-of (now (m .entry))) s a))) 0) × (r ≤ 1000001) ⌝ }
@@ -81,7 +91,14 @@ fn choice_total(m: &[u8], used: &[u8; 264], plans: bool, table: &[u64; 224], at:
 }
 
 // The total of a state, from those of the states after a step.
-fn state_total(m: &[u8], used: &[u8; 264], plans: bool, table: &[u64; 224], at: usize, s: usize) -> u64
+fn state_total(
+    m: &[u8],
+    used: &[u8; 264],
+    plans: bool,
+    table: &[u64; 224],
+    at: usize,
+    s: usize,
+) -> u64
     requires { ⌜ Readable (now m) × Used (now m) (now used) × (at + 32 ≤ 224) × (s < state-count (now m)) ⌝ }
     requires { ⌜ ((i : ℕ) → getD (now table) i 0 ≤ spec.cap plans) ⌝ }
     ensures { λ r. ⌜ r ≡ min (spec.cap plans) (step-total plans (model-of (now (m .entry))) (λ t. getD (now (table .entry)) (at + t) 0) s) ⌝ }

@@ -148,7 +148,7 @@ module _ (m : Model) (accepted : Accepted m) (some-weight : 0 < m .denominator) 
       worth-scaled c n f g a i h =
           sum-any le _ (outcomes m s a)
           ∙ sum-scaled c _ (λ o. o .weight * g o) (outcomes m s a)
-            (λ o j. ap (λ z. o .weight * z) (h o (accepted .inside (exec a i) o j)) ∙ mul-left-comm (o .weight) c (g o))
+          (λ o j. ap (λ z. o .weight * z) (h o (accepted .inside (exec a i) o j)) ∙ mul-left-comm (o .weight) c (g o))
 
     -- ---- the greatest total
 
@@ -202,7 +202,7 @@ module _ (m : Model) (accepted : Accepted m) (some-weight : 0 < m .denominator) 
     greatest-longer (suc d) (suc n) s f l k h =
         let e : n - d ≡ suc n - suc d = omega arith in
         let ih : (t : ℕ) (g : List Step → ℕ) → t < length (m .states) → Short d g → best n t g ≡ m .denominator ^ (n - d) * best d t g =
-            λ t g j p. greatest-longer d n t g (le-of-suc-le-suc l) j p in
+        λ t g j p. greatest-longer d n t g (le-of-suc-le-suc l) j p in
         best-step n s f
         ∙ ap (worth n s f) (chosen-longer d n s f k h ih)
         ∙ worth-longer (m .denominator ^ (n - d)) d n s f k h ih (chosen d s f) (chosen-in k d f)
@@ -225,8 +225,8 @@ module _ (m : Model) (accepted : Accepted m) (some-weight : 0 < m .denominator) 
         let a : ℕ = chosen n s f in
         plan-step n s f
         ∙ ap (λ ps. (a, ps))
-          (map-same (λ o. plan-of-best n (o .target) (λ r. f (o ∷ r))) (λ o. first-plan m n (o .target)) (outcomes m s a)
-          (λ o j. plan-constant n (o .target) (λ r. f (o ∷ r)) (accepted .inside (exec k a (chosen-in k n f)) o j) (constant-after f h o)))
+        (map-same (λ o. plan-of-best n (o .target) (λ r. f (o ∷ r))) (λ o. first-plan m n (o .target)) (outcomes m s a)
+        (λ o j. plan-constant n (o .target) (λ r. f (o ∷ r)) (accepted .inside (exec k a (chosen-in k n f)) o j) (constant-after f h o)))
         ∙ ap (λ a. (a, map (λ o. first-plan m n (o .target)) (outcomes m s a))) (first-chosen n s f k h)
 
     -- The plan of first-best choices over n steps, of a value that looks at d of them.
@@ -241,11 +241,11 @@ module _ (m : Model) (accepted : Accepted m) (some-weight : 0 < m .denominator) 
         let below : Step → Plan d = λ o. plan-of-best d (o .target) (λ r. f (o ∷ r)) in
         plan-step n s f
         ∙ ap (λ a. (a, map (λ o. plan-of-best n (o .target) (λ r. f (o ∷ r))) (outcomes m s a)))
-          (chosen-longer d n s f k h (λ t g j p. greatest-longer d n t g (le-of-suc-le-suc l) j p))
+        (chosen-longer d n s f k h (λ t g j p. greatest-longer d n t g (le-of-suc-le-suc l) j p))
         ∙ ap (λ ps. (a, ps))
-          (map-same _ (λ o. extended m d n (o .target) (below o)) (outcomes m s a)
-          (λ o j. plan-longer d n (o .target) (λ r. f (o ∷ r)) (le-of-suc-le-suc l) (accepted .inside (exec k a i) o j) (short-after d f h o))
-          ∙ sym (join-map (λ o q. extended m d n (o .target) q) below (outcomes m s a)))
+        (map-same _ (λ o. extended m d n (o .target) (below o)) (outcomes m s a)
+        (λ o j. plan-longer d n (o .target) (λ r. f (o ∷ r)) (le-of-suc-le-suc l) (accepted .inside (exec k a i) o j) (short-after d f h o))
+        ∙ sym (join-map (λ o q. extended m d n (o .target) q) below (outcomes m s a)))
         ∙ ap (extended m (suc d) (suc n) s) (sym (plan-step d s f))
 
   -- ---- the greatest and the least weight of a condition

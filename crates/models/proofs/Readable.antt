@@ -26,6 +26,7 @@ module _ (b : Bytes) where
       state : Dec (s < state-count b) → s < state-count b
       state (yes l) = l
       state (no l) = absurd (omega (arith, entries-past-states b s a (omega arith)))
+
       action : Dec (a < action-count b) → a < action-count b
       action (yes l) = l
       action (no l) = absurd (omega (arith, entries-past-actions b s a (omega arith)))

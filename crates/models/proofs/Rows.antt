@@ -38,6 +38,7 @@ module _ (b : Bytes) where
       kept : (t : Bool) → post-count b a ≤ 4 → cond t (post-count b a) 0 ≤ 4
       kept true h = h
       kept false h = omega arith
+
       go : Dec (s < state-count b) → Dec (a < action-count b) → entries b s a ≤ 4
       go (yes h) (yes g) = rw (entries-inside b s a h g) (kept (true-of (pre-of b a) (state-mask b s)) (r .few-posts g))
       go (yes h) (no g) = rw (entries-past-actions b s a (omega arith)) (omega arith)
@@ -56,8 +57,10 @@ module _ (b : Bytes) where
     where
       rows : List (List (List Step))
       rows = tabulate (state-count b) row
+
       nothing : entries b s a ≡ 0 → [] ≡ cell s a
       nothing e = rw e refl
+
       go : Dec (s < state-count b) → Dec (a < action-count b) → getD (getD rows s []) a [] ≡ cell s a
       go (yes h) (yes g) = ap (λ l. getD l a []) (getD-tabulate row (state-count b) [] h) ∙ getD-tabulate (cell s) (action-count b) [] g
       go (yes h) (no g) =
@@ -85,7 +88,7 @@ module _ (b : Bytes) where
         let e : action-count b + (8 - action-count b) ≡ 8 = omega (arith, r .actions) in
         ap (λ n. keep (λ a. true-of ((getD (M .actions) a no-action) .pre) (mask M s)) (count-from 0 n)) (length-tabulate _ (action-count b))
         ∙ keep-same _ f (count-from 0 (action-count b))
-          (λ a i. let h : a < action-count b = omega (arith, counted-range 0 (action-count b) i .1) in
-          ap₂ true-of (ap (λ x. x .pre) (getD-tabulate _ (action-count b) no-action h)) (getD-tabulate (state-mask b) (state-count b) 0 k) ∙ enabled-here a h)
+        (λ a i. let h : a < action-count b = omega (arith, counted-range 0 (action-count b) i .1) in
+        ap₂ true-of (ap (λ x. x .pre) (getD-tabulate _ (action-count b) no-action h)) (getD-tabulate (state-mask b) (state-count b) 0 k) ∙ enabled-here a h)
         ∙ sym (keep-more f (action-count b) (8 - action-count b) (λ i h. ap (ltb 0) (entries-past-actions b s i h)))
         ∙ ap (λ n. keep f (count-from 0 n)) e

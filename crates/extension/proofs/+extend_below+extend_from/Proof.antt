@@ -1,16 +1,18 @@
-use Prim.Native.Nat.{_+_, _*_, _-_, _≤_}
+-- `extend_from` and `extend_below` meet their contracts, together: the steps left fall from the one to the other and back. A run is a choice and what
+-- stands below its outcomes; the loop's invariant is the run below the first i of them (`runs`).
+use Prim.Native.Nat.{_+_, _*_, _-_, _≤_, ℕ, _<_}
 use native.Mathlib.Omega.{arith}
 use native.Mathlib.Nat.{min-le-right}
 use mathlib.Core.Path.{_≡_, refl, ap, _∙_}
-use borrow.Author.Needs.{needs}
 use lib.ListN.{length, drop, length-set}
-use Rattle.models.specs.Layout.{outcome-of, entries, model-of}
-use Rattle.models.proofs.Rows.{entries-few}
-use Rattle.extension.specs.Choices.{choice-at, room, Ran}
-use Rattle.extension.proofs.Laws.{runs, runs-none, runs-more, runs-all, room-more, room-step, target-inside, count-entries, first-enabled, extend-none, extend-choice, min-one}
-use Prim.Native.Nat.{ℕ, _<_}
+use borrow.Author.Needs.{needs}
 use borrow.Fn.Kinds.{In}
 use borrow.Fn.PlainCycle.{Measures, is, falls, and}
+use Rattle.models.specs.Layout.{outcome-of, entries, model-of}
+use Rattle.models.proofs.Rows.{entries-few}
+use Rattle.models.proofs.target.Reads as target-reads
+use Rattle.extension.specs.Choices.{choice-at, room, Ran}
+use Rattle.extension.proofs.Laws.{runs, runs-none, runs-more, runs-all, room-more, room-step, target-inside, count-entries, first-enabled, extend-none, extend-choice, min-one}
 use Rattle.extension.proofs.extend_below.Reads as extend-below
 use Rattle.extension.proofs.extend_below.Kinds as extend-below-kinds
 use Rattle.extension.proofs.+extend_below+extend_from.Lts-extend_below as extend-below-lts
@@ -21,7 +23,6 @@ use Rattle.extension.proofs.choice.Reads as choice-reads
 use Rattle.extension.proofs.count.Reads as count-reads
 use Rattle.extension.proofs.number.Reads as number-reads
 use Rattle.extension.proofs.taken.Reads as taken-reads
-use Rattle.models.proofs.target.Reads as target-reads
 use Rattle.extension.proofs.+extend_below+extend_from.{statement}
 use Rattle.extension.proofs.+extend_below+extend_from.Tie.{close}
 
@@ -57,7 +58,6 @@ extend-below-Inv-loop m used src dst₀ s a d n from at c read₀ next₀ i₀ d
 abbrev extend-below-μ-loop : extend-below-lts.MeasureT-loop
 extend-below-μ-loop m used src dst₀ s a d n from at c read₀ next₀ i₀ dst read next i = c - i
 
--- src/lib.rt:92:9
 extend-below-count-requires : (t : ℕ) → extend-below-lts.Need-count-requires (
   count-reads.Asked,
   count-reads.Learnt,
@@ -71,7 +71,6 @@ extend-below-count-requires : (t : ℕ) → extend-below-lts.Need-count-requires
 extend-below-count-requires t c κs = let S = c .before .before .before in
     omega (arith, (S .pre .1 .0 .0) .states)
 
--- src/lib.rt:96:5
 extend-below-loop-holds : (t : ℕ) → extend-below-lts.Need-loop-holds (
   count-reads.Asked,
   count-reads.Learnt,
@@ -85,7 +84,6 @@ extend-below-loop-holds : (t : ℕ) → extend-below-lts.Need-loop-holds (
 extend-below-loop-holds t c = let S = c .before .before .before .before in
     (c .count .ensures ∙ count-entries (S .args .m .now) (S .pre .1 .0 .0) (S .pre .1 .0 .1) (S .args .s) (S .pre .1 .0 .2) (S .args .a), omega arith, runs-none (S .args .m .now) (S .args .s) (S .args .a) (S .args .d) (S .args .n) (S .args .src .now) (S .args .from) (S .args .at) (S .args .dst .now), refl)
 
--- src/lib.rt:97:30
 extend-below-number-requires : (t : ℕ) → extend-below-lts.Need-number-requires (
   count-reads.Asked,
   count-reads.Learnt,
@@ -98,7 +96,6 @@ extend-below-number-requires : (t : ℕ) → extend-below-lts.Need-number-requir
 ) (extend-below-at t) extend-below.Post extend-below-Inv-loop extend-below-μ-loop
 extend-below-number-requires t c κs = search needs
 
--- src/lib.rt:97:13
 extend-below-target-requires : (t : ℕ) → extend-below-lts.Need-target-requires (
   count-reads.Asked,
   count-reads.Learnt,
@@ -112,7 +109,6 @@ extend-below-target-requires : (t : ℕ) → extend-below-lts.Need-target-requir
 extend-below-target-requires t c κs = let S = c .before .before .before .before .before .before .before in
     omega (arith, (S .pre .1 .0 .0) .states, entries-few (S .args .m .now) (S .pre .1 .0 .0) (S .args .s) (S .args .a))
 
--- src/lib.rt:98:13
 extend-below-extend-from-requires : (t : ℕ) → extend-below-lts.Need-extend-from-requires (
   count-reads.Asked,
   count-reads.Learnt,
@@ -125,13 +121,14 @@ extend-below-extend-from-requires : (t : ℕ) → extend-below-lts.Need-extend-f
 ) (extend-below-at t) extend-below.Post extend-below-Inv-loop extend-below-μ-loop
 extend-below-extend-from-requires t c κs = let S = c .before .before .before .before .before .before .before .before .before in
     let L = c .before .before .before .before .loop in
-    let more = room-more (S .args .m .now) (S .args .s) (S .args .a) (S .args .d) (S .args .n) (S .args .src .now) (L .i) (c .before .before .before .before .before .count .result) (S .pre .1 .0 .0) (L .inv .0) (c .before .before .before .loop-test .taken) in
-    (omega arith, (
-      (S .pre .1 .0 .0, S .pre .1 .0 .1, target-inside (S .args .m .now) (S .pre .1 .0 .0) (S .args .s) (S .args .a) (c .before .before .number .result) (L .i) (c .before .before .before .before .before .count .result) (c .before .target .result) (c .before .before .number .ensures) (L .inv .0) (c .before .before .before .loop-test .taken) (c .before .target .ensures .0)),
-      (omega arith, omega (arith, (L .inv .2) .near), omega (arith, (L .inv .2) .next, (L .inv .2) .size, L .inv .3)),
-    ))
+    let more = room-more (S .args .m .now) (S .args .s) (S .args .a) (S .args .d) (S .args .n) (S .args .src .now) (L .i) (c .before .before .before .before .before .count .result) (S .pre .1 .0 .0) (L .inv .0) (c .before .before .before .loop-test .taken) in (
+      omega arith,
+      (
+        (S .pre .1 .0 .0, S .pre .1 .0 .1, target-inside (S .args .m .now) (S .pre .1 .0 .0) (S .args .s) (S .args .a) (c .before .before .number .result) (L .i) (c .before .before .before .before .before .count .result) (c .before .target .result) (c .before .before .number .ensures) (L .inv .0) (c .before .before .before .loop-test .taken) (c .before .target .ensures .0)),
+        (omega arith, omega (arith, (L .inv .2) .near), omega (arith, (L .inv .2) .next, (L .inv .2) .size, L .inv .3)),
+      ),
+    )
 
--- src/lib.rt:101:9
 extend-below-add-i : (t : ℕ) → extend-below-lts.Need-add-i (
   count-reads.Asked,
   count-reads.Learnt,
@@ -144,7 +141,6 @@ extend-below-add-i : (t : ℕ) → extend-below-lts.Need-add-i (
 ) (extend-below-at t) extend-below.Post extend-below-Inv-loop extend-below-μ-loop
 extend-below-add-i t c = search needs
 
--- src/lib.rt:96:5
 extend-below-loop-less : (t : ℕ) → extend-below-lts.Need-loop-less (
   count-reads.Asked,
   count-reads.Learnt,
@@ -157,7 +153,6 @@ extend-below-loop-less : (t : ℕ) → extend-below-lts.Need-loop-less (
 ) (extend-below-at t) extend-below.Post extend-below-Inv-loop extend-below-μ-loop
 extend-below-loop-less t c = search needs
 
--- src/lib.rt:96:5
 extend-below-loop-again : (t : ℕ) → extend-below-lts.Need-loop-again (
   count-reads.Asked,
   count-reads.Learnt,
@@ -175,11 +170,10 @@ extend-below-loop-again t c = let S = c .before .before .before .before .before 
       L .inv .0,
       omega arith,
       runs-more (S .args .m .now) (S .args .s) (S .args .a) (S .args .d) (S .args .n) (S .args .src .now) (L .i) (c .before .before .before .before .target .result) (S .args .from) (L .read) (ran .result .from) (S .args .at) (L .next) (ran .result .at)
-      (S .args .dst .now) (L .dst) (ran .last .1 .1 .1 .0) (c .before .before .before .before .target .ensures .0 ∙ ap (λ x. (outcome-of (S .args .m .now) (S .args .s) x (L .i)) .target) (c .before .before .before .before .before .number .ensures)) (omega arith) (L .inv .2) (ran .ensures),
+          (S .args .dst .now) (L .dst) (ran .last .1 .1 .1 .0) (c .before .before .before .before .target .ensures .0 ∙ ap (λ x. (outcome-of (S .args .m .now) (S .args .s) x (L .i)) .target) (c .before .before .before .before .before .number .ensures)) (omega arith) (L .inv .2) (ran .ensures),
       ran .kept .1 .1 .1 .0 ∙ L .inv .3,
     )
 
--- src/lib.rt:87:1
 extend-below-same-length : (t : ℕ) → extend-below-lts.Need-same-length (
   count-reads.Asked,
   count-reads.Learnt,
@@ -192,7 +186,6 @@ extend-below-same-length : (t : ℕ) → extend-below-lts.Need-same-length (
 ) (extend-below-at t) extend-below.Post extend-below-Inv-loop extend-below-μ-loop
 extend-below-same-length t c = search needs
 
--- src/lib.rt:87:1
 extend-below-returns : (t : ℕ) → extend-below-lts.Need-returns (
   count-reads.Asked,
   count-reads.Learnt,
@@ -207,7 +200,6 @@ extend-below-returns t c = let S = c .before .before .before .before .before .be
     let L = c .before .loop in
     runs-all (S .args .m .now) (S .args .s) (S .args .a) (S .args .d) (S .args .n) (S .args .src .now) (c .before .before .count .result) (L .i) (S .args .from) (L .read) (S .args .at) (L .next) (S .args .dst .now) (L .dst) (S .pre .1 .0 .0) (L .inv .0) (omega arith) (L .inv .2)
 
--- src/lib.rt:78:9
 extend-from-returns : (t : ℕ) → extend-from-lts.Need-returns (
   choice-reads.Asked,
   choice-reads.Learnt,
@@ -219,7 +211,6 @@ extend-from-returns : (t : ℕ) → extend-from-lts.Need-returns (
 extend-from-returns t c = let S = c .before .before .before .before in
     extend-none (model-of (S .args .m .now)) (S .args .src .now) (S .args .d) (S .args .n) (S .args .s) (S .args .from) (S .args .at) (S .args .dst .now) (c .if1 .taken)
 
--- src/lib.rt:80:9
 extend-from-choice-requires : (t : ℕ) → extend-from-lts.Need-choice-requires (
   choice-reads.Asked,
   choice-reads.Learnt,
@@ -231,7 +222,6 @@ extend-from-choice-requires : (t : ℕ) → extend-from-lts.Need-choice-requires
 extend-from-choice-requires t c κs = let S = c .before .before .before .before in
     omega (arith, (S .pre .1 .0 .0) .states)
 
--- src/lib.rt:81:5
 extend-from-slice-write-dst : (t : ℕ) → extend-from-lts.Need-slice-write-dst (
   choice-reads.Asked,
   choice-reads.Learnt,
@@ -243,7 +233,6 @@ extend-from-slice-write-dst : (t : ℕ) → extend-from-lts.Need-slice-write-dst
 extend-from-slice-write-dst t c = let S = c .before .before .before .before .before in
     omega (arith, room-step (S .args .n) (c .before .if1 .left))
 
--- src/lib.rt:82:9
 extend-from-taken-requires : (t : ℕ) → extend-from-lts.Need-taken-requires (
   choice-reads.Asked,
   choice-reads.Learnt,
@@ -254,7 +243,6 @@ extend-from-taken-requires : (t : ℕ) → extend-from-lts.Need-taken-requires (
 ) (extend-from-at t) extend-from.Post
 extend-from-taken-requires t c κs = search needs
 
--- src/lib.rt:83:43
 extend-from-sub-extend-below : (t : ℕ) → extend-from-lts.Need-sub-extend-below (
   choice-reads.Asked,
   choice-reads.Learnt,
@@ -266,7 +254,6 @@ extend-from-sub-extend-below : (t : ℕ) → extend-from-lts.Need-sub-extend-bel
 extend-from-sub-extend-below t c = let S = c .before .before .before .before .before .before .before in
     omega (arith, c .before .taken .ensures, min-le-right 1 (S .args .d))
 
--- src/lib.rt:83:50
 extend-from-sub-extend-below-2 : (t : ℕ) → extend-from-lts.Need-sub-extend-below-2 (
   choice-reads.Asked,
   choice-reads.Learnt,
@@ -277,7 +264,6 @@ extend-from-sub-extend-below-2 : (t : ℕ) → extend-from-lts.Need-sub-extend-b
 ) (extend-from-at t) extend-from.Post
 extend-from-sub-extend-below-2 t c = omega arith
 
--- src/lib.rt:83:57
 extend-from-add-extend-below : (t : ℕ) → extend-from-lts.Need-add-extend-below (
   choice-reads.Asked,
   choice-reads.Learnt,
@@ -289,7 +275,6 @@ extend-from-add-extend-below : (t : ℕ) → extend-from-lts.Need-add-extend-bel
 extend-from-add-extend-below t c = let S = c .before .before .before .before .before .before .before in
     omega (arith, c .before .taken .ensures, min-one (S .args .d))
 
--- src/lib.rt:83:67
 extend-from-add-extend-below-2 : (t : ℕ) → extend-from-lts.Need-add-extend-below-2 (
   choice-reads.Asked,
   choice-reads.Learnt,
@@ -301,7 +286,6 @@ extend-from-add-extend-below-2 : (t : ℕ) → extend-from-lts.Need-add-extend-b
 extend-from-add-extend-below-2 t c = let S = c .before .before .before .before .before .before .before in
     omega (arith, room-step (S .args .n) (c .before .before .before .if1 .left))
 
--- src/lib.rt:83:5
 extend-from-extend-below-requires : (t : ℕ) → extend-from-lts.Need-extend-below-requires (
   choice-reads.Asked,
   choice-reads.Learnt,
@@ -311,13 +295,14 @@ extend-from-extend-below-requires : (t : ℕ) → extend-from-lts.Need-extend-be
   extend-below.Post,
 ) (extend-from-at t) extend-from.Post
 extend-from-extend-below-requires t c κs = let S = c .before .before .before .before .before .before .before in
-    let r = room-step (S .args .n) (c .before .before .before .if1 .left) in
-    (omega arith, (
-      (S .pre .1 .0 .0, S .pre .1 .0 .1, S .pre .1 .0 .2),
-      (omega arith, omega (arith, c .before .taken .ensures, min-one (S .args .d)), simp length-set (omega arith)),
-    ))
+    let r = room-step (S .args .n) (c .before .before .before .if1 .left) in (
+      omega arith,
+      (
+        (S .pre .1 .0 .0, S .pre .1 .0 .1, S .pre .1 .0 .2),
+        (omega arith, omega (arith, c .before .taken .ensures, min-one (S .args .d)), simp length-set (omega arith)),
+      ),
+    )
 
--- src/lib.rt:72:1
 extend-from-same-length : (t : ℕ) → extend-from-lts.Need-same-length (
   choice-reads.Asked,
   choice-reads.Learnt,
@@ -326,10 +311,9 @@ extend-from-same-length : (t : ℕ) → extend-from-lts.Need-same-length (
   extend-below-below t,
   extend-below.Post,
 ) (extend-from-at t) extend-from.Post
-extend-from-same-length t c = let S = c .before .before .before .before .before .before .before .before .before .before  in
+extend-from-same-length t c = let S = c .before .before .before .before .before .before .before .before .before .before in
     c .before .before .extend-below .kept .1 .1 .1 .0 ∙ length-set (S .args .dst .now) (S .args .at) (c .before .before .before .before .before .choice .result)
 
--- src/lib.rt:72:1
 extend-from-returns-2 : (t : ℕ) → extend-from-lts.Need-returns-2 (
   choice-reads.Asked,
   choice-reads.Learnt,
