@@ -17,3 +17,5 @@ pub mod PolicyPaths
 pub mod Policies
 pub mod Acceptance
 pub mod Examples
+pub mod Depth
+pub mod Lengthening

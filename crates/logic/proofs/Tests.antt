@@ -7,7 +7,7 @@ use mathlib.Core.Path.{_≡_, refl, sym, ap, ap₂, subst, _∙_}
 use mathlib.Core.Logic.{⊎-elim}
 use mathlib.Core.Bool.{Bool, true, false, cond, _&&_, _||_, false≢true, or-true}
 use mathlib.Core.Option.{none, some}
-use mathlib.Core.List.{List, [], _∷_, map, List·Memᴰ, List·Memᴰ·head, List·Memᴰ·tail, List·Memᴰ·not-nil, List·Memᴰ·cases-cons}
+use mathlib.Core.List.{List, [], _∷_, _++_, map, map-append, List·Memᴰ, List·Memᴰ·head, List·Memᴰ·tail, List·Memᴰ·not-nil, List·Memᴰ·cases-cons}
 use lib.Dec.{T, eqb, ltb, eqb→eq, eqb-refl, ltb→lt}
 use lib.ListN.{length, getD, length-map}
 use Rattle.logic.specs.Lists.{keep, any, all, find, count-from, tabulate, every, some-below}
@@ -111,6 +111,21 @@ module _ {A : Type 0} (f : A → Bool) where
       pick k true q i = ⊎-elim (λ e. (List·Memᴰ·head e, ap f e ∙ q)) (λ t. let w = k t in (List·Memᴰ·tail (w .0), w .1)) (List·Memᴰ·cases-cons i)
       pick k false q i = let w = k i in (List·Memᴰ·tail (w .0), w .1)
 
+  pub keep-append : (l r : List A) → keep f (l ++ r) ≡ keep f l ++ keep f r
+  unfolding keep
+  keep-append [] r = refl
+  keep-append (x ∷ l) r = pick (f x) (keep-append l r)
+    where
+      pick : (t : Bool) → keep f (l ++ r) ≡ keep f l ++ keep f r → cond t (x ∷ keep f (l ++ r)) (keep f (l ++ r)) ≡ cond t (x ∷ keep f l) (keep f l) ++ keep f r
+      pick true e = ap (λ (k : List A). x ∷ k) e
+      pick false e = e
+
+  pub keep-same : (g : A → Bool) (l : List A) → ((y : A) → List·Memᴰ y l → f y ≡ g y) → keep f l ≡ keep g l
+  unfolding keep
+  keep-same g [] h = refl
+  keep-same g (x ∷ l) h =
+      ap₂ (λ (t : Bool) (k : List A). cond t (x ∷ k) k) (h x (List·Memᴰ·head refl)) (keep-same g l (λ y i. h y (List·Memᴰ·tail i)))
+
   -- What is found is a member that passes the test.
   pub find-sound : (k : ℕ) (l : List A) {x : ℕ × A} → find f k l ≡ some x → List·Memᴰ (x .1) l × (f (x .1) ≡ true)
   unfolding find
@@ -200,6 +215,14 @@ counted-range k zero h = absurd (List·Memᴰ·not-nil h)
 counted-range k (suc n) h =
     ⊎-elim (λ e. (omega arith, omega arith)) (λ t. let w = counted-range (suc k) n t in (le-of-suc-le (w .0), omega (arith, w .1))) (List·Memᴰ·cases-cons h)
 
+-- One number more, at the end.
+pub count-more : (k n : ℕ) → count-from k (suc n) ≡ count-from k n ++ ((k + n) ∷ [])
+unfolding count-from
+count-more k zero = let e : k ≡ k + 0 = omega arith in ap (λ (x : ℕ). x ∷ []) e
+count-more k (suc n) =
+    let e : suc k + n ≡ k + suc n = omega arith in
+    ap (λ (l : List ℕ). k ∷ l) (count-more (suc k) n ∙ ap (λ (x : ℕ). count-from (suc k) n ++ (x ∷ [])) e)
+
 length-count : (k n : ℕ) → length (count-from k n) ≡ n
 unfolding count-from
 length-count k zero = refl
@@ -209,6 +232,12 @@ module _ {A : Type 0} (f : ℕ → A) where
   pub length-tabulate : (n : ℕ) → length (tabulate n f) ≡ n
   unfolding tabulate
   length-tabulate n = length-map (count-from 0 n) f ∙ length-count 0 n
+
+  pub tabulate-more : (n : ℕ) → tabulate (suc n) f ≡ tabulate n f ++ (f n ∷ [])
+  unfolding tabulate
+  tabulate-more n =
+      let e : 0 + n ≡ n = omega arith in
+      ap (map f) (count-more 0 n) ∙ map-append f (count-from 0 n) ((0 + n) ∷ []) ∙ ap (λ (x : ℕ). map f (count-from 0 n) ++ (f x ∷ [])) e
 
   getD-counted : (k n i : ℕ) (d : A) → i < n → getD (map f (count-from k n)) i d ≡ f (k + i)
   unfolding count-from

@@ -13,3 +13,4 @@ pub mod TwoShelf
 pub mod Total
 pub mod Recursion
 pub mod Accepted
+pub mod Extension

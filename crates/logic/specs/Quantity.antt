@@ -1,6 +1,6 @@
 -- The numbers that paths are valued in: weights are summed in ℕ, rewards in ℤ. One definition of sums and bounds serves both.
 use Prim.Native.Nat.{ℕ, _+_, _*_}
-use mathlib.Core.Bool.{Bool, not, _&&_}
+use mathlib.Core.Bool.{Bool, true, false, not, _&&_}
 use mathlib.Core.List.{List, [], _∷_}
 use lib.IntN.{ℤ, pos, _+ℤ_, _*ℤ_}
 use lib.Signed.{leZ}
@@ -35,3 +35,12 @@ unfoldable pub related : (Q : Quantity) → Relation → Q .Value → Q .Value �
 related Q less a b = not (Q .at-most b a)
 related Q equal a b = Q .at-most a b && Q .at-most b a
 related Q greater a b = not (Q .at-most a b)
+
+-- Weights under an order of their own.
+abbrev pub weights : (ℕ → ℕ → Bool) → Quantity
+weights le = record { Value = ℕ; none = 0; plus = _+_; times = _*_; at-most = le }
+
+-- The order in which the greatest weight leads, or with `least` true the least one.
+abbrev pub order : (least : Bool) → ℕ → ℕ → Bool
+order true a b = leb b a
+order false a b = leb a b

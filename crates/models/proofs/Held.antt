@@ -4,7 +4,7 @@ use Prim.Native.Nat.{ℕ, zero, suc, _+_, _<_, _≤_}
 use native.Mathlib.Omega.{arith}
 use native.Mathlib.Nat.{zero-add, add-zero}
 use mathlib.Core.Path.{_≡_, refl, sym, ap, ap₂, subst, _∙_}
-use mathlib.Core.Bool.{Bool, true, false, cond, _&&_, _||_, false≢true}
+use mathlib.Core.Bool.{Bool, true, false, _&&_, _||_, false≢true}
 use mathlib.Core.List.{List, [], _∷_, _++_, map, List·Memᴰ, List·Memᴰ·head, List·Memᴰ·tail, List·Memᴰ·not-nil}
 use lib.Dec.{eqb, ltb}
 use lib.IntN.{negsuc}
@@ -17,7 +17,7 @@ use Rattle.logic.specs.Quantity.{naturals, sum}
 use Rattle.logic.specs.Order.{Rising, nothing, first}
 use Rattle.logic.specs.Accepted.{Accepted, Executable}
 use Rattle.logic.proofs.Members.{map-member}
-use Rattle.logic.proofs.Tests.{and-both, eqb-eq, ne-eqb, ltb-lt, every-at, some-below-index, counted-in, counted-range, length-tabulate, getD-tabulate, in-keep, keep-member}
+use Rattle.logic.proofs.Tests.{and-both, eqb-eq, ne-eqb, ltb-lt, every-at, some-below-index, counted-in, counted-range, length-tabulate, getD-tabulate, count-more, in-keep, keep-member, keep-same}
 use Rattle.logic.proofs.Sums.{naturals-additive, sum-append, sum-map}
 use Rattle.logic.proofs.Contradiction.{not-both}
 use Rattle.blocks.specs.Bytes.{Bytes, within}
@@ -35,19 +35,9 @@ tabulate-member f n h =
     let w = map-member f (count-from 0 n) h in
     (w .0, omega (arith, counted-range 0 n (w .1) .1), w .2)
 
-keep-same : {A : Type 0} (f g : A → Bool) (l : List A) → ((a : A) → List·Memᴰ a l → f a ≡ g a) → keep f l ≡ keep g l
-unfolding keep
-keep-same f g [] h = refl
-keep-same f g (x ∷ l) h = ap₂ (λ t r. cond t (x ∷ r) r) (h x (List·Memᴰ·head refl)) (keep-same f g l (λ a i. h a (List·Memᴰ·tail i)))
-
 first-of : {A : Type 0} (l : List A) {a : A} → List·Memᴰ a l → (x : A) × (k : List A) × (l ≡ x ∷ k)
 first-of [] h = absurd (List·Memᴰ·not-nil h)
 first-of (x ∷ k) h = (x, k, refl)
-
-count-last : (k n : ℕ) → count-from k (suc n) ≡ count-from k n ++ ((k + n) ∷ [])
-unfolding count-from
-count-last k zero = ap (λ i. i ∷ []) (omega arith)
-count-last k (suc n) = ap (λ l. k ∷ l) (count-last (suc k) n ∙ ap (λ i. count-from (suc k) n ++ (i ∷ [])) (omega arith))
 
 pub sum-tabulate : (w : Step → ℕ) (f : ℕ → Step) (n : ℕ) → sum naturals w (tabulate n f) ≡ sum-below n (λ i. w (f i))
 unfolding tabulate count-from sum sum-below
@@ -56,7 +46,7 @@ sum-tabulate w f n = sum-map naturals naturals-additive w f (count-from 0 n) ∙
     counted : (n : ℕ) → sum naturals (λ i. w (f i)) (count-from 0 n) ≡ sum-below n (λ i. w (f i))
     counted zero = refl
     counted (suc n) =
-        ap (sum naturals (λ i. w (f i))) (count-last 0 n) ∙ sum-append naturals naturals-additive (λ i. w (f i)) (count-from 0 n) ((0 + n) ∷ [])
+        ap (sum naturals (λ i. w (f i))) (count-more 0 n) ∙ sum-append naturals naturals-additive (λ i. w (f i)) (count-from 0 n) ((0 + n) ∷ [])
         ∙ ap₂ _+_ (counted n) (ap (λ i. w (f i) + 0) (zero-add n) ∙ add-zero (w (f n)))
 
 module _ {A : Type 0} (R : A → A → Type 0) (f : ℕ → A) where

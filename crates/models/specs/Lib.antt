@@ -1,3 +1,4 @@
 pub mod Layout
 pub mod Grounds
 pub mod Used
+pub mod Readable

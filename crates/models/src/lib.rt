@@ -99,7 +99,7 @@ fn widened(x: u8) -> usize
 }
 
 // The number of used outcomes of every cell: 8 to a state, and eleven row blocks have room for 33 states.
-fn used_entries(b: &[u8]) -> [u8; 264]
+pub fn used_entries(b: &[u8]) -> [u8; 264]
     ensures { λ r. ⌜ Used (now (b .entry)) r ⌝ }
 {
     let mut used = [0u8; 264];

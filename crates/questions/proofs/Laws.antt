@@ -15,7 +15,7 @@ use borrow.Author.Tests.{leb-true, eqb-true}
 use Rattle.logic.specs.Lists.{all, every, count-from, tabulate}
 use Rattle.logic.specs.Checked.{Checked, refusal, guard, _>>_}
 use Rattle.logic.specs.Formula.{Formula, never, Node, formula-of, formulas}
-use Rattle.logic.proofs.Tests.{length-tabulate, getD-tabulate, all-tabulate, and-left, and-right}
+use Rattle.logic.proofs.Tests.{length-tabulate, getD-tabulate, all-tabulate, and-left, and-right, tabulate-more}
 use Rattle.blocks.specs.Bytes.{Bytes, byte, zeros, within}
 use Rattle.blocks.specs.Block.{whole-blocks, block-count}
 use Rattle.questions.specs.Layout.{node-at, node-of, node-count, formulas-of}
@@ -162,16 +162,6 @@ module _ {A : Type 0} where
   read-beyond i l j d h = sym (List·getD-eq-default (take i l) d (simp length-take (omega arith)))
 
 -- ---- the formulas of the first k nodes
-
-count-more : (k n : ℕ) → count-from k (suc n) ≡ count-from k n ++ ((k + n) ∷ [])
-unfolding count-from
-count-more k zero = let e : k ≡ k + 0 = omega arith in ap (λ (x : ℕ). x ∷ []) e
-count-more k (suc n) = let e : suc k + n ≡ k + suc n = omega arith in
-    ap (λ (l : List ℕ). k ∷ l) (count-more (suc k) n ∙ ap (λ (x : ℕ). count-from (suc k) n ++ (x ∷ [])) e)
-
-tabulate-more : {A : Type 0} (f : ℕ → A) (n : ℕ) → tabulate (suc n) f ≡ tabulate n f ++ (f n ∷ [])
-unfolding tabulate
-tabulate-more f n = let e : 0 + n ≡ n = omega arith in ap (map f) (count-more 0 n) ∙ map-append f (count-from 0 n) ((0 + n) ∷ []) ∙ ap (λ (x : ℕ). map f (count-from 0 n) ++ (f x ∷ [])) e
 
 formulas-append : (fs : List Formula) (xs ys : List Node) → formulas fs (xs ++ ys) ≡ formulas (formulas fs xs) ys
 unfolding formulas

@@ -1,0 +1,252 @@
+-- Runs in a buffer: what two runs write, one behind the other, is what they write together, and each turn of the loops adds a run.
+use Prim.Native.Nat.{ℕ, zero, suc, _+_, _*_, _-_, _≤_, _<_, min, zero-le}
+use native.Mathlib.Omega.{arith}
+use native.Mathlib.Numerals.{add-one}
+use native.Mathlib.Decide.{decLt}
+use native.Mathlib.Nat.{add-zero, suc-mul, mul-le-mul-right, le-refl, min-le-left, min-eq-left, not-suc-le-zero, le-of-suc-le-suc, eq-or-lt-of-le}
+use mathlib.Core.Path.{_≡_, refl, sym, ap, ap₂, subst, _∙_}
+use mathlib.Core.Bool.{Bool, true, false, cond}
+use mathlib.Core.Logic.{_⊎_, inl, inr}
+use mathlib.Core.List.{List, [], _∷_, _++_, append-nil, append-assoc}
+use lib.Dec.{ltb}
+use lib.ListN.{length, getD, take, drop, set, length-append, length-drop, length-take, take-append-drop}
+use lib.Seq.{take-at, drop-append-add, drop-drop, length-take-le, set-split, getD-drop}
+use borrow.Author.Tests.{lt-ltb, le-ltb}
+use Rattle.logic.specs.Lists.{keep, count-from, tabulate}
+use Rattle.logic.specs.Model.{Model, Step, enabled, outcomes}
+use Rattle.logic.specs.Extension.{first-choice}
+use Rattle.logic.proofs.Tests.{tabulate-more, count-more, keep-append, keep-same, counted-range}
+use Rattle.blocks.specs.Bytes.{Bytes}
+use Rattle.models.specs.Layout.{state-count, action-count, outcome-of, entries, model-of}
+use Rattle.models.specs.Readable.{Readable}
+use Rattle.models.specs.Used.{Used}
+use Rattle.models.proofs.Laws.{entries-past-actions}
+use Rattle.models.proofs.Rows.{outcomes-are, enabled-are, entries-few}
+use Rattle.extension.specs.Choices.{Run, each, choice-at, after-choice, extend, count-in, first-in, splice, room, Ran}
+
+-- ---- splices
+
+splice-none : (l : List ℕ) (p : ℕ) → splice l p [] ≡ l
+unfolding splice
+splice-none l p = rw add-zero (take-append-drop p l)
+
+splice-set : (l : List ℕ) (p a : ℕ) → p < length l → set l p a ≡ splice l p (a ∷ [])
+unfolding splice
+splice-set l p a h = rw (add-one) (set-split l p a h)
+
+pub splice-length : (l : List ℕ) (p : ℕ) (x : List ℕ) → p + length x ≤ length l → length (splice l p x) ≡ length l
+unfolding splice
+splice-length l p x h = simp (length-append, length-drop, length-take) (omega arith)
+
+splice-splice : (l : List ℕ) (p : ℕ) (x y : List ℕ) → p + length x ≤ length l → splice (splice l p x) (p + length x) y ≡ splice l p (x ++ y)
+unfolding splice
+splice-splice l p x y h =
+    let T : List ℕ = take p l in
+    let D : List ℕ = drop (p + length x) l in
+    let n : length (T ++ x) ≡ p + length x = length-append T x ∙ ap (λ (k : ℕ). k + length x) (length-take-le p l (omega arith)) in
+    let e0 : T ++ (x ++ D) ≡ (T ++ x) ++ D = sym (append-assoc T x D) in
+    let e1 : take (p + length x) (T ++ (x ++ D)) ≡ T ++ x = ap (λ (u : List ℕ). take (p + length x) u) e0 ∙ take-at (T ++ x) D (p + length x) n in
+    let j : p + length x + length y ≡ p + length (x ++ y) = omega (arith, length-append x y) in
+    let e2 : drop ((p + length x) + length y) (T ++ (x ++ D)) ≡ drop (p + length (x ++ y)) l =
+    ap (λ (u : List ℕ). drop ((p + length x) + length y) u) e0
+    ∙ ap (λ (k : ℕ). drop (k + length y) ((T ++ x) ++ D)) (sym n)
+    ∙ drop-append-add (T ++ x) D (length y)
+    ∙ drop-drop (length y) (p + length x) l
+    ∙ ap (λ (k : ℕ). drop k l) j in
+    ap₂ (λ (u v : List ℕ). u ++ (y ++ v)) e1 e2
+    ∙ append-assoc T x (y ++ drop (p + length (x ++ y)) l)
+    ∙ ap (λ (u : List ℕ). T ++ u) (sym (append-assoc x y (drop (p + length (x ++ y)) l)))
+
+-- ---- runs
+
+-- One run more, at the end.
+each-more : {A : Type 0} (f : A → List ℕ → Run) (l : List A) (x : A) (cs : List ℕ)
+    → each f (l ++ (x ∷ [])) cs ≡ (each f l cs .0 ++ f x (each f l cs .1) .0, f x (each f l cs .1) .1)
+unfolding each
+each-more f [] x cs = ap (λ (w : List ℕ). (w, f x cs .1)) (append-nil (f x cs .0))
+each-more f (y ∷ l) x cs =
+    let z : Run = f y cs in
+    ap (λ (w : Run). (z .0 ++ w .0, w .1)) (each-more f l x (z .1))
+    ∙ ap (λ (w : List ℕ). (w, f x (each f l (z .1) .1) .1)) (sym (append-assoc (z .0) (each f l (z .1) .0) (f x (each f l (z .1) .1) .0)))
+
+module _ (src : List ℕ) where
+  pub ran-none : (cs : List ℕ) (from at : ℕ) (dst : List ℕ) → drop from src ≡ cs → Ran ([], cs) 0 src from from dst dst at at
+  ran-none cs from at dst e = record { wrote = sym (splice-none dst at); next = omega arith; left = e; near = omega arith; size = omega arith }
+
+  -- A run behind another.
+  pub ran-ran : (x y z : Run) (p q : ℕ) (f0 f1 f2 a0 a1 a2 : ℕ) (d0 d1 d2 : List ℕ) → a0 + length (x .0) ≤ length d0
+      → Ran x p src f0 f1 d0 d1 a0 a1 → Ran y q src f1 f2 d1 d2 a1 a2 → z ≡ (x .0 ++ y .0, y .1) → Ran z (p + q) src f0 f2 d0 d2 a0 a2
+  ran-ran x y z p q f0 f1 f2 a0 a1 a2 d0 d1 d2 h r t e =
+      subst (λ z. Ran z (p + q) src f0 f2 d0 d2 a0 a2) (sym e)
+      (record {
+        wrote = t .wrote ∙ ap₂ (λ (u : List ℕ) (v : ℕ). splice u v (y .0)) (r .wrote) (r .next) ∙ splice-splice d0 a0 (x .0) (y .0) h;
+        next = omega (arith, r .next, t .next, length-append (x .0) (y .0));
+        left = t .left;
+        near = omega (arith, r .near, t .near);
+        size = omega (arith, r .size, t .size, length-append (x .0) (y .0));
+      })
+
+  pub ran-most : (x : Run) (p q : ℕ) (f0 f1 a0 a1 : ℕ) (d0 d1 : List ℕ) → p ≤ q → Ran x p src f0 f1 d0 d1 a0 a1 → Ran x q src f0 f1 d0 d1 a0 a1
+  ran-most x p q f0 f1 a0 a1 d0 d1 h r =
+      record { wrote = r .wrote; next = r .next; left = r .left; near = omega (arith, r .near); size = omega (arith, r .size) }
+
+  -- A choice written.
+  ran-choice : (a k from at : ℕ) (dst : List ℕ) → k ≤ 1 → at < length dst → Ran (a ∷ [], drop (from + k) src) 1 src from (from + k) dst (set dst at a) at (at + 1)
+  ran-choice a k from at dst h g =
+      record { wrote = splice-set dst at a g; next = omega arith; left = refl; near = omega arith; size = omega arith }
+
+pub min-one : (d : ℕ) → min 1 d ≤ 1
+min-one d = min-le-left 1 d
+
+less-one : (d : ℕ) → d - min 1 d ≡ d - 1
+less-one zero = refl
+less-one (suc d) = ap (λ k. suc d - k) (min-eq-left {n = 1} {m = suc d} (omega arith))
+
+module _ (m : Model) (src : List ℕ) where
+  pub extend-none : (d n s from at : ℕ) (dst : List ℕ) → n ≡ 0 → Ran (extend m d n s (drop from src)) (room n) src from from dst dst at at
+  unfolding extend room
+  extend-none d n s from at dst e = rw e (ran-none src (drop from src) from at dst refl)
+
+  -- A choice, and what stands below its outcomes.
+  pub extend-choice : (d n s from at a k : ℕ) (dst dst′ : List ℕ) (f t : ℕ) → (n ≡ 0 → ⊥) → at < length dst
+      → a ≡ choice-at (first-choice m s) d (drop from src) → k ≡ min 1 d
+      → Ran (each (λ o. extend m (d - k) (n - 1) (o .target)) (outcomes m s a) (drop (from + k) src)) (4 * room (n - 1)) src (from + k) f (set dst at a) dst′ (at + 1) t
+      → Ran (extend m d n s (drop from src)) (room n) src from f dst dst′ at t
+  unfolding extend room after-choice
+  extend-choice d zero s from at a k dst dst′ f t z g e h r = absurd (z refl)
+  extend-choice d (suc n) s from at a k dst dst′ f t z g e h r =
+      let one : suc n - 1 ≡ n = omega arith in
+      let less : d - k ≡ d - 1 = ap (λ k. d - k) h ∙ less-one d in
+      let here : drop (from + k) src ≡ drop (min 1 d) (drop from src) = ap (λ k. drop (from + k) src) h ∙ sym (drop-drop (min 1 d) from src) in
+      let y : Run = each (λ o. extend m (d - k) (suc n - 1) (o .target)) (outcomes m s a) (drop (from + k) src) in
+      let v : ℕ = choice-at (first-choice m s) d (drop from src) in
+      ran-most src _ (1 + 4 * room (suc n - 1)) (1 + 4 * room n) from f at t dst dst′ (rw one (le-refl (1 + 4 * room n)))
+      (ran-ran src (a ∷ [], drop (from + k) src) y _ 1 (4 * room (suc n - 1)) from (from + k) f at (at + 1) t dst (set dst at a) dst′ (omega arith)
+      (ran-choice src a k from at dst (omega (arith, min-one d)) g) r
+      (ap₂ (λ (c : ℕ) (w : Run). (c ∷ w .0, w .1)) (sym e)
+      (ap₂ (λ (c : ℕ) (cs : List ℕ). each (λ o. extend m (d - 1) n (o .target)) (outcomes m s c) cs) (sym e) (sym here)
+      ∙ ap₂ (λ (i j : ℕ). each (λ o. extend m i j (o .target)) (outcomes m s a) (drop (from + k) src)) (sym less) (sym one))))
+
+module _ (a d from : ℕ) (src : List ℕ) where
+  pub choice-first : d ≡ 0 → a ≡ choice-at a d (drop from src)
+  unfolding choice-at
+  choice-first e = rw e refl
+
+  pub choice-read : (v : ℕ) → (d ≡ 0 → ⊥) → v ≡ getD src from 0 → v ≡ choice-at a d (drop from src)
+  unfolding choice-at
+  choice-read v z e = e ∙ go d z
+    where
+      go : (d : ℕ) → (d ≡ 0 → ⊥) → getD src from 0 ≡ choice-at a d (drop from src)
+      go zero z = absurd (z refl)
+      go (suc d) z = let e : from ≡ from + 0 = omega arith in ap (λ i. getD src i 0) e ∙ sym (getD-drop from src 0 0)
+
+-- ---- the loop over the outcomes
+
+pub target-inside : (b : Bytes) → Readable b → (s a x i c t : ℕ) → x ≡ a → c ≡ entries b s a → i < c → t ≡ (outcome-of b s x i) .target → t < state-count b
+target-inside b r s a x i c t e h l g =
+    subst (λ t. t < state-count b) (sym (g ∙ ap (λ x. (outcome-of b s x i) .target) e)) (r .inside s a (omega arith))
+
+module _ (b : Bytes) (s a d n : ℕ) (src : List ℕ) where
+  -- The runs below the first i outcomes.
+  abbrev pub runs : ℕ → List ℕ → Run
+  runs i cs = each (λ o. extend (model-of b) d n (o .target)) (tabulate i (outcome-of b s a)) cs
+
+  pub runs-none : (from at : ℕ) (dst : List ℕ) → Ran (runs 0 (drop from src)) (0 * room n) src from from dst dst at at
+  unfolding each tabulate count-from
+  runs-none from at dst = ran-most src ([], drop from src) 0 (0 * room n) from from at at dst dst (omega arith) (ran-none src (drop from src) from at dst refl)
+
+  pub runs-more : (i t f0 f1 f2 a0 a1 a2 : ℕ) (d0 d1 d2 : List ℕ) → t ≡ (outcome-of b s a i) .target → a0 + i * room n ≤ length d0
+      → Ran (runs i (drop f0 src)) (i * room n) src f0 f1 d0 d1 a0 a1 → Ran (extend (model-of b) d n t (drop f1 src)) (room n) src f1 f2 d1 d2 a1 a2
+      → Ran (runs (i + 1) (drop f0 src)) ((i + 1) * room n) src f0 f2 d0 d2 a0 a2
+  runs-more i t f0 f1 f2 a0 a1 a2 d0 d1 d2 e h r q =
+      let g : Step → List ℕ → Run = λ o. extend (model-of b) d n (o .target) in
+      let l : List Step = tabulate i (outcome-of b s a) in
+      let o : Step = outcome-of b s a i in
+      rw (add-one i)
+      (ran-most src (runs (suc i) (drop f0 src)) (i * room n + room n) (suc i * room n) f0 f2 a0 a2 d0 d2 (omega (arith, suc-mul i (room n)))
+      (ran-ran src (runs i (drop f0 src)) (extend (model-of b) d n t (drop f1 src)) _ (i * room n) (room n) f0 f1 f2 a0 a1 a2 d0 d1 d2 (omega (arith, r .size)) r q
+      (ap (λ z. each g z (drop f0 src)) (tabulate-more (outcome-of b s a) i)
+      ∙ each-more g l o (drop f0 src)
+      ∙ ap (λ (w : Run). (runs i (drop f0 src) .0 ++ w .0, w .1)) (ap₂ (λ (t : ℕ) (cs : List ℕ). extend (model-of b) d n t cs) (sym e) (sym (r .left))))))
+
+  pub runs-all : (c i f0 f1 a0 a1 : ℕ) (d0 d1 : List ℕ) → Readable b → c ≡ entries b s a → i ≡ c → Ran (runs i (drop f0 src)) (i * room n) src f0 f1 d0 d1 a0 a1
+      → Ran (each (λ o. extend (model-of b) d n (o .target)) (outcomes (model-of b) s a) (drop f0 src)) (4 * room n) src f0 f1 d0 d1 a0 a1
+  runs-all c i f0 f1 a0 a1 d0 d1 r e h q =
+      let k : i ≡ entries b s a = h ∙ e in
+      subst (λ l. Ran (each (λ o. extend (model-of b) d n (o .target)) l (drop f0 src)) (4 * room n) src f0 f1 d0 d1 a0 a1)
+      (ap (λ i. tabulate i (outcome-of b s a)) k ∙ sym (outcomes-are b s a))
+      (ran-most src (runs i (drop f0 src)) (i * room n) (4 * room n) f0 f1 a0 a1 d0 d1 (mul-le-mul-right (room n) (omega (arith, entries-few b r s a))) q)
+
+  -- There is room for one outcome more.
+  pub room-more : (i c : ℕ) → Readable b → c ≡ entries b s a → i < c → i * room n + room n ≤ 4 * room n
+  room-more i c r e h = omega (arith, suc-mul i (room n), mul-le-mul-right {m = suc i} {n = 4} (room n) (omega (arith, entries-few b r s a)))
+
+pub room-step : (n : ℕ) → (n ≡ 0 → ⊥) → room n ≡ 1 + 4 * room (n - 1)
+unfolding room
+room-step zero z = absurd (z refl)
+room-step (suc n) z =
+    let one : suc n - 1 ≡ n = omega arith in
+    rw one refl
+
+room-rises : (n k : ℕ) → n ≤ k → room n ≤ room k
+unfolding room
+room-rises zero k h = zero-le
+room-rises (suc n) zero h = absurd (not-suc-le-zero h)
+room-rises (suc n) (suc k) h = omega (arith, room-rises n k (le-of-suc-le-suc h))
+
+pub room-most : (n : ℕ) → n ≤ 6 → room n ≤ 1365
+unfolding room
+room-most n h = room-rises n 6 h
+
+-- ---- the table of used entries
+
+module _ (used : List ℕ) (s a : ℕ) where
+  pub count-some : (x v : ℕ) → a < 8 → x ≡ a → v ≡ getD used (8 * s + x) 0 → v ≡ count-in used s a
+  unfolding count-in
+  count-some x v h e g = g ∙ ap (λ x. getD used (8 * s + x) 0) e ∙ ap (λ t. cond t (getD used (8 * s + a) 0) 0) (sym (lt-ltb a 8 h))
+
+  pub count-none : 8 ≤ a → 0 ≡ count-in used s a
+  unfolding count-in
+  count-none h = ap (λ t. cond t (getD used (8 * s + a) 0) 0) (sym (le-ltb a 8 h))
+
+module _ (b : Bytes) (r : Readable b) {used : List ℕ} (u : Used b used) (s : ℕ) (k : s < state-count b) where
+  pub count-entries : (a : ℕ) → count-in used s a ≡ entries b s a
+  unfolding count-in
+  count-entries a = go (decLt a 8)
+    where
+      go : Dec (a < 8) → cond (ltb a 8) (getD used (8 * s + a) 0) 0 ≡ entries b s a
+      go (yes h) =
+          ap (λ t. cond t (getD used (8 * s + a) 0) 0) (lt-ltb a 8 h)
+          ∙ u .count (8 * s + a) (omega (arith, r .states))
+          ∙ ap₂ (entries b) (omega arith) (omega arith)
+      go (no h) = ap (λ t. cond t (getD used (8 * s + a) 0) 0) (le-ltb a 8 (omega arith)) ∙ sym (entries-past-actions b s a (omega (arith, r .actions)))
+
+  pub first-enabled : first-in used s ≡ first-choice (model-of b) s
+  unfolding first-in first-choice
+  first-enabled =
+      ap (λ l. getD l 0 0)
+      (keep-same (λ a. ltb 0 (count-in used s a)) (λ a. ltb 0 (entries b s a)) (count-from 0 8) (λ a i. ap (ltb 0) (count-entries a))
+      ∙ sym (enabled-are b r s k))
+
+-- The first number that is kept.
+module _ (f : ℕ → Bool) where
+  kept-one : (n : ℕ) → keep f (count-from 0 (suc n)) ≡ keep f (count-from 0 n) ++ cond (f n) (n ∷ []) []
+  unfolding keep
+  kept-one n =
+      let z : 0 + n ≡ n = omega arith in
+      ap (keep f) (count-more 0 n) ∙ keep-append f (count-from 0 n) ((0 + n) ∷ []) ∙ ap (λ i. keep f (count-from 0 n) ++ cond (f i) (i ∷ []) []) z
+
+  pub none-kept : (a : ℕ) → keep f (count-from 0 a) ≡ [] → f a ≡ false → keep f (count-from 0 (a + 1)) ≡ []
+  none-kept a e h = rw (add-one a) (kept-one a ∙ ap₂ (λ (l : List ℕ) (t : Bool). l ++ cond t (a ∷ []) []) e h)
+
+  kept-first : (a n : ℕ) → keep f (count-from 0 a) ≡ [] → f a ≡ true → a < n → (l : List ℕ) × (keep f (count-from 0 n) ≡ a ∷ l)
+  kept-first a zero e h g = absurd (not-suc-le-zero g)
+  kept-first a (suc n) e h g = pick (λ k. kept-first a n e h k) (eq-or-lt-of-le (le-of-suc-le-suc g))
+    where
+      pick : (a < n → (l : List ℕ) × (keep f (count-from 0 n) ≡ a ∷ l)) → (a ≡ n) ⊎ (a < n) → (l : List ℕ) × (keep f (count-from 0 (suc n)) ≡ a ∷ l)
+      pick k (inl q) =
+          ([], ap (λ i. keep f (count-from 0 (suc i))) (sym q) ∙ kept-one a ∙ ap₂ (λ (l : List ℕ) (t : Bool). l ++ cond t (a ∷ []) []) e h)
+      pick k (inr l) = let w = k l in (w .0 ++ cond (f n) (n ∷ []) [], kept-one n ∙ ap (λ l. l ++ cond (f n) (n ∷ []) []) (w .1))
+
+  pub first-kept : (a n : ℕ) → keep f (count-from 0 a) ≡ [] → f a ≡ true → a < n → a ≡ getD (keep f (count-from 0 n)) 0 0
+  first-kept a n e h g = let w = kept-first a n e h g in sym (ap (λ l. getD l 0 0) (w .1))
