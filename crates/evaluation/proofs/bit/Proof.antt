@@ -1,0 +1,15 @@
+use Rattle.evaluation.proofs.bit.Statement.{statement}
+use Rattle.evaluation.proofs.bit.Tie as tie
+use Rattle.evaluation.proofs.bit.Reads as reads
+use Rattle.evaluation.proofs.bit.Lts as lts
+
+-- src/lib.rt:24:9
+returns : tie.Need-returns
+returns c = ?
+
+-- src/lib.rt:20:1
+returns-2 : tie.Need-returns-2
+returns-2 c = ?
+
+pub bit-spec : {M : Type 1} → statement M
+bit-spec = tie.close (tie.spec returns returns-2)
