@@ -50,7 +50,7 @@ fn related(kind: u8, gain: i64, bound: i64) -> bool
 {
     match kind {
         1 => gain < bound,
-        2 => gain == bound,
+        0 | 2 => gain == bound,
         _ => gain > bound,
     }
 }

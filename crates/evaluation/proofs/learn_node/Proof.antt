@@ -1,3 +1,6 @@
+use lib.ListN.{set}
+use Rattle.evaluation.proofs.Values.{learn-now, learn-later}
+use mathlib.Core.Path.{_≡_, refl, sym, ap, ap₂, _∙_}
 use borrow.Author.Needs.{needs}
 use Rattle.evaluation.proofs.learn_node.Statement.{statement}
 use Rattle.evaluation.proofs.learn_node.Tie as tie
@@ -37,11 +40,15 @@ same-length c = search needs
 
 -- src/lib.rt:101:1
 returns : tie.Need-returns
-returns c = ?
+returns c = let S = c .before .before .before .before .before .before .before .before .before .before .before .before .before in
+    let d = c .before .before .before .before .before .before .before .byte in
+    c .before .before .store .ensures ∙ ap (set (S .args .v .now) _) (c .before .before .before .before .value-at .ensures) ∙ sym (learn-now (S .args .q .now) (S .args .depths .now) (S .args .truth .now) (S .args .trail .now) (S .args .gains .now) (S .args .h) (S .args .s) (S .args .j) (d .result) (S .args .v .now) (d .ensures) (c .before .before .before .before .before .before .if1 .taken))
 
 -- src/lib.rt:101:1
 returns-2 : tie.Need-returns-2
-returns-2 c = ?
+returns-2 c = let S = c .before .before .before .before .before .before .before in
+    let d = c .before .byte in
+    sym (learn-later (S .args .q .now) (S .args .depths .now) (S .args .truth .now) (S .args .trail .now) (S .args .gains .now) (S .args .h) (S .args .s) (S .args .j) (d .result) (S .args .v .now) (d .ensures) (c .if1 .left))
 
 pub learn-node-spec : {M : Type 1} → statement M
 learn-node-spec =

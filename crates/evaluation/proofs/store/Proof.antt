@@ -1,3 +1,5 @@
+use mathlib.Core.Path.{_≡_, refl, sym, ap, ap₂, _∙_}
+use lib.Seq.{set-out}
 use borrow.Author.Needs.{needs}
 use Rattle.evaluation.proofs.store.Statement.{statement}
 use Rattle.evaluation.proofs.store.Tie as tie
@@ -18,7 +20,7 @@ returns c = search needs
 
 -- src/lib.rt:93:1
 returns-2 : tie.Need-returns-2
-returns-2 c = ?
+returns-2 c = sym (set-out (c .before .args .v .now) (c .before .args .i) (c .before .args .x) (c .if1 .left))
 
 pub store-spec : {M : Type 1} → statement M
 store-spec = tie.close (tie.spec slice-write-v same-length returns returns-2)

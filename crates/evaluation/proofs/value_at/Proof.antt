@@ -1,3 +1,5 @@
+use Rattle.evaluation.proofs.Values.{state-value, path-value}
+use mathlib.Core.Path.{_≡_, refl, sym, ap, ap₂, _∙_}
 use borrow.Author.Needs.{needs}
 use Rattle.evaluation.proofs.value_at.Statement.{statement}
 use Rattle.evaluation.proofs.value_at.Tie as tie
@@ -20,7 +22,8 @@ byte-requires c κs = search needs
 
 -- src/lib.rt:88:9
 returns : tie.Need-returns
-returns c = ?
+returns c = let S = c .before .before .before .before .before .before in
+    c .byte .ensures ∙ sym (state-value (S .args .q .now) (S .args .truth .now) (S .args .trail .now) (S .args .gains .now) (S .args .h) (S .args .s) (S .args .d) (S .args .j) (S .args .v .now) (c .before .if1 .taken))
 
 -- src/lib.rt:90:37
 sub-value-by : tie.Need-sub-value-by
@@ -32,7 +35,8 @@ value-by-requires c κs = search needs
 
 -- src/lib.rt:83:1
 returns-2 : tie.Need-returns-2
-returns-2 c = ?
+returns-2 c = let S = c .before .before .before .before .before .before in
+    c .value-by .ensures ∙ sym (path-value (S .args .q .now) (S .args .truth .now) (S .args .trail .now) (S .args .gains .now) (S .args .h) (S .args .s) (S .args .d) (S .args .j) (S .args .v .now) (c .before .if1 .left))
 
 pub value-at-spec : {M : Type 1} → statement M
 value-at-spec =
