@@ -1,25 +1,26 @@
 -- What the proofs of the reading of questions share: the formulas of the first k nodes are the first k formulas, so a table filled node
 -- by node holds what is asked of each; and a refusal is read off the guards one after the other.
-use Prim.Native.Nat.{ℕ, zero, suc, _+_, _*_, _≤_, _<_, max, zero-le, suc-le-suc}
-use native.Mathlib.Nat.{not-suc-le-zero, le-of-suc-le-suc, eq-or-lt-of-le, add-zero, add-suc}
+use Prim.Native.Nat.{ℕ, zero, suc, _+_, _*_, _/_, _%_, _≤_, _<_, min, zero-le, suc-le-suc}
+use native.Mathlib.Nat.{not-suc-le-zero, le-of-suc-le-suc, eq-or-lt-of-le, add-zero, add-suc, div-add-mod'}
 use native.Mathlib.Numerals.{add-one}
 use native.Mathlib.Decide.{decLt, ℕ-discrete}
 use native.Mathlib.Omega.{arith}
 use mathlib.Core.Path.{_≡_, refl, sym, ap, ap₂, subst, _∙_}
 use mathlib.Core.Logic.{_⊎_, inl, inr, ⊎-elim}
-use mathlib.Core.Bool.{Bool, true, false, _&&_, and-true}
+use mathlib.Core.Bool.{Bool, true, false, _&&_, _||_, and-true}
 use mathlib.Core.List.{List, [], _∷_, _++_, map, map-append, append-assoc}
 use lib.Dec.{eqb, leb}
 use lib.ListN.{length, getD, take, set, length-append, length-set, length-take, length-map, List·getD-append, List·getD-eq-default}
 use lib.Seq.{getD-at, getD-take, take-at, take-all, take-append-le, ext-getD, getD-set-same, getD-set-other}
-use borrow.Author.Tests.{leb-true}
+use borrow.Author.Tests.{leb-true, eqb-true}
 use Rattle.logic.specs.Lists.{all, every, count-from, tabulate}
 use Rattle.logic.specs.Checked.{Checked, ok, refused, refusal, guard, _>>_}
 use Rattle.logic.specs.Formula.{Formula, never, Node, depth, formula-of, formulas}
 use Rattle.logic.proofs.Tests.{length-tabulate, getD-tabulate, all-tabulate, and-left, and-right}
 use Rattle.blocks.specs.Bytes.{Bytes, byte, zeros, within}
+use Rattle.blocks.specs.Block.{whole-blocks, block-count}
 use Rattle.questions.specs.Layout.{node-at, node-of, node-count, formulas-of}
-use Rattle.questions.specs.Grounds.{node-in-range}
+use Rattle.questions.specs.Grounds.{node-in-range, node-spare}
 use Rattle.questions.specs.Tables.{formulas-before, table}
 
 -- ---- guards
@@ -45,6 +46,10 @@ both-tests {b = b} e f = f ∙ ap (λ x. x && b) (sym e)
 pub first-fails : {a t : Bool} (b : Bool) → a ≡ false → t ≡ a → t ≡ (a && b)
 first-fails b e f = f ∙ e ∙ ap (λ x. x && b) (sym e)
 
+-- What `a || b` answers where a passes.
+pub either-first : {a t : Bool} (b : Bool) → a ≡ true → t ≡ a → t ≡ (a || b)
+either-first b e f = f ∙ e ∙ ap (λ x. x || b) (sym e)
+
 and-assoc : (a b c : Bool) → (a && b && c) ≡ (a && (b && c))
 and-assoc true b c = refl
 and-assoc false b c = refl
@@ -66,6 +71,20 @@ zeros-join b from m n =
     every-join (λ i. eqb (byte b (from + i)) 0) m n
     ∙ ap (λ t. every m (λ i. eqb (byte b (from + i)) 0) && t) (every-same n (λ i l. ap (λ k. eqb (byte b k) 0) (omega arith)))
 
+-- The cells of a node from byte 3 on, and from byte 1 on.
+pub spare-right : (b : Bytes) (k : ℕ) → zeros b (k + 3) 9 ≡ (zeros b (k + 3) 1 && zeros b (k + 4) 8)
+spare-right b k = let e : k + 3 + 1 ≡ k + 4 = omega arith in zeros-join b (k + 3) 1 8 ∙ ap (λ j. zeros b (k + 3) 1 && zeros b j 8) e
+
+pub spare-all : (b : Bytes) (k : ℕ) → zeros b (k + 1) 11 ≡ (zeros b (k + 1) 1 && zeros b (k + 2) 1 && zeros b (k + 3) 1 && zeros b (k + 4) 8)
+spare-all b k =
+    let e2 : k + 1 + 1 ≡ k + 2 = omega arith in
+    let e3 : k + 1 + 2 ≡ k + 3 = omega arith in
+    let e4 : k + 1 + 3 ≡ k + 4 = omega arith in
+    zeros-join b (k + 1) 3 8
+    ∙ ap₂ _&&_
+    (zeros-join b (k + 1) 2 1 ∙ ap₂ _&&_ (zeros-join b (k + 1) 1 1 ∙ ap (λ j. zeros b (k + 1) 1 && zeros b j 1) e2) (ap (λ j. zeros b j 1) e3))
+    (ap (λ j. zeros b j 8) e4)
+
 -- A test of all of a list is a test of every place.
 pub all-every : {A : Type 0} (t : A → Bool) (d : A) (l : List A) → all t l ≡ every (length l) (λ i. t (getD l i d))
 unfolding all
@@ -78,6 +97,14 @@ within-least least most x e = leb-true least x (and-left (leb least x) (leb x mo
 pub within-most : (least most x : ℕ) → within least most x ≡ true → x ≤ most
 unfolding within
 within-most least most x e = leb-true x most (and-right (leb least x) (leb x most) e)
+
+-- A question that passes ground 1 is one block.
+pub one-block : (b : Bytes) → whole-blocks 1 1 b ≡ true → length b ≡ 512
+unfolding whole-blocks block-count
+one-block b e =
+    let m : length b % 512 ≡ 0 = eqb-true (length b % 512) 0 (and-left (eqb (length b % 512) 0) (within 1 1 (length b / 512)) e) in
+    let d : within 1 1 (length b / 512) ≡ true = and-right (eqb (length b % 512) 0) (within 1 1 (length b / 512)) e in
+    omega (arith, div-add-mod' (length b) 512, within-least 1 1 (length b / 512) d, within-most 1 1 (length b / 512) d)
 
 -- ---- by an operator's number
 
@@ -112,6 +139,34 @@ other-in-range A N i n x =
     (λ o _ _ _ _ _ _ h. absurd (h refl))
     (λ k o _ _ _ _ _ _ _. rw o refl)
     n
+
+-- They have no spare cell, nor has "plan".
+pub other-spare : (b : Bytes) (i n : ℕ) → byte b (node-at i) ≡ n → (n ≡ 1 → ⊥) → ((n ≡ 2) ⊎ (n ≡ 5) → ⊥) → ((n ≡ 3) ⊎ (n ≡ 6) → ⊥) → (n ≡ 4 → ⊥) → (n ≡ 7 → ⊥) → true ≡ node-spare b i
+unfolding node-spare
+other-spare b i n =
+    by-operator
+    (λ n. byte b (node-at i) ≡ n → (n ≡ 1 → ⊥) → ((n ≡ 2) ⊎ (n ≡ 5) → ⊥) → ((n ≡ 3) ⊎ (n ≡ 6) → ⊥) → (n ≡ 4 → ⊥) → (n ≡ 7 → ⊥) → true ≡ node-spare b i)
+    (λ o _ _ _ _ _. rw o refl)
+    (λ o h _ _ _ _. absurd (h refl))
+    (λ o _ h _ _ _. absurd (h (inl refl)))
+    (λ o _ _ h _ _. absurd (h (inl refl)))
+    (λ o _ _ _ h _. absurd (h refl))
+    (λ o _ h _ _ _. absurd (h (inr refl)))
+    (λ o _ _ h _ _. absurd (h (inr refl)))
+    (λ o _ _ _ _ h. absurd (h refl))
+    (λ o _ _ _ _ _. rw o refl)
+    (λ k o _ _ _ _ _. rw o refl)
+    n
+
+-- ---- children
+
+module _ {A : Type 0} where
+  -- What is read of the first i places: the place if it is one of them, and nothing if not.
+  pub read-below : (i : ℕ) (l : List A) (j : ℕ) (d : A) → j < i → getD l j d ≡ getD (take i l) j d
+  read-below i l j d h = sym (getD-take i l j d h)
+
+  pub read-beyond : (i : ℕ) (l : List A) (j : ℕ) (d : A) → i ≤ j → d ≡ getD (take i l) j d
+  read-beyond i l j d h = sym (List·getD-eq-default (take i l) d (simp length-take (omega arith)))
 
 -- ---- the formulas of the first k nodes
 
@@ -169,6 +224,15 @@ module _ (b : Bytes) where
           List·getD-eq-default (formulas-before b i) never (rw (before-length i) (omega arith))
           ∙ sym (List·getD-eq-default (formulas-before b (suc i)) never (rw (before-length (suc i)) (omega arith)))
 
+-- A question's formulas are those of the nodes before its count.
+pub all-before : (b : Bytes) → formulas-before b (node-count b) ≡ formulas-of b
+unfolding formulas-before formulas-of
+all-before b = refl
+
+-- The formula at node i of a question, from those before it.
+pub formula-here : (b : Bytes) (i : ℕ) → i < node-count b → getD (formulas-of b) i never ≡ formula-at b i
+formula-here b i h = ap (λ fs. getD fs i never) (sym (all-before b)) ∙ before-at b i (node-count b) h
+
 -- ---- tables
 
 module _ {A : Type 0} (f : Formula → A) (b : Bytes) where
@@ -176,7 +240,7 @@ module _ {A : Type 0} (f : Formula → A) (b : Bytes) where
   unfolding table
   table-length fs = length-tabulate (λ i. f (getD fs i never)) 40
 
-  table-at : (fs : List Formula) (i : ℕ) → i < 40 → getD (table f fs) i (f never) ≡ f (getD fs i never)
+  pub table-at : (fs : List Formula) (i : ℕ) → i < 40 → getD (table f fs) i (f never) ≡ f (getD fs i never)
   unfolding table
   table-at fs i h = getD-tabulate (λ i. f (getD fs i never)) 40 (f never) h
 
@@ -198,6 +262,9 @@ module _ {A : Type 0} (f : Formula → A) (b : Bytes) where
       ext-getD (f never) (table f fs) (table f gs) (table-length fs ∙ sym (table-length gs))
       (λ i l. let g : i < 40 = rw (table-length fs) at l in table-at fs i g ∙ ap f (h i g) ∙ sym (table-at gs i g))
 
+  pub child-value : {l : List A} {j j′ : ℕ} (i k : ℕ) → i ≤ k → i ≤ 40 → l ≡ table f (formulas-before b k) → j ≡ j′ → getD (take i l) j (f never) ≡ f (getD (formulas-before b i) j′ never)
+  child-value {j′ = j′} i k h g t e = ap₂ (λ (l : List A) (j : ℕ). getD (take i l) j (f never)) t e ∙ child-at i j′ k h g
+
   -- The table after one node more.
   pub table-more : (i : ℕ) → i < 40 → set (table f (formulas-before b i)) i (f (formula-at b i)) ≡ table f (formulas-before b (suc i))
   table-more i h =
@@ -217,3 +284,11 @@ module _ {A : Type 0} (f : Formula → A) (b : Bytes) where
   -- Only the first 40 nodes stand in a table.
   pub table-full : (k : ℕ) → 40 ≤ k → table f (formulas-before b 40) ≡ table f (formulas-before b k)
   table-full k h = table-same (formulas-before b 40) (formulas-before b k) (λ i l. before-at b i 40 l ∙ sym (before-at b i k (omega arith)))
+
+  -- So the table of the nodes held, the node count or 40, is the table of all.
+  pub table-held : (i : ℕ) → i ≡ min (node-count b) 40 → table f (formulas-before b i) ≡ table f (formulas-of b)
+  table-held i e = go (decLt (node-count b) 40) ∙ ap (table f) (all-before b)
+    where
+      go : Dec (node-count b < 40) → table f (formulas-before b i) ≡ table f (formulas-before b (node-count b))
+      go (yes h) = let g : i ≡ node-count b = omega arith in ap (λ k. table f (formulas-before b k)) g
+      go (no h) = let g : i ≡ 40 = omega arith in ap (λ k. table f (formulas-before b k)) g ∙ table-full (node-count b) (omega arith)
