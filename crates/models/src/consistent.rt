@@ -12,7 +12,7 @@ ghost use Rattle.models.specs.Grounds as grounds;
 ghost use Rattle.models.specs.Used.{Used};
 
 use blocks::{u32_at, wide};
-use crate::{holds, post_count, state_mask, target, weight};
+use crate::{holds, post_count, state_mask, target, weight, widened};
 
 // Whether the literals at two places contradict.
 fn contradict(b: &[u8], i: usize, j: usize) -> bool
@@ -110,7 +110,7 @@ fn cells_consistent(b: &[u8], used: &[u8; 264]) -> bool
     let mut right = true;
     let mut k: usize = 0;
     while k < cells {
-        right = right & cell_consistent(b, k / 8, k % 8, used[k] as usize);
+        right = right & cell_consistent(b, k / 8, k % 8, widened(used[k]));
         k += 1;
     }
     right

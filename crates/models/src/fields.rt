@@ -4,12 +4,12 @@ ghost use Prim.Native.Nat.{_+_, _*_, _<_, _≤_, _^_};
 ghost use mathlib.Core.Bool.{true};
 ghost use lib.Dec.{ltb};
 ghost use Rattle.logic.specs.Lists.{every};
-ghost use Rattle.models.specs.Layout.{literals, state-count, prop-count, action-count, state-mask, post-of, outcome-of};
+ghost use Rattle.models.specs.Layout.{literals, state-count, prop-count, action-count, state-mask, post-of, outcome-of, entries};
 ghost use Rattle.models.specs.Grounds.{mask-in-range, literals-in-range, action-in-range, outcome-in-range, cell-in-range, sizes-right, fields-right};
 ghost use Rattle.models.specs.Used.{Used};
 
 use blocks::{u32_at, wide, within};
-use crate::{post_count, reward, state_mask, target, weight};
+use crate::{post_count, reward, state_mask, target, weight, widened};
 
 // Whether a mask has no bit from n up.
 fn below_bit(v: u32, n: usize) -> bool
@@ -89,10 +89,10 @@ fn outcome_in_range(b: &[u8], s: usize, a: usize, i: usize) -> bool
     (target(b, s, a, i) < wide(b, 2)) & within(1, 100, weight(b, s, a, i)) & (-1000 <= gain) & (gain <= 1000)
 }
 
-// The first n outcomes of a cell.
+// A cell with n used outcomes.
 fn cell_in_range(b: &[u8], s: usize, a: usize, n: usize) -> bool
-    requires { ⌜ (s < 256) × (a < 256) × (n < 256) ⌝ }
-    ensures { λ r. ⌜ r ≡ every n (λ i. outcome-in-range (now (b .entry)) (outcome-of (now (b .entry)) s a i)) ⌝ }
+    requires { ⌜ (s < 256) × (a < 256) × (n < 256) × (n ≡ entries (now b) s a) ⌝ }
+    ensures { λ r. ⌜ r ≡ cell-in-range (now (b .entry)) s a ⌝ }
 {
     let mut right = true;
     let mut i: usize = 0;
@@ -112,7 +112,7 @@ fn outcomes_in_range(b: &[u8], used: &[u8; 264]) -> bool
     let mut right = true;
     let mut k: usize = 0;
     while k < cells {
-        right = right & cell_in_range(b, k / 8, k % 8, used[k] as usize);
+        right = right & cell_in_range(b, k / 8, k % 8, widened(used[k]));
         k += 1;
     }
     right

@@ -2,6 +2,9 @@
 ghost use mathlib.Core.Path.{_≡_};
 ghost use Prim.Native.Nat.{_+_, _*_, _<_, _≤_};
 ghost use mathlib.Core.Bool.{true};
+ghost use lib.Signed.{mag};
+ghost use lib.Signed.{mag};
+ghost use lib.Signed.{mag};
 ghost use Rattle.logic.specs.Model.{true-of};
 ghost use Rattle.logic.specs.Checked.{refusal};
 ghost use Rattle.blocks.specs.Block.{whole-blocks};
@@ -83,9 +86,16 @@ pub fn weight(b: &[u8], s: usize, a: usize, i: usize) -> usize
 
 pub fn reward(b: &[u8], s: usize, a: usize, i: usize) -> i32
     requires { ⌜ (s < 256) × (a < 256) × (i < 256) ⌝ }
-    ensures { λ r. ⌜ r ≡ (outcome-of (now (b .entry)) s a i) .reward ⌝ }
+    ensures { λ r. ⌜ (r ≡ (outcome-of (now (b .entry)) s a i) .reward) × (mag r ≤ 32768) ⌝ }
 {
     i16_at(b, outcome_at(s, a, i) + 2)
+}
+
+// A byte of the table below, as a number to count with.
+fn widened(x: u8) -> usize
+    ensures { λ r. ⌜ (r ≡ x) × (r < 256) ⌝ }
+{
+    x as usize
 }
 
 // The number of used outcomes of every cell: 8 to a state, and eleven row blocks have room for 33 states.

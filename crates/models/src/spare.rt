@@ -9,7 +9,7 @@ ghost use Rattle.models.specs.Grounds.{action-spare, head-spare, row-spa
 ghost use Rattle.models.specs.Used.{Used, Sized};
 
 use blocks::{wide, zeros};
-use crate::{outcome_at, post_count};
+use crate::{outcome_at, post_count, widened};
 
 // Of an action: the 3 bytes after the count, and the postconditions beyond it.
 fn action_spare(b: &[u8], a: usize) -> bool
@@ -82,7 +82,7 @@ fn cells_spare(b: &[u8], used: &[u8; 264]) -> bool
     let mut right = true;
     let mut k: usize = 0;
     while k < cells {
-        right = right & cell_spare(b, k / 8, k % 8, used[k] as usize);
+        right = right & cell_spare(b, k / 8, k % 8, widened(used[k]));
         k += 1;
     }
     right

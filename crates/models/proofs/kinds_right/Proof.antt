@@ -1,3 +1,8 @@
+use mathlib.Core.Bool.{Bool}
+
+
+use lib.ListN.{length}
+use mathlib.Core.Bool.{and-true, and-assoc}
 use Prim.Native.Nat.{ℕ, _+_, _*_, _-_, _/_, _%_, _≤_}
 use native.Mathlib.Omega.{arith}
 use mathlib.Core.Path.{_≡_, refl, sym, ap, ap₂, _∙_}
@@ -21,7 +26,7 @@ abbrev μ-loop : tie.MeasureT-loop
 
 -- src/lib.rt:109:13
 sub-n : tie.Need-sub-n Inv-loop μ-loop
-sub-n c = omega (arith, blocks-within (c .args .b .now) 2 12 (c .pre))
+sub-n c = omega (arith, blocks-within (c .before .args .b .now) 2 12 (c .before .pre))
 
 -- src/lib.rt:110:9
 headed-requires : tie.Need-headed-requires Inv-loop μ-loop
@@ -30,7 +35,7 @@ headed-requires c κs = search needs
 -- src/lib.rt:112:5
 loop-holds : tie.Need-loop-holds Inv-loop μ-loop
 unfolding every
-loop-holds c = (omega arith, ?)
+loop-holds c = (omega arith, c .headed .ensures ∙ sym (and-true (headed (c .before .before .args .b .now) 0 1 0)))
 
 -- src/lib.rt:113:35
 add-headed : tie.Need-add-headed Inv-loop μ-loop
@@ -56,12 +61,16 @@ loop-less c = omega arith
 loop-again : tie.Need-loop-again Inv-loop μ-loop
 loop-again c = let b = c .before .before .before .before .before .args .b .now in
     let L = c .before .before .loop in
-    (omega arith, ?)
+    let f : ℕ → Bool = λ k. headed b (k + 1) 2 (k + 1) in
+    (omega arith, ap₂ _&&_ (L .inv .1) (c .headed2 .ensures) ∙ and-assoc (headed b 0 1 0) (every (L .k) f) (f (L .k)) ∙ ap (λ t. headed b 0 1 0 && t) (every-more f (L .k) refl refl))
 
 -- src/lib.rt:105:1
 returns : tie.Need-returns Inv-loop μ-loop
 unfolding kinds-right block-count
-returns c = ?
+returns c = let b = c .before .before .before .before .args .b .now in
+    let L = c .before .loop in
+    let e : L .k ≡ length b / 512 - 1 = omega arith in
+    L .inv .1 ∙ ap (λ n. headed b 0 1 0 && every n (λ k. headed b (k + 1) 2 (k + 1))) e
 
 pub kinds-right-spec : {M : Type 1} → statement M
 kinds-right-spec =

@@ -1,3 +1,5 @@
+use native.Mathlib.Omega.{arith}
+use Rattle.models.specs.Layout.{outcome-of}
 use borrow.Author.Needs.{needs}
 use Rattle.models.proofs.target.Statement.{statement}
 use Rattle.models.proofs.target.Tie as tie
@@ -16,7 +18,8 @@ wide-requires c κs = search needs
 
 -- src/lib.rt:70:1
 returns : tie.Need-returns
-returns c = ?
+unfolding outcome-of
+returns c = (cc, omega arith)
 
 pub target-spec : {M : Type 1} → statement M
 target-spec = tie.close (tie.spec outcome-at-requires wide-requires returns)

@@ -1,4 +1,7 @@
 
+use Rattle.models.specs.Grounds.{outcome-in-range, cell-in-range}
+use Rattle.models.specs.Layout.{outcome-of, entries}
+
 use Prim.Native.Nat.{ℕ, _+_, _*_, _-_, _/_, _%_, _≤_}
 use native.Mathlib.Omega.{arith}
 use mathlib.Core.Path.{_≡_, refl, sym, ap, ap₂, _∙_}
@@ -41,18 +44,17 @@ loop-again : tie.Need-loop-again Inv-loop μ-loop
 loop-again c = let b = c .before .before .before .before .args .b .now in
     let s = c .before .before .before .before .args .s in
     let a = c .before .before .before .before .args .a in
-    let n = c .before .before .before .before .args .n in
     let L = c .before .before .loop in
     (omega arith, every-more (λ i. outcome-in-range b (outcome-of b s a i)) (L .i) (L .inv .1) (c .outcome-in-range .ensures))
 
 -- src/fields.rt:93:1
 returns : tie.Need-returns Inv-loop μ-loop
+unfolding cell-in-range
 returns c = let b = c .before .before .before .args .b .now in
     let s = c .before .before .before .args .s in
     let a = c .before .before .before .args .a in
-    let n = c .before .before .before .args .n in
     let L = c .before .loop in
-    let e : L .i ≡ n = omega arith in
+    let e : L .i ≡ entries b s a = omega arith in
     L .inv .1 ∙ ap (λ m. every m (λ i. outcome-in-range b (outcome-of b s a i))) e
 
 pub cell-in-range-spec : {M : Type 1} → statement M
