@@ -1,3 +1,2 @@
 pub mod Integers
 pub mod Values
-pub mod Nodes

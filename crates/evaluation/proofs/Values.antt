@@ -38,14 +38,14 @@ pub path-value : (q truth trail : Bytes) (gains : List ℤ) (h s d j : ℕ) (v :
 unfolding value-at
 path-value q truth trail gains h s d j v n = rw (ne-eqb d 0 n) refl
 
-module _ (q depths truth trail : Bytes) (gains : List ℤ) (h s : ℕ) where
+module _ (q : Bytes) (depths : List ℕ) (truth trail : Bytes) (gains : List ℤ) (h s : ℕ) where
   -- A node is learnt where it looks no further ahead than the path goes.
-  pub learn-now : (j d : ℕ) (v : List ℕ) → d ≡ byte depths j → d ≤ h
+  pub learn-now : (j d : ℕ) (v : List ℕ) → d ≡ getD depths j 0 → d ≤ h
       → learn-node q depths truth trail gains h s j v ≡ set v (7 * j + (h - d)) (value-at q truth trail gains h s d j v)
   unfolding learn-node
   learn-now j d v e l = rw (← e, le-leb d h l) refl
 
-  pub learn-later : (j d : ℕ) (v : List ℕ) → d ≡ byte depths j → h < d → learn-node q depths truth trail gains h s j v ≡ v
+  pub learn-later : (j d : ℕ) (v : List ℕ) → d ≡ getD depths j 0 → h < d → learn-node q depths truth trail gains h s j v ≡ v
   unfolding learn-node
   learn-later j d v e l = rw (← e, lt-leb d h l) refl
 
