@@ -1,2 +1,4 @@
 pub mod Integers
 pub mod Values
+pub mod Trails
+pub mod Meaning
