@@ -2,3 +2,5 @@ pub mod Integers
 pub mod Values
 pub mod Trails
 pub mod Meaning
+pub mod Knowing
+pub mod Stepping

@@ -175,3 +175,24 @@ module _ {m q : Bytes} {s : ℕ} {depths truth cone : List ℕ} (ready : Ready m
           (λ e. flat (questions.at-plan S A N q asked (node i) inside e) refl)
           (λ n e. absurd (omega (arith, range .operator-to)))
           (x .operator) refl
+
+    -- Any node, in the state reached.
+    pub of-node : (i k : ℕ) (v : List ℕ) → i < length cone → Known m q s cone t i v → k + depth (formula q (node i)) ≡ length t → Needed (node i) k
+        → value-at q truth trail gains (length t) (state-after m s t) (depth (formula q (node i))) (node i) v ≡ meaning (node i) k
+    of-node i k v l K level r = go (ℕ-discrete (depth (formula q (node i))) 0)
+      where
+        go : Dec (depth (formula q (node i)) ≡ 0)
+            → value-at q truth trail gains (length t) (state-after m s t) (depth (formula q (node i))) (node i) v ≡ meaning (node i) k
+        go (yes e) =
+            let n : k ≡ length t = omega arith in
+            let a : at k ≡ state-after m s t = ap (state-after m s) (take-all k t (omega arith)) in
+            let b : from k ≡ [] = drop-of-length-le (steps-of m s t) {i = k} (omega (arith, steps-length m s t)) in
+            state-value q truth trail gains (length t) (state-after m s t) (depth (formula q (node i))) (node i) v e
+            ∙ ap (λ y. byte truth (32 * node i + y)) (sym a)
+            ∙ ready .truth-right (node i) (at k) r e
+            ∙ ap (value-of (model-of m) (formula q (node i)) (at k)) (sym b)
+        go (no f) =
+            let n : length t - depth (formula q (node i)) ≡ k = omega arith in
+            path-value q truth trail gains (length t) (state-after m s t) (depth (formula q (node i))) (node i) v f
+            ∙ ap (λ y. value-by q trail gains (length t) y (node i) ((node-of q (node i)) .operator) v) n
+            ∙ of-path i k v l K level f r
