@@ -11,16 +11,19 @@ use lib.ListN.{length, getD, set, take, length-append}
 use lib.Seq.{take-suc-set, length-take-le, take-set-le}
 use Rattle.logic.specs.Model.{true-of}
 use Rattle.blocks.specs.Bytes.{Bytes}
-use Rattle.models.specs.Layout.{state-count, action-count, pre-of, state-mask, post-count, entries, outcome-of}
+use Rattle.models.specs.Layout.{state-count, action-count, pre-of, state-mask, post-count, entries, outcome-of, model-of}
 use Rattle.models.specs.Used.{Sized}
 use Rattle.models.proofs.Passed.{passed-all, passed-sized}
 use Rattle.models.proofs.Laws.{entries-inside}
-use Rattle.evaluation.specs.Path.{step-of, steps-of, state-after, Trail}
-use Rattle.evaluation.specs.Reached.{Ready}
-use Rattle.evaluation.specs.Learnt.{learnt}
+use Rattle.logic.specs.Formula.{depth}
+use Rattle.logic.specs.Quantity.{sum}
+use Rattle.logic.specs.Total.{value-of}
+use Rattle.evaluation.specs.Path.{step-of, steps-of, state-after, Trail, stop}
+use Rattle.evaluation.specs.Reached.{formula, root-of, itself, Ready}
+use Rattle.evaluation.specs.Learnt.{known, learnt}
 use Rattle.evaluation.specs.Known.{Known, Gained, Knows, Roomy, Offered, Stepped}
 use Rattle.evaluation.proofs.Trails.{fair, state-inside, trail-longer, state-append}
-use Rattle.evaluation.proofs.Knowing.{known-all, known-longer, gained-longer}
+use Rattle.evaluation.proofs.Knowing.{known-all, known-none, known-longer, gained-longer}
 
 module _ {m q : Bytes} {start : ℕ} {depths truth cone : List ℕ} (ready : Ready m q start depths truth cone) where
   sizes : Sized m
@@ -93,3 +96,21 @@ module _ {m q : Bytes} {start : ℕ} {depths truth cone : List ℕ} (ready : Rea
               ap₂ (λ n z. learnt q depths truth (set trail h b) gains′ n z cone v) on-length (state-on ∙ sym et) ∙ sym ev in
           let N : Knows m q start cone on gains′ v′ = record { followed = followed; gained = gained; values = subst (Known m q start cone on (length cone)) e K } in
           record { longer = longer; state = et; knows = subst (λ l. Knows m q start cone l gains′ v′) (sym longer) N }
+
+  -- At the start, before any step.
+  pub begun : (trail : List ℕ) (gains : List ℤ) (v v′ : List ℕ) → getD gains 0 (pos 0) ≡ pos 0 → 280 ≤ length v
+      → v′ ≡ learnt q depths truth trail gains 0 start cone v → Knows m q start cone [] gains v′
+  unfolding state-after steps-of sum
+  begun trail gains v v′ g room e =
+      let gained : Gained m start [] gains = record { right = λ k h. let z : k ≡ 0 = omega arith in rw z g } in
+      record {
+        followed = stop;
+        gained = gained;
+        values = subst (Known m q start cone [] (length cone)) (sym e) (known-all ready [] trail refl (omega arith) gains stop gained v room (known-none m q start cone v));
+      }
+
+  -- Where as many steps are taken as the condition looks ahead, its value at the first place is its value on the path.
+  pub leaf-value : (t : List ℕ) (gains : List ℤ) (v : List ℕ) → Knows m q start cone t gains v → depth (formula q (root-of cone)) ≤ length t
+      → known v (root-of cone) 0 ≡ value-of (model-of m) (formula q (root-of cone)) start (steps-of m start t)
+  unfolding state-after
+  leaf-value t gains v K h = K .values .right (length cone - 1) 0 (omega (arith, ready .ordered .some)) (omega arith) (λ e. omega (arith, ready .ordered .some)) itself
