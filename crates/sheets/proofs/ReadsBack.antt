@@ -62,6 +62,10 @@ module _ (n start w : ℕ) (cs : List ℕ) where
   unfolding sheet-bytes
   sheet-length = blocks-length n start w cs (blocks-for (length cs))
 
+  pub sheet-few : length cs ≤ 1365 → length (sheet-bytes n start w cs) ≤ 1536
+  unfolding blocks-for
+  sheet-few few = let e = sheet-length in omega arith
+
   counted : block-count bytes ≡ blocks-for (length cs)
   unfolding block-count
   counted = ap (λ z. z / 512) sheet-length ∙ mul-div-right (blocks-for (length cs)) {m = 512} (omega arith)

@@ -1,7 +1,6 @@
 // Sheets: reading, writing, and the plan that the choices spell. A sheet is document 01's word for a certificate.
 ghost use mathlib.Core.Path.{_≡_};
-ghost use Prim.Native.Nat.{_+_, _*_, _-_, _≤_, _<_};
-ghost use mathlib.Core.Bool.{true};
+ghost use Prim.Native.Nat.{_+_, _*_, _≤_, _<_};
 ghost use lib.ListN.{length};
 ghost use Rattle.logic.specs.Lists.{every};
 ghost use Rattle.logic.specs.Checked.{refusal};

@@ -17,7 +17,7 @@ slice-write-dst-3 : tie.Need-slice-write-dst-3
 slice-write-dst-3 c = simp length-set (omega arith)
 
 slice-write-dst-4 : tie.Need-slice-write-dst-4
-slice-write-dst-4 c = let n : length (set (set (set (c .args .dst .now) 0 4) 1 (c .args .k)) 2 (c .args .n)) ≡ length (c .args .dst .now) = simp length-set in omega arith
+slice-write-dst-4 c = search needs
 
 same-length : tie.Need-same-length
 same-length c = search needs
