@@ -3,7 +3,7 @@
 use crate::desk::{verdict_line, JudgeKind};
 use std::time::{Duration, Instant};
 
-/// Runs go on until there are five or this time is up.
+/// Runs go on until there are 25 or this time is up.
 const PATIENCE: Duration = Duration::from_secs(2);
 
 /// The best time of load, put and judge, with the verdict line.
@@ -11,7 +11,7 @@ pub fn time(input: &[u8]) -> (Duration, String) {
     let begun = Instant::now();
     let mut best = Duration::MAX;
     let mut line = String::new();
-    for run in 0..5 {
+    for run in 0..25 {
         if run > 0 && begun.elapsed() > PATIENCE {
             break;
         }

@@ -47,7 +47,7 @@ fn mary_questions() {
 
 #[test]
 fn limit_questions() {
-    check_questions("limits", 5);
+    check_questions("limits", 12);
 }
 
 #[test]

@@ -3,7 +3,9 @@
 mod common;
 
 use common::{named, pack};
+use second::desk::{next_call, Call};
 use second::draw::draw;
+use second::generate::stream;
 use second::ground::Ground;
 
 fn picture(question: &str) -> Result<String, Ground> {
@@ -40,4 +42,26 @@ fn refused_picture() {
         Err(Ground::Formula)
     );
     assert_eq!(draw(&[]), Err(Ground::Length));
+}
+
+/// Pictures of whatever can be judged; `lists` has refused inputs too.
+#[test]
+fn many_pictures() {
+    let mut drawn = 0;
+    for kind in ["judges", "lists"] {
+        let bytes = stream(kind, 31, 250).expect("kind");
+        let mut rest = bytes.as_slice();
+        let mut model = Vec::new();
+        while let Some(call) = next_call(&mut rest) {
+            match call {
+                Call::Load(input) => model = input,
+                Call::Put(input) => {
+                    let picture = draw(&[model.clone(), input].concat());
+                    drawn += usize::from(picture.is_ok_and(|svg| svg.ends_with("</svg>\n")));
+                }
+                _ => {}
+            }
+        }
+    }
+    assert!(drawn > 60, "{drawn}");
 }

@@ -68,11 +68,11 @@ not-accepted e = let z : _≡_ {A = ℕ} 0 1 = cc in omega arith
 not-written : {j k : ℕ} → refuse j ≡ written k → ⊥
 not-written e = let z : _≡_ {A = ℕ} 0 1 = cc in omega arith
 
-held-some : {A : Type 0} (k : ℕ) (o : Option A) {a : A} → held k o ≡ ok a → o ≡ some a
+pub held-some : {A : Type 0} (k : ℕ) (o : Option A) {a : A} → held k o ≡ ok a → o ≡ some a
 held-some k none e = absurd (not-ok e)
 held-some k (some b) e = ap some (ok-same e)
 
-then-ok : {A B : Type 0} (t : Checked A) (c : Checked B) {b : B} → (t >> c) ≡ ok b → c ≡ ok b
+pub then-ok : {A B : Type 0} (t : Checked A) (c : Checked B) {b : B} → (t >> c) ≡ ok b → c ≡ ok b
 then-ok (ok u) c e = e
 then-ok (refused k) c e = absurd (not-ok e)
 

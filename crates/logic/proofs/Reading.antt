@@ -13,10 +13,10 @@ use Rattle.logic.proofs.Members.{plan-member, in-plans}
 use Rattle.logic.proofs.Checked.{not-ok, ok-same, bind-ok, guard-ok}
 use Rattle.logic.proofs.Tests.{eqb-eq, eq-eqb, any-some, any-there}
 
-any-member : (a : ℕ) (l : List ℕ) → any (eqb a) l ≡ true → List·Memᴰ a l
+pub any-member : (a : ℕ) (l : List ℕ) → any (eqb a) l ≡ true → List·Memᴰ a l
 any-member a l e = let w = any-some (eqb a) l e in Memᴰ·cast (eqb-eq a (w .0) (w .2)) (w .1)
 
-member-any : {a : ℕ} {l : List ℕ} → List·Memᴰ a l → any (eqb a) l ≡ true
+pub member-any : {a : ℕ} {l : List ℕ} → List·Memᴰ a l → any (eqb a) l ≡ true
 member-any {a} i = any-there (eqb a) i (eq-eqb {a = a} refl)
 
 module _ {A B : Type 0} (f : A → List ℕ → Checked (B × List ℕ)) (key : B → List ℕ) (R : A → B → Type 0) where
@@ -44,7 +44,7 @@ module _ {A B : Type 0} (f : A → List ℕ → Checked (B × List ℕ)) (key : 
       ∙ ap (λ z. z >>= (λ v. ok (y ∷ v .0, v .1))) (each-complete h r t)
 
 module _ (m : Model) where
-  read-sound : (n s : ℕ) (cs : List ℕ) (x : Plan n × List ℕ) → read-plan m n s cs ≡ ok x → List·Memᴰ (x .0) (plans m n s) × (cs ≡ choices n (x .0) ++ x .1)
+  pub read-sound : (n s : ℕ) (cs : List ℕ) (x : Plan n × List ℕ) → read-plan m n s cs ≡ ok x → List·Memᴰ (x .0) (plans m n s) × (cs ≡ choices n (x .0) ++ x .1)
   unfolding read-plan choices plans
   read-sound zero s cs x e = subst (λ z. List·Memᴰ (z .0) (plans m 0 s) × (cs ≡ z .1)) (ok-same e) (List·Memᴰ·head refl, refl)
   read-sound (suc n) s [] x e = absurd (not-ok e)
@@ -56,7 +56,7 @@ module _ (m : Model) where
       subst (λ z. List·Memᴰ (z .0) (plans m (suc n) s) × (a ∷ cs ≡ choices (suc n) (z .0) ++ z .1)) (ok-same (v .2))
       (in-plans m n s (a, v .0 .0) (any-member a (enabled m s) (u .0)) (w .0), ap (λ z. a ∷ z) (w .1))
 
-  read-complete : (n s : ℕ) (p : Plan n) (r : List ℕ) → List·Memᴰ p (plans m n s) → read-plan m n s (choices n p ++ r) ≡ ok (p, r)
+  pub read-complete : (n s : ℕ) (p : Plan n) (r : List ℕ) → List·Memᴰ p (plans m n s) → read-plan m n s (choices n p ++ r) ≡ ok (p, r)
   unfolding read-plan choices
   read-complete zero s p r h = refl
   read-complete (suc n) s p r h =

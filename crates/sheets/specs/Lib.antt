@@ -1,2 +1,5 @@
 pub mod Layout
 pub mod Grounds
+pub mod Reader
+pub mod Writer
+pub mod Ends

@@ -1,1 +1,141 @@
-// Sheets: reading, writing, and the plan that the choices spell.
+// Sheets: reading, writing, and the plan that the choices spell. A sheet is document 01's word for a certificate.
+ghost use mathlib.Core.Path.{_≡_};
+ghost use Prim.Native.Nat.{_+_, _*_, _-_, _≤_, _<_};
+ghost use mathlib.Core.Bool.{true};
+ghost use lib.ListN.{length};
+ghost use Rattle.logic.specs.Lists.{every};
+ghost use Rattle.logic.specs.Checked.{refusal};
+ghost use Rattle.blocks.specs.Block.{block-count};
+ghost use Rattle.sheets.specs.Layout.{weight-of, count-of, sheet-of};
+ghost use Rattle.sheets.specs.Grounds.{head-right, count-right, weight-right, spare-right, read-sheet};
+ghost use Rattle.sheets.specs.Reader.{passes, Blocks, Gathered};
+
+pub mod plans;
+pub mod writer;
+
+// How many choices block k says it holds.
+fn count_at(b: &[u8], k: usize) -> usize
+    requires { ⌜ k < 3 ⌝ }
+    ensures { λ r. ⌜ (r ≡ count-of (now (b .entry)) k) × (r < 65536) ⌝ }
+{
+    blocks::u16_at(b, 512 * k + 16) as usize
+}
+
+// The weight in block k.
+pub fn weight_at(b: &[u8], k: usize) -> u64
+    requires { ⌜ k < 3 ⌝ }
+    ensures { λ r. ⌜ r ≡ weight-of (now (b .entry)) k ⌝ }
+{
+    blocks::u64_at(b, 512 * k + 8)
+}
+
+// Ground 4 of block k.
+fn head_right(b: &[u8], k: usize, n: usize, start: usize) -> bool
+    requires { ⌜ k < 3 ⌝ }
+    ensures { λ r. ⌜ r ≡ head-right n start (now (b .entry)) k ⌝ }
+{
+    let at = 512 * k;
+    (blocks::wide(b, at + 2) == n) & (blocks::wide(b, at + 3) == start)
+}
+
+// Ground 5 of block k: its count.
+fn count_right(b: &[u8], k: usize) -> bool
+    requires { ⌜ k < 3 ⌝ }
+    ensures { λ r. ⌜ r ≡ count-right (now (b .entry)) k ⌝ }
+{
+    let c = count_at(b, k);
+    if k + 1 < b.len() / 512 {
+        return c == 490;
+    }
+    (1 <= c) & (c <= 490)
+}
+
+// Ground 5 of block k: its weight.
+fn weight_right(b: &[u8], k: usize) -> bool
+    requires { ⌜ k < 3 ⌝ }
+    ensures { λ r. ⌜ r ≡ weight-right (now (b .entry)) k ⌝ }
+{
+    weight_at(b, k) == weight_at(b, 0)
+}
+
+// Ground 6 of block k.
+fn spare_right(b: &[u8], k: usize) -> bool
+    requires { ⌜ (k < 3) × (512 * k + 512 ≤ length (now b)) × (count-of (now b) k ≤ 490) ⌝ }
+    ensures { λ r. ⌜ r ≡ spare-right (now (b .entry)) k ⌝ }
+{
+    let at = 512 * k;
+    let c = count_at(b, k);
+    blocks::zeros(b, at + 4, 4) & blocks::zeros(b, at + 18 + c, 492 - c)
+}
+
+// What a ground from 3 to 6 asks of block k.
+fn block_passes(b: &[u8], ground: u32, k: usize, n: usize, start: usize) -> bool
+    requires { ⌜ (3 ≤ ground) × (k < 3) × (512 * k + 512 ≤ length (now b)) × (5 < ground → count-of (now b) k ≤ 490) ⌝ }
+    ensures { λ r. ⌜ r ≡ passes ground n start (now (b .entry)) k ⌝ }
+{
+    match ground {
+        3 => blocks::headed(b, k, 4, k),
+        4 => head_right(b, k, n, start),
+        5 => count_right(b, k) & weight_right(b, k),
+        _ => spare_right(b, k),
+    }
+}
+
+// Whether every block passes.
+fn all_pass(b: &[u8], ground: u32, n: usize, start: usize) -> bool
+    requires { ⌜ Blocks ground (now b) ⌝ }
+    ensures { λ r. ⌜ r ≡ every (block-count (now (b .entry))) (passes ground n start (now (b .entry))) ⌝ }
+{
+    let count = b.len() / 512;
+    let mut right = true;
+    let mut k: usize = 0;
+    while k < count {
+        right = right & block_passes(b, ground, k, n, start);
+        k += 1;
+    }
+    right
+}
+
+// The number of the first ground, 1 to 6, on which a sheet is refused for a question with n steps and this start; 0 where there is none.
+pub fn sheet_refusal(b: &[u8], n: usize, start: usize) -> u32
+    ensures { λ r. ⌜ r ≡ refusal (read-sheet n start (now (b .entry))) ⌝ }
+{
+    if !blocks::whole_blocks(b, 1, 3) {
+        return 1;
+    }
+    if !blocks::sums_right(b) {
+        return 2;
+    }
+    if !all_pass(b, 3, n, start) {
+        return 3;
+    }
+    if !all_pass(b, 4, n, start) {
+        return 4;
+    }
+    if !all_pass(b, 5, n, start) {
+        return 5;
+    }
+    if !all_pass(b, 6, n, start) {
+        return 6;
+    }
+    0
+}
+
+// The choices of all blocks, one after the other, at the front of `out`; gives their number.
+pub fn gather(b: &[u8], out: &mut [u8]) -> usize
+    requires { ⌜ Blocks 6 (now b) × (1470 ≤ length (now out)) ⌝ }
+    ensures { λ r. ⌜ Gathered ((sheet-of (now (b .entry))) .choices) (now (out .entry)) (now (out .exit)) r ⌝ }
+{
+    let count = b.len() / 512;
+    let mut at: usize = 0;
+    let mut k: usize = 0;
+    while k < count {
+        let from = 512 * k + 18;
+        let c = count_at(b, k);
+        let to = from + c;
+        writer::copy(&mut out[at..], &b[from..to]);
+        at += c;
+        k += 1;
+    }
+    at
+}

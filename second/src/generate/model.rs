@@ -30,10 +30,12 @@ impl Size {
 
 /// A random accepted model, up to a size.
 pub fn random_model(rng: &mut Rng, size: Size) -> ModelImage {
+    // A model of one state or one action has little to tell.
+    let least = if rng.once_in(8) { 1 } else { 2 };
     let mut image = ModelImage {
-        states: rng.byte(1, size.states),
-        actions: rng.byte(1, size.actions),
-        propositions: rng.byte(1, size.propositions),
+        states: rng.byte(least, size.states),
+        actions: rng.byte(least, size.actions),
+        propositions: rng.byte(least, size.propositions),
         denominator: random_denominator(rng),
         ..ModelImage::default()
     };

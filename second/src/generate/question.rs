@@ -26,7 +26,8 @@ pub fn random_question(rng: &mut Rng, model: &Model, totals: &Totals, scale: Sca
             nodes: Vec::new(),
         },
     };
-    let count = drawer.rng.range(1, scale.nodes);
+    let least = if drawer.rng.once_in(8) { 1 } else { 4 };
+    let count = drawer.rng.range(least, scale.nodes);
     for _ in 1..count {
         let node = drawer.node();
         drawer.question.nodes.push(node);
@@ -59,14 +60,14 @@ impl Drawer<'_> {
     }
 
     fn node(&mut self) -> Node {
-        let drawn = match self.rng.below(16) {
+        let drawn = match self.rng.below(32) {
             0 => Some(Node::False),
-            1..=3 => self.child().map(Node::Not),
-            4..=6 => self.both(),
-            7..=8 => Some(self.act()),
-            9..=11 => self.child().map(Node::Next),
-            12 => Some(self.gain()),
-            13 => self.plan_over_any(),
+            1..=6 => self.child().map(Node::Not),
+            7..=11 => self.both(),
+            12..=15 => Some(self.act()),
+            16..=22 => self.child().map(Node::Next),
+            23..=25 => Some(self.gain()),
+            26..=27 => self.plan_over_any(),
             _ => None,
         };
         drawn.unwrap_or_else(|| {
@@ -92,22 +93,32 @@ impl Drawer<'_> {
         }
     }
 
-    /// The root: mostly a plan over the deepest condition that fits.
+    /// The root: mostly a plan over a condition that tells plans apart.
     fn root(&mut self) -> Node {
         let path_formulas = self.question.path_formulas();
-        let over_path = (0..path_formulas.len()).rev().find(|n| path_formulas[*n]);
-        let state_root = self.question.nodes.len().checked_sub(1);
-        let state_root = state_root.filter(|last| !path_formulas[*last]);
-        if let (true, Some(child)) = (self.rng.once_in(8), state_root) {
-            return Node::Not(child as u8);
+        let numbered = (0u8..).zip(&path_formulas);
+        let conditions: Vec<u8> = numbered.filter(|n| *n.1).map(|n| n.0).collect();
+        if let (true, Some(false)) = (self.rng.once_in(8), path_formulas.last()) {
+            return Node::Not(path_formulas.len() as u8 - 1);
         }
-        let mut root = over_path.and_then(|condition| self.plan_over(condition as u8));
-        for _ in 0..4 {
-            if root.is_none() {
-                root = self.plan_over_any();
+        let mut root = None;
+        for _ in 0..8 {
+            let condition = self.rng.pick(&conditions);
+            root = match condition {
+                Some(condition) => self.plan_over(condition),
+                None => self.plan_over_any(),
+            };
+            if matches!(root, Some(Node::Plan(plan)) if self.tells_apart(&plan)) {
+                break;
             }
         }
         root.unwrap_or(Node::False)
+    }
+
+    /// Whether two of some random plans differ in weight.
+    fn tells_apart(&mut self, plan: &PlanNode) -> bool {
+        let first = self.random_weight(plan);
+        (0..4).any(|_| self.random_weight(plan) != first)
     }
 
     fn plan_over_any(&mut self) -> Option<Node> {
@@ -163,16 +174,22 @@ impl Drawer<'_> {
         Bound { p, q }
     }
 
+    /// The weight that some plan gives a node's condition.
+    fn random_weight(&mut self, node: &PlanNode) -> u64 {
+        let mut question = self.question.clone();
+        question.nodes.push(Node::Plan(*node));
+        let start = question.start;
+        let choices = random_choices(self.rng, self.model, start, node.steps());
+        let plan = Plan::from_choices(self.model, start, node.steps(), &choices);
+        plan.map_or(0, |plan| {
+            fast::weight_of(self.model, &question, node, &plan, self.totals)
+        })
+    }
+
     /// A bound at, just below or just above the weight of some plan.
     fn close_bound(&mut self, plan: &PlanNode) -> Bound {
-        let mut question = self.question.clone();
-        question.nodes.push(Node::Plan(*plan));
-        let choices = random_choices(self.rng, self.model, question.start, plan.steps());
         let whole = self.model.whole(plan.steps());
-        let found = Plan::from_choices(self.model, question.start, plan.steps(), &choices);
-        let weight = found.map_or(0, |found| {
-            fast::weight_of(self.model, &question, plan, &found, self.totals)
-        });
+        let weight = self.random_weight(plan);
         let weight = match self.rng.below(6) {
             0 => weight.saturating_sub(1),
             1 => (weight + 1).min(whole),

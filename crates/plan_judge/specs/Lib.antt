@@ -1,0 +1,3 @@
+pub mod View
+pub mod Values
+pub mod Session

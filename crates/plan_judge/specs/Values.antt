@@ -1,0 +1,104 @@
+-- What each call returns, for every desk value and every input, by the grounds and definitions of the calls.
+use Prim.Native.Nat.{ℕ, _-_, _/_}
+use mathlib.Core.Bool.{Bool, true, false}
+use mathlib.Core.List.{List, _++_}
+use lib.ListN.{length, drop, replicate}
+use Rattle.logic.specs.Checked.{Checked, ok, refused}
+use Rattle.logic.specs.Verdict as logic
+use Rattle.logic.specs.Formula.{nonnegative}
+use Rattle.blocks.specs.Bytes.{Bytes}
+use Rattle.models.specs.Grounds.{read-model}
+use Rattle.calls.specs.Calls.{do-put, do-judge, do-write, do-check}
+use Rattle.plan_judge.specs.declared.Desk.{Desk}
+use Rattle.plan_judge.specs.declared.Taken.{Taken}
+use Rattle.plan_judge.specs.declared.Taken.the-variants.{Done, Refused}
+use Rattle.plan_judge.specs.declared.Taking.{Taking}
+use Rattle.plan_judge.specs.declared.Verdict.{Verdict}
+use Rattle.plan_judge.specs.declared.Verdict.the-variants.{No, Yes, YesPlan}
+use Rattle.plan_judge.specs.declared.Judgement.{Judgement}
+use Rattle.plan_judge.specs.declared.Judgement.the-variants.{Judged}
+use Rattle.plan_judge.specs.declared.Judging.{Judging}
+use Rattle.plan_judge.specs.declared.Written.{Written}
+use Rattle.plan_judge.specs.declared.Written.the-variants.{Bytes as Filled}
+use Rattle.plan_judge.specs.declared.Checking.{Checking}
+use Rattle.plan_judge.specs.declared.Checking.the-variants.{Accepted}
+use Rattle.plan_judge.specs.View.{view}
+
+-- The bytes with zeros after them, n in all.
+unfoldable pub padded : ℕ → Bytes → Bytes
+padded n b = b ++ replicate (n - length b) 0
+
+-- The empty desk.
+unfoldable pub nothing : Desk
+nothing =
+    record { blocks = 0; model = replicate 6144 0; asked = false; question = replicate 512 0; judged = false; verdict = No 0; choices = replicate 1365 0 }
+
+-- The desk changes only where the call is not refused.
+abbrev pub taking : {A : Type 0} → Desk → Checked A → Desk → Taking
+taking d (ok a) e = record { answer = Done; desk = e }
+taking d (refused k) e = record { answer = Refused k; desk = d }
+
+-- A desk with this model and nothing else.
+unfoldable pub holding : Bytes → Desk
+holding b =
+    record { blocks = length b / 512; model = padded 6144 b; asked = false; question = replicate 512 0; judged = false; verdict = No 0; choices = replicate 1365 0 }
+
+unfoldable pub loaded-by : Desk → Bytes → Taking
+loaded-by d b = taking d (read-model b) (holding b)
+
+-- The desk with this question, not judged.
+unfoldable pub asking : Desk → Bytes → Desk
+asking d b =
+    record { blocks = d .blocks; model = d .model; asked = true; question = padded 512 b; judged = false; verdict = No 0; choices = replicate 1365 0 }
+
+unfoldable pub put-by : Desk → Bytes → Taking
+put-by d b = taking d (do-put (view d) b) (asking d b)
+
+-- ---- judge
+
+-- A verdict as it is returned and held: its record, and its choices with zeros after them.
+unfoldable pub verdict-code : logic.Verdict → Verdict
+verdict-code (logic.no k) = No k
+verdict-code logic.yes = Yes
+verdict-code (logic.yes-plan w n k cs) = YesPlan (record { weight = nonnegative w; steps = n; count = k })
+
+unfoldable pub choices-code : logic.Verdict → Bytes
+choices-code (logic.no k) = replicate 1365 0
+choices-code logic.yes = replicate 1365 0
+choices-code (logic.yes-plan w n k cs) = padded 1365 cs
+
+-- Sets the verdict only.
+unfoldable pub settling : Desk → logic.Verdict → Desk
+settling d v =
+    record { blocks = d .blocks; model = d .model; asked = d .asked; question = d .question; judged = true; verdict = verdict-code v; choices = choices-code v }
+
+abbrev pub judging : Desk → Checked logic.Verdict → Judging
+judging d (ok v) = record { answer = Judged (verdict-code v); choices = choices-code v; desk = settling d v }
+judging d (refused k) = record { answer = Judgement.Refused k; choices = replicate 1365 0; desk = d }
+
+unfoldable pub judged-by : Desk → Judging
+judged-by d = judging d (do-judge (view d))
+
+-- ---- write and check, which leave the desk
+
+abbrev pub writing : Checked Bytes → Written
+writing (ok b) = Filled (length b)
+writing (refused k) = Written.Refused k
+
+unfoldable pub written-by : Desk → ℕ → Written
+written-by d size = writing (do-write (view d) size)
+
+-- The lent buffer afterwards.
+abbrev pub filling : Bytes → Checked Bytes → Bytes
+filling a (ok b) = b ++ drop (length b) a
+filling a (refused k) = a
+
+unfoldable pub filled-by : Desk → Bytes → Bytes
+filled-by d a = filling a (do-write (view d) (length a))
+
+abbrev pub checking : Checked Bool → Checking
+checking (ok met) = Accepted met
+checking (refused k) = Checking.Refused k
+
+unfoldable pub checked-by : Desk → Bytes → Checking
+checked-by d b = checking (do-check (view d) b)

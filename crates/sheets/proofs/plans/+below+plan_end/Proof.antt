@@ -1,0 +1,328 @@
+use mathlib.Core.Path.{_≡_, sym, refl, ap, ap₂, _∙_}
+use Prim.Native.Nat.{_+_, _-_, _≤_}
+use native.Mathlib.Omega.{arith}
+use borrow.Author.Needs.{needs}
+use lib.ListN.{length, drop, getD}
+use Rattle.logic.specs.Model.{outcomes}
+use Rattle.logic.specs.Choices.{read-each, read-plan}
+use Rattle.models.specs.Layout.{state-count, action-count, entries, model-of}
+use Rattle.sheets.specs.Ends.{end-of}
+use Rattle.sheets.proofs.Ends.{model-small, some-entries, target-inside, end-zero, end-missing, choice-refused, choice-taken, outcome-refused, outcome-read, outcomes-read}
+use Prim.Native.Nat.{ℕ, _<_}
+use borrow.Fn.Kinds.{In}
+use borrow.Fn.PlainCycle.{Measures, is, falls, and}
+use Rattle.sheets.proofs.plans.below.Reads as below
+use Rattle.sheets.proofs.plans.below.Kinds as below-kinds
+use Rattle.sheets.proofs.plans.+below+plan_end.Lts-below as below-lts
+use Rattle.sheets.proofs.plans.plan_end.Reads as plan-end
+use Rattle.sheets.proofs.plans.plan_end.Kinds as plan-end-kinds
+use Rattle.sheets.proofs.plans.+below+plan_end.Lts-plan_end as plan-end-lts
+use Rattle.models.proofs.entries.Reads as entries-reads
+use Rattle.models.proofs.target.Reads as target-reads
+use Rattle.sheets.proofs.plans.+below+plan_end.{statement}
+use Rattle.sheets.proofs.plans.+below+plan_end.Tie.{close}
+
+abbrev μ-below : Measures 2 below-kinds.ps ℕ
+μ-below κs a = a .1 .1 .0 + a .1 .1 .0 + 1
+
+abbrev μ-plan-end : Measures 2 plan-end-kinds.ps ℕ
+μ-plan-end κs a = a .1 .1 .0 + a .1 .1 .0
+
+abbrev below-at : ℕ → In 2 below-kinds.ps
+below-at t = and 2 below-kinds.ps (is 2 below-kinds.ps μ-below t) below.Pre
+
+abbrev below-below : ℕ → In 2 below-kinds.ps
+below-below t = and 2 below-kinds.ps (falls 2 below-kinds.ps _<_ μ-below t) below.Pre
+
+abbrev plan-end-at : ℕ → In 2 plan-end-kinds.ps
+plan-end-at t = and 2 plan-end-kinds.ps (is 2 plan-end-kinds.ps μ-plan-end t) plan-end.Pre
+
+abbrev plan-end-below : ℕ → In 2 plan-end-kinds.ps
+plan-end-below t =
+    and 2 plan-end-kinds.ps (falls 2 plan-end-kinds.ps _<_ μ-plan-end t) plan-end.Pre
+
+abbrev below-Inv-loop : below-lts.InvT-loop
+below-Inv-loop m choices k s a at count next₀ i₀ next i = (i ≤ count) × (next ≤ length choices)
+    × (end-of (length choices) (read-each (λ o. read-plan (model-of m) k (o .target)) (drop i (outcomes (model-of m) s a)) (drop next choices))
+      ≡ end-of (length choices) (read-each (λ o. read-plan (model-of m) k (o .target)) (outcomes (model-of m) s a) (drop at choices)))
+
+abbrev below-μ-loop : below-lts.MeasureT-loop
+below-μ-loop m choices k s a at count next₀ i₀ next i = count - i
+
+-- src/plans.rt:38:9
+below-entries-requires : (t : ℕ) → below-lts.Need-entries-requires (
+  entries-reads.Asked,
+  entries-reads.Learnt,
+  target-reads.Asked,
+  target-reads.Learnt,
+  plan-end-below t,
+  plan-end.Post,
+) (below-at t) below.Post below-Inv-loop below-μ-loop
+below-entries-requires t c κs = let S = c .before .before in
+    let small = model-small (S .args .m .now) (S .pre .1 .0) in
+    (omega arith, omega arith)
+
+-- src/plans.rt:41:5
+below-loop-holds : (t : ℕ) → below-lts.Need-loop-holds (
+  entries-reads.Asked,
+  entries-reads.Learnt,
+  target-reads.Asked,
+  target-reads.Learnt,
+  plan-end-below t,
+  plan-end.Post,
+) (below-at t) below.Post below-Inv-loop below-μ-loop
+below-loop-holds t c = (omega arith, c .before .before .before .pre .1 .3, refl)
+
+-- src/plans.rt:42:43
+below-target-requires : (t : ℕ) → below-lts.Need-target-requires (
+  entries-reads.Asked,
+  entries-reads.Learnt,
+  target-reads.Asked,
+  target-reads.Learnt,
+  plan-end-below t,
+  plan-end.Post,
+) (below-at t) below.Post below-Inv-loop below-μ-loop
+below-target-requires t c κs = let S = c .before .before .before .before .before in
+    let small = model-small (S .args .m .now) (S .pre .1 .0) in
+    (omega arith, omega arith, omega arith)
+
+-- src/plans.rt:42:13
+below-plan-end-requires : (t : ℕ) → below-lts.Need-plan-end-requires (
+  entries-reads.Asked,
+  entries-reads.Learnt,
+  target-reads.Asked,
+  target-reads.Learnt,
+  plan-end-below t,
+  plan-end.Post,
+) (below-at t) below.Post below-Inv-loop below-μ-loop
+below-plan-end-requires t c κs = let S = c .before .before .before .before .before .before in
+    let small = model-small (S .args .m .now) (S .pre .1 .0) in
+    let L = c .before .before .loop in
+    let l : L .i < entries (S .args .m .now) (S .args .s) (S .args .a) = omega (arith, c .before .before .before .entries .ensures .0) in
+    let t : c .target .result < state-count (S .args .m .now) = omega (arith, c .target .ensures .0, target-inside (S .args .m .now) (S .pre .1 .0) (S .args .s) (S .pre .1 .1) (S .args .a) (L .i) (S .pre .1 .2) l) in
+    (omega arith, (S .pre .1 .0, t, L .inv .1))
+
+-- src/plans.rt:44:21
+below-enum-known-end : (t : ℕ) → below-lts.Need-enum-known-end (
+  entries-reads.Asked,
+  entries-reads.Learnt,
+  target-reads.Asked,
+  target-reads.Learnt,
+  plan-end-below t,
+  plan-end.Post,
+) (below-at t) below.Post below-Inv-loop below-μ-loop
+below-enum-known-end t c = search needs
+
+-- src/plans.rt:45:26
+below-enum-known-end-2 : (t : ℕ) → below-lts.Need-enum-known-end-2 (
+  entries-reads.Asked,
+  entries-reads.Learnt,
+  target-reads.Asked,
+  target-reads.Learnt,
+  plan-end-below t,
+  plan-end.Post,
+) (below-at t) below.Post below-Inv-loop below-μ-loop
+below-enum-known-end-2 t c = search needs
+
+-- src/plans.rt:45:37
+below-returns : (t : ℕ) → below-lts.Need-returns (
+  entries-reads.Asked,
+  entries-reads.Learnt,
+  target-reads.Asked,
+  target-reads.Learnt,
+  plan-end-below t,
+  plan-end.Post,
+) (below-at t) below.Post below-Inv-loop below-μ-loop
+below-returns t c = let S = c .before .before .before .before .before .before .before .before .before .before in
+    let L = c .before .before .before .before .before .before .loop in
+    let l : L .i < entries (S .args .m .now) (S .args .s) (S .args .a) = omega (arith, c .before .before .before .before .before .before .before .entries .ensures .0) in
+    sym (sym (L .inv .2) ∙ outcome-refused (S .args .m .now) (S .pre .1 .0) (S .args .choices .now) (S .args .s) (S .args .a) (S .args .k) (S .pre .1 .1) (S .pre .1 .2) (L .i) (L .next) (c .before .before .before .before .target .result) l (c .before .before .before .before .target .ensures .0) _ (sym (c .before .end2 .given .1) ∙ c .before .before .before .plan-end .ensures))
+
+-- src/plans.rt:47:9
+below-add-i : (t : ℕ) → below-lts.Need-add-i (
+  entries-reads.Asked,
+  entries-reads.Learnt,
+  target-reads.Asked,
+  target-reads.Learnt,
+  plan-end-below t,
+  plan-end.Post,
+) (below-at t) below.Post below-Inv-loop below-μ-loop
+below-add-i t c = omega arith
+
+-- src/plans.rt:41:5
+below-loop-less : (t : ℕ) → below-lts.Need-loop-less (
+  entries-reads.Asked,
+  entries-reads.Learnt,
+  target-reads.Asked,
+  target-reads.Learnt,
+  plan-end-below t,
+  plan-end.Post,
+) (below-at t) below.Post below-Inv-loop below-μ-loop
+below-loop-less t c = omega arith
+
+-- src/plans.rt:41:5
+below-loop-again : (t : ℕ) → below-lts.Need-loop-again (
+  entries-reads.Asked,
+  entries-reads.Learnt,
+  target-reads.Asked,
+  target-reads.Learnt,
+  plan-end-below t,
+  plan-end.Post,
+) (below-at t) below.Post below-Inv-loop below-μ-loop
+below-loop-again t c = let S = c .before .before .before .before .before .before .before .before .before .before in
+    let L = c .before .before .before .before .before .before .loop in
+    let l : L .i < entries (S .args .m .now) (S .args .s) (S .args .a) = omega (arith, c .before .before .before .before .before .before .before .entries .ensures .0) in
+    let w = outcome-read (S .args .m .now) (S .pre .1 .0) (S .args .choices .now) (S .args .s) (S .args .a) (S .args .k) (S .pre .1 .1) (S .pre .1 .2) (L .i) (L .next) (c .before .before .before .before .target .result) l (c .before .before .before .before .target .ensures .0) _ (L .inv .1) (sym (c .before .end .given .1) ∙ c .before .before .before .plan-end .ensures) in
+    (omega arith, w .0, sym (w .1) ∙ L .inv .2)
+
+-- src/plans.rt:34:1
+below-returns-2 : (t : ℕ) → below-lts.Need-returns-2 (
+  entries-reads.Asked,
+  entries-reads.Learnt,
+  target-reads.Asked,
+  target-reads.Learnt,
+  plan-end-below t,
+  plan-end.Post,
+) (below-at t) below.Post below-Inv-loop below-μ-loop
+below-returns-2 t c = let S = c .before .before .before .before .before in
+    let L = c .before .loop in
+    outcomes-read (S .args .m .now) (S .pre .1 .0) (S .args .choices .now) (S .args .s) (S .args .a) (S .args .k) (S .pre .1 .1) (S .pre .1 .2) (L .i) (L .next) (omega (arith, c .before .before .entries .ensures .0)) (L .inv .1) ∙ L .inv .2
+
+-- src/plans.rt:21:9
+plan-end-returns : (t : ℕ) → plan-end-lts.Need-returns (
+  entries-reads.Asked,
+  entries-reads.Learnt,
+  below-below t,
+  below.Post,
+) (plan-end-at t) plan-end.Post
+plan-end-returns t c = let S = c .before .before .before in
+    end-zero (model-of (S .args .m .now)) (S .args .choices .now) (S .args .n) (S .args .s) (S .args .at) (c .if1 .taken) (S .pre .1 .2)
+
+-- src/plans.rt:24:9
+plan-end-returns-2 : (t : ℕ) → plan-end-lts.Need-returns-2 (
+  entries-reads.Asked,
+  entries-reads.Learnt,
+  below-below t,
+  below.Post,
+) (plan-end-at t) plan-end.Post
+plan-end-returns-2 t c = let S = c .before .before .before .before in
+    end-missing (model-of (S .args .m .now)) (S .args .choices .now) (S .args .n) (S .args .s) (S .args .at) (c .before .if1 .left) (c .if2 .taken)
+
+-- src/plans.rt:26:13
+plan-end-shared-slice-read-a : (t : ℕ) → plan-end-lts.Need-shared-slice-read-a (
+  entries-reads.Asked,
+  entries-reads.Learnt,
+  below-below t,
+  below.Post,
+) (plan-end-at t) plan-end.Post
+plan-end-shared-slice-read-a t c = omega (arith, c .before .before .before .before .before .pre .1 .2)
+
+-- src/plans.rt:26:13
+plan-end-cast-a : (t : ℕ) → plan-end-lts.Need-cast-a (
+  entries-reads.Asked,
+  entries-reads.Learnt,
+  below-below t,
+  below.Post,
+) (plan-end-at t) plan-end.Post
+plan-end-cast-a t c = omega (arith, c .shared-slice-known3 .given (c .before .before .before .before .before .args .at))
+
+-- src/plans.rt:27:8
+plan-end-entries-requires : (t : ℕ) → plan-end-lts.Need-entries-requires (
+  entries-reads.Asked,
+  entries-reads.Learnt,
+  below-below t,
+  below.Post,
+) (plan-end-at t) plan-end.Post
+plan-end-entries-requires t c κs = let S = c .before .before .before .before .before in
+    let small = model-small (S .args .m .now) (S .pre .1 .0) in
+    (omega arith, omega (arith, c .shared-slice-known3 .given (S .args .at)))
+
+-- src/plans.rt:28:9
+plan-end-returns-3 : (t : ℕ) → plan-end-lts.Need-returns-3 (
+  entries-reads.Asked,
+  entries-reads.Learnt,
+  below-below t,
+  below.Post,
+) (plan-end-at t) plan-end.Post
+plan-end-returns-3 t c = let S = c .before .before .before .before .before .before .before in
+    choice-refused (S .args .m .now) (S .pre .1 .0) (S .args .choices .now) (S .args .s) (S .args .at) (S .pre .1 .1) (omega (arith, S .pre .1 .2)) (S .args .n) (c .before .before .before .before .if1 .left) (sym (c .before .entries .ensures .0) ∙ c .if3 .taken)
+
+-- src/plans.rt:30:23
+plan-end-sub-below : (t : ℕ) → plan-end-lts.Need-sub-below (
+  entries-reads.Asked,
+  entries-reads.Learnt,
+  below-below t,
+  below.Post,
+) (plan-end-at t) plan-end.Post
+plan-end-sub-below t c = omega arith
+
+-- src/plans.rt:30:36
+plan-end-add-below : (t : ℕ) → plan-end-lts.Need-add-below (
+  entries-reads.Asked,
+  entries-reads.Learnt,
+  below-below t,
+  below.Post,
+) (plan-end-at t) plan-end.Post
+plan-end-add-below t c = omega arith
+
+-- src/plans.rt:30:5
+plan-end-below-requires : (t : ℕ) → plan-end-lts.Need-below-requires (
+  entries-reads.Asked,
+  entries-reads.Learnt,
+  below-below t,
+  below.Post,
+) (plan-end-at t) plan-end.Post
+plan-end-below-requires t c κs = let S = c .before .before .before .before .before .before .before in
+    let a = getD (S .args .choices .now) (S .args .at) 0 in
+    let l : a < action-count (S .args .m .now) = some-entries (S .args .m .now) (S .pre .1 .0) (S .args .s) (S .pre .1 .1) a (omega (arith, c .before .entries .ensures .0)) in
+    (omega arith, (S .pre .1 .0, S .pre .1 .1, l, omega (arith, S .pre .1 .2)))
+
+-- src/plans.rt:16:1
+plan-end-returns-4 : (t : ℕ) → plan-end-lts.Need-returns-4 (
+  entries-reads.Asked,
+  entries-reads.Learnt,
+  below-below t,
+  below.Post,
+) (plan-end-at t) plan-end.Post
+plan-end-returns-4 t c = let S = c .before .before .before .before .before .before .before .before in
+    let q : entries (S .args .m .now) (S .args .s) (getD (S .args .choices .now) (S .args .at) 0) ≡ 0 → ⊥ = λ z. c .before .if3 .left (c .before .before .entries .ensures .0 ∙ z) in
+    c .below .ensures ∙ choice-taken (S .args .m .now) (S .pre .1 .0) (S .args .choices .now) (S .args .s) (S .args .at) (S .pre .1 .1) (omega (arith, S .pre .1 .2)) (S .args .n) (c .before .before .before .before .before .if1 .left) q
+
+pub +below+plan-end-spec : {M : Type 1} → statement M
++below+plan-end-spec = close μ-below μ-plan-end (λ t. below-lts.spec (
+  entries-reads.Asked,
+  entries-reads.Learnt,
+  target-reads.Asked,
+  target-reads.Learnt,
+  plan-end-below t,
+  plan-end.Post,
+)
+    (below-at t)
+    below.Post
+    below-Inv-loop
+    below-μ-loop
+    (below-entries-requires t)
+    (below-loop-holds t)
+    (below-target-requires t)
+    (below-plan-end-requires t)
+    (below-enum-known-end t)
+    (below-enum-known-end-2 t)
+    (below-returns t)
+    (below-add-i t)
+    (below-loop-less t)
+    (below-loop-again t)
+    (below-returns-2 t))
+    λ t. plan-end-lts.spec
+    (entries-reads.Asked, entries-reads.Learnt, below-below t, below.Post)
+    (plan-end-at t)
+    plan-end.Post
+    (plan-end-returns t)
+    (plan-end-returns-2 t)
+    (plan-end-shared-slice-read-a t)
+    (plan-end-cast-a t)
+    (plan-end-entries-requires t)
+    (plan-end-returns-3 t)
+    (plan-end-sub-below t)
+    (plan-end-add-below t)
+    (plan-end-below-requires t)
+    (plan-end-returns-4 t)

@@ -1,0 +1,85 @@
+
+
+use mathlib.Core.Path.{_≡_, sym, refl, ap, ap₂, _∙_}
+use Prim.Native.Nat.{ℕ, _-_, _%_, _≤_, _<_}
+use native.Mathlib.Nat.{sub-zero, mod-lt}
+use native.Mathlib.Omega.{arith}
+use borrow.Author.Needs.{needs}
+use mathlib.Core.List.{List, _++_}
+use lib.ListN.{length, drop, set, length-set}
+use lib.Seq.{paste, paste-zero}
+use Rattle.blocks.specs.Bytes.{little-endian}
+use Rattle.sheets.proofs.Parts.{copy-more, copy-end}
+use Rattle.sheets.proofs.Numbers.{length-bytes, next-byte}
+use Rattle.sheets.proofs.writer.put_number.Statement.{statement}
+use Rattle.sheets.proofs.writer.put_number.Tie as tie
+use Rattle.sheets.proofs.writer.put_number.Reads as reads
+use Rattle.sheets.proofs.writer.put_number.Lts as lts
+
+abbrev Inv-loop : tie.InvT-loop
+Inv-loop dst₀ bytes x rest₀ i₀ dst rest i = (i ≤ bytes) × (length dst ≡ length dst₀) × (dst ≡ paste dst₀ 0 (little-endian bytes x) i) × (drop i (little-endian bytes x) ≡ little-endian (bytes - i) rest)
+
+abbrev μ-loop : tie.MeasureT-loop
+μ-loop dst₀ bytes x rest₀ i₀ dst rest i = bytes - i
+
+-- src/writer.rt:39:5
+loop-holds : tie.Need-loop-holds Inv-loop μ-loop
+loop-holds c = (omega arith, refl, paste-zero (c .args .dst .now) 0 (little-endian (c .args .bytes) (c .args .x)), rw sub-zero refl)
+
+-- src/writer.rt:40:18
+cast-dst : tie.Need-cast-dst Inv-loop μ-loop
+cast-dst c = omega (arith, mod-lt (c .before .loop .rest) {m = 256} (omega arith))
+
+-- src/writer.rt:40:9
+slice-write-dst : tie.Need-slice-write-dst Inv-loop μ-loop
+slice-write-dst c = search needs
+
+-- src/writer.rt:42:9
+add-i : tie.Need-add-i Inv-loop μ-loop
+add-i c = search needs
+
+-- src/writer.rt:39:5
+loop-less : tie.Need-loop-less Inv-loop μ-loop
+loop-less c = search needs
+
+-- src/writer.rt:39:5
+loop-again : tie.Need-loop-again Inv-loop μ-loop
+loop-again c = let S = c .before .before in
+    let L = c .before .loop in
+    let lt : L .i < S .args .bytes = c .loop-test .taken in
+    let l = little-endian (S .args .bytes) (S .args .x) in
+    let n : length l ≡ S .args .bytes = length-bytes (S .args .bytes) (S .args .x) in
+    let next = next-byte (S .args .bytes) (L .i) (L .rest) l lt n (L .inv .3) in
+    (
+      omega arith,
+      length-set (L .dst) (L .i) (L .rest % 256) ∙ L .inv .1,
+      ap (set (L .dst) (L .i)) (sym (next .0)) ∙ copy-more (S .args .dst .now) l (L .dst) (L .i) (omega arith) (omega arith) (L .inv .2),
+      next .1,
+    )
+
+-- src/writer.rt:33:1
+same-length : tie.Need-same-length Inv-loop μ-loop
+same-length c = search needs
+
+-- src/writer.rt:33:1
+returns : tie.Need-returns Inv-loop μ-loop
+returns c = let S = c .before .before in
+    let L = c .before .loop in
+    let l = little-endian (S .args .bytes) (S .args .x) in
+    let n : length l ≡ S .args .bytes = length-bytes (S .args .bytes) (S .args .x) in
+    copy-end (S .args .dst .now) l (L .dst) (L .i) (omega arith) (L .inv .2) ∙ ap (λ k. l ++ drop k (S .args .dst .now)) n
+
+pub put-number-spec : {M : Type 1} → statement M
+put-number-spec =
+    tie.close
+    (tie.spec
+    Inv-loop
+    μ-loop
+    loop-holds
+    cast-dst
+    slice-write-dst
+    add-i
+    loop-less
+    loop-again
+    same-length
+    returns)
