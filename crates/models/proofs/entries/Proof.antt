@@ -2,7 +2,6 @@
 use native.Mathlib.Omega.{arith}
 use mathlib.Core.Path.{_≡_, refl, sym, ap, _∙_}
 use mathlib.Core.Bool.{true, false}
-use borrow.Author.Needs.{needs}
 use Rattle.logic.specs.Model.{true-of}
 use Rattle.models.specs.Layout.{pre-of, state-mask, post-count, entries}
 use Rattle.models.proofs.Laws.{entries-past-states, entries-past-actions, entries-inside}
@@ -10,7 +9,7 @@ use Rattle.models.proofs.entries.Statement.{statement}
 use Rattle.models.proofs.entries.Tie as tie
 
 wide-requires : tie.Need-wide-requires
-wide-requires c κs = search needs
+wide-requires c κs = tt
 
 returns : tie.Need-returns
 returns c = let b = c .before .before .before .args .b .now in
@@ -19,7 +18,7 @@ returns c = let b = c .before .before .before .args .b .now in
     (sym (entries-past-states b s a (omega arith)), omega arith)
 
 wide-requires-2 : tie.Need-wide-requires-2
-wide-requires-2 c κs = search needs
+wide-requires-2 c κs = tt
 
 returns-2 : tie.Need-returns-2
 returns-2 c = let b = c .before .before .before .before .before .args .b .now in
@@ -28,19 +27,19 @@ returns-2 c = let b = c .before .before .before .before .before .args .b .now in
     (sym (entries-past-actions b s a (omega arith)), omega arith)
 
 mul-holds : tie.Need-mul-holds
-mul-holds c = search needs
+mul-holds c = omega arith
 
 add-holds : tie.Need-add-holds
-add-holds c = search needs
+add-holds c = omega arith
 
 state-mask-requires : tie.Need-state-mask-requires
-state-mask-requires c κs = search needs
+state-mask-requires c κs = omega arith
 
 holds-requires : tie.Need-holds-requires
-holds-requires c κs = search needs
+holds-requires c κs = omega arith
 
 post-count-requires : tie.Need-post-count-requires
-post-count-requires c κs = search needs
+post-count-requires c κs = omega arith
 
 returns-3 : tie.Need-returns-3
 unfolding pre-of

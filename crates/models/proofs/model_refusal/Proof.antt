@@ -1,7 +1,6 @@
 -- At each return the tests made so far decide the chain of grounds: those before passed, and the last failed. What a test requires follows from the grounds passed before it.
 use mathlib.Core.Path.{_≡_, refl, sym}
 use mathlib.Core.Bool.{true, _&&_}
-use borrow.Author.Needs.{needs}
 use Rattle.blocks.specs.Block.{whole-blocks, sums-right}
 use Rattle.models.specs.Grounds.{kinds-right, sizes-right, fields-right, head-spare, rows-spare, cells-spare, consistent, no-dead-ends, read-model}
 use Rattle.models.proofs.Laws.{passed, failed, sizes, sized}
@@ -34,14 +33,14 @@ passed-8 : (c : tie.Else8) → no-dead-ends (c .before .before .before .before .
 passed-8 c = passed (c .before .no-dead-ends .ensures) (c .if8 .left)
 
 whole-blocks-requires : tie.Need-whole-blocks-requires
-whole-blocks-requires c κs = search needs
+whole-blocks-requires c κs = tt
 
 returns : tie.Need-returns
 unfolding read-model
 returns c = sym (rw (failed (c .before .whole-blocks .ensures) (c .if1 .taken)) refl)
 
 sums-right-requires : tie.Need-sums-right-requires
-sums-right-requires c κs = search needs
+sums-right-requires c κs = tt
 
 returns-2 : tie.Need-returns-2
 unfolding read-model
@@ -55,14 +54,14 @@ unfolding read-model
 returns-3 c = sym (rw (passed-1 (c .before .before .before .before), passed-2 (c .before .before), failed (c .before .kinds-right .ensures) (c .if3 .taken)) refl)
 
 sizes-right-requires : tie.Need-sizes-right-requires
-sizes-right-requires c κs = search needs
+sizes-right-requires c κs = tt
 
 returns-4 : tie.Need-returns-4
 unfolding read-model
 returns-4 c = sym (rw (passed-1 (c .before .before .before .before .before .before), passed-2 (c .before .before .before .before), passed-3 (c .before .before), failed (c .before .sizes-right .ensures) (c .if4 .taken)) refl)
 
 used-entries-requires : tie.Need-used-entries-requires
-used-entries-requires c κs = search needs
+used-entries-requires c κs = tt
 
 fields-right-requires : tie.Need-fields-right-requires
 fields-right-requires c κs = (passed-4 (c .before .before), c .before .used-entries .ensures)
@@ -87,7 +86,7 @@ unfolding read-model
 returns-7 c = sym (rw (passed-1 (c .before .before .before .before .before .before .before .before .before .before .before .before .before .before .before .before), passed-2 (c .before .before .before .before .before .before .before .before .before .before .before .before .before .before), passed-3 (c .before .before .before .before .before .before .before .before .before .before .before .before), passed-4 (c .before .before .before .before .before .before .before .before .before .before), passed-5 (c .before .before .before .before .before .before), passed-6 (c .before .before .before), failed (c .before .consistent .ensures) (c .if7 .taken)) refl)
 
 no-dead-ends-requires : tie.Need-no-dead-ends-requires
-no-dead-ends-requires c κs = search needs
+no-dead-ends-requires c κs = tt
 
 returns-8 : tie.Need-returns-8
 unfolding read-model

@@ -1,11 +1,11 @@
 -- The number two bytes after the place that `outcome_at` gives; it is small, so that a local holds it.
 use Prim.Native.Nat.{_+_}
+use native.Mathlib.Omega.{arith}
 use mathlib.Core.Path.{_≡_, ap, _∙_}
 use lib.Dec.{lit<}
 use mir.Syntax.{w32}
 use mir.Val.{toZ, ofZ}
 use mir.ValLaws.{toZ-ofZ}
-use borrow.Author.Needs.{needs}
 use Rattle.blocks.proofs.Laws.{small}
 use Rattle.blocks.specs.Bytes.{i16}
 use Rattle.models.specs.Layout.{outcome-of}
@@ -13,13 +13,13 @@ use Rattle.models.proofs.reward.Statement.{statement}
 use Rattle.models.proofs.reward.Tie as tie
 
 outcome-at-requires : tie.Need-outcome-at-requires
-outcome-at-requires c κs = search needs
+outcome-at-requires c κs = omega arith
 
 add-i16-at : tie.Need-add-i16-at
-add-i16-at c = search needs
+add-i16-at c = omega arith
 
 i16-at-requires : tie.Need-i16-at-requires
-i16-at-requires c κs = search needs
+i16-at-requires c κs = omega arith
 
 returns : tie.Need-returns
 unfolding outcome-of

@@ -1,15 +1,14 @@
 -- The byte at the place that `outcome_at` gives.
 use native.Mathlib.Omega.{arith}
-use borrow.Author.Needs.{needs}
 use Rattle.models.specs.Layout.{outcome-of}
 use Rattle.models.proofs.target.Statement.{statement}
 use Rattle.models.proofs.target.Tie as tie
 
 outcome-at-requires : tie.Need-outcome-at-requires
-outcome-at-requires c κs = search needs
+outcome-at-requires c κs = omega arith
 
 wide-requires : tie.Need-wide-requires
-wide-requires c κs = search needs
+wide-requires c κs = tt
 
 returns : tie.Need-returns
 unfolding outcome-of

@@ -3,7 +3,6 @@ use Prim.Native.Nat.{ℕ, _-_, _/_, _%_, _≤_, _<_}
 use native.Mathlib.Omega.{arith}
 use mathlib.Core.Path.{_≡_, refl, _∙_}
 use lib.ListN.{length, getD, length-set}
-use borrow.Author.Needs.{needs}
 use Rattle.models.specs.Layout.{entries}
 use Rattle.models.proofs.Laws.{filled-more}
 use Rattle.models.proofs.used_entries.Statement.{statement}
@@ -19,7 +18,7 @@ loop-holds : tie.Need-loop-holds Inv-loop μ-loop
 loop-holds c = (omega arith, refl, λ j h. absurd (omega arith))
 
 entries-requires : tie.Need-entries-requires Inv-loop μ-loop
-entries-requires c κs = search needs
+entries-requires c κs = omega arith
 
 cast-used : tie.Need-cast-used Inv-loop μ-loop
 cast-used c = omega arith

@@ -1,18 +1,17 @@
 -- The byte after the place that `outcome_at` gives.
 use native.Mathlib.Omega.{arith}
-use borrow.Author.Needs.{needs}
 use Rattle.models.specs.Layout.{outcome-of}
 use Rattle.models.proofs.weight.Statement.{statement}
 use Rattle.models.proofs.weight.Tie as tie
 
 outcome-at-requires : tie.Need-outcome-at-requires
-outcome-at-requires c κs = search needs
+outcome-at-requires c κs = omega arith
 
 add-wide : tie.Need-add-wide
-add-wide c = search needs
+add-wide c = omega arith
 
 wide-requires : tie.Need-wide-requires
-wide-requires c κs = search needs
+wide-requires c κs = tt
 
 returns : tie.Need-returns
 unfolding outcome-of

@@ -2,7 +2,6 @@
 use Prim.Native.Nat.{_-_, _≤_}
 use native.Mathlib.Omega.{arith}
 use mathlib.Core.Path.{_≡_, refl, ap, _∙_}
-use borrow.Author.Needs.{needs}
 use Rattle.logic.specs.Lists.{every}
 use Rattle.logic.specs.Model.{contradict}
 use Rattle.models.specs.Grounds.{posts-contradict}
@@ -18,14 +17,14 @@ abbrev μ-loop : tie.MeasureT-loop
 μ-loop b a n right₀ i₀ right i = n - i
 
 post-count-requires : tie.Need-post-count-requires Inv-loop μ-loop
-post-count-requires c κs = search needs
+post-count-requires c κs = omega arith
 
 loop-holds : tie.Need-loop-holds Inv-loop μ-loop
 unfolding every
 loop-holds c = (omega arith, refl)
 
 post-contradicts-requires : tie.Need-post-contradicts-requires Inv-loop μ-loop
-post-contradicts-requires c κs = search needs
+post-contradicts-requires c κs = omega arith
 
 add-i : tie.Need-add-i Inv-loop μ-loop
 add-i c = omega arith

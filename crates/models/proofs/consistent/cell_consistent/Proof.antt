@@ -1,8 +1,8 @@
 -- The two tests are the definition, at the count that the caller hands in.
+use native.Mathlib.Omega.{arith}
 use mathlib.Core.Path.{ap, ap₂, _∙_}
 use mathlib.Core.Bool.{_&&_, _||_}
 use lib.Dec.{eqb}
-use borrow.Author.Needs.{needs}
 use Rattle.logic.specs.Lists.{every}
 use Rattle.logic.specs.Model.{true-of}
 use Rattle.blocks.specs.Block.{sum-below}
@@ -12,13 +12,13 @@ use Rattle.models.proofs.consistent.cell_consistent.Statement.{statemen
 use Rattle.models.proofs.consistent.cell_consistent.Tie as tie
 
 targets-true-requires : tie.Need-targets-true-requires
-targets-true-requires c κs = search needs
+targets-true-requires c κs = omega arith
 
 weight-sum-requires : tie.Need-weight-sum-requires
-weight-sum-requires c κs = search needs
+weight-sum-requires c κs = omega arith
 
 wide-requires : tie.Need-wide-requires
-wide-requires c κs = search needs
+wide-requires c κs = tt
 
 returns : tie.Need-returns
 unfolding cell-consistent

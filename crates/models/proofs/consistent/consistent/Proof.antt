@@ -1,16 +1,15 @@
 -- The two parts are the definition.
 use mathlib.Core.Path.{ap₂}
 use mathlib.Core.Bool.{_&&_}
-use borrow.Author.Needs.{needs}
 use Rattle.models.specs.Grounds.{consistent}
 use Rattle.models.proofs.consistent.consistent.Statement.{statement}
 use Rattle.models.proofs.consistent.consistent.Tie as tie
 
 actions-contradict-requires : tie.Need-actions-contradict-requires
-actions-contradict-requires c κs = search needs
+actions-contradict-requires c κs = tt
 
 cells-consistent-requires : tie.Need-cells-consistent-requires
-cells-consistent-requires c κs = search needs
+cells-consistent-requires c κs = c .before .before .pre
 
 returns : tie.Need-returns
 unfolding consistent

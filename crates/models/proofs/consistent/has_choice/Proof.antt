@@ -2,7 +2,6 @@
 use Prim.Native.Nat.{_-_, _≤_}
 use native.Mathlib.Omega.{arith}
 use mathlib.Core.Path.{_≡_, refl, ap, _∙_}
-use borrow.Author.Needs.{needs}
 use Rattle.logic.specs.Lists.{some-below}
 use Rattle.logic.specs.Model.{true-of}
 use Rattle.models.specs.Layout.{pre-of, state-mask, action-count}
@@ -17,10 +16,10 @@ abbrev μ-loop : tie.MeasureT-loop
 μ-loop b s v actions found₀ a₀ found a = actions - a
 
 state-mask-requires : tie.Need-state-mask-requires Inv-loop μ-loop
-state-mask-requires c κs = search needs
+state-mask-requires c κs = omega arith
 
 wide-requires : tie.Need-wide-requires Inv-loop μ-loop
-wide-requires c κs = search needs
+wide-requires c κs = tt
 
 loop-holds : tie.Need-loop-holds Inv-loop μ-loop
 unfolding some-below
@@ -33,7 +32,7 @@ add-holds : tie.Need-add-holds Inv-loop μ-loop
 add-holds c = omega arith
 
 holds-requires : tie.Need-holds-requires Inv-loop μ-loop
-holds-requires c κs = search needs
+holds-requires c κs = omega arith
 
 add-a : tie.Need-add-a Inv-loop μ-loop
 add-a c = omega arith

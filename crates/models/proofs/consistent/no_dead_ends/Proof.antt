@@ -2,7 +2,6 @@
 use Prim.Native.Nat.{_-_, _≤_}
 use native.Mathlib.Omega.{arith}
 use mathlib.Core.Path.{_≡_, refl, ap, _∙_}
-use borrow.Author.Needs.{needs}
 use Rattle.logic.specs.Lists.{every, some-below}
 use Rattle.logic.specs.Model.{true-of}
 use Rattle.models.specs.Grounds.{no-dead-ends}
@@ -18,14 +17,14 @@ abbrev μ-loop : tie.MeasureT-loop
 μ-loop b states right₀ s₀ right s = states - s
 
 wide-requires : tie.Need-wide-requires Inv-loop μ-loop
-wide-requires c κs = search needs
+wide-requires c κs = tt
 
 loop-holds : tie.Need-loop-holds Inv-loop μ-loop
 unfolding every
 loop-holds c = (omega arith, refl)
 
 has-choice-requires : tie.Need-has-choice-requires Inv-loop μ-loop
-has-choice-requires c κs = search needs
+has-choice-requires c κs = omega arith
 
 add-s : tie.Need-add-s Inv-loop μ-loop
 add-s c = omega arith

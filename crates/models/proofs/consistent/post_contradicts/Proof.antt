@@ -2,7 +2,6 @@
 use Prim.Native.Nat.{_-_, _≤_}
 use native.Mathlib.Omega.{arith}
 use mathlib.Core.Path.{_≡_, refl, ap, _∙_}
-use borrow.Author.Needs.{needs}
 use Rattle.logic.specs.Lists.{every}
 use Rattle.logic.specs.Model.{contradict}
 use Rattle.models.specs.Layout.{post-of}
@@ -42,7 +41,7 @@ add-contradict-2 : tie.Need-add-contradict-2 Inv-loop μ-loop
 add-contradict-2 c = omega arith
 
 contradict-requires : tie.Need-contradict-requires Inv-loop μ-loop
-contradict-requires c κs = search needs
+contradict-requires c κs = omega arith
 
 add-j : tie.Need-add-j Inv-loop μ-loop
 add-j c = omega arith

@@ -2,7 +2,6 @@
 use Prim.Native.Nat.{_-_, _≤_}
 use native.Mathlib.Omega.{arith}
 use mathlib.Core.Path.{_≡_, refl, ap, _∙_}
-use borrow.Author.Needs.{needs}
 use Rattle.logic.specs.Lists.{every}
 use Rattle.logic.specs.Model.{true-of}
 use Rattle.models.specs.Layout.{post-of, state-mask, outcome-of}
@@ -30,10 +29,10 @@ unfolding every
 loop-holds c = (omega arith, refl)
 
 target-requires : tie.Need-target-requires Inv-loop μ-loop
-target-requires c κs = search needs
+target-requires c κs = omega arith
 
 state-mask-requires : tie.Need-state-mask-requires Inv-loop μ-loop
-state-mask-requires c κs = search needs
+state-mask-requires c κs = omega arith
 
 mul-holds : tie.Need-mul-holds Inv-loop μ-loop
 mul-holds c = omega arith
@@ -42,7 +41,7 @@ add-holds : tie.Need-add-holds Inv-loop μ-loop
 add-holds c = omega arith
 
 holds-requires : tie.Need-holds-requires Inv-loop μ-loop
-holds-requires c κs = search needs
+holds-requires c κs = omega arith
 
 add-i : tie.Need-add-i Inv-loop μ-loop
 add-i c = omega arith

@@ -3,7 +3,6 @@ use Prim.Native.Nat.{_*_, _-_, _≤_, _+_}
 use native.Mathlib.Omega.{arith}
 use native.Mathlib.Numerals.{add-one}
 use mathlib.Core.Path.{_≡_, refl, ap, ap₂, _∙_}
-use borrow.Author.Needs.{needs}
 use Rattle.blocks.specs.Block.{sum-below}
 use Rattle.models.specs.Layout.{outcome-of}
 use Rattle.models.proofs.consistent.weight_sum.Statement.{statement}
@@ -20,7 +19,7 @@ unfolding sum-below
 loop-holds c = (omega arith, refl, omega arith)
 
 weight-requires : tie.Need-weight-requires Inv-loop μ-loop
-weight-requires c κs = search needs
+weight-requires c κs = omega arith
 
 add-sum : tie.Need-add-sum Inv-loop μ-loop
 add-sum c = omega arith

@@ -1,7 +1,7 @@
 -- The three tests are the definition, at the count that was read.
+use native.Mathlib.Omega.{arith}
 use mathlib.Core.Path.{ap, ap₂, _∙_}
 use mathlib.Core.Bool.{_&&_}
-use borrow.Author.Needs.{needs}
 use Rattle.logic.specs.Lists.{every}
 use Rattle.blocks.specs.Bytes.{within}
 use Rattle.models.specs.Grounds.{action-in-range, literals-in-range}
@@ -10,22 +10,22 @@ use Rattle.models.proofs.fields.action_in_range.Statement.{statement}
 use Rattle.models.proofs.fields.action_in_range.Tie as tie
 
 post-count-requires : tie.Need-post-count-requires
-post-count-requires c κs = search needs
+post-count-requires c κs = omega arith
 
 mul-literals-in-range : tie.Need-mul-literals-in-range
-mul-literals-in-range c = search needs
+mul-literals-in-range c = omega arith
 
 add-literals-in-range : tie.Need-add-literals-in-range
-add-literals-in-range c = search needs
+add-literals-in-range c = omega arith
 
 literals-in-range-requires : tie.Need-literals-in-range-requires
-literals-in-range-requires c κs = search needs
+literals-in-range-requires c κs = omega arith
 
 within-requires : tie.Need-within-requires
-within-requires c κs = search needs
+within-requires c κs = tt
 
 posts-in-range-requires : tie.Need-posts-in-range-requires
-posts-in-range-requires c κs = search needs
+posts-in-range-requires c κs = omega arith
 
 returns : tie.Need-returns
 unfolding action-in-range pre-of

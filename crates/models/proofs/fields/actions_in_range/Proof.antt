@@ -2,7 +2,6 @@
 use Prim.Native.Nat.{_-_, _≤_}
 use native.Mathlib.Omega.{arith}
 use mathlib.Core.Path.{_≡_, refl, ap, _∙_}
-use borrow.Author.Needs.{needs}
 use Rattle.logic.specs.Lists.{every}
 use Rattle.models.specs.Grounds.{action-in-range}
 use Rattle.models.specs.Layout.{action-count}
@@ -17,14 +16,14 @@ abbrev μ-loop : tie.MeasureT-loop
 μ-loop b actions right₀ a₀ right a = actions - a
 
 wide-requires : tie.Need-wide-requires Inv-loop μ-loop
-wide-requires c κs = search needs
+wide-requires c κs = tt
 
 loop-holds : tie.Need-loop-holds Inv-loop μ-loop
 unfolding every
 loop-holds c = (omega arith, refl)
 
 action-in-range-requires : tie.Need-action-in-range-requires Inv-loop μ-loop
-action-in-range-requires c κs = search needs
+action-in-range-requires c κs = omega arith
 
 add-a : tie.Need-add-a Inv-loop μ-loop
 add-a c = omega arith

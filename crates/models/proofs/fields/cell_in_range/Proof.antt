@@ -2,7 +2,6 @@
 use Prim.Native.Nat.{_-_, _≤_}
 use native.Mathlib.Omega.{arith}
 use mathlib.Core.Path.{_≡_, refl, ap, _∙_}
-use borrow.Author.Needs.{needs}
 use Rattle.logic.specs.Lists.{every}
 use Rattle.models.specs.Grounds.{outcome-in-range, cell-in-range}
 use Rattle.models.specs.Layout.{outcome-of, entries}
@@ -21,7 +20,7 @@ unfolding every
 loop-holds c = (omega arith, refl)
 
 outcome-in-range-requires : tie.Need-outcome-in-range-requires Inv-loop μ-loop
-outcome-in-range-requires c κs = search needs
+outcome-in-range-requires c κs = omega arith
 
 add-i : tie.Need-add-i Inv-loop μ-loop
 add-i c = omega arith

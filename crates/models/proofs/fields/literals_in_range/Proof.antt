@@ -1,27 +1,27 @@
 -- The three tests are the definition, of the masks that the reader gives.
-use borrow.Author.Needs.{needs}
+use native.Mathlib.Omega.{arith}
 use Rattle.models.specs.Grounds.{literals-in-range, mask-in-range}
 use Rattle.models.specs.Layout.{literals}
 use Rattle.models.proofs.fields.literals_in_range.Statement.{statement}
 use Rattle.models.proofs.fields.literals_in_range.Tie as tie
 
 wide-requires : tie.Need-wide-requires
-wide-requires c κs = search needs
+wide-requires c κs = tt
 
 u32-at-requires : tie.Need-u32-at-requires
-u32-at-requires c κs = search needs
+u32-at-requires c κs = omega arith
 
 add-u32-at : tie.Need-add-u32-at
-add-u32-at c = search needs
+add-u32-at c = omega arith
 
 u32-at-requires-2 : tie.Need-u32-at-requires-2
-u32-at-requires-2 c κs = search needs
+u32-at-requires-2 c κs = omega arith
 
 below-bit-requires : tie.Need-below-bit-requires
-below-bit-requires c κs = search needs
+below-bit-requires c κs = omega arith
 
 below-bit-requires-2 : tie.Need-below-bit-requires-2
-below-bit-requires-2 c κs = search needs
+below-bit-requires-2 c κs = omega arith
 
 returns : tie.Need-returns
 unfolding literals-in-range mask-in-range literals

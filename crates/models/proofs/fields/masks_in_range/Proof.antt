@@ -3,7 +3,6 @@ use Prim.Native.Nat.{_-_, _≤_, _^_}
 use native.Mathlib.Omega.{arith}
 use mathlib.Core.Path.{_≡_, refl, ap, ap₂, _∙_}
 use lib.Dec.{ltb}
-use borrow.Author.Needs.{needs}
 use Rattle.logic.specs.Lists.{every}
 use Rattle.models.specs.Layout.{state-mask, state-count}
 use Rattle.models.specs.Grounds.{mask-in-range}
@@ -18,20 +17,20 @@ abbrev μ-loop : tie.MeasureT-loop
 μ-loop b states n right₀ s₀ right s = states - s
 
 wide-requires : tie.Need-wide-requires Inv-loop μ-loop
-wide-requires c κs = search needs
+wide-requires c κs = tt
 
 wide-requires-2 : tie.Need-wide-requires-2 Inv-loop μ-loop
-wide-requires-2 c κs = search needs
+wide-requires-2 c κs = tt
 
 loop-holds : tie.Need-loop-holds Inv-loop μ-loop
 unfolding every
 loop-holds c = (omega arith, refl)
 
 state-mask-requires : tie.Need-state-mask-requires Inv-loop μ-loop
-state-mask-requires c κs = search needs
+state-mask-requires c κs = omega arith
 
 below-bit-requires : tie.Need-below-bit-requires Inv-loop μ-loop
-below-bit-requires c κs = search needs
+below-bit-requires c κs = omega arith
 
 add-s : tie.Need-add-s Inv-loop μ-loop
 add-s c = omega arith

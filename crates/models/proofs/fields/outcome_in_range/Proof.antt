@@ -1,4 +1,5 @@
 -- The tests are the definition, of what the readers give; the reward is small, so that a local holds it.
+use native.Mathlib.Omega.{arith}
 use mathlib.Core.Path.{_≡_, ap, ap₂, _∙_}
 use mathlib.Core.Bool.{_&&_}
 use lib.IntN.{pos, negsuc}
@@ -7,7 +8,6 @@ use lib.Dec.{lit<, ltb}
 use mir.Syntax.{w32}
 use mir.Val.{toZ, ofZ}
 use mir.ValLaws.{toZ-ofZ}
-use borrow.Author.Needs.{needs}
 use Rattle.blocks.specs.Bytes.{within}
 use Rattle.blocks.proofs.Laws.{small}
 use Rattle.models.specs.Grounds.{outcome-in-range}
@@ -16,19 +16,19 @@ use Rattle.models.proofs.fields.outcome_in_range.Statement.{statement}
 use Rattle.models.proofs.fields.outcome_in_range.Tie as tie
 
 reward-requires : tie.Need-reward-requires
-reward-requires c κs = search needs
+reward-requires c κs = omega arith
 
 target-requires : tie.Need-target-requires
-target-requires c κs = search needs
+target-requires c κs = omega arith
 
 wide-requires : tie.Need-wide-requires
-wide-requires c κs = search needs
+wide-requires c κs = tt
 
 weight-requires : tie.Need-weight-requires
-weight-requires c κs = search needs
+weight-requires c κs = omega arith
 
 within-requires : tie.Need-within-requires
-within-requires c κs = search needs
+within-requires c κs = tt
 
 returns : tie.Need-returns
 unfolding outcome-in-range

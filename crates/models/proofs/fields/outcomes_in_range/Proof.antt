@@ -2,7 +2,6 @@
 use Prim.Native.Nat.{_*_, _-_, _/_, _%_, _≤_}
 use native.Mathlib.Omega.{arith}
 use mathlib.Core.Path.{_≡_, refl, ap, _∙_}
-use borrow.Author.Needs.{needs}
 use Rattle.logic.specs.Lists.{every}
 use Rattle.models.specs.Grounds.{cell-in-range}
 use Rattle.models.specs.Layout.{state-count, action-count}
@@ -17,7 +16,7 @@ abbrev μ-loop : tie.MeasureT-loop
 μ-loop b used cells right₀ k₀ right k = cells - k
 
 wide-requires : tie.Need-wide-requires Inv-loop μ-loop
-wide-requires c κs = search needs
+wide-requires c κs = tt
 
 mul-cells : tie.Need-mul-cells Inv-loop μ-loop
 mul-cells c = omega arith
@@ -30,7 +29,7 @@ element-copy-out-widened : tie.Need-element-copy-out-widened Inv-loop μ-loop
 element-copy-out-widened c = omega arith
 
 widened-requires : tie.Need-widened-requires Inv-loop μ-loop
-widened-requires c κs = search needs
+widened-requires c κs = tt
 
 cell-in-range-requires : tie.Need-cell-in-range-requires Inv-loop μ-loop
 cell-in-range-requires c κs = let S = c .before .before .before .before .before .before in

@@ -2,7 +2,6 @@
 use Prim.Native.Nat.{_-_, _≤_}
 use native.Mathlib.Omega.{arith}
 use mathlib.Core.Path.{_≡_, refl, ap, _∙_}
-use borrow.Author.Needs.{needs}
 use Rattle.logic.specs.Lists.{every}
 use Rattle.models.specs.Grounds.{literals-in-range}
 use Rattle.models.specs.Layout.{post-of}
@@ -36,7 +35,7 @@ add-literals-in-range : tie.Need-add-literals-in-range Inv-loop μ-loop
 add-literals-in-range c = omega arith
 
 literals-in-range-requires : tie.Need-literals-in-range-requires Inv-loop μ-loop
-literals-in-range-requires c κs = search needs
+literals-in-range-requires c κs = omega arith
 
 add-i : tie.Need-add-i Inv-loop μ-loop
 add-i c = omega arith

@@ -1,38 +1,38 @@
 -- The two ranges are the definition, at the count that was read.
-use borrow.Author.Needs.{needs}
+use native.Mathlib.Omega.{arith}
 use Rattle.models.specs.Grounds.{action-spare}
 use Rattle.models.proofs.spare.action_spare.Statement.{statement}
 use Rattle.models.proofs.spare.action_spare.Tie as tie
 
 mul-at : tie.Need-mul-at
-mul-at c = search needs
+mul-at c = omega arith
 
 add-at : tie.Need-add-at
-add-at c = search needs
+add-at c = omega arith
 
 post-count-requires : tie.Need-post-count-requires
-post-count-requires c κs = search needs
+post-count-requires c κs = omega arith
 
 mul-used : tie.Need-mul-used
-mul-used c = search needs
+mul-used c = omega arith
 
 add-zeros : tie.Need-add-zeros
-add-zeros c = search needs
+add-zeros c = omega arith
 
 zeros-requires : tie.Need-zeros-requires
-zeros-requires c κs = search needs
+zeros-requires c κs = omega arith
 
 add-zeros-2 : tie.Need-add-zeros-2
-add-zeros-2 c = search needs
+add-zeros-2 c = omega arith
 
 add-zeros-3 : tie.Need-add-zeros-3
-add-zeros-3 c = search needs
+add-zeros-3 c = omega arith
 
 sub-zeros : tie.Need-sub-zeros
-sub-zeros c = search needs
+sub-zeros c = omega arith
 
 zeros-requires-2 : tie.Need-zeros-requires-2
-zeros-requires-2 c κs = search needs
+zeros-requires-2 c κs = omega arith
 
 returns : tie.Need-returns
 unfolding action-spare

@@ -2,7 +2,6 @@
 use Prim.Native.Nat.{_-_, _≤_}
 use native.Mathlib.Omega.{arith}
 use mathlib.Core.Path.{_≡_, refl, ap, _∙_}
-use borrow.Author.Needs.{needs}
 use Rattle.logic.specs.Lists.{every}
 use Rattle.models.specs.Layout.{action-count}
 use Rattle.models.specs.Grounds.{action-spare}
@@ -17,7 +16,7 @@ abbrev μ-loop : tie.MeasureT-loop
 μ-loop b actions right₀ a₀ right a = actions - a
 
 wide-requires : tie.Need-wide-requires Inv-loop μ-loop
-wide-requires c κs = search needs
+wide-requires c κs = tt
 
 loop-holds : tie.Need-loop-holds Inv-loop μ-loop
 unfolding every

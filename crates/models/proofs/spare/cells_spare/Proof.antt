@@ -3,7 +3,6 @@ use Prim.Native.Nat.{_*_, _-_, _/_, _%_, _≤_}
 use native.Mathlib.Omega.{arith}
 use mathlib.Core.Path.{_≡_, refl, ap, _∙_}
 use lib.ListN.{length}
-use borrow.Author.Needs.{needs}
 use Rattle.logic.specs.Lists.{every}
 use Rattle.blocks.specs.Block.{block-count}
 use Rattle.models.specs.Grounds.{cell-spare, cells-spare}
@@ -32,7 +31,7 @@ element-copy-out-widened c = let S = c .before .before .before in
     omega (arith, cell-inside (S .args .b .now) (S .pre .0) (c .before .loop .k) (omega arith) .0)
 
 widened-requires : tie.Need-widened-requires Inv-loop μ-loop
-widened-requires c κs = search needs
+widened-requires c κs = tt
 
 cell-spare-requires : tie.Need-cell-spare-requires Inv-loop μ-loop
 cell-spare-requires c κs = let S = c .before .before .before .before .before in

@@ -1,44 +1,44 @@
 -- The four parts are the definition; the sizes put each range inside the head.
-use borrow.Author.Needs.{needs}
+use native.Mathlib.Omega.{arith}
 use Rattle.models.specs.Grounds.{head-spare}
 use Rattle.models.proofs.spare.head_spare.Statement.{statement}
 use Rattle.models.proofs.spare.head_spare.Tie as tie
 
 wide-requires : tie.Need-wide-requires
-wide-requires c κs = search needs
+wide-requires c κs = tt
 
 mul-masks : tie.Need-mul-masks
-mul-masks c = search needs
+mul-masks c = omega arith
 
 wide-requires-2 : tie.Need-wide-requires-2
-wide-requires-2 c κs = search needs
+wide-requires-2 c κs = tt
 
 mul-end : tie.Need-mul-end
-mul-end c = search needs
+mul-end c = omega arith
 
 add-end : tie.Need-add-end
-add-end c = search needs
+add-end c = omega arith
 
 zeros-requires : tie.Need-zeros-requires
-zeros-requires c κs = search needs
+zeros-requires c κs = omega arith
 
 add-zeros : tie.Need-add-zeros
-add-zeros c = search needs
+add-zeros c = omega arith
 
 sub-zeros : tie.Need-sub-zeros
-sub-zeros c = search needs
+sub-zeros c = omega arith
 
 zeros-requires-2 : tie.Need-zeros-requires-2
-zeros-requires-2 c κs = search needs
+zeros-requires-2 c κs = omega arith
 
 actions-spare-requires : tie.Need-actions-spare-requires
-actions-spare-requires c κs = search needs
+actions-spare-requires c κs = c .before .before .before .before .before .pre
 
 sub-zeros-2 : tie.Need-sub-zeros-2
-sub-zeros-2 c = search needs
+sub-zeros-2 c = omega arith
 
 zeros-requires-3 : tie.Need-zeros-requires-3
-zeros-requires-3 c κs = search needs
+zeros-requires-3 c κs = omega arith
 
 returns : tie.Need-returns
 unfolding head-spare

@@ -2,7 +2,6 @@
 use Prim.Native.Nat.{_+_, _-_, _≤_}
 use native.Mathlib.Omega.{arith}
 use mathlib.Core.Path.{_≡_, refl, ap, _∙_}
-use borrow.Author.Needs.{needs}
 use Rattle.logic.specs.Lists.{every}
 use Rattle.blocks.specs.Block.{block-count}
 use Rattle.models.specs.Grounds.{row-spare, rows-spare}
@@ -27,7 +26,7 @@ add-row-spare : tie.Need-add-row-spare Inv-loop μ-loop
 add-row-spare c = omega arith
 
 row-spare-requires : tie.Need-row-spare-requires Inv-loop μ-loop
-row-spare-requires c κs = search needs
+row-spare-requires c κs = omega arith
 
 add-k : tie.Need-add-k Inv-loop μ-loop
 add-k c = omega arith
