@@ -1,2 +1,4 @@
+pub mod Splice
 pub mod Grid
+pub mod Turns
 pub mod Totals
