@@ -2,3 +2,4 @@ pub mod Splice
 pub mod Grid
 pub mod Turns
 pub mod Totals
+pub mod Bounds
