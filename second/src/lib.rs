@@ -3,7 +3,12 @@
 
 pub mod blocks;
 pub mod bytes;
+pub mod compare;
 pub mod desk;
+pub mod draw;
+pub mod generate;
 pub mod ground;
 pub mod logic;
+pub mod tally;
 pub mod text;
+pub mod timing;

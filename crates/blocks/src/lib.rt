@@ -87,6 +87,13 @@ pub fn zeros(b: &[u8], from: usize, n: usize) -> bool
     sum == 0
 }
 
+// Whether a number is from `least` to `most`.
+pub fn within(least: usize, most: usize, x: usize) -> bool
+    ensures { λ r. ⌜ r ≡ spec.within least most x ⌝ }
+{
+    (least <= x) & (x <= most)
+}
+
 // The sum of the 256 words of block k.
 pub fn word_sum(b: &[u8], k: usize) -> u32
     requires { ⌜ 512 * k + 512 ≤ length (now b) ⌝ }

@@ -25,3 +25,8 @@ held k (some a) = ok a
 abbrev pub guard : ℕ → Bool → Checked (Unit {0})
 guard k true = ok tt
 guard k false = refused k
+
+-- The number of a refusal; 0 for a value.
+abbrev pub refusal : {A : Type 0} → Checked A → ℕ
+refusal (ok a) = 0
+refusal (refused k) = k

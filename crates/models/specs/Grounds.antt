@@ -35,28 +35,40 @@ action-in-range b a = literals-in-range b (pre-of b a) && within 1 4 (post-count
 unfoldable pub outcome-in-range : Bytes → Step → Bool
 outcome-in-range b o = ltb (o .target) (state-count b) && within 1 100 (o .weight) && leZ (negsuc 999) (o .reward) && leZ (o .reward) (pos 1000)
 
+unfoldable pub cell-in-range : Bytes → ℕ → ℕ → Bool
+cell-in-range b s a = every (entries b s a) (λ i. outcome-in-range b (outcome-of b s a i))
+
 unfoldable pub fields-right : Bytes → Bool
 fields-right b =
     every (state-count b) (λ s. mask-in-range b (state-mask b s))
     && every (action-count b) (action-in-range b)
-    && every (state-count b) (λ s. every (action-count b) (λ a. every (entries b s a) (λ i. outcome-in-range b (outcome-of b s a i))))
+    && every (state-count b) (λ s. every (action-count b) (cell-in-range b s))
 
 -- 6: what is spare is zero. In the head: bytes 6 and 7, the masks from S up, in each action the 3 bytes after the count and the
 -- postconditions beyond it, the actions from A up with the rest of the block.
+unfoldable pub action-spare : Bytes → ℕ → Bool
+action-spare b a = zeros b (action-at a + 9) 3 && zeros b (action-at a + 12 + 8 * post-count b a) (32 - 8 * post-count b a)
+
 unfoldable pub head-spare : Bytes → Bool
 head-spare b =
     zeros b 6 2
     && zeros b (8 + 4 * state-count b) (128 - 4 * state-count b)
-    && every (action-count b) (λ a. zeros b (action-at a + 9) 3 && zeros b (action-at a + 12 + 8 * post-count b a) (32 - 8 * post-count b a))
+    && every (action-count b) (action-spare b)
     && zeros b (action-at (action-count b)) (510 - action-at (action-count b))
 
 -- In row block k: bytes 2 and 3, and those after the three states.
+unfoldable pub row-spare : Bytes → ℕ → Bool
+row-spare b k = zeros b (512 * k + 2) 2 && zeros b (512 * k + 388) 122
+
 unfoldable pub rows-spare : Bytes → Bool
-rows-spare b = every (block-count b - 1) (λ k. zeros b (512 * (k + 1) + 2) 2 && zeros b (512 * (k + 1) + 388) 122)
+rows-spare b = every (block-count b - 1) (λ k. row-spare b (k + 1))
 
 -- In each cell, the outcomes that are not used; in cells of actions not enabled, from S or from A up, all of them.
+unfoldable pub cell-spare : Bytes → ℕ → ℕ → Bool
+cell-spare b s a = zeros b (cell-at s a + 4 * entries b s a) (16 - 4 * entries b s a)
+
 unfoldable pub cells-spare : Bytes → Bool
-cells-spare b = every (3 * (block-count b - 1)) (λ s. every 8 (λ a. zeros b (cell-at s a + 4 * entries b s a) (16 - 4 * entries b s a)))
+cells-spare b = every (3 * (block-count b - 1)) (λ s. every 8 (cell-spare b s))
 
 -- 7: an action's postconditions contradict in pairs; each target makes its postcondition true; the weights sum to D.
 unfoldable pub posts-contradict : Bytes → ℕ → Bool

@@ -1,6 +1,7 @@
 //! Text to blocks and back; `TEXT-FORM.md` has the grammar.
 
 use second::desk::Call;
+use second::draw::draw;
 use second::text::{show_blocks, Packer, Part};
 use std::io::{self, Read, Write};
 use std::process::ExitCode;
@@ -14,7 +15,8 @@ fn main() -> ExitCode {
         }
         ["calls", files @ ..] if !files.is_empty() => calls(files),
         ["show"] => show(),
-        _ => Err("usage: plantext pack FILE.. | calls FILE.. | show".to_string()),
+        ["draw"] => draw_picture(),
+        _ => Err("usage: plantext pack FILE.. | calls FILE.. | show | draw".to_string()),
     };
     match done {
         Ok(()) => ExitCode::SUCCESS,
@@ -54,6 +56,13 @@ fn calls(files: &[&str]) -> Result<(), String> {
 
 fn show() -> Result<(), String> {
     write_out(show_blocks(&read_input()?).as_bytes())
+}
+
+/// Draws a model followed by a question.
+fn draw_picture() -> Result<(), String> {
+    let picture = draw(&read_input()?);
+    let picture = picture.map_err(|ground| format!("refused {}", ground.number()))?;
+    write_out(picture.as_bytes())
 }
 
 fn read_input() -> Result<Vec<u8>, String> {

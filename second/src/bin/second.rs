@@ -1,22 +1,34 @@
 //! The second implementation's commands; `README.md` describes each.
 
+use second::compare::compare;
 use second::desk::{next_call, verdict_line, Desk, JudgeKind};
+use second::generate::{bench_cases, stream};
+use second::tally::tally;
+use second::timing::time;
 use std::io::{self, Read, Write};
 use std::process::ExitCode;
 
+const USAGE: &str = "usage: second [--plain] COMMAND
+  verdict                    a model and a question to their verdict line
+  replay                     a stream of calls to a line for each
+  tally                      a stream of calls to counts of its answers
+  generate KIND SEED COUNT   a stream of models, questions, judges, sheets or lists
+  compare SEED COUNT         the fast judge against the plain one
+  bench-cases DIR            worst cases as DIR/NAME.bin
+  bench FILE..               the time of each case in microseconds";
+
 fn main() -> ExitCode {
     let mut arguments: Vec<String> = std::env::args().skip(1).collect();
-    let plain = arguments.first().map(String::as_str) == Some("--plain");
-    if plain {
+    let mut kind = JudgeKind::Fast;
+    if arguments.first().map(String::as_str) == Some("--plain") {
         arguments.remove(0);
+        kind = JudgeKind::Plain;
     }
-    let kind = if plain {
-        JudgeKind::Plain
-    } else {
-        JudgeKind::Fast
-    };
-    match run(kind, &arguments) {
+    let words: Vec<&str> = arguments.iter().map(String::as_str).collect();
+    match run(kind, &words) {
         Ok(code) => code,
+        // A reader that has had enough is no fault of ours.
+        Err(error) if error.kind() == io::ErrorKind::BrokenPipe => ExitCode::SUCCESS,
         Err(error) => {
             eprintln!("second: {error}");
             ExitCode::FAILURE
@@ -24,23 +36,33 @@ fn main() -> ExitCode {
     }
 }
 
-fn run(kind: JudgeKind, arguments: &[String]) -> io::Result<ExitCode> {
-    let words: Vec<&str> = arguments.iter().map(String::as_str).collect();
-    match words.as_slice() {
-        ["verdict"] => println!("{}", verdict_line(&read_input()?, kind)),
+fn run(kind: JudgeKind, words: &[&str]) -> io::Result<ExitCode> {
+    match words {
+        ["verdict"] => print_line(&verdict_line(&read_input()?, kind))?,
         ["replay"] => replay(kind, &read_input()?)?,
-        _ => {
-            eprintln!("usage: second [--plain] verdict | replay");
-            return Ok(ExitCode::from(2));
-        }
+        ["tally"] => print_tally(&read_input()?)?,
+        ["generate", kind, seed, count] => return generate(kind, seed, count),
+        ["compare", seed, count] => return compare_judges(seed, count),
+        ["bench-cases", folder] => write_cases(folder)?,
+        ["bench", files @ ..] => bench(files)?,
+        _ => return Ok(usage()),
     }
     Ok(ExitCode::SUCCESS)
+}
+
+fn usage() -> ExitCode {
+    eprintln!("{USAGE}");
+    ExitCode::from(2)
 }
 
 fn read_input() -> io::Result<Vec<u8>> {
     let mut input = Vec::new();
     io::stdin().lock().read_to_end(&mut input)?;
     Ok(input)
+}
+
+fn print_line(line: &str) -> io::Result<()> {
+    writeln!(io::stdout().lock(), "{line}")
 }
 
 /// Makes a stream of calls from the empty desk on, a line for each.
@@ -52,4 +74,58 @@ fn replay(kind: JudgeKind, stream: &[u8]) -> io::Result<()> {
         writeln!(out, "{}", call.make(&mut desk))?;
     }
     out.flush()
+}
+
+fn print_tally(stream: &[u8]) -> io::Result<()> {
+    for ((call, _, words), count) in tally(stream) {
+        print_line(&format!("{count:8} {call} {words}"))?;
+    }
+    Ok(())
+}
+
+fn generate(kind: &str, seed: &str, count: &str) -> io::Result<ExitCode> {
+    let (Ok(seed), Ok(count)) = (seed.parse(), count.parse()) else {
+        return Ok(usage());
+    };
+    let Some(bytes) = stream(kind, seed, count) else {
+        return Ok(usage());
+    };
+    io::stdout().lock().write_all(&bytes)?;
+    Ok(ExitCode::SUCCESS)
+}
+
+fn compare_judges(seed: &str, count: &str) -> io::Result<ExitCode> {
+    let (Ok(seed), Ok(count)) = (seed.parse(), count.parse()) else {
+        return Ok(usage());
+    };
+    match compare(seed, count) {
+        Ok(compared) => {
+            print_line(&format!("{compared} questions, no difference"))?;
+            Ok(ExitCode::SUCCESS)
+        }
+        Err(found) => {
+            print_line(&found.text)?;
+            print_line(&format!("# fast  {}\n# plain {}", found.fast, found.plain))?;
+            Ok(ExitCode::FAILURE)
+        }
+    }
+}
+
+fn write_cases(folder: &str) -> io::Result<()> {
+    std::fs::create_dir_all(folder)?;
+    for case in bench_cases() {
+        let path = format!("{folder}/{}.bin", case.name);
+        std::fs::write(&path, [case.model, case.question].concat())?;
+        print_line(&path)?;
+    }
+    Ok(())
+}
+
+fn bench(files: &[&str]) -> io::Result<()> {
+    for file in files {
+        let (best, line) = time(&std::fs::read(file)?);
+        let shown: String = line.chars().take(60).collect();
+        print_line(&format!("{:10} us {file}: {shown}", best.as_micros()))?;
+    }
+    Ok(())
 }

@@ -1,5 +1,7 @@
 //! A path: the states passed, with the action and reward of each step.
 
+use super::Outcome;
+
 /// A path of document 001, Definition 2, with the rewards of its steps.
 #[derive(Clone, Debug, PartialEq, Eq)]
 pub struct Path {
@@ -20,6 +22,16 @@ impl Path {
             rewards: Vec::new(),
             weight: 1,
         }
+    }
+
+    /// The path one step on, by an action with one of its outcomes.
+    pub fn extended(&self, action: u8, outcome: &Outcome) -> Path {
+        let mut path = self.clone();
+        path.states.push(outcome.target);
+        path.actions.push(action);
+        path.rewards.push(outcome.reward);
+        path.weight = path.weight.saturating_mul(u64::from(outcome.weight));
+        path
     }
 
     /// The sum of `steps` rewards from a place on.

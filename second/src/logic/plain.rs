@@ -25,6 +25,11 @@ pub fn weight_of(model: &Model, question: &Question, root: &PlanNode, plan: &Pla
     Reader { model, question }.weight(root, plan)
 }
 
+/// Whether the condition of a plan node is true on a path.
+pub fn condition_holds(model: &Model, question: &Question, node: &PlanNode, path: &Path) -> bool {
+    Reader { model, question }.holds(usize::from(node.condition), path, 0)
+}
+
 /// About how many nodes `judge` will look at: plans times paths times the
 /// formula followed as a tree.
 pub fn cost(model: &Model, question: &Question, totals: &Totals) -> u128 {

@@ -121,11 +121,7 @@ impl Plan {
             return;
         };
         for (place, outcome) in entry.outcomes.iter().enumerate() {
-            let mut path = so_far.clone();
-            path.states.push(outcome.target);
-            path.actions.push(entry.action);
-            path.rewards.push(outcome.reward);
-            path.weight = path.weight.saturating_mul(u64::from(outcome.weight));
+            let path = so_far.extended(entry.action, outcome);
             match self.below.get(place) {
                 Some(plan) => plan.extend_paths(model, &path, found),
                 None => found.push(path),

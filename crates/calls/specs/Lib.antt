@@ -1,0 +1,3 @@
+pub mod Calls
+pub mod History
+pub mod Demand3

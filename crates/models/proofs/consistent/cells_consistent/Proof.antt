@@ -1,0 +1,90 @@
+use Prim.Native.Nat.{ℕ, _+_, _*_, _-_, _/_, _%_, _≤_}
+use native.Mathlib.Omega.{arith}
+use mathlib.Core.Path.{_≡_, refl, sym, ap, ap₂, _∙_}
+use Rattle.logic.specs.Lists.{every}
+use borrow.Author.Needs.{needs}
+use Rattle.models.proofs.Laws.{every-more}
+use Rattle.models.specs.Grounds.{cell-consistent}
+use lib.ListN.{getD, length}
+use Rattle.models.proofs.Laws.{grid}
+use Rattle.models.specs.Layout.{state-count, action-count}
+use Rattle.models.proofs.Laws.{consistent-past}
+use Rattle.models.proofs.consistent.cells_consistent.Statement.{statement}
+use Rattle.models.proofs.consistent.cells_consistent.Tie as tie
+use Rattle.models.proofs.consistent.cells_consistent.Reads as reads
+use Rattle.models.proofs.consistent.cells_consistent.Lts as lts
+use Rattle.blocks.proofs.wide.Reads as wide-reads
+use Rattle.models.proofs.consistent.cell_consistent.Reads as cell-consistent-reads
+use Rattle.models.proofs.widened.Reads as widened-reads
+
+abbrev Inv-loop : tie.InvT-loop
+Inv-loop b used cells right₀ k₀ right k = (k ≤ cells) × (right ≡ every k (λ k. cell-consistent b (k / 8) (k % 8)))
+
+abbrev μ-loop : tie.MeasureT-loop
+μ-loop b used cells right₀ k₀ right k = cells - k
+
+-- src/consistent.rt:109:21
+wide-requires : tie.Need-wide-requires Inv-loop μ-loop
+wide-requires c κs = search needs
+
+-- src/consistent.rt:109:17
+mul-cells : tie.Need-mul-cells Inv-loop μ-loop
+mul-cells c = omega arith
+
+-- src/consistent.rt:112:5
+loop-holds : tie.Need-loop-holds Inv-loop μ-loop
+unfolding every
+loop-holds c = (omega arith, refl)
+
+-- src/consistent.rt:113:66
+element-copy-out-widened : tie.Need-element-copy-out-widened Inv-loop μ-loop
+element-copy-out-widened c = omega arith
+
+-- src/consistent.rt:113:58
+widened-requires : tie.Need-widened-requires Inv-loop μ-loop
+widened-requires c κs = search needs
+
+-- src/consistent.rt:113:25
+cell-consistent-requires : tie.Need-cell-consistent-requires Inv-loop μ-loop
+cell-consistent-requires c κs = let S = c .before .before .before .before .before .before in
+    let k = c .before .before .before .loop .k in
+    (omega arith, omega arith, c .widened .ensures .1, c .widened .ensures .0 ∙ S .pre .2 .count k (omega arith))
+
+-- src/consistent.rt:114:9
+add-k : tie.Need-add-k Inv-loop μ-loop
+add-k c = omega arith
+
+-- src/consistent.rt:112:5
+loop-less : tie.Need-loop-less Inv-loop μ-loop
+loop-less c = omega arith
+
+-- src/consistent.rt:112:5
+loop-again : tie.Need-loop-again Inv-loop μ-loop
+loop-again c = let b = c .before .before .before .before .before .before .before .args .b .now in
+    let L = c .before .before .before .before .loop in
+    (omega arith, every-more (λ k. cell-consistent b (k / 8) (k % 8)) (L .k) (L .inv .1) (c .cell-consistent .ensures))
+
+-- src/consistent.rt:105:1
+returns : tie.Need-returns Inv-loop μ-loop
+returns c = let S = c .before .before .before .before in
+    let b = S .args .b .now in
+    let L = c .before .loop in
+    let e : L .k ≡ 8 * state-count b = omega arith in
+    L .inv .1 ∙ ap (λ m. every m (λ k. cell-consistent b (k / 8) (k % 8))) e ∙ grid (cell-consistent b) (state-count b) (action-count b) (S .pre .1) (λ s a h l. consistent-past b s a h)
+
+pub cells-consistent-spec : {M : Type 1} → statement M
+cells-consistent-spec =
+    tie.close
+    (tie.spec
+    Inv-loop
+    μ-loop
+    wide-requires
+    mul-cells
+    loop-holds
+    element-copy-out-widened
+    widened-requires
+    cell-consistent-requires
+    add-k
+    loop-less
+    loop-again
+    returns)

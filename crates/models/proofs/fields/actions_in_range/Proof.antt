@@ -1,0 +1,68 @@
+use Prim.Native.Nat.{ℕ, _+_, _*_, _-_, _/_, _%_, _≤_}
+use native.Mathlib.Omega.{arith}
+use mathlib.Core.Path.{_≡_, refl, sym, ap, ap₂, _∙_}
+use Rattle.logic.specs.Lists.{every}
+use borrow.Author.Needs.{needs}
+use Rattle.models.proofs.Laws.{every-more}
+use Rattle.models.specs.Grounds.{action-in-range}
+use Rattle.models.specs.Layout.{action-count}
+use Rattle.models.proofs.fields.actions_in_range.Statement.{statement}
+use Rattle.models.proofs.fields.actions_in_range.Tie as tie
+use Rattle.models.proofs.fields.actions_in_range.Reads as reads
+use Rattle.models.proofs.fields.actions_in_range.Lts as lts
+use Rattle.blocks.proofs.wide.Reads as wide-reads
+use Rattle.models.proofs.fields.action_in_range.Reads as action-in-range-reads
+
+abbrev Inv-loop : tie.InvT-loop
+Inv-loop b actions right₀ a₀ right a = (a ≤ actions) × (right ≡ every a (action-in-range b))
+
+abbrev μ-loop : tie.MeasureT-loop
+μ-loop b actions right₀ a₀ right a = actions - a
+
+-- src/fields.rt:74:9
+wide-requires : tie.Need-wide-requires Inv-loop μ-loop
+wide-requires c κs = search needs
+
+-- src/fields.rt:77:5
+loop-holds : tie.Need-loop-holds Inv-loop μ-loop
+unfolding every
+loop-holds c = (omega arith, refl)
+
+-- src/fields.rt:78:25
+action-in-range-requires : tie.Need-action-in-range-requires Inv-loop μ-loop
+action-in-range-requires c κs = search needs
+
+-- src/fields.rt:79:9
+add-a : tie.Need-add-a Inv-loop μ-loop
+add-a c = omega arith
+
+-- src/fields.rt:77:5
+loop-less : tie.Need-loop-less Inv-loop μ-loop
+loop-less c = omega arith
+
+-- src/fields.rt:77:5
+loop-again : tie.Need-loop-again Inv-loop μ-loop
+loop-again c = let b = c .before .before .before .before .before .args .b .now in
+    let L = c .before .before .loop in
+    (omega arith, every-more (action-in-range b) (L .a) (L .inv .1) (c .action-in-range .ensures))
+
+-- src/fields.rt:70:1
+returns : tie.Need-returns Inv-loop μ-loop
+returns c = let b = c .before .before .before .before .args .b .now in
+    let L = c .before .loop in
+    let e : L .a ≡ action-count b = omega arith in
+    L .inv .1 ∙ ap (λ m. every m (action-in-range b)) e
+
+pub actions-in-range-spec : {M : Type 1} → statement M
+actions-in-range-spec =
+    tie.close
+    (tie.spec
+    Inv-loop
+    μ-loop
+    wide-requires
+    loop-holds
+    action-in-range-requires
+    add-a
+    loop-less
+    loop-again
+    returns)

@@ -1,0 +1,379 @@
+//! Made-up models at the limits, written as text: plans of a given size, a
+//! million paths, 65,536 plans, and worst cases for timing.
+
+use crate::text::pack_text;
+
+/// A model followed by a question, under a name.
+pub struct Case {
+    pub name: &'static str,
+    pub model: Vec<u8>,
+    pub question: Vec<u8>,
+}
+
+/// Packs a text of our own making.
+fn pack(text: &str) -> Vec<u8> {
+    pack_text(text).unwrap_or_default()
+}
+
+/// A question of these nodes.
+pub(super) fn question(start: u8, nodes: &[String]) -> Vec<u8> {
+    let numbered = nodes.iter().enumerate();
+    let lines: String = numbered
+        .map(|(own, node)| format!("{own} {node}\n"))
+        .collect();
+    pack(&format!("question start {start}\n{lines}"))
+}
+
+/// Lines for actions of one to four postconditions over propositions b0, b1.
+const POSTS: [&str; 4] = [
+    "post always\n",
+    "post b0\npost !b0\n",
+    "post b0 b1\npost b0 !b1\npost !b0\n",
+    "post b0 b1\npost b0 !b1\npost !b0 b1\npost !b0 !b1\n",
+];
+
+/// For each number of postconditions, weights that sum to 10, in two ways.
+const WEIGHTS: [[&[u8]; 2]; 4] = [
+    [&[10], &[10]],
+    [&[7, 3], &[4, 6]],
+    [&[5, 3, 2], &[2, 4, 4]],
+    [&[4, 3, 2, 1], &[1, 2, 3, 4]],
+];
+
+/// For each number of postconditions, the low bits that a target needs.
+const LOW_BITS: [&[u8]; 4] = [&[3], &[3, 0], &[3, 1, 0], &[3, 1, 2, 0]];
+
+/// How many choices a plan of four outcomes everywhere has.
+fn full_size(steps: usize) -> usize {
+    (0..steps).fold(0, |size, _| 4 * size + 1)
+}
+
+/// A model in which every plan of `steps` steps from the last state has just
+/// `size` choices. The first four states have two actions of four outcomes
+/// each; each further one leads to a smaller remainder and full trees. Gives
+/// the model and the start.
+pub(super) fn plan_of_size(size: usize, steps: usize) -> (Vec<u8>, u8) {
+    // From the smallest remainder up: how many outcomes each state has.
+    let mut arities = Vec::new();
+    let (mut left, mut below) = (size, steps.saturating_sub(1));
+    while below > 0 && left != full_size(below + 1) {
+        let full = full_size(below);
+        let arity = (left - 1).div_ceil(full).clamp(1, 4);
+        arities.insert(0, arity);
+        left = (left - 1).saturating_sub((arity - 1) * full);
+        below -= 1;
+    }
+    let mut text = String::from("model D 10\n");
+    for (number, name) in ["b0", "b1", "w0", "w1"].iter().enumerate() {
+        text += &format!("proposition {number} {name}\n");
+    }
+    for (number, low) in ["", "b0", "b1", "b0 b1"].iter().enumerate() {
+        text += &format!("state {number}: {low} w0 w1\n");
+    }
+    for (place, arity) in arities.iter().enumerate() {
+        let code = ["", "w0", "w1", "w0 w1"][arity - 1];
+        text += &format!("state {}: b0 b1 {code}\n", 4 + place);
+    }
+    for action in 0..8 {
+        let needs = ["!w0 !w1", "w0 !w1", "!w0 w1", "w0 w1"][action % 4];
+        text += &format!("action {action} needs {needs}\n{}", POSTS[action % 4]);
+    }
+    for state in 0..4 + arities.len() {
+        let arity = if state < 4 { 4 } else { arities[state - 4] };
+        let first = if state <= 4 { 3 } else { state as u8 - 1 };
+        text += &outcome_line(state, arity - 1, arity, 0, first);
+        text += &outcome_line(state, arity + 3, arity, 1, first);
+    }
+    (pack(&text), 3 + arities.len() as u8)
+}
+
+/// An outcome line whose first target is given.
+fn outcome_line(state: usize, action: usize, arity: usize, way: usize, first: u8) -> String {
+    let weights = WEIGHTS[arity - 1][way];
+    let lows = LOW_BITS[arity - 1];
+    let mut parts = Vec::new();
+    for (place, (weight, low)) in weights.iter().zip(lows).enumerate() {
+        let target = if place == 0 { first } else { *low };
+        let reward = (state + 3 * action + 5 * place) as i32 % 7 - 3;
+        parts.push(format!("{target} weight {weight} reward {reward}"));
+    }
+    format!("outcome {state} {action}: {}\n", parts.join(", "))
+}
+
+/// A model with exactly 1,000,000 six-step paths from some states or, with
+/// one more outcome, 1,000,001 from the last. States 0 to 3 have ten outcomes
+/// among themselves, 4 to 7 one; 8 has ten or eleven to those of one, and
+/// each of 9 to 13 nine to the first and one to the state before it.
+pub(super) fn million_paths(one_more: bool) -> Vec<u8> {
+    let mut text = String::from("model D 10\n");
+    for (number, name) in ["b0", "b1", "still", "last"].iter().enumerate() {
+        text += &format!("proposition {number} {name}\n");
+    }
+    for state in 0..8usize {
+        let low = ["", "b0", "b1", "b0 b1"][state % 4];
+        let still = if state < 4 { "" } else { "still" };
+        text += &format!("state {state}: {low} {still}\n");
+    }
+    let flag = if one_more { "last" } else { "" };
+    text += &format!("state 8: b0 b1 {flag}\n");
+    for state in 9..14 {
+        text += &format!("state {state}: b0 b1\n");
+    }
+    text += &format!(
+        "action 0 needs !still\n{0}action 1 needs !still\n{0}",
+        POSTS[3]
+    );
+    text += &format!("action 2 needs !still !last\n{}", POSTS[1]);
+    text += &format!("action 3 needs !still last\n{}", POSTS[2]);
+    text += &format!("action 4 needs still\n{}", POSTS[0]);
+    for state in (0..4).chain(8..14) {
+        let base = if state == 8 { 4 } else { 0 };
+        let first = if state > 8 { state - 1 } else { base + 3 };
+        text += &based_line(state, 0, 4, base, base + 3);
+        text += &based_line(state, 1, 4, base, base + 3);
+        match state == 8 && one_more {
+            true => text += &based_line(state, 3, 3, base, base + 3),
+            false => text += &based_line(state, 2, 2, base, first),
+        }
+    }
+    for state in 4..8 {
+        text += &format!("outcome {state} 4: {state} weight 10\n");
+    }
+    pack(&text)
+}
+
+/// An outcome line among the four states from `base` on, whose first target
+/// is given.
+fn based_line(state: u8, action: u8, arity: usize, base: u8, first: u8) -> String {
+    let lows = LOW_BITS[arity - 1].iter().skip(1).map(|low| base + low);
+    let targets: Vec<u8> = std::iter::once(first).chain(lows).collect();
+    let weights = WEIGHTS[arity - 1][usize::from(action) % 2];
+    let pairs = targets.iter().zip(weights);
+    let parts: Vec<String> = pairs
+        .map(|(target, weight)| format!("{target} weight {weight} reward {}", weight % 3))
+        .collect();
+    format!("outcome {state} {action}: {}\n", parts.join(", "))
+}
+
+/// A model with exactly 65,536 three-step plans from state 0 or, with one
+/// more action there, 65,537. State 0 has one action of four outcomes to
+/// states of one such action, those to states of two deterministic actions.
+pub(super) fn most_plans(one_more: bool) -> Vec<u8> {
+    let mut text = String::from("model D 10\n");
+    for (number, name) in ["b0", "b1", "root", "leaf", "end"].iter().enumerate() {
+        text += &format!("proposition {number} {name}\n");
+    }
+    let lows = ["", "b0", "b1", "b0 b1"];
+    text += "state 0: root\n";
+    for (group, flag) in ["", "leaf", "end"].iter().enumerate() {
+        for (number, low) in lows.iter().enumerate() {
+            text += &format!("state {}: {low} {flag}\n", 1 + 4 * group + number);
+        }
+    }
+    text += &format!("action 0 needs !leaf !end\n{}", POSTS[3]);
+    text += "action 1 needs leaf\npost end\naction 2 needs leaf\npost end\n";
+    text += "action 3 needs end\npost end\n";
+    text += match one_more {
+        true => "action 4 needs root\npost end\noutcome 0 4: 9 weight 10\n",
+        false => "",
+    };
+    text += &based_line(0, 0, 4, 1, 4);
+    for state in 1..5 {
+        text += &based_line(state, 0, 4, 5, 8);
+    }
+    for state in 5..9 {
+        text += &format!("outcome {state} 1: {0} weight 10\n", state + 4);
+        text += &format!("outcome {state} 2: {0} weight 10 reward 1\n", state + 4);
+    }
+    for state in 9..13 {
+        text += &format!("outcome {state} 3: {state} weight 10\n");
+    }
+    pack(&text)
+}
+
+/// A model of 32 states with ten outcomes each, so that every state has a
+/// million six-step paths.
+fn ten_outcomes() -> Vec<u8> {
+    let mut text = String::from("model D 10 N 5\nproposition 0 b0\nproposition 1 b1\n");
+    for state in 0..32 {
+        let bits = (0..5).filter(|bit| state >> bit & 1 == 1);
+        let words: String = bits.map(|bit| format!(" {bit}")).collect();
+        text += &format!("state {state}:{words}\n");
+    }
+    text += &format!(
+        "action 0\n{0}action 1\n{0}action 2\n{1}",
+        POSTS[3], POSTS[1]
+    );
+    for state in 0..32 {
+        for (action, arity) in [(0, 4), (1, 4), (2, 2)] {
+            text += &scattered_line(state, action, arity);
+        }
+    }
+    pack(&text)
+}
+
+/// An outcome line with targets all over the 32 states.
+fn scattered_line(state: usize, action: usize, arity: usize) -> String {
+    let weights = WEIGHTS[arity - 1][state % 2];
+    let pairs = LOW_BITS[arity - 1].iter().zip(weights).enumerate();
+    let parts: Vec<String> = pairs
+        .map(|(place, (low, weight))| {
+            let group = (7 * state + 3 * action + 5 * place) % 8;
+            let target = 4 * group + usize::from(*low);
+            let reward = (13 * state + 7 * action + 11 * place) as i32 % 9 - 4;
+            format!("{target} weight {weight} reward {reward}")
+        })
+        .collect();
+    format!("outcome {state} {action}: {}\n", parts.join(", "))
+}
+
+/// A model with 65,536 six-step plans of 1,365 choices from state 0: four
+/// outcomes everywhere, and two actions just in the states met after two
+/// steps.
+fn equal_levels() -> Vec<u8> {
+    let mut text = String::from("model D 10\n");
+    for (number, name) in ["b0", "b1", "two", "late"].iter().enumerate() {
+        text += &format!("proposition {number} {name}\n");
+    }
+    text += "state 0:\n";
+    for (group, flag) in ["", "two", "late"].iter().enumerate() {
+        for (number, low) in ["", "b0", "b1", "b0 b1"].iter().enumerate() {
+            text += &format!("state {}: {low} {flag}\n", 1 + 4 * group + number);
+        }
+    }
+    text += &format!("action 0\n{0}action 1 needs two\n{0}", POSTS[3]);
+    for state in 0..13u8 {
+        let base = [1, 5, 9, 9][usize::from((state + 3) / 4)];
+        text += &based_line(state, 0, 4, base, base + 3);
+        if (5..9).contains(&state) {
+            text += &based_line(state, 1, 4, base, base + 3);
+        }
+    }
+    pack(&text)
+}
+
+fn words(nodes: &[&str]) -> Vec<String> {
+    nodes.iter().map(|node| node.to_string()).collect()
+}
+
+/// Worst cases within the limits, one of each kind.
+pub fn bench_cases() -> Vec<Case> {
+    let case = |name, model: &Vec<u8>, nodes: &[String]| Case {
+        name,
+        model: model.clone(),
+        question: question(0, nodes),
+    };
+    let ten = ten_outcomes();
+    let levels = equal_levels();
+    let gain_root = words(&["gain 6 steps greater 2", "plan 0 steps 6 greater 1/2"]);
+    let equal_root = words(&[
+        "gain 6 steps greater 6",
+        "plan 0 steps 6 equal 123457/1000000",
+    ]);
+    vec![
+        case("greater-million-paths", &ten, &gain_root),
+        case("equal-65536-plans", &levels, &equal_root),
+        case("formula-39-nodes", &ten, &long_formula()),
+        case("and-of-itself-38", &ten, &doubled_formula()),
+        case("nested-shallow-37", &ten, &nested_shallow()),
+        case("nested-deep-gains", &ten, &nested_deep("greater", 6)),
+        case("nested-equal", &levels, &nested_deep("equal", 3)),
+    ]
+}
+
+/// 39 nodes that are all worked out at the end of each path.
+fn long_formula() -> Vec<String> {
+    let mut nodes = words(&["gain 6 steps greater 0", "gain 6 steps less 9"]);
+    for own in 2..39 {
+        nodes.push(match own % 3 {
+            0 => format!("not {}", own - 1),
+            _ => format!("and {} {}", own - 1, own - 2),
+        });
+    }
+    nodes.push("plan 38 steps 6 greater 1/2".to_string());
+    nodes
+}
+
+fn doubled_formula() -> Vec<String> {
+    let mut nodes = words(&["gain 6 steps greater 2"]);
+    for own in 1..39 {
+        nodes.push(format!("and {0} {0}", own - 1));
+    }
+    nodes.push("plan 38 steps 6 greater 1/2".to_string());
+    nodes
+}
+
+fn nested_shallow() -> Vec<String> {
+    let mut nodes = words(&["proposition 0", "next 0"]);
+    for own in 2..39 {
+        nodes.push(format!("plan {} steps 6 greater 1/2", own - 1));
+    }
+    nodes.push("plan 38 steps 6 greater 1/2".to_string());
+    nodes
+}
+
+/// Plan nodes that need the one below in every state, each with a gain.
+fn nested_deep(relation: &str, gain: u8) -> Vec<String> {
+    let mut nodes = words(&["proposition 0"]);
+    while nodes.len() + 4 <= 40 {
+        let last = nodes.len() - 1;
+        let bound = nodes.len() as i32 / 4 - 4;
+        nodes.push(format!("gain {gain} steps greater {bound}"));
+        nodes.push(format!("next {last}"));
+        nodes.push(format!("and {} {}", last + 1, last + 2));
+        nodes.push(format!("plan {} steps 6 {relation} 1/2", last + 3));
+    }
+    nodes
+}
+
+#[cfg(test)]
+mod tests {
+    use super::*;
+    use crate::blocks::read_model;
+    use crate::logic::{Plan, Totals};
+
+    fn totals(model: &[u8]) -> (Totals, u8) {
+        let model = read_model(model).expect("an accepted model");
+        (Totals::of(&model), model.states() as u8)
+    }
+
+    #[test]
+    fn a_million_paths_and_one() {
+        for (one_more, wanted) in [(false, 1_000_000), (true, 1_000_001)] {
+            let (totals, states) = totals(&million_paths(one_more));
+            let most = (0..states).map(|state| totals.paths(6, state)).max();
+            assert_eq!(most, Some(wanted));
+        }
+    }
+
+    #[test]
+    fn most_plans_and_one() {
+        for (one_more, wanted) in [(false, 65_536), (true, 65_537)] {
+            let (totals, states) = totals(&most_plans(one_more));
+            let most = (0..states).map(|state| totals.plans(3, state)).max();
+            assert_eq!(most, Some(wanted));
+        }
+    }
+
+    #[test]
+    fn plans_of_given_size() {
+        for size in [489, 490, 491, 980, 981, 1365] {
+            let (bytes, start) = plan_of_size(size, 6);
+            let model = read_model(&bytes).expect("an accepted model");
+            let mut plan = Plan::first(&model, start, 6);
+            assert_eq!(plan.choices(&model).len(), size);
+            assert!(plan.advance(&model));
+            assert_eq!(plan.choices(&model).len(), size);
+        }
+    }
+
+    #[test]
+    fn bench_cases_are_served() {
+        for model in [ten_outcomes(), equal_levels()] {
+            let (totals, states) = totals(&model);
+            assert!((0..states).all(|state| totals.paths(6, state) <= 1_000_000));
+        }
+        assert_eq!(totals(&ten_outcomes()).0.paths(6, 0), 1_000_000);
+        assert_eq!(totals(&equal_levels()).0.plans(6, 0), 65_536);
+    }
+}

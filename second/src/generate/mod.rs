@@ -1,0 +1,37 @@
+//! Streams of calls for laying two implementations side by side. Everything
+//! follows from a seed.
+
+mod cases;
+mod damage;
+mod lists;
+mod model;
+mod model_damage;
+mod question;
+mod question_damage;
+mod rng;
+mod sheet_damage;
+mod streams;
+
+pub use cases::{bench_cases, Case};
+pub use lists::lists;
+pub use model::{random_model, Size};
+pub use question::{random_question, Scale};
+pub use rng::Rng;
+pub use streams::{judges, models, questions, sheets};
+
+use crate::desk::Call;
+
+/// The stream of a kind, or none if there is no such kind.
+pub fn stream(kind: &str, seed: u64, count: usize) -> Option<Vec<u8>> {
+    let mut rng = Rng::new(seed);
+    let mut calls = match kind {
+        "models" => models(&mut rng, count),
+        "questions" => questions(&mut rng, count),
+        "judges" => judges(&mut rng, count),
+        "sheets" => sheets(&mut rng, count),
+        "lists" => lists(&mut rng, count),
+        _ => return None,
+    };
+    calls.truncate(count);
+    Some(calls.iter().flat_map(Call::record).collect())
+}

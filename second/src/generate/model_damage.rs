@@ -1,0 +1,357 @@
+//! Ways to damage a model, at least one for each side of each ground.
+
+use super::damage::Patches;
+use super::rng::Rng;
+use crate::blocks::{ModelImage, OutcomeImage, BLOCK};
+use crate::logic::Literals;
+
+/// A model that is being damaged.
+#[derive(Clone)]
+pub(super) struct Draft {
+    pub(super) image: ModelImage,
+    patches: Patches,
+}
+
+impl Draft {
+    pub(super) fn of(image: ModelImage) -> Draft {
+        Draft {
+            image,
+            patches: Patches::default(),
+        }
+    }
+
+    pub(super) fn pack(&self) -> Vec<u8> {
+        self.patches.apply(self.image.pack())
+    }
+
+    fn len(&self) -> usize {
+        BLOCK * (1 + self.image.rows.len())
+    }
+
+    fn states(&self) -> usize {
+        usize::from(self.image.states).clamp(1, 32)
+    }
+
+    fn actions(&self) -> usize {
+        usize::from(self.image.actions).clamp(1, 8)
+    }
+
+    /// A bit from N up, or just below.
+    fn bit_beyond(&self, rng: &mut Rng) -> u32 {
+        let first = u32::from(self.image.propositions);
+        let bits = [first.saturating_sub(1), first, first + 1, 31];
+        1u32.checked_shl(rng.pick_or(&bits, 31)).unwrap_or(1 << 31)
+    }
+
+    /// One of the model's preconditions and postconditions.
+    fn literals(&mut self, rng: &mut Rng) -> &mut Literals {
+        let action = rng.below(self.actions());
+        let entry = &mut self.image.moves[action];
+        match rng.below(1 + usize::from(entry.count).clamp(1, 4)) {
+            0 => &mut entry.precondition,
+            number => &mut entry.posts[number - 1],
+        }
+    }
+
+    /// The outcomes of some action in some state where it is enabled or, if
+    /// so asked, where it is not.
+    fn pair(&self, rng: &mut Rng, enabled: bool) -> Option<(usize, usize)> {
+        let mut pairs = Vec::new();
+        for state in 0..self.states() {
+            for action in 0..self.actions() {
+                let precondition = self.image.moves[action].precondition;
+                if precondition.true_in(self.image.masks[state]) == enabled {
+                    pairs.push((state, action));
+                }
+            }
+        }
+        rng.pick(&pairs)
+    }
+
+    /// A used outcome.
+    fn outcome(&mut self, rng: &mut Rng) -> Option<&mut OutcomeImage> {
+        let (state, action) = self.pair(rng, true)?;
+        let count = usize::from(self.image.moves[action].count).clamp(1, 4);
+        let post = rng.below(count);
+        self.image.outcomes_mut(state, action)?.get_mut(post)
+    }
+}
+
+pub(super) type Harm = fn(&mut Rng, &mut Draft);
+
+/// All ways, in the order of the grounds they mostly lead to.
+pub(super) const HARMS: &[Harm] = &[
+    |rng, draft| draft.patches.relength(rng),
+    |rng, draft| draft.patches.relength(rng),
+    |rng, draft| draft.patches.break_sum(rng, draft.len()),
+    |rng, draft| draft.patches.swap_words(rng, draft.len()),
+    wrong_label,
+    rows_swapped,
+    |rng, draft| draft.image.states = size(rng, draft.image.states, 32),
+    |rng, draft| draft.image.actions = size(rng, draft.image.actions, 8),
+    |rng, draft| draft.image.propositions = size(rng, draft.image.propositions, 32),
+    |rng, draft| draft.image.denominator = size(rng, draft.image.denominator, 100),
+    |_, draft| draft.image.rows.push(Default::default()),
+    |_, draft| {
+        draft.image.rows.pop();
+    },
+    state_bit,
+    literal_bit,
+    literal_both_ways,
+    post_count,
+    |rng, draft| set_target(rng, draft),
+    |rng, draft| set_weight(rng, draft),
+    |rng, draft| set_reward(rng, draft),
+    head_spare,
+    mask_beyond_states,
+    action_beyond_actions,
+    post_beyond_count,
+    action_spare,
+    row_spare,
+    row_beyond_states,
+    row_beyond_actions,
+    outcome_not_enabled,
+    outcome_beyond_count,
+    posts_agree,
+    post_literal_dropped,
+    target_elsewhere,
+    weight_off_by_one,
+    state_blocked,
+    state_blocked,
+    any_byte,
+];
+
+/// A count at or about the ends of its range.
+fn size(rng: &mut Rng, now: u8, most: u8) -> u8 {
+    let about = [
+        0,
+        1,
+        most,
+        most + 1,
+        255,
+        now.wrapping_add(1),
+        now.wrapping_sub(1),
+        now.wrapping_add(3),
+    ];
+    rng.pick_or(&about, 0)
+}
+
+fn wrong_label(rng: &mut Rng, draft: &mut Draft) {
+    let block = rng.below(1 + draft.image.rows.len());
+    let value = rng.byte(0, 6);
+    draft.patches.set(BLOCK * block + rng.below(2), value);
+}
+
+fn rows_swapped(rng: &mut Rng, draft: &mut Draft) {
+    let block = rng.range(1, draft.image.rows.len().max(1));
+    let number = rng.range(0, 12) as u8;
+    draft.patches.set(BLOCK * block + 1, number);
+}
+
+fn state_bit(rng: &mut Rng, draft: &mut Draft) {
+    let state = rng.below(draft.states());
+    draft.image.masks[state] |= draft.bit_beyond(rng);
+}
+
+fn literal_bit(rng: &mut Rng, draft: &mut Draft) {
+    let bit = draft.bit_beyond(rng);
+    let as_true = rng.once_in(2);
+    let literals = draft.literals(rng);
+    match as_true {
+        true => literals.demanded_true |= bit,
+        false => literals.demanded_false |= bit,
+    }
+}
+
+fn literal_both_ways(rng: &mut Rng, draft: &mut Draft) {
+    let bit = 1u32 << rng.below(usize::from(draft.image.propositions).clamp(1, 32));
+    let literals = draft.literals(rng);
+    literals.demanded_true |= bit;
+    literals.demanded_false |= bit;
+}
+
+fn post_count(rng: &mut Rng, draft: &mut Draft) {
+    let action = rng.below(draft.actions());
+    let count = draft.image.moves[action].count;
+    let about = [0, 5, 255, count.wrapping_add(1), count.wrapping_sub(1)];
+    draft.image.moves[action].count = rng.pick_or(&about, 0);
+}
+
+fn set_target(rng: &mut Rng, draft: &mut Draft) {
+    let states = draft.image.states;
+    let target = rng.pick_or(&[states, states.wrapping_sub(1), 32, 255, 0], 0);
+    if let Some(outcome) = draft.outcome(rng) {
+        outcome.target = target;
+    }
+}
+
+fn set_weight(rng: &mut Rng, draft: &mut Draft) {
+    let weight = rng.pick_or(&[0, 1, 100, 101, 255], 0);
+    if let Some(outcome) = draft.outcome(rng) {
+        outcome.weight = weight;
+    }
+}
+
+fn set_reward(rng: &mut Rng, draft: &mut Draft) {
+    let ends = [1000, -1000, 1001, -1001, i16::MAX, i16::MIN, 0];
+    let reward = rng.pick_or(&ends, 0);
+    if let Some(outcome) = draft.outcome(rng) {
+        outcome.reward = reward;
+    }
+}
+
+/// Bytes 6, 7 and 488 to 509 of the head.
+fn head_spare(rng: &mut Rng, draft: &mut Draft) {
+    let region = rng.pick_or(&[(6, 8), (488, 510)], (6, 8));
+    draft.patches.spoil(rng, region.0..region.1);
+}
+
+fn mask_beyond_states(rng: &mut Rng, draft: &mut Draft) {
+    let first = 8 + 4 * draft.states();
+    if first < 136 {
+        draft.patches.spoil(rng, first..136);
+    }
+}
+
+fn action_beyond_actions(rng: &mut Rng, draft: &mut Draft) {
+    let first = 136 + 44 * draft.actions();
+    if first < 488 {
+        draft.patches.spoil(rng, first..488);
+    }
+}
+
+fn post_beyond_count(rng: &mut Rng, draft: &mut Draft) {
+    let action = rng.below(draft.actions());
+    let count = usize::from(draft.image.moves[action].count).min(4);
+    let base = 136 + 44 * action;
+    if count < 4 {
+        draft.patches.spoil(rng, base + 12 + 8 * count..base + 44);
+    }
+}
+
+/// The three bytes after an action's count.
+fn action_spare(rng: &mut Rng, draft: &mut Draft) {
+    let base = 136 + 44 * rng.below(draft.actions());
+    draft.patches.spoil(rng, base + 9..base + 12);
+}
+
+/// Bytes 2, 3 and 388 to 509 of a row block.
+fn row_spare(rng: &mut Rng, draft: &mut Draft) {
+    let base = BLOCK * rng.range(1, draft.image.rows.len().max(1));
+    let region = rng.pick_or(&[(2, 4), (388, 510)], (2, 4));
+    draft.patches.spoil(rng, base + region.0..base + region.1);
+}
+
+/// Where in the blocks the outcomes of a state begin.
+fn state_row(state: usize) -> usize {
+    BLOCK * (1 + state / 3) + 4 + 128 * (state % 3)
+}
+
+fn row_beyond_states(rng: &mut Rng, draft: &mut Draft) {
+    let states = draft.states();
+    if states % 3 != 0 {
+        let last_end = BLOCK * (1 + states / 3) + 4 + 3 * 128;
+        draft.patches.spoil(rng, state_row(states)..last_end);
+    }
+}
+
+fn row_beyond_actions(rng: &mut Rng, draft: &mut Draft) {
+    let base = state_row(rng.below(draft.states()));
+    let used = 16 * draft.actions();
+    if used < 128 {
+        draft.patches.spoil(rng, base + used..base + 128);
+    }
+}
+
+fn outcome_not_enabled(rng: &mut Rng, draft: &mut Draft) {
+    if let Some((state, action)) = draft.pair(rng, false) {
+        let base = state_row(state) + 16 * action;
+        draft.patches.spoil(rng, base..base + 16);
+    }
+}
+
+fn outcome_beyond_count(rng: &mut Rng, draft: &mut Draft) {
+    if let Some((state, action)) = draft.pair(rng, true) {
+        let count = usize::from(draft.image.moves[action].count).min(4);
+        let base = state_row(state) + 16 * action;
+        if count < 4 {
+            draft.patches.spoil(rng, base + 4 * count..base + 16);
+        }
+    }
+}
+
+/// One postcondition in place of another.
+fn posts_agree(rng: &mut Rng, draft: &mut Draft) {
+    let action = rng.below(draft.actions());
+    let entry = &mut draft.image.moves[action];
+    let count = usize::from(entry.count).clamp(1, 4);
+    entry.posts[rng.below(count)] = entry.posts[rng.below(count)];
+}
+
+/// A postcondition without one of its literals.
+fn post_literal_dropped(rng: &mut Rng, draft: &mut Draft) {
+    let action = rng.below(draft.actions());
+    let entry = &mut draft.image.moves[action];
+    let post = &mut entry.posts[rng.below(usize::from(entry.count).clamp(1, 4))];
+    match post.demanded_true {
+        0 => post.demanded_false &= post.demanded_false.wrapping_sub(1),
+        _ => post.demanded_true &= post.demanded_true.wrapping_sub(1),
+    }
+}
+
+fn target_elsewhere(rng: &mut Rng, draft: &mut Draft) {
+    let states = draft.states();
+    let target = rng.below(states) as u8;
+    if let Some(outcome) = draft.outcome(rng) {
+        outcome.target = target;
+    }
+}
+
+fn weight_off_by_one(rng: &mut Rng, draft: &mut Draft) {
+    let up = rng.once_in(2);
+    if let Some(outcome) = draft.outcome(rng) {
+        outcome.weight = match up {
+            true => outcome.weight.saturating_add(1),
+            false => outcome.weight.saturating_sub(1),
+        };
+    }
+}
+
+/// A state in which every precondition becomes false; outcomes that are then
+/// spare are cleared, so that only ground 8 is left.
+fn state_blocked(rng: &mut Rng, draft: &mut Draft) {
+    let mask = draft.image.masks[rng.below(draft.states())];
+    let propositions = usize::from(draft.image.propositions).clamp(1, 32);
+    for action in 0..draft.actions() {
+        let precondition = &mut draft.image.moves[action].precondition;
+        let named = precondition.demanded_true | precondition.demanded_false;
+        let free = (0..propositions)
+            .map(|p| 1u32 << p)
+            .find(|b| named & b == 0);
+        if let (true, Some(bit)) = (precondition.true_in(mask), free) {
+            match mask & bit {
+                0 => precondition.demanded_true |= bit,
+                _ => precondition.demanded_false |= bit,
+            }
+        }
+    }
+    clear_spare_outcomes(draft);
+}
+
+fn clear_spare_outcomes(draft: &mut Draft) {
+    for state in 0..draft.states() {
+        for action in 0..draft.actions() {
+            let precondition = draft.image.moves[action].precondition;
+            let enabled = precondition.true_in(draft.image.masks[state]);
+            if let (false, Some(places)) = (enabled, draft.image.outcomes_mut(state, action)) {
+                *places = Default::default();
+            }
+        }
+    }
+}
+
+fn any_byte(rng: &mut Rng, draft: &mut Draft) {
+    let at = rng.below(draft.len());
+    let value = rng.byte(0, 255);
+    draft.patches.set(at, value);
+}

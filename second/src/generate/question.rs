@@ -1,0 +1,223 @@
+//! Random questions that are accepted, with bounds that are met, missed or
+//! just missed.
+
+use super::rng::Rng;
+use crate::logic::{fast, Bound, Model, Node, Plan, PlanNode, Question, Relation, Totals};
+
+/// How large the plans of a random question may be.
+#[derive(Clone, Copy)]
+pub struct Scale {
+    pub nodes: usize,
+    pub paths: u64,
+    pub plans: u64,
+}
+
+/// Draws nodes one after another; children are any earlier nodes, so that
+/// nodes are shared and some are left unused.
+pub fn random_question(rng: &mut Rng, model: &Model, totals: &Totals, scale: Scale) -> Question {
+    let start = rng.below(model.states()) as u8;
+    let mut drawer = Drawer {
+        rng,
+        model,
+        totals,
+        scale,
+        question: Question {
+            start,
+            nodes: Vec::new(),
+        },
+    };
+    let count = drawer.rng.range(1, scale.nodes);
+    for _ in 1..count {
+        let node = drawer.node();
+        drawer.question.nodes.push(node);
+    }
+    let root = drawer.root();
+    drawer.question.nodes.push(root);
+    drawer.question
+}
+
+struct Drawer<'a> {
+    rng: &'a mut Rng,
+    model: &'a Model,
+    totals: &'a Totals,
+    scale: Scale,
+    question: Question,
+}
+
+impl Drawer<'_> {
+    /// An earlier node, mostly a late one.
+    fn child(&mut self) -> Option<u8> {
+        let count = self.question.nodes.len();
+        let near = count.saturating_sub(3);
+        let first = if self.rng.once_in(3) { 0 } else { near };
+        (count > 0).then(|| self.rng.range(first, count - 1) as u8)
+    }
+
+    fn relation(&mut self) -> Relation {
+        let all = [Relation::Less, Relation::Equal, Relation::Greater];
+        self.rng.pick_or(&all, Relation::Equal)
+    }
+
+    fn node(&mut self) -> Node {
+        let drawn = match self.rng.below(16) {
+            0 => Some(Node::False),
+            1..=3 => self.child().map(Node::Not),
+            4..=6 => self.both(),
+            7..=8 => Some(self.act()),
+            9..=11 => self.child().map(Node::Next),
+            12 => Some(self.gain()),
+            13 => self.plan_over_any(),
+            _ => None,
+        };
+        drawn.unwrap_or_else(|| {
+            Node::Proposition(self.rng.below(self.model.propositions.into()) as u8)
+        })
+    }
+
+    fn both(&mut self) -> Option<Node> {
+        Some(Node::And(self.child()?, self.child()?))
+    }
+
+    fn act(&mut self) -> Node {
+        Node::Do(self.rng.below(self.model.actions.len()) as u8)
+    }
+
+    fn gain(&mut self) -> Node {
+        let bounds = [-6000, -1000, -3, -2, -1, 0, 0, 0, 1, 2, 3, 1000, 6000];
+        let steps = self.rng.byte(1, 6);
+        Node::Gain {
+            steps: self.rng.byte(1, steps),
+            relation: self.relation(),
+            bound: self.rng.pick_or(&bounds, 0),
+        }
+    }
+
+    /// The root: mostly a plan over the deepest condition that fits.
+    fn root(&mut self) -> Node {
+        let path_formulas = self.question.path_formulas();
+        let over_path = (0..path_formulas.len()).rev().find(|n| path_formulas[*n]);
+        let state_root = self.question.nodes.len().checked_sub(1);
+        let state_root = state_root.filter(|last| !path_formulas[*last]);
+        if let (true, Some(child)) = (self.rng.once_in(8), state_root) {
+            return Node::Not(child as u8);
+        }
+        let mut root = over_path.and_then(|condition| self.plan_over(condition as u8));
+        for _ in 0..4 {
+            if root.is_none() {
+                root = self.plan_over_any();
+            }
+        }
+        root.unwrap_or(Node::False)
+    }
+
+    fn plan_over_any(&mut self) -> Option<Node> {
+        let condition = self.child()?;
+        self.plan_over(condition)
+    }
+
+    /// A plan node over a condition, if some number of steps serves.
+    fn plan_over(&mut self, condition: u8) -> Option<Node> {
+        let depth = self
+            .question
+            .depths()
+            .get(usize::from(condition))
+            .copied()?;
+        let relation = self.relation();
+        let fits = |steps: &u8| self.fits(*steps, relation);
+        let serving: Vec<u8> = (1..=6).filter(fits).collect();
+        let deep: Vec<u8> = serving
+            .into_iter()
+            .filter(|n| usize::from(*n) >= depth)
+            .collect();
+        let mut plan = PlanNode {
+            steps: self.rng.pick(&deep)?,
+            condition,
+            relation,
+            bound: Bound { p: 0, q: 1 },
+        };
+        plan.bound = match self.rng.once_in(3) {
+            true => self.loose_bound(),
+            false => self.close_bound(&plan),
+        };
+        Some(Node::Plan(plan))
+    }
+
+    /// Whether plans of so many steps stay within the scale.
+    fn fits(&self, steps: u8, relation: Relation) -> bool {
+        let steps = usize::from(steps);
+        let states = 0..self.model.states() as u8;
+        let counts = |state| {
+            (
+                self.totals.paths(steps, state),
+                self.totals.plans(steps, state),
+            )
+        };
+        states.map(counts).all(|(paths, plans)| {
+            paths <= self.scale.paths && (relation != Relation::Equal || plans <= self.scale.plans)
+        })
+    }
+
+    fn loose_bound(&mut self) -> Bound {
+        let q = self.rng.pick_or(&[1, 1, 2, 3, 10, 100, 1_000_000], 1);
+        let p = self.rng.range(0, q as usize) as u32;
+        Bound { p, q }
+    }
+
+    /// A bound at, just below or just above the weight of some plan.
+    fn close_bound(&mut self, plan: &PlanNode) -> Bound {
+        let mut question = self.question.clone();
+        question.nodes.push(Node::Plan(*plan));
+        let choices = random_choices(self.rng, self.model, question.start, plan.steps());
+        let whole = self.model.whole(plan.steps());
+        let found = Plan::from_choices(self.model, question.start, plan.steps(), &choices);
+        let weight = found.map_or(0, |found| {
+            fast::weight_of(self.model, &question, plan, &found, self.totals)
+        });
+        let weight = match self.rng.below(6) {
+            0 => weight.saturating_sub(1),
+            1 => (weight + 1).min(whole),
+            _ => weight,
+        };
+        fraction(weight, whole)
+    }
+}
+
+/// A fraction in lowest terms, or the nearest below in millionths.
+fn fraction(weight: u64, whole: u64) -> Bound {
+    let divisor = gcd(weight, whole).max(1);
+    let (p, q) = (weight / divisor, whole / divisor);
+    if q <= 1_000_000 {
+        return Bound {
+            p: p as u32,
+            q: q as u32,
+        };
+    }
+    let millionths = u128::from(weight) * 1_000_000 / u128::from(whole);
+    Bound {
+        p: millionths as u32,
+        q: 1_000_000,
+    }
+}
+
+fn gcd(a: u64, b: u64) -> u64 {
+    if b == 0 {
+        a
+    } else {
+        gcd(b, a % b)
+    }
+}
+
+/// The choices of a random plan.
+pub(super) fn random_choices(rng: &mut Rng, model: &Model, state: u8, steps: usize) -> Vec<u8> {
+    let moves = model.moves(state);
+    let Some(entry) = moves.get(rng.below(moves.len())) else {
+        return Vec::new();
+    };
+    let mut choices = vec![entry.action];
+    if steps > 1 {
+        for outcome in &entry.outcomes {
+            choices.extend(random_choices(rng, model, outcome.target, steps - 1));
+        }
+    }
+    choices
+}

@@ -1,0 +1,198 @@
+//! Ways to damage a question.
+
+use super::damage::Patches;
+use super::rng::Rng;
+use crate::blocks::{NodeImage, QuestionImage, BLOCK};
+
+/// A question that is being damaged.
+#[derive(Clone)]
+pub(super) struct Draft {
+    image: QuestionImage,
+    patches: Patches,
+}
+
+impl Draft {
+    pub(super) fn of(image: QuestionImage) -> Draft {
+        Draft {
+            image,
+            patches: Patches::default(),
+        }
+    }
+
+    pub(super) fn pack(&self) -> Vec<u8> {
+        self.patches.apply(self.image.pack())
+    }
+
+    fn count(&self) -> usize {
+        usize::from(self.image.count).clamp(1, 40)
+    }
+
+    /// One of the nodes within the count, and its number.
+    fn node(&mut self, rng: &mut Rng) -> (u8, &mut NodeImage) {
+        let number = rng.below(self.count());
+        (number as u8, &mut self.image.nodes[number])
+    }
+}
+
+pub(super) type Harm = fn(&mut Rng, &mut Draft);
+
+/// All ways, in the order of the grounds they mostly lead to.
+pub(super) const HARMS: &[Harm] = &[
+    |rng, draft| draft.patches.relength(rng),
+    |rng, draft| draft.patches.break_sum(rng, BLOCK),
+    |rng, draft| draft.patches.swap_words(rng, BLOCK),
+    |rng, draft| draft.patches.set(0, rng.byte(0, 6)),
+    |rng, draft| draft.patches.set(1, rng.byte(1, 3)),
+    |rng, draft| draft.image.start = rng.pick_or(&[1, 2, 5, 31, 32, 255], 255),
+    node_count,
+    operator,
+    steps,
+    left,
+    right,
+    p,
+    q,
+    bound_ends,
+    bound_ends,
+    gain_ends,
+    |rng, draft| draft.patches.spoil(rng, 4..8),
+    |rng, draft| draft.patches.spoil(rng, 488..510),
+    beyond_count,
+    cell,
+    any_byte,
+    path_root,
+    shorter_plan,
+    shorter_plan,
+    deeper_condition,
+];
+
+fn node_count(rng: &mut Rng, draft: &mut Draft) {
+    let now = draft.image.count;
+    let about = [0, 40, 41, 255, now.wrapping_add(1), now.wrapping_sub(1)];
+    draft.image.count = rng.pick_or(&about, 0);
+}
+
+fn operator(rng: &mut Rng, draft: &mut Draft) {
+    let operator = rng.pick_or(&[0, 1, 2, 3, 4, 5, 6, 7, 8, 9, 10, 255], 9);
+    draft.node(rng).1.operator = operator;
+}
+
+fn steps(rng: &mut Rng, draft: &mut Draft) {
+    let steps = rng.pick_or(&[0, 1, 6, 7, 255], 7);
+    draft.node(rng).1.steps = steps;
+}
+
+/// A child, proposition or action at or about the end of its range.
+fn left(rng: &mut Rng, draft: &mut Draft) {
+    let other = rng.pick_or(&[0, 1, 2, 3, 4, 5, 8, 31, 32, 39, 40, 255], 255);
+    let own_way = rng.below(4);
+    let (own, node) = draft.node(rng);
+    node.left = match own_way {
+        0 => own,
+        1 => own.wrapping_sub(1),
+        _ => other,
+    };
+}
+
+fn right(rng: &mut Rng, draft: &mut Draft) {
+    let other = rng.pick_or(&[0, 1, 2, 3, 4, 255], 4);
+    let own_way = rng.below(4);
+    let (own, node) = draft.node(rng);
+    node.right = match own_way {
+        0 => own,
+        1 => own.wrapping_sub(1),
+        _ => other,
+    };
+}
+
+fn p(rng: &mut Rng, draft: &mut Draft) {
+    let ends = [0, 1, -1, 6000, 6001, -6000, -6001, i32::MIN, i32::MAX];
+    draft.node(rng).1.p = rng.pick_or(&ends, 0);
+}
+
+fn q(rng: &mut Rng, draft: &mut Draft) {
+    let ends = [0, 1, 2, 1_000_000, 1_000_001, u32::MAX, 1 << 31];
+    draft.node(rng).1.q = rng.pick_or(&ends, 0);
+}
+
+/// The root's bound at the ends of its range.
+fn bound_ends(rng: &mut Rng, draft: &mut Draft) {
+    let root = draft.count() - 1;
+    let q = rng.pick_or(&[0, 1, 10, 1_000_000, 1_000_001], 1);
+    let p = rng.pick_or(&[-1, 0, 1, q as i32, q as i32 + 1, q as i32 - 1], 0);
+    draft.image.nodes[root].p = p;
+    draft.image.nodes[root].q = q;
+}
+
+/// A gain in place of the first node, about the ends of its ranges.
+fn gain_ends(rng: &mut Rng, draft: &mut Draft) {
+    draft.image.nodes[0] = NodeImage {
+        operator: 7,
+        steps: rng.pick_or(&[0, 1, 6, 7], 1),
+        left: rng.pick_or(&[0, 0, 0, 1], 0),
+        right: rng.pick_or(&[0, 1, 2, 3, 4], 1),
+        p: rng.pick_or(&[-6001, -6000, 6000, 6001], 0),
+        q: rng.pick_or(&[0, 1, 1, 1, 2], 1),
+    };
+}
+
+fn beyond_count(rng: &mut Rng, draft: &mut Draft) {
+    let first = 8 + 12 * draft.count();
+    if first < 488 {
+        draft.patches.spoil(rng, first..488);
+    }
+}
+
+/// Any byte of any used node.
+fn cell(rng: &mut Rng, draft: &mut Draft) {
+    let at = 8 + rng.below(12 * draft.count());
+    draft.patches.spoil(rng, at..at + 1);
+}
+
+fn any_byte(rng: &mut Rng, draft: &mut Draft) {
+    let value = rng.byte(0, 255);
+    draft.patches.set(rng.below(BLOCK), value);
+}
+
+/// A further node "next" over the root.
+fn path_root(_: &mut Rng, draft: &mut Draft) {
+    let count = draft.count();
+    if let Some(place) = draft.image.nodes.get_mut(count) {
+        *place = NodeImage {
+            operator: 6,
+            left: count as u8 - 1,
+            ..NodeImage::default()
+        };
+        draft.image.count = count as u8 + 1;
+    }
+}
+
+/// A plan node with one step less, or just one.
+fn shorter_plan(rng: &mut Rng, draft: &mut Draft) {
+    let count = draft.count();
+    let one = rng.once_in(2);
+    for node in &mut draft.image.nodes[..count] {
+        if node.operator == 8 {
+            node.steps = if one {
+                1
+            } else {
+                node.steps.saturating_sub(1).max(1)
+            };
+        }
+    }
+}
+
+/// A root that plans over the deepest thing there is.
+fn deeper_condition(rng: &mut Rng, draft: &mut Draft) {
+    let root = draft.count() - 1;
+    if root > 0 {
+        let steps = rng.byte(1, 6);
+        draft.image.nodes[root] = NodeImage {
+            operator: 8,
+            steps,
+            left: rng.below(root) as u8,
+            right: 3,
+            p: 1,
+            q: 2,
+        };
+    }
+}

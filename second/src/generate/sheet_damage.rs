@@ -1,0 +1,124 @@
+//! Ways to damage a sheet.
+
+use super::damage::Patches;
+use super::rng::Rng;
+use crate::blocks::{Sheet, BLOCK};
+
+/// A sheet that is being damaged.
+#[derive(Clone)]
+pub(super) struct Draft {
+    sheet: Sheet,
+    patches: Patches,
+}
+
+impl Draft {
+    pub(super) fn of(sheet: Sheet) -> Draft {
+        Draft {
+            sheet,
+            patches: Patches::default(),
+        }
+    }
+
+    pub(super) fn pack(&self) -> Vec<u8> {
+        self.patches.apply(self.sheet.pack())
+    }
+
+    fn blocks(&self) -> usize {
+        Sheet::packed_len(self.sheet.choices.len()) / BLOCK
+    }
+
+    /// The first byte of some block.
+    fn block(&self, rng: &mut Rng) -> usize {
+        BLOCK * rng.below(self.blocks())
+    }
+}
+
+pub(super) type Harm = fn(&mut Rng, &mut Draft);
+
+/// All ways, in the order of the grounds they mostly lead to.
+pub(super) const HARMS: &[Harm] = &[
+    |rng, draft| draft.patches.relength(rng),
+    |rng, draft| draft.patches.break_sum(rng, BLOCK * draft.blocks()),
+    |rng, draft| draft.patches.swap_words(rng, BLOCK * draft.blocks()),
+    |rng, draft| draft.patches.set(draft.block(rng), rng.byte(0, 6)),
+    |rng, draft| draft.patches.set(draft.block(rng) + 1, rng.byte(0, 4)),
+    |rng, draft| draft.patches.set(draft.block(rng) + 2, rng.byte(0, 7)),
+    |rng, draft| draft.patches.set(draft.block(rng) + 3, rng.byte(0, 33)),
+    |rng, draft| {
+        draft
+            .patches
+            .set(draft.block(rng) + 8 + rng.below(8), rng.byte(0, 255))
+    },
+    count,
+    count,
+    |rng, draft| {
+        let base = draft.block(rng);
+        draft.patches.spoil(rng, base + 4..base + 8);
+    },
+    |rng, draft| {
+        let base = draft.block(rng);
+        draft.patches.spoil(rng, base + 508..base + 510);
+    },
+    beyond_count,
+    |rng, draft| {
+        let count = draft.sheet.choices.len();
+        draft.sheet.choices.truncate(rng.below(count + 1));
+    },
+    |_, draft| {
+        draft.sheet.choices.pop();
+    },
+    |rng, draft| draft.sheet.choices.push(rng.byte(0, 8)),
+    choice,
+    choice,
+    choice,
+    |rng, draft| {
+        let near = [1, u64::MAX, 100, 1 << 40];
+        draft.sheet.weight = draft.sheet.weight.wrapping_add(rng.pick_or(&near, 1));
+    },
+    any_byte,
+];
+
+/// A count about the ends of its range.
+fn count(rng: &mut Rng, draft: &mut Draft) {
+    let base = draft.block(rng);
+    let last = (draft.sheet.choices.len() % 490) as u16;
+    let about = [
+        0,
+        1,
+        489,
+        490,
+        491,
+        492,
+        65535,
+        last + 1,
+        last.saturating_sub(1),
+    ];
+    let count: u16 = rng.pick_or(&about, 0);
+    let [low, high] = count.to_le_bytes();
+    draft.patches.set(base + 16, low);
+    draft.patches.set(base + 17, high);
+}
+
+/// A choice byte beyond the last block's count.
+fn beyond_count(rng: &mut Rng, draft: &mut Draft) {
+    let last = draft.blocks() - 1;
+    let used = draft.sheet.choices.len() - 490 * last;
+    if used < 490 {
+        let base = BLOCK * last;
+        draft.patches.spoil(rng, base + 18 + used..base + 508);
+    }
+}
+
+/// Another action in place of a choice.
+fn choice(rng: &mut Rng, draft: &mut Draft) {
+    let place = rng.below(draft.sheet.choices.len());
+    let choice = rng.pick_or(&[0, 1, 2, 3, 7, 8, 255], 255);
+    if let Some(byte) = draft.sheet.choices.get_mut(place) {
+        *byte = choice;
+    }
+}
+
+fn any_byte(rng: &mut Rng, draft: &mut Draft) {
+    let at = rng.below(BLOCK * draft.blocks());
+    draft.patches.set(at, rng.byte(0, 255));
+}

@@ -1,0 +1,303 @@
+//! Streams that dwell on one kind of call.
+
+use super::cases;
+use super::model::{random_model, Size};
+use super::question::{random_choices, random_question, Scale};
+use super::rng::Rng;
+use super::{model_damage, question_damage, sheet_damage};
+use crate::blocks::{read_model, read_question, QuestionImage, Sheet, BLOCK};
+use crate::desk::Call;
+use crate::logic::{fast, Model, Node, Plan, Question, Totals};
+
+/// Random questions whose judging takes about a microsecond to a millisecond.
+const SMALL: Scale = Scale {
+    nodes: 14,
+    paths: 1500,
+    plans: 1500,
+};
+
+/// Applies none, one or two of the harms; each has its turn.
+fn harmed<D>(rng: &mut Rng, draft: &mut D, harms: &[fn(&mut Rng, &mut D)], turn: usize) {
+    let count = match rng.below(10) {
+        0..=2 => 0,
+        3..=7 => 1,
+        _ => 2,
+    };
+    if count > 0 {
+        harms[turn % harms.len()](rng, draft);
+    }
+    if count > 1 {
+        harms[rng.below(harms.len())](rng, draft);
+    }
+}
+
+fn size(rng: &mut Rng) -> Size {
+    match rng.below(8) {
+        0 => Size::LARGE,
+        1..=2 => Size {
+            posts: 4,
+            actions: 8,
+            ..Size::SMALL
+        },
+        3 => Size {
+            states: 32,
+            ..Size::SMALL
+        },
+        _ => Size::SMALL,
+    }
+}
+
+/// Loads of accepted, damaged and doubly damaged models.
+pub fn models(rng: &mut Rng, count: usize) -> Vec<Call> {
+    let mut calls = Vec::new();
+    for turn in 0..count {
+        let size = size(rng);
+        calls.push(Call::Load(any_model(rng, size, turn)));
+    }
+    calls
+}
+
+/// A model that may be damaged.
+pub(super) fn any_model(rng: &mut Rng, size: Size, turn: usize) -> Vec<u8> {
+    let mut draft = model_damage::Draft::of(random_model(rng, size));
+    harmed(rng, &mut draft, model_damage::HARMS, turn);
+    draft.pack()
+}
+
+/// An accepted model, its bytes and its totals.
+pub(super) fn good_model(rng: &mut Rng, size: Size) -> Option<(Vec<u8>, Model, Totals)> {
+    let bytes = random_model(rng, size).pack();
+    let model = read_model(&bytes).ok()?;
+    let totals = Totals::of(&model);
+    Some((bytes, model, totals))
+}
+
+/// Puts of accepted, damaged and doubly damaged questions.
+pub fn questions(rng: &mut Rng, count: usize) -> Vec<Call> {
+    let mut calls = vec![Call::Put(vec![0; BLOCK])];
+    let mut turn = 0;
+    while calls.len() < count {
+        let size = size(rng);
+        let Some((bytes, model, totals)) = good_model(rng, size) else {
+            continue;
+        };
+        calls.push(Call::Load(bytes));
+        for _ in 0..40 {
+            turn += 1;
+            calls.push(Call::Put(any_question(rng, &model, &totals, turn)));
+        }
+    }
+    calls
+}
+
+/// A question that may be damaged.
+pub(super) fn any_question(rng: &mut Rng, model: &Model, totals: &Totals, turn: usize) -> Vec<u8> {
+    let nodes = if rng.once_in(10) { 40 } else { 8 };
+    let scale = Scale {
+        nodes,
+        paths: 200,
+        plans: 200,
+    };
+    let question = random_question(rng, model, totals, scale);
+    let mut draft = question_damage::Draft::of(QuestionImage::from(&question));
+    harmed(rng, &mut draft, question_damage::HARMS, turn);
+    draft.pack()
+}
+
+/// Judged questions of all sorts, now and then at or over a limit.
+pub fn judges(rng: &mut Rng, count: usize) -> Vec<Call> {
+    let mut calls = Vec::new();
+    for (model, questions) in limit_cases() {
+        calls.push(Call::Load(model));
+        for question in questions {
+            calls.extend([Call::Put(question), Call::Judge]);
+        }
+    }
+    // The cases at the limits are few but slow; a short stream has none.
+    if count < 2 * calls.len() {
+        calls.clear();
+    }
+    while calls.len() < count {
+        let size = size(rng);
+        let Some((bytes, model, totals)) = good_model(rng, size) else {
+            continue;
+        };
+        calls.push(Call::Load(bytes));
+        for _ in 0..6 {
+            let question = judged_question(rng, &model, &totals);
+            let packed = QuestionImage::from(&question).pack();
+            calls.extend([Call::Put(packed), Call::Judge]);
+        }
+    }
+    calls
+}
+
+fn judged_question(rng: &mut Rng, model: &Model, totals: &Totals) -> Question {
+    let scale = match rng.below(40) {
+        0 => Scale {
+            nodes: 40,
+            paths: 20_000,
+            plans: 20_000,
+        },
+        1..=10 => Scale { nodes: 24, ..SMALL },
+        _ => SMALL,
+    };
+    let mut question = random_question(rng, model, totals, scale);
+    if rng.once_in(12) {
+        stretch(rng, &mut question, model, totals);
+    }
+    question
+}
+
+/// Gives one plan node six steps, where that is over a limit or quick.
+pub(super) fn stretch(rng: &mut Rng, question: &mut Question, model: &Model, totals: &Totals) {
+    let states = 0..model.states() as u8;
+    let most = states
+        .map(|state| totals.paths(6, state))
+        .max()
+        .unwrap_or(0);
+    let place = rng.below(question.nodes.len());
+    if let (false, Some(Node::Plan(plan))) = (
+        (3_000..=1_000_000).contains(&most),
+        question.nodes.get_mut(place),
+    ) {
+        plan.steps = 6;
+    }
+}
+
+/// Models and questions that just meet a limit or just pass it.
+fn limit_cases() -> Vec<(Vec<u8>, Vec<Vec<u8>>)> {
+    let ask = |start: u8, steps: usize, relation: &str| {
+        let nodes = [
+            "gain 2 steps greater 1".to_string(),
+            format!("plan 0 steps {steps} {relation} 3/10"),
+        ];
+        cases::question(start, &nodes)
+    };
+    let path_questions = vec![
+        ask(13, 5, "greater"),
+        ask(13, 6, "less"),
+        ask(0, 6, "greater"),
+    ];
+    let plan_questions = vec![
+        ask(0, 3, "equal"),
+        ask(0, 3, "greater"),
+        ask(0, 4, "equal"),
+        ask(0, 2, "equal"),
+        ask(9, 3, "equal"),
+    ];
+    vec![
+        (cases::million_paths(false), path_questions.clone()),
+        (cases::million_paths(true), path_questions),
+        (cases::most_plans(false), plan_questions.clone()),
+        (cases::most_plans(true), plan_questions),
+    ]
+}
+
+/// Sheets written and checked: right, damaged and made up.
+pub fn sheets(rng: &mut Rng, count: usize) -> Vec<Call> {
+    let mut calls = vec![Call::Write(vec![7; 512]), Call::Check(vec![0; 512])];
+    let sizes = [489, 490, 491, 980, 981, 1365];
+    let mut turn = 0;
+    while calls.len() < count {
+        turn += 1;
+        let (bytes, start) = match rng.once_in(6) {
+            true => cases::plan_of_size(sizes[turn % sizes.len()], 6),
+            false => (random_model(rng, Size::SMALL).pack(), 0),
+        };
+        let Ok(model) = read_model(&bytes) else {
+            continue;
+        };
+        let totals = Totals::of(&model);
+        calls.push(Call::Load(bytes));
+        let large = start > 0;
+        let question = match large {
+            true => large_question(rng, start),
+            false => random_question(rng, &model, &totals, SMALL),
+        };
+        calls.push(Call::Put(QuestionImage::from(&question).pack()));
+        calls.extend(sheet_calls(rng, &model, &question, &totals, turn));
+    }
+    calls
+}
+
+/// A quick question of six steps: the condition looks only a little ahead.
+fn large_question(rng: &mut Rng, start: u8) -> Question {
+    let nodes = [
+        "gain 2 steps greater 0".to_string(),
+        format!("do {}", rng.below(8)),
+        "not 1".to_string(),
+        "and 0 2".to_string(),
+        format!("plan 3 steps 6 greater {}/10", rng.below(10)),
+    ];
+    let packed = cases::question(start, &nodes);
+    let image = QuestionImage::unpack(&packed);
+    let (model, _) = cases::plan_of_size(490, 6);
+    let fallback = Question {
+        start: image.start,
+        nodes: vec![Node::False],
+    };
+    let model = read_model(&model);
+    model
+        .and_then(|model| read_question(&packed, &model))
+        .unwrap_or(fallback)
+}
+
+/// Writes into buffers of every length about whole blocks, and checks.
+fn sheet_calls(
+    rng: &mut Rng,
+    model: &Model,
+    question: &Question,
+    totals: &Totals,
+    turn: usize,
+) -> Vec<Call> {
+    let mut calls = Vec::new();
+    if rng.once_in(4) {
+        calls.push(canary(rng));
+    }
+    calls.push(Call::Judge);
+    for _ in 0..4 {
+        calls.push(canary(rng));
+    }
+    for number in 0..10 {
+        let sheet = any_sheet(rng, model, question, totals, 7 * turn + number);
+        calls.push(Call::Check(sheet));
+    }
+    calls
+}
+
+/// A write into a buffer whose bytes are all marked.
+pub(super) fn canary(rng: &mut Rng) -> Call {
+    let length = BLOCK * rng.range(0, 4);
+    let about = [length, length + 1, length.saturating_sub(1), length + 100];
+    let length = rng.pick_or(&about, length);
+    let mark = rng.byte(0, 255);
+    Call::Write((0..length).map(|at| mark.wrapping_add(at as u8)).collect())
+}
+
+/// A sheet for the question's root that may be damaged.
+pub(super) fn any_sheet(
+    rng: &mut Rng,
+    model: &Model,
+    question: &Question,
+    totals: &Totals,
+    turn: usize,
+) -> Vec<u8> {
+    let mut sheet = Sheet {
+        steps: 1,
+        start: question.start,
+        weight: rng.below(100) as u64,
+        choices: vec![0],
+    };
+    if let Some(root) = question.root_plan() {
+        sheet.steps = root.steps;
+        sheet.choices = random_choices(rng, model, question.start, root.steps());
+        let plan = Plan::from_choices(model, question.start, root.steps(), &sheet.choices);
+        if let Some(plan) = plan {
+            sheet.weight = fast::weight_of(model, question, &root, &plan, totals);
+        }
+    }
+    let mut draft = sheet_damage::Draft::of(sheet);
+    harmed(rng, &mut draft, sheet_damage::HARMS, turn);
+    draft.pack()
+}

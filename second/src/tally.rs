@@ -1,0 +1,53 @@
+//! How often each call got each answer.
+
+use crate::desk::{next_call, Answer, Desk};
+use crate::logic::{Judged, Verdict};
+use std::collections::BTreeMap;
+
+/// Counts of (call, answer), in order of call and answer number.
+pub type Tally = BTreeMap<(&'static str, u8, String), usize>;
+
+/// Replays a stream from the empty desk and counts its answers.
+pub fn tally(stream: &[u8]) -> Tally {
+    let mut rest = stream;
+    let mut desk = Desk::default();
+    let mut counts = Tally::new();
+    while let Some(call) = next_call(&mut rest) {
+        let answer = call.make(&mut desk);
+        *counts.entry(key(&answer)).or_default() += 1;
+    }
+    counts
+}
+
+/// The call, the number of its refusal or 0, and the answer in words.
+fn key(answer: &Answer) -> (&'static str, u8, String) {
+    let (call, refusal, words) = match answer {
+        Answer::Load(answer) => ("load", answer.err(), "done"),
+        Answer::Put(answer) => ("put", answer.err(), "done"),
+        Answer::Judge(Ok(judged)) => ("judge", None, verdict_words(judged)),
+        Answer::Judge(Err(ground)) => ("judge", Some(*ground), ""),
+        Answer::Write(Ok(512), _) => ("write", None, "1 block"),
+        Answer::Write(Ok(1024), _) => ("write", None, "2 blocks"),
+        Answer::Write(answer, _) => ("write", answer.err(), "3 blocks"),
+        Answer::Check(Ok(true)) => ("check", None, "accepted met"),
+        Answer::Check(answer) => ("check", answer.err(), "accepted unmet"),
+    };
+    match refusal {
+        None => (call, 0, words.to_string()),
+        Some(ground) => (
+            call,
+            ground.number(),
+            format!("refused {}", ground.number()),
+        ),
+    }
+}
+
+fn verdict_words(judged: &Judged) -> &'static str {
+    match judged.verdict {
+        Verdict::No { count: 0 } => "no",
+        Verdict::No { .. } => "no, plans counted",
+        Verdict::Yes => "yes",
+        Verdict::YesPlan(record) if record.count == 0 => "yes with plan",
+        Verdict::YesPlan(_) => "yes with plan, counted",
+    }
+}

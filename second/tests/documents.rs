@@ -1,0 +1,211 @@
+//! The documents' examples, from the fixtures and from figures written here.
+
+mod common;
+
+use common::{files, named, pack, says};
+use second::blocks::{read_model, read_question};
+use second::desk::{verdict_line, Desk, JudgeKind};
+use second::logic::{plain, Plan, Totals};
+use std::path::Path;
+
+/// The verdict lines of both judges, the plain one where it is affordable.
+fn verdicts(model: &[u8], question: &[u8]) -> Vec<String> {
+    let input = [model, question].concat();
+    let mut lines = vec![verdict_line(&input, JudgeKind::Fast)];
+    let affordable = read_model(model).ok().and_then(|model| {
+        let question = read_question(question, &model).ok()?;
+        let cost = plain::cost(&model, &question, &Totals::of(&model));
+        (cost < 50_000_000).then_some(())
+    });
+    if affordable.is_some() {
+        lines.push(verdict_line(&input, JudgeKind::Plain));
+    }
+    lines
+}
+
+fn check_questions(folder: &str, fewest: usize) {
+    let questions = files(folder, "question");
+    assert!(questions.len() >= fewest, "{folder} lacks questions");
+    for file in questions {
+        let wanted = says(&file, "verdict").expect("a verdict line");
+        let parts = pack(&[&named(&file, "model"), &file]);
+        for line in verdicts(&parts[0], &parts[1]) {
+            assert_eq!(line, wanted, "{}", file.display());
+        }
+    }
+}
+
+#[test]
+fn two_shelf_questions() {
+    check_questions("two-shelf", 12);
+}
+
+#[test]
+fn mary_questions() {
+    check_questions("mary", 9);
+}
+
+#[test]
+fn limit_questions() {
+    check_questions("limits", 5);
+}
+
+#[test]
+fn refused_questions() {
+    check_questions("refusals", 16);
+}
+
+#[test]
+fn refused_models() {
+    let models = files("refusals", "model");
+    assert!(models.len() >= 20);
+    for file in models {
+        let parts = pack(&[&file]);
+        let answer = Desk::default().load(&parts[0]).map_err(|g| g.number());
+        let wanted = says(&file, "load").expect("a load line");
+        assert_eq!(
+            format!("refused {}", answer.unwrap_err()),
+            wanted,
+            "{}",
+            file.display()
+        );
+    }
+}
+
+#[test]
+fn accepted_models() {
+    for file in ["two-shelf.model", "mary.model"] {
+        let parts = pack(&[&common::fixtures().join(file)]);
+        assert_eq!(Desk::default().load(&parts[0]), Ok(()), "{file}");
+    }
+}
+
+fn check_sheet(file: &Path) {
+    let parts = pack(&[&named(file, "model"), &named(file, "question"), file]);
+    let mut desk = Desk::default();
+    desk.load(&parts[0]).expect("model");
+    desk.put(&parts[1]).expect("question");
+    let said = match desk.check(&parts[2]) {
+        Ok(true) => "accepted met".to_string(),
+        Ok(false) => "accepted unmet".to_string(),
+        Err(ground) => format!("refused {}", ground.number()),
+    };
+    assert_eq!(
+        said,
+        says(file, "check").expect("a check line"),
+        "{}",
+        file.display()
+    );
+}
+
+#[test]
+fn sheets() {
+    let folders = ["two-shelf", "mary", "refusals"];
+    let sheets: Vec<_> = folders
+        .iter()
+        .flat_map(|folder| files(folder, "sheet"))
+        .collect();
+    assert!(sheets.len() >= 17);
+    for file in sheets {
+        check_sheet(&file);
+    }
+}
+
+/// Document 01's two-shelf verdicts, written out once more, so that a fixture
+/// cannot drift along with the program.
+#[test]
+fn two_shelf_table() {
+    let next_held = "0 proposition 0\n1 next 0\n2 plan 1 steps 1 ";
+    let next_done = "0 proposition 1\n1 next 0\n2 plan 1 steps 1 ";
+    let done_in_two = "0 proposition 1\n1 next 0\n2 next 1\n3 plan 2 steps 2 ";
+    let held_in_two = "0 proposition 0\n1 next 0\n2 next 1\n3 plan 2 steps 2 ";
+    let quick_once = "0 do 1\n1 next 0\n2 not 1\n3 and 0 2\n4 plan 3 steps 2 ";
+    let gain_eight = "0 gain 2 steps equal 8\n1 plan 0 steps 2 ";
+    let table = [
+        (next_held, "greater 7/10", "yes 8/10 plans 0 choices 0"),
+        (next_held, "greater 8/10", "no plans 0"),
+        (next_held, "equal 5/10", "yes 5/10 plans 2 choices 1"),
+        (
+            done_in_two,
+            "equal 72/100",
+            "yes 72/100 plans 1 choices 0 2 0",
+        ),
+        (
+            done_in_two,
+            "equal 45/100",
+            "yes 45/100 plans 3 choices 1 2 0",
+        ),
+        (done_in_two, "equal 50/100", "no plans 4"),
+        (
+            held_in_two,
+            "greater 44/100",
+            "yes 45/100 plans 0 choices 1 2 0",
+        ),
+        (held_in_two, "greater 45/100", "no plans 0"),
+        (
+            held_in_two,
+            "less 19/100",
+            "yes 18/100 plans 0 choices 0 2 1",
+        ),
+        (held_in_two, "less 18/100", "no plans 0"),
+        (
+            gain_eight,
+            "greater 71/100",
+            "yes 72/100 plans 0 choices 0 2 0",
+        ),
+        (gain_eight, "greater 72/100", "no plans 0"),
+        (
+            quick_once,
+            "greater 9/10",
+            "yes 100/100 plans 0 choices 1 2 0",
+        ),
+        (next_done, "equal 0/1", "yes 0/10 plans 1 choices 0"),
+        (next_done, "less 0/1", "no plans 0"),
+    ];
+    let model = pack(&[&common::fixtures().join("two-shelf.model")]).remove(0);
+    for (nodes, bound, wanted) in table {
+        let text = format!("question start 0\n{nodes}{bound}\n");
+        let question = second::text::pack_text(&text).expect("question");
+        for line in verdicts(&model, &question) {
+            assert_eq!(line, wanted, "{nodes}{bound}");
+        }
+    }
+}
+
+/// 001, Example 3: the paths of Mary's policy and their weights.
+#[test]
+fn mary_path_distribution() {
+    let parts = pack(&[&common::fixtures().join("mary.model")]);
+    let model = read_model(&parts[0]).expect("mary");
+    let plan = Plan::from_choices(&model, 0, 2, &[1, 3, 0]).expect("policy");
+    let paths = plan.paths(&model);
+    let found: Vec<(Vec<u8>, u64)> = paths.into_iter().map(|p| (p.states, p.weight)).collect();
+    let wanted = vec![
+        (vec![0, 1, 3], 27),
+        (vec![0, 1, 1], 3),
+        (vec![0, 0, 1], 56),
+        (vec![0, 0, 0], 14),
+    ];
+    assert_eq!(found, wanted);
+}
+
+#[test]
+fn inputs_of_wrong_length() {
+    let line = |bytes: usize| verdict_line(&vec![0; bytes], JudgeKind::Fast);
+    for bytes in [
+        0,
+        1,
+        511,
+        512,
+        513,
+        1024,
+        13 * 512 - 1,
+        13 * 512 + 1,
+        14 * 512,
+    ] {
+        assert_eq!(line(bytes), "refused 1", "{bytes} bytes");
+    }
+    // Two to twelve whole blocks before the question are no fault of length.
+    assert_eq!(line(3 * 512), "refused 3");
+    assert_eq!(line(13 * 512), "refused 3");
+}

@@ -1,0 +1,173 @@
+//! Lists of calls: what each changes, and demand 3 on the desks they give.
+
+use second::blocks::{Sheet, BLOCK};
+use second::desk::{next_call, Answer, Call, Desk};
+use second::generate::stream;
+use second::ground::Ground;
+use second::logic::{check_limits, plain, Plan, Totals, Verdict};
+use second::tally::tally;
+
+fn calls(kind: &str, seed: u64, count: usize) -> Vec<Call> {
+    let bytes = stream(kind, seed, count).expect("kind");
+    let mut rest = bytes.as_slice();
+    let list: Vec<Call> = std::iter::from_fn(|| next_call(&mut rest)).collect();
+    assert_eq!(list.len(), count, "{kind}");
+    list
+}
+
+fn refusal(answer: &Answer) -> Option<Ground> {
+    match answer {
+        Answer::Load(answer) | Answer::Put(answer) => answer.err(),
+        Answer::Judge(answer) => answer.as_ref().err().copied(),
+        Answer::Write(answer, _) => answer.err(),
+        Answer::Check(answer) => answer.err(),
+    }
+}
+
+#[test]
+fn refused_calls_change_nothing() {
+    let mut desk = Desk::default();
+    let mut refused = 0;
+    for call in calls("lists", 11, 6_000) {
+        let before = desk.clone();
+        let answer = call.make(&mut desk);
+        let read_only = matches!(call, Call::Write(_) | Call::Check(_));
+        let is_refused = refusal(&answer).is_some();
+        refused += usize::from(is_refused);
+        if is_refused || read_only {
+            assert_eq!(desk, before);
+        }
+        if let (Call::Write(lent), Answer::Write(written, after)) = (&call, &answer) {
+            let kept = written.unwrap_or(0);
+            assert_eq!(lent.get(kept..), after.get(kept..));
+        }
+    }
+    assert!(refused > 1_000);
+}
+
+/// Load clears question and verdict, put clears the verdict, judge sets it.
+#[test]
+fn held_parts() {
+    let mut desk = Desk::default();
+    let buffer = || Call::Write(vec![0; 3 * BLOCK]);
+    let mut written = 0;
+    for call in calls("sheets", 12, 3_000) {
+        let answer = call.make(&mut desk);
+        let shown = match (&call, &answer) {
+            (Call::Load(_), Answer::Load(Ok(()))) => Some(Err(Ground::NoQuestion)),
+            (Call::Put(_), Answer::Put(Ok(()))) => Some(Err(Ground::NoShownPlan)),
+            (Call::Judge, Answer::Judge(Ok(judged))) => match judged.verdict {
+                Verdict::YesPlan(_) => Some(Ok(Sheet::packed_len(judged.choices.len()))),
+                _ => Some(Err(Ground::NoShownPlan)),
+            },
+            _ => None,
+        };
+        let Some(wanted) = shown else { continue };
+        let Answer::Write(found, _) = buffer().make(&mut desk) else {
+            panic!("a write answers a write");
+        };
+        let other_root = found == Err(Ground::RootNotPlan) && wanted != Err(Ground::NoQuestion);
+        assert!(found == wanted || other_root, "{found:?} {wanted:?}");
+        written += usize::from(found.is_ok());
+    }
+    assert!(written > 50);
+}
+
+/// Demand 3 by trying every plan's sheet on the desks that a list gives.
+#[test]
+fn demand_three() {
+    let mut desk = Desk::default();
+    let mut tried = 0;
+    for call in calls("lists", 13, 4_000) {
+        let answer = call.make(&mut desk);
+        if let Answer::Judge(Ok(judged)) = answer {
+            tried += usize::from(demand_three_holds(&desk, &judged.verdict));
+        }
+    }
+    assert!(tried > 100, "{tried} desks");
+}
+
+/// Tries all plans of the held question, if it is a small plan question.
+fn demand_three_holds(desk: &Desk, verdict: &Verdict) -> bool {
+    let (Ok(model), Ok(question)) = (desk.model(), desk.question()) else {
+        return false;
+    };
+    let Some(root) = question.root_plan() else {
+        return false;
+    };
+    let totals = Totals::of(model);
+    let few = totals.plans(root.steps(), question.start) <= 60;
+    if !few || check_limits(question, &totals).is_err() {
+        return false;
+    }
+    if plain::cost(model, question, &totals) > 300_000 {
+        return false;
+    }
+    let mut plan = Plan::first(model, question.start, root.steps());
+    let mut some_met = false;
+    loop {
+        let weight = plain::weight_of(model, question, &root, &plan);
+        let mut sheet = Sheet {
+            steps: root.steps,
+            start: question.start,
+            weight,
+            choices: plan.choices(model),
+        };
+        let met = root.met_by(weight, model.whole(root.steps()));
+        assert_eq!(desk.check(&sheet.pack()), Ok(met));
+        some_met |= met;
+        for wrong in [weight.wrapping_sub(1), weight + 1, u64::MAX] {
+            sheet.weight = wrong;
+            assert_eq!(desk.check(&sheet.pack()), Err(Ground::Weight));
+        }
+        if !plan.advance(model) {
+            break;
+        }
+    }
+    assert_eq!(some_met, matches!(verdict, Verdict::YesPlan(_)));
+    let mut buffer = vec![0; 3 * BLOCK];
+    match desk.write(&mut buffer) {
+        Ok(bytes) => assert_eq!(desk.check(&buffer[..bytes]), Ok(true)),
+        Err(ground) => assert_eq!((ground, some_met), (Ground::NoShownPlan, false)),
+    }
+    true
+}
+
+/// Each stream reaches the grounds that it is made for.
+#[test]
+fn grounds_reached() {
+    let wanted: [(&str, &str, &[u8]); 6] = [
+        ("models", "load", &[0, 1, 2, 3, 4, 5, 6, 7, 8]),
+        ("questions", "put", &[0, 1, 2, 3, 4, 5, 6, 9, 20]),
+        ("judges", "judge", &[0, 24, 25]),
+        ("sheets", "check", &[0, 1, 2, 3, 4, 5, 6, 10, 11, 20, 22]),
+        ("sheets", "write", &[0, 12, 20, 22, 23]),
+        ("lists", "check", &[0, 1, 4, 10, 11, 20, 21, 22]),
+    ];
+    for (kind, call, numbers) in wanted {
+        let counts = tally(&stream(kind, 1, 4_000).expect("kind"));
+        for number in numbers {
+            let reached = counts.keys().any(|key| key.0 == call && key.1 == *number);
+            assert!(reached, "{kind}: {call} never gives {number}");
+        }
+    }
+}
+
+/// Bytes without any sense are refused and stop nothing.
+#[test]
+fn senseless_bytes() {
+    let mut desk = Desk::default();
+    for length in (0..3 * BLOCK).step_by(37) {
+        let bytes: Vec<u8> = (0..length).map(|at| (at * at + length) as u8).collect();
+        for call in [
+            Call::Load(bytes.clone()),
+            Call::Put(bytes.clone()),
+            Call::Judge,
+            Call::Write(bytes.clone()),
+            Call::Check(bytes.clone()),
+        ] {
+            assert!(refusal(&call.make(&mut desk)).is_some());
+        }
+        assert_eq!(desk, Desk::default());
+    }
+}
