@@ -1,15 +1,16 @@
 -- One turn of each loop that combines lists in place: what is read still stands as at the start, and what is written continues the piece.
 use Prim.Native.Nat.{ℕ, zero, suc, _+_, _-_, _*_, _^_, _≤_, _<_}
-use native.Mathlib.Nat.{suc-mul, add-mul, le-mul-of-pos-right}
+use native.Mathlib.Nat.{suc-mul, add-mul, le-mul-of-pos-right, one-mul, mul-comm}
 use native.Mathlib.Numerals.{add-one}
 use native.Mathlib.Omega.{arith}
 use mathlib.Core.Path.{_≡_, refl, sym, ap, ap₂, subst, _∙_, fun-ext}
 use mathlib.Core.Logic.{_⊎_, inl, inr, ⊎-elim}
-use mathlib.Core.List.{List, [], _∷_, _++_, map, flatMap, map-append, map-map, List·Memᴰ, List·Memᴰ·head, List·Memᴰ·tail}
-use lib.ListN.{length, take, drop, getD, set, length-map, length-drop}
+use mathlib.Core.Bool.{Bool, true, false}
+use mathlib.Core.List.{List, [], _∷_, _++_, map, flatMap, map-append, map-map, map-id, List·Memᴰ, List·Memᴰ·head, List·Memᴰ·tail}
+use lib.ListN.{length, take, drop, getD, set, replicate, length-map, length-drop, length-replicate, replicate-append-replicate}
 use lib.Seq.{drop-cons, drop-length}
-use Rattle.equal.specs.Totals.{part, splice, grid}
-use Rattle.equal.specs.Spread.{Shifts, Spreads}
+use Rattle.equal.specs.Totals.{part, splice, grid, joined}
+use Rattle.equal.specs.Spread.{Shifts, Spreads, Joins}
 use Rattle.equal.proofs.Splice
 use Rattle.equal.proofs.Grid.{length-grid}
 
@@ -202,3 +203,54 @@ module _ (buf : List ℕ) (at slow n v fast c w : ℕ) (S : Spreads buf at slow 
   pub spread-turn : (i : ℕ) → 0 < i → i ≤ n → {b : List ℕ} → b ≡ spreading buf at slow n v fast c w i → Row buf b at slow n v fast c w (i - 1)
   spread-turn zero h le e = absurd (omega arith)
   spread-turn (suc j) h le e = let k : suc j - 1 ≡ j = omega arith in rw k (turn-at j le e)
+
+-- ---- `join`: two ways to spread
+
+one-times : (l : List ℕ) → map (λ x. 1 * x) l ≡ l
+one-times l = ap (λ f. map f l) (fun-ext one-mul) ∙ map-id l
+
+module _ (buf : List ℕ) (at len n w : ℕ) (J : Joins buf at len n w) where
+  long : len ≤ len * n
+  long = le-mul-of-pos-right len (J .others)
+
+  pub join-right : Spreads buf at at len 1 (at + len * n) n w
+  join-right =
+      record {
+        beside = inl (refl, refl);
+        some = J .others;
+        slowly = omega (arith, J .room, long);
+        quickly = J .room;
+        fits = λ x y h k. let e : 1 * x ≡ x = one-mul x in rw e (J .fits x y h k);
+      }
+
+  pub join-left : Spreads buf at (at + len * n) n w at len 1
+  join-left =
+      record {
+        beside = inr (refl, ap (λ k. at + k) (mul-comm len n));
+        some = J .some;
+        slowly = J .room;
+        quickly = omega (arith, J .room, long);
+        fits = λ y x k h. let e : 1 * x ≡ x = one-mul x in rw e (omega (arith, J .fits x y h k));
+      }
+
+  pub right-joined : {right : Bool} {b : List ℕ} → right ≡ true → b ≡ splice buf at (grid (map (λ x. 1 * x) (part buf at len)) (map (λ y. w * y) (part buf (at + len * n) n)))
+      → b ≡ splice buf at (joined right (part buf at len) (map (λ y. w * y) (part buf (at + len * n) n)))
+  unfolding joined
+  right-joined t e = rw t (e ∙ ap (λ l. splice buf at (grid l (map (λ y. w * y) (part buf (at + len * n) n)))) (one-times (part buf at len)))
+
+  pub left-joined : {right : Bool} {b : List ℕ} → right ≡ false → b ≡ splice buf at (grid (map (λ y. w * y) (part buf (at + len * n) n)) (map (λ x. 1 * x) (part buf at len)))
+      → b ≡ splice buf at (joined right (part buf at len) (map (λ y. w * y) (part buf (at + len * n) n)))
+  unfolding joined
+  left-joined t e = rw t (e ∙ ap (λ l. splice buf at (grid (map (λ y. w * y) (part buf (at + len * n) n)) l)) (one-times (part buf at len)))
+
+-- ---- `fill`
+
+module _ (buf : List ℕ) (at n x : ℕ) (fits : at + n ≤ length buf) (i : ℕ) where
+  pub fill-whole : i ≤ n → length (splice buf at (replicate i x)) ≡ length buf
+  fill-whole h = Splice.splice-length buf at (replicate i x) (omega (arith, length-replicate i x))
+
+  pub fill-turn : i < n → {b : List ℕ} → b ≡ splice buf at (replicate i x) → set b (at + i) x ≡ splice buf at (replicate (i + 1) x)
+  fill-turn h e =
+      ap₂ (λ l k. set l (at + k) x) e (sym (length-replicate i x))
+      ∙ Splice.splice-set buf at (replicate i x) x (omega (arith, length-replicate i x))
+      ∙ ap (splice buf at) (replicate-append-replicate i 1 x)

@@ -21,3 +21,10 @@ pub record Spreads (buf : List ℕ) (at slow n v fast c w : ℕ) : Type 0 where
   pub slowly : slow + n ≤ length buf
   pub quickly : fast + c ≤ length buf
   pub fits : (x y : ℕ) → List·Memᴰ x (part buf slow n) → List·Memᴰ y (part buf fast c) → v * x + w * y < 2 ^ 64
+
+-- Combining the `len` numbers at `at` with w times the n numbers behind the product.
+pub record Joins (buf : List ℕ) (at len n w : ℕ) : Type 0 where
+  pub some : 0 < len
+  pub others : 0 < n
+  pub room : at + len * n + n ≤ length buf
+  pub fits : (x y : ℕ) → List·Memᴰ x (part buf at len) → List·Memᴰ y (part buf (at + len * n) n) → x + w * y < 2 ^ 64

@@ -1,5 +1,6 @@
 -- The totals of all plans, in dictionary order of the plans, and how those over one step more are combined from those below.
 use Prim.Native.Nat.{ℕ, _+_, _*_}
+use mathlib.Core.Bool.{Bool, true, false}
 use mathlib.Core.List.{List, [], _∷_, _++_, map, flatMap}
 use lib.ListN.{length, take, drop}
 use Rattle.logic.specs.Model.{Model, Step}
@@ -14,6 +15,11 @@ totals m n s f = map (λ π. total naturals m n s π f) (plans m n s)
 -- Every number of xs plus every one of ys, those of xs varying slowest.
 unfoldable pub grid : List ℕ → List ℕ → List ℕ
 grid xs ys = flatMap (λ x. map (λ y. x + y) ys) xs
+
+-- A list combined with another on its right, or on its left.
+unfoldable pub joined : Bool → List ℕ → List ℕ → List ℕ
+joined true xs ys = grid xs ys
+joined false xs ys = grid ys xs
 
 -- Every sum of one number from each list, those of the first list varying slowest.
 unfoldable pub combined : {A : Type 0} → (A → List ℕ) → List A → List ℕ

@@ -1,9 +1,10 @@
 // Lists of numbers combined in place, in a lent buffer.
 ghost use mathlib.Core.Path.{_≡_};
 ghost use mathlib.Core.List.{map};
-ghost use Prim.Native.Nat.{_+_, _*_};
-ghost use Rattle.equal.specs.Totals.{part, splice, grid};
-ghost use Rattle.equal.specs.Spread.{Shifts, Spreads};
+ghost use Prim.Native.Nat.{_+_, _*_, _≤_};
+ghost use lib.ListN.{length, replicate};
+ghost use Rattle.equal.specs.Totals.{part, splice, grid, joined};
+ghost use Rattle.equal.specs.Spread.{Shifts, Spreads, Joins};
 
 // Writes x + w * y at `to` for each of the numbers y at `from`.
 pub fn shift(buf: &mut [u64], from: usize, to: usize, count: usize, w: u64, x: u64)
@@ -31,5 +32,30 @@ pub fn spread(buf: &mut [u64], at: usize, slow: usize, n: usize, v: u64, fast: u
         i -= 1;
         let x = v * buf[slow + i];
         shift(buf, fast, at + i * c, c, w, x);
+    }
+}
+
+// Combines the `len` numbers at `at` with w times the n numbers that stand behind the product: on the right of them, or on the left.
+pub fn join(buf: &mut [u64], at: usize, len: usize, n: usize, w: u64, right: bool)
+    requires { ⌜ Joins (now buf) at len n w ⌝ }
+    ensures { λ r. ⌜ now (buf .exit) ≡ splice (now (buf .entry)) at (joined right (part (now (buf .entry)) at len) (map (λ y. w * y) (part (now (buf .entry)) (at + len * n) n))) ⌝ }
+{
+    let end = at + len * n;
+    if right {
+        spread(buf, at, at, len, 1, end, n, w);
+    } else {
+        spread(buf, at, end, n, w, at, len, 1);
+    }
+}
+
+// Writes the same number n times.
+pub fn fill(buf: &mut [u64], at: usize, n: usize, x: u64)
+    requires { ⌜ at + n ≤ length (now buf) ⌝ }
+    ensures { λ r. ⌜ now (buf .exit) ≡ splice (now (buf .entry)) at (replicate n x) ⌝ }
+{
+    let mut i: usize = 0;
+    while i < n {
+        buf[at + i] = x;
+        i += 1;
     }
 }
