@@ -4,7 +4,7 @@ use second::blocks::{Sheet, BLOCK};
 use second::desk::{next_call, Answer, Call, Desk};
 use second::generate::stream;
 use second::ground::Ground;
-use second::logic::{check_limits, plain, Plan, Totals, Verdict};
+use second::logic::{check_limits, plain, Model, Plan, Question, Totals, Verdict};
 use second::tally::tally;
 
 fn calls(kind: &str, seed: u64, count: usize) -> Vec<Call> {
@@ -48,10 +48,15 @@ fn refused_calls_change_nothing() {
 /// Load clears question and verdict, put clears the verdict, judge sets it.
 #[test]
 fn held_parts() {
+    held_parts_of("sheets");
+    held_parts_of("lists");
+}
+
+fn held_parts_of(kind: &str) {
     let mut desk = Desk::default();
     let buffer = || Call::Write(vec![0; 3 * BLOCK]);
     let mut written = 0;
-    for call in calls("sheets", 12, 3_000) {
+    for call in calls(kind, 12, 3_000) {
         let answer = call.make(&mut desk);
         let shown = match (&call, &answer) {
             (Call::Load(_), Answer::Load(Ok(()))) => Some(Err(Ground::NoQuestion)),
@@ -104,25 +109,9 @@ fn demand_three_holds(desk: &Desk, verdict: &Verdict) -> bool {
         return false;
     }
     let mut plan = Plan::first(model, question.start, root.steps());
-    let mut some_met = false;
-    loop {
-        let weight = plain::weight_of(model, question, &root, &plan);
-        let mut sheet = Sheet {
-            steps: root.steps,
-            start: question.start,
-            weight,
-            choices: plan.choices(model),
-        };
-        let met = root.met_by(weight, model.whole(root.steps()));
-        assert_eq!(desk.check(&sheet.pack()), Ok(met));
-        some_met |= met;
-        for wrong in [weight.wrapping_sub(1), weight + 1, u64::MAX] {
-            sheet.weight = wrong;
-            assert_eq!(desk.check(&sheet.pack()), Err(Ground::Weight));
-        }
-        if !plan.advance(model) {
-            break;
-        }
+    let mut some_met = accepted_exactly(desk, model, question, &plan);
+    while plan.advance(model) {
+        some_met |= accepted_exactly(desk, model, question, &plan);
     }
     assert_eq!(some_met, matches!(verdict, Verdict::YesPlan(_)));
     let mut buffer = vec![0; 3 * BLOCK];
@@ -131,6 +120,26 @@ fn demand_three_holds(desk: &Desk, verdict: &Verdict) -> bool {
         Err(ground) => assert_eq!((ground, some_met), (Ground::NoShownPlan, false)),
     }
     true
+}
+
+/// The plan's sheet is accepted with its weight and with no other; tells
+/// whether it meets the bound.
+fn accepted_exactly(desk: &Desk, model: &Model, question: &Question, plan: &Plan) -> bool {
+    let root = question.root_plan().expect("a plan root");
+    let weight = plain::weight_of(model, question, &root, plan);
+    let mut sheet = Sheet {
+        steps: root.steps,
+        start: question.start,
+        weight,
+        choices: plan.choices(model),
+    };
+    let met = root.met_by(weight, model.whole(root.steps()));
+    assert_eq!(desk.check(&sheet.pack()), Ok(met));
+    for wrong in [weight.wrapping_sub(1), weight + 1, u64::MAX] {
+        sheet.weight = wrong;
+        assert_eq!(desk.check(&sheet.pack()), Err(Ground::Weight));
+    }
+    met
 }
 
 /// Each stream reaches the grounds that it is made for.

@@ -25,11 +25,22 @@ pub fn wide(b: &[u8], i: usize) -> usize
     byte(b, i) as usize
 }
 
-// The 16-bit number at i.
+// The 16-bit number at i, inside the slice.
+fn pair(b: &[u8], i: usize) -> u32
+    requires { ⌜ i + 1 < length (now b) ⌝ }
+    ensures { λ r. ⌜ (r ≡ u16 (now (b .entry)) i) × (r < 65536) ⌝ }
+{
+    b[i] as u32 + 256 * b[i + 1] as u32
+}
+
+// The 16-bit number at i. Inside the slice, here and below, one comparison serves all its bytes.
 pub fn u16_at(b: &[u8], i: usize) -> u32
     requires { ⌜ i < 65544 ⌝ }
     ensures { λ r. ⌜ (r ≡ u16 (now (b .entry)) i) × (r < 65536) ⌝ }
 {
+    if i + 1 < b.len() {
+        return pair(b, i);
+    }
     byte(b, i) as u32 + 256 * byte(b, i + 1) as u32
 }
 
@@ -38,6 +49,9 @@ pub fn u32_at(b: &[u8], i: usize) -> u32
     requires { ⌜ i < 65540 ⌝ }
     ensures { λ r. ⌜ r ≡ u32 (now (b .entry)) i ⌝ }
 {
+    if i + 3 < b.len() {
+        return pair(b, i) + 65536 * pair(b, i + 2);
+    }
     u16_at(b, i) + 65536 * u16_at(b, i + 2)
 }
 

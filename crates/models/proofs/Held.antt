@@ -2,19 +2,23 @@
 -- so that its entries are what the readers give; each promise is a test that was passed.
 use Prim.Native.Nat.{ℕ, zero, suc, _+_, _<_, _≤_}
 use native.Mathlib.Omega.{arith}
+use native.Mathlib.Nat.{zero-add, add-zero}
 use mathlib.Core.Path.{_≡_, refl, sym, ap, ap₂, subst, _∙_}
 use mathlib.Core.Bool.{Bool, true, false, cond, _&&_, _||_, false≢true}
-use mathlib.Core.List.{List, [], _∷_, map, List·Memᴰ, List·Memᴰ·head, List·Memᴰ·tail, List·Memᴰ·not-nil}
+use mathlib.Core.List.{List, [], _∷_, _++_, map, List·Memᴰ, List·Memᴰ·head, List·Memᴰ·tail, List·Memᴰ·not-nil}
 use lib.Dec.{eqb, ltb}
+use lib.IntN.{negsuc}
+use lib.Signed.{leZ}
 use lib.ListN.{length, getD}
+use borrow.Author.Tests.{lt-ltb, le-ltb}
 use Rattle.logic.specs.Lists.{keep, count-from, tabulate, every, some-below}
 use Rattle.logic.specs.Model.{Model, Step, Action, true-of, contradict, mask, enabled, outcomes, no-action}
 use Rattle.logic.specs.Quantity.{naturals, sum}
-use Rattle.logic.specs.Order.{Rising}
+use Rattle.logic.specs.Order.{Rising, nothing, first}
 use Rattle.logic.specs.Accepted.{Accepted, Executable}
 use Rattle.logic.proofs.Members.{map-member}
 use Rattle.logic.proofs.Tests.{and-both, eqb-eq, ne-eqb, ltb-lt, every-at, some-below-index, counted-in, counted-range, length-tabulate, getD-tabulate, in-keep, keep-member}
-use Rattle.logic.proofs.Rising.{rising-map, rising-count}
+use Rattle.logic.proofs.Sums.{naturals-additive, sum-append, sum-map}
 use Rattle.logic.proofs.Contradiction.{not-both}
 use Rattle.blocks.specs.Bytes.{Bytes, within}
 use Rattle.blocks.specs.Block.{sum-below}
@@ -40,19 +44,36 @@ first-of : {A : Type 0} (l : List A) {a : A} → List·Memᴰ a l → (x : A) ×
 first-of [] h = absurd (List·Memᴰ·not-nil h)
 first-of (x ∷ k) h = (x, k, refl)
 
-sum-first : (g : ℕ → ℕ) (n : ℕ) → sum-below (suc n) g ≡ g 0 + sum-below n (λ i. g (suc i))
-unfolding sum-below
-sum-first g zero = omega arith
-sum-first g (suc n) = ap (λ z. z + g (suc n)) (sum-first g n) ∙ omega arith
-
-sum-counted : (w : Step → ℕ) (f : ℕ → Step) (k n : ℕ) → sum naturals w (map f (count-from k n)) ≡ sum-below n (λ i. w (f (k + i)))
-unfolding sum sum-below count-from
-sum-counted w f k zero = refl
-sum-counted w f k (suc n) = ?
+count-last : (k n : ℕ) → count-from k (suc n) ≡ count-from k n ++ ((k + n) ∷ [])
+unfolding count-from
+count-last k zero = ap (λ i. i ∷ []) (omega arith)
+count-last k (suc n) = ap (λ l. k ∷ l) (count-last (suc k) n ∙ ap (λ i. count-from (suc k) n ++ (i ∷ [])) (omega arith))
 
 pub sum-tabulate : (w : Step → ℕ) (f : ℕ → Step) (n : ℕ) → sum naturals w (tabulate n f) ≡ sum-below n (λ i. w (f i))
-unfolding tabulate
-sum-tabulate w f n = ?
+unfolding tabulate count-from sum sum-below
+sum-tabulate w f n = sum-map naturals naturals-additive w f (count-from 0 n) ∙ counted n
+  where
+    counted : (n : ℕ) → sum naturals (λ i. w (f i)) (count-from 0 n) ≡ sum-below n (λ i. w (f i))
+    counted zero = refl
+    counted (suc n) =
+        ap (sum naturals (λ i. w (f i))) (count-last 0 n) ∙ sum-append naturals naturals-additive (λ i. w (f i)) (count-from 0 n) ((0 + n) ∷ [])
+        ∙ ap₂ _+_ (counted n) (ap (λ i. w (f i) + 0) (zero-add n) ∙ add-zero (w (f n)))
+
+module _ {A : Type 0} (R : A → A → Type 0) (f : ℕ → A) where
+  rising-counted : (k n : ℕ) → ((i j : ℕ) → i < j → j < k + n → R (f i) (f j)) → Rising R (map f (count-from k n))
+  unfolding count-from
+  rising-counted k zero h = nothing
+  rising-counted k (suc n) h =
+      first
+      (λ y i.
+      let w = map-member f (count-from (suc k) n) i in
+      let r = counted-range (suc k) n (w .1) in
+      subst (R (f k)) (sym (w .2)) (h k (w .0) (r .0) (omega (arith, r .1))))
+      (rising-counted (suc k) n (λ i j l m. h i j l (omega arith)))
+
+  rising-tabulate : (n : ℕ) → ((i j : ℕ) → i < j → j < n → R (f i) (f j)) → Rising R (tabulate n f)
+  unfolding tabulate
+  rising-tabulate n h = rising-counted 0 n (λ i j l m. h i j l (omega arith))
 
 -- ---- the model by its readers
 
@@ -60,6 +81,10 @@ module _ (b : Bytes) where
   pub states-held : length (model-of b .states) ≡ state-count b
   unfolding model-of
   states-held = length-tabulate (state-mask b) (state-count b)
+
+  pub denominator-held : model-of b .denominator ≡ denominator-of b
+  unfolding model-of
+  denominator-held = refl
 
   pub mask-held : (s : ℕ) → s < state-count b → mask (model-of b) s ≡ state-mask b s
   unfolding model-of mask
@@ -74,7 +99,11 @@ module _ (b : Bytes) where
   -- The enabled actions of a state: those whose precondition is true there.
   pub enabled-held : (s : ℕ) → s < state-count b → enabled (model-of b) s ≡ keep (λ a. true-of (pre-of b a) (state-mask b s)) (count-from 0 (action-count b))
   unfolding model-of enabled
-  enabled-held s h = ?
+  enabled-held s h =
+      let acts : ℕ → Action = λ a. record { pre = pre-of b a; posts = tabulate (post-count b a) (post-of b a) } in
+      ap (λ n. keep (λ a. true-of ((getD (tabulate (action-count b) acts) a no-action) .pre) (mask (model-of b) s)) (count-from 0 n)) (length-tabulate acts (action-count b))
+      ∙ keep-same _ _ (count-from 0 (action-count b))
+        (λ a i. ap₂ (λ (x : Action) v. true-of (x .pre) v) (getD-tabulate acts (action-count b) no-action (omega (arith, counted-range 0 (action-count b) i .1))) (mask-held s h))
 
   pub enabled-in : (s a : ℕ) → s < state-count b → a < action-count b → true-of (pre-of b a) (state-mask b s) ≡ true → List·Memᴰ a (enabled (model-of b) s)
   enabled-in s a h g e =
@@ -84,3 +113,78 @@ module _ (b : Bytes) where
   enabled-range s a h i =
       let w = keep-member (λ a. true-of (pre-of b a) (state-mask b s)) (count-from 0 (action-count b)) (subst (List·Memᴰ a) (enabled-held s h) i) in
       (omega (arith, counted-range 0 (action-count b) (w .0) .1), w .1)
+
+-- ---- what is promised
+
+module _ (b : Bytes) (p : Passed b) where
+  -- Of an enabled action every postcondition has an outcome.
+  pub entries-enabled : (s a : ℕ) → s < state-count b → a < action-count b → true-of (pre-of b a) (state-mask b s) ≡ true → entries b s a ≡ post-count b a
+  entries-enabled s a h g e = entries-inside b s a h g ∙ rw e refl
+
+  -- An action is enabled where it has outcomes.
+  pub enabled-entries : (s : ℕ) → s < state-count b → enabled (model-of b) s ≡ keep (λ a. ltb 0 (entries b s a)) (count-from 0 (action-count b))
+  enabled-entries s h =
+      enabled-held b s h
+      ∙ keep-same _ _ (count-from 0 (action-count b)) (λ a i. let l = counted-range 0 (action-count b) i .1 in used a (omega arith) (true-of (pre-of b a) (state-mask b s)) refl)
+    where
+      used : (a : ℕ) → a < action-count b → (t : Bool) → true-of (pre-of b a) (state-mask b s) ≡ t → t ≡ ltb 0 (entries b s a)
+      used a g true e = sym (lt-ltb 0 (entries b s a) (rw (entries-enabled s a h g e) (some-post b p a g)))
+      used a g false e = sym (le-ltb 0 (entries b s a) (rw (entries-inside b s a h g, e) (omega arith)))
+
+  module _ {s a : ℕ} (x : Executable (model-of b) s a) where
+    state : s < state-count b
+    state = subst (λ n. s < n) (states-held b) (x .state)
+
+    choice : (a < action-count b) × (true-of (pre-of b a) (state-mask b s) ≡ true)
+    choice = enabled-range b s a state (x .choice)
+
+    count : entries b s a ≡ post-count b a
+    count = entries-enabled s a state (choice .0) (choice .1)
+
+    held : outcomes (model-of b) s a ≡ tabulate (entries b s a) (outcome-of b s a)
+    held = outcomes-held b s a state (choice .0)
+
+    member : (o : Step) → List·Memᴰ o (outcomes (model-of b) s a) → (i : ℕ) × (i < entries b s a) × (o ≡ outcome-of b s a i)
+    member o i = tabulate-member (outcome-of b s a) (entries b s a) (subst (List·Memᴰ o) held i)
+
+    range : (i : ℕ) → i < entries b s a → ((outcome-of b s a i) .target < state-count b) × (1 ≤ (outcome-of b s a i) .weight)
+    unfolding outcome-in-range
+    range i l =
+        let o = outcome-of b s a i in
+        let u = and-both (ltb (o .target) (state-count b) && within 1 100 (o .weight) && leZ (negsuc 999) (o .reward)) _ (outcome-passed b p s a i state (choice .0) l) in
+        let v = and-both (ltb (o .target) (state-count b) && within 1 100 (o .weight)) _ (u .0) in
+        let w = and-both (ltb (o .target) (state-count b)) _ (v .0) in
+        (ltb-lt _ _ (w .0), at-least 1 100 (o .weight) (w .1))
+
+    summed : sum naturals (λ o. o .weight) (outcomes (model-of b) s a) ≡ denominator-of b
+    unfolding cell-consistent
+    summed =
+        let n = entries b s a in
+        let f : ℕ → Bool = λ i. true-of (post-of b a i) (state-mask b ((outcome-of b s a i) .target)) in
+        let e = and-both (every n f) _ (cell-passed b p s a state (choice .0)) .1 in
+        let z : eqb n 0 ≡ false = ne-eqb n 0 (λ q. let l = some-post b p a (choice .0) in let c = count in omega arith) in
+        ap (sum naturals (λ o. o .weight)) held ∙ sum-tabulate (λ o. o .weight) (outcome-of b s a) n ∙ eqb-eq _ _ (rw z at e)
+
+    true-there : (i : ℕ) → i < entries b s a → true-of (post-of b a i) (state-mask b ((outcome-of b s a i) .target)) ≡ true
+    unfolding cell-consistent
+    true-there i l =
+        every-at (λ i. true-of (post-of b a i) (state-mask b ((outcome-of b s a i) .target))) (entries b s a) (and-both _ _ (cell-passed b p s a state (choice .0)) .0) l
+
+    differ : (i j : ℕ) → i < j → j < entries b s a → (outcome-of b s a i) .target ≡ (outcome-of b s a j) .target → ⊥
+    unfolding posts-contradict
+    differ i j k l e =
+        let c = every-at (λ i. contradict (post-of b a i) (post-of b a j)) j (every-at (λ i. every i (λ j. contradict (post-of b a j) (post-of b a i))) (post-count b a) (action-passed b p a (choice .0)) (subst (λ n. j < n) count l)) k in
+        not-both (post-of b a i) (post-of b a j) (state-mask b ((outcome-of b s a i) .target)) c (true-there i (omega arith))
+        (subst (λ t. true-of (post-of b a j) (state-mask b t) ≡ true) (sym e) (true-there j l))
+
+  pub accepted : Accepted (model-of b)
+  unfolding outcome-of
+  accepted =
+      record
+      { some-choice = λ s h. let l = subst (λ n. s < n) (states-held b) h in let w = some-below-index _ (action-count b) (state-passed b p s l) in first-of (enabled (model-of b) s) (enabled-in b s (w .0) l (w .1) (w .2))
+      ; sums = λ x. summed x ∙ sym (denominator-held b)
+      ; weighs = λ x o i. let w = member x o i in subst (λ z. 0 < z .weight) (sym (w .2)) (range x (w .0) (w .1) .1)
+      ; inside = λ x o i. let w = member x o i in rw (states-held b) (subst (λ z. z .target < state-count b) (sym (w .2)) (range x (w .0) (w .1) .0))
+      ; named = λ x o i. let w = member x o i in ap (λ z. z .choice) (w .2)
+      ; apart = λ {s} {a} x. subst (Rising (λ x y. x .target ≡ y .target → ⊥)) (sym (held x)) (rising-tabulate (λ x y. x .target ≡ y .target → ⊥) (outcome-of b s a) (entries b s a) (differ x))
+      }

@@ -37,7 +37,7 @@ pub(super) fn check_frame(
     counts: RangeInclusive<usize>,
     label: fn(usize) -> (u8, u8),
 ) -> Result<(), Ground> {
-    let whole = bytes.len() % BLOCK == 0;
+    let whole = bytes.len().is_multiple_of(BLOCK);
     let count = bytes.len() / BLOCK;
     demand(whole && counts.contains(&count), Ground::Length)?;
     let sums_right = bytes.chunks(BLOCK).all(|block| word_sum(block) == 0);

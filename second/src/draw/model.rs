@@ -13,6 +13,15 @@ const ACTION_WIDTH: f64 = 44.0;
 const LABEL_WIDTH: f64 = 128.0;
 const CURVE_WIDTH: f64 = 110.0;
 
+/// Where the columns stand, and where in the last one each state.
+struct Columns {
+    state_width: f64,
+    action_x: f64,
+    label_x: f64,
+    target_x: f64,
+    targets: Vec<f64>,
+}
+
 /// Draws the model below `top`; gives the right end.
 pub(super) fn draw(canvas: &mut Canvas, model: &Model, top: f64) -> f64 {
     let names: Vec<String> = (0..model.states()).map(|s| state_words(model, s)).collect();
@@ -20,65 +29,68 @@ pub(super) fn draw(canvas: &mut Canvas, model: &Model, top: f64) -> f64 {
     let state_width = 7.0 * longest as f64 + 20.0;
     let action_x = STATE_X + state_width + COLUMN_GAP;
     let label_x = action_x + ACTION_WIDTH + COLUMN_GAP;
-    let target_x = label_x + LABEL_WIDTH + CURVE_WIDTH;
     let places = places(model, top);
-    let targets = target_places(&places);
-    for (state, name) in names.iter().enumerate() {
-        canvas.boxed(Look::State, target_x, targets[state], state_width, name);
-    }
-    for (state, place) in places.iter().enumerate() {
-        canvas.boxed(
-            Look::State,
-            STATE_X,
-            place.middle,
-            state_width,
-            &names[state],
-        );
-        let mut y = place.first;
-        for entry in &model.moves[state] {
-            let middle = y + ROW * (entry.outcomes.len() as f64 - 1.0) / 2.0;
-            let out = (STATE_X + state_width, place.middle);
-            canvas.edge(out, (action_x, middle), false);
-            canvas.boxed(
-                Look::Action,
-                action_x,
-                middle,
-                ACTION_WIDTH,
-                &format!("a{}", entry.action),
-            );
-            let from = (action_x + ACTION_WIDTH, middle);
-            outcomes(
-                canvas,
-                model,
-                entry,
-                from,
-                (label_x, y),
-                (target_x, &targets),
-            );
-            y += height_of(entry) + SPACE;
+    let columns = Columns {
+        state_width,
+        action_x,
+        label_x,
+        target_x: label_x + LABEL_WIDTH + CURVE_WIDTH,
+        targets: places.iter().map(|place| place.middle).collect(),
+    };
+    for ((place, name), moves) in places.iter().zip(&names).zip(&model.moves) {
+        for x in [STATE_X, columns.target_x] {
+            canvas.boxed(Look::State, x, place.middle, state_width, name);
         }
+        state_moves(canvas, model, place, moves, &columns);
     }
-    target_x + state_width
+    columns.target_x + state_width
 }
 
-/// The outcomes of a move, a row for each.
+/// The enabled actions of a state, one below the other.
+fn state_moves(
+    canvas: &mut Canvas,
+    model: &Model,
+    place: &Place,
+    moves: &[Move],
+    columns: &Columns,
+) {
+    let mut y = place.first;
+    for entry in moves {
+        let middle = y + ROW * (entry.outcomes.len() as f64 - 1.0) / 2.0;
+        let out = (STATE_X + columns.state_width, place.middle);
+        let action = format!("a{}", entry.action);
+        canvas.edge(out, (columns.action_x, middle), false);
+        canvas.boxed(
+            Look::Action,
+            columns.action_x,
+            middle,
+            ACTION_WIDTH,
+            &action,
+        );
+        outcomes(canvas, model, entry, y, middle, columns);
+        y += height_of(entry) + SPACE;
+    }
+}
+
+/// The outcomes of a move, a row for each from `first` on.
 fn outcomes(
     canvas: &mut Canvas,
     model: &Model,
     entry: &Move,
-    from: (f64, f64),
-    first: (f64, f64),
-    (target_x, targets): (f64, &[f64]),
+    first: f64,
+    middle: f64,
+    columns: &Columns,
 ) {
-    let (label_x, mut y) = first;
+    let mut y = first;
     for outcome in &entry.outcomes {
         let (weight, whole) = (outcome.weight, model.denominator);
-        canvas.edge(from, (label_x - 4.0, y), false);
         let words = format!("{weight}/{whole}, reward {}", outcome.reward);
-        canvas.words(label_x, y, &words);
-        if let Some(target) = targets.get(usize::from(outcome.target)) {
-            let end = label_x + 6.5 * words.len() as f64;
-            canvas.edge((end, y), (target_x, *target), true);
+        let from = (columns.action_x + ACTION_WIDTH, middle);
+        canvas.edge(from, (columns.label_x - 4.0, y), false);
+        canvas.words(columns.label_x, y, &words);
+        let end = columns.label_x + 6.5 * words.len() as f64;
+        if let Some(target) = columns.targets.get(usize::from(outcome.target)) {
+            canvas.edge((end, y), (columns.target_x, *target), true);
         }
         y += ROW;
     }
@@ -106,11 +118,6 @@ fn places(model: &Model, top: f64) -> Vec<Place> {
         y += rows + SPACE;
     }
     found
-}
-
-/// The states on the right stand level with those on the left.
-fn target_places(places: &[Place]) -> Vec<f64> {
-    places.iter().map(|place| place.middle).collect()
 }
 
 /// A state's number and what is true in it.

@@ -243,7 +243,7 @@ fn equal_levels() -> Vec<u8> {
     }
     text += &format!("action 0\n{0}action 1 needs two\n{0}", POSTS[3]);
     for state in 0..13u8 {
-        let base = [1, 5, 9, 9][usize::from((state + 3) / 4)];
+        let base = [1, 5, 9, 9][usize::from(state.div_ceil(4))];
         text += &based_line(state, 0, 4, base, base + 3);
         if (5..9).contains(&state) {
             text += &based_line(state, 1, 4, base, base + 3);
@@ -330,6 +330,8 @@ fn nested_deep(relation: &str, gain: u8) -> Vec<String> {
 mod tests {
     use super::*;
     use crate::blocks::read_model;
+    use crate::desk::Desk;
+    use crate::ground::Ground;
     use crate::logic::{Plan, Totals};
 
     fn totals(model: &[u8]) -> (Totals, u8) {
@@ -353,6 +355,29 @@ mod tests {
             let most = (0..states).map(|state| totals.plans(3, state)).max();
             assert_eq!(most, Some(wanted));
         }
+    }
+
+    /// What judging a plan over "gain 2" gives, or its ground.
+    fn judged(model: &[u8], start: u8, steps: usize, relation: &str) -> Result<(), Ground> {
+        let nodes = [
+            "gain 2 steps greater 1".to_string(),
+            format!("plan 0 steps {steps} {relation} 3/10"),
+        ];
+        let mut desk = Desk::default();
+        desk.load(model)?;
+        desk.put(&question(start, &nodes))?;
+        desk.judge().map(|_| ())
+    }
+
+    #[test]
+    fn limits_just_met_and_just_passed() {
+        let asked = |one_more| judged(&million_paths(one_more), 0, 6, "greater");
+        assert_eq!(asked(false), Ok(()));
+        assert_eq!(asked(true), Err(Ground::TooManyPaths));
+        let asked = |one_more, relation| judged(&most_plans(one_more), 9, 3, relation);
+        assert_eq!(asked(false, "equal"), Ok(()));
+        assert_eq!(asked(true, "equal"), Err(Ground::TooManyPlans));
+        assert_eq!(asked(true, "less"), Ok(()));
     }
 
     #[test]

@@ -173,12 +173,14 @@ fn fill_outcomes(
 fn random_weights(rng: &mut Rng, denominator: u8, count: usize) -> Vec<u8> {
     let mut weights = vec![1; count];
     let mut left = denominator.saturating_sub(count as u8);
-    for place in 1..count {
+    for weight in weights.iter_mut().skip(1) {
         let more = rng.byte(0, left);
-        weights[place] += more;
+        *weight += more;
         left -= more;
     }
-    weights[0] += left;
+    if let Some(first) = weights.first_mut() {
+        *first += left;
+    }
     rng.shuffle(&mut weights);
     weights
 }

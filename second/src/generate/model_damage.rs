@@ -249,7 +249,7 @@ fn state_row(state: usize) -> usize {
 
 fn row_beyond_states(rng: &mut Rng, draft: &mut Draft) {
     let states = draft.states();
-    if states % 3 != 0 {
+    if !states.is_multiple_of(3) {
         let last_end = BLOCK * (1 + states / 3) + 4 + 3 * 128;
         draft.patches.spoil(rng, state_row(states)..last_end);
     }

@@ -110,7 +110,8 @@ pub fn judges(rng: &mut Rng, count: usize) -> Vec<Call> {
     for (model, questions) in limit_cases() {
         calls.push(Call::Load(model));
         for question in questions {
-            calls.extend([Call::Put(question), Call::Judge]);
+            let sheet = Call::Check(vec![0; BLOCK]);
+            calls.extend([Call::Put(question), sheet, Call::Judge]);
         }
     }
     // The cases at the limits are few but slow; a short stream has none.

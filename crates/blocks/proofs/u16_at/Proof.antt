@@ -1,7 +1,17 @@
+
 use Rattle.blocks.specs.Bytes.{u16}
 use borrow.Author.Needs.{needs}
 use Rattle.blocks.proofs.u16_at.Statement.{statement}
 use Rattle.blocks.proofs.u16_at.Tie as tie
+
+add-if1 : tie.Need-add-if1
+add-if1 c = search needs
+
+pair-requires : tie.Need-pair-requires
+pair-requires c κs = search needs
+
+returns : tie.Need-returns
+returns c = search needs
 
 byte-requires : tie.Need-byte-requires
 byte-requires c κs = search needs
@@ -24,14 +34,17 @@ mul-result c = search needs
 add-result : tie.Need-add-result
 add-result c = search needs
 
-returns : tie.Need-returns
+returns-2 : tie.Need-returns-2
 unfolding u16
-returns c = search needs
+returns-2 c = search needs
 
 pub u16-at-spec : {M : Type 1} → statement M
 u16-at-spec =
     tie.close
     (tie.spec
+    add-if1
+    pair-requires
+    returns
     byte-requires
     cast-result
     add-byte
@@ -39,4 +52,4 @@ u16-at-spec =
     cast-result-2
     mul-result
     add-result
-    returns)
+    returns-2)

@@ -1,0 +1,46 @@
+
+use Prim.Native.Nat.{_+_}
+use native.Mathlib.Omega.{arith}
+use mathlib.Core.Path.{refl}
+use Rattle.blocks.specs.Bytes.{u16}
+use borrow.Author.Needs.{needs}
+use Rattle.blocks.proofs.pair.Statement.{statement}
+use Rattle.blocks.proofs.pair.Tie as tie
+
+shared-slice-read-result : tie.Need-shared-slice-read-result
+shared-slice-read-result c = search needs
+
+cast-result : tie.Need-cast-result
+cast-result c = omega (arith, c .shared-slice-known .given (c .before .args .i))
+
+add-result : tie.Need-add-result
+add-result c = search needs
+
+shared-slice-read-result-2 : tie.Need-shared-slice-read-result-2
+shared-slice-read-result-2 c = search needs
+
+cast-result-2 : tie.Need-cast-result-2
+cast-result-2 c = let i = c .before .before .args .i in omega (arith, c .before .shared-slice-known .given i, c .before .shared-slice-known .given (i + 1))
+
+mul-result : tie.Need-mul-result
+mul-result c = let i = c .before .before .args .i in omega (arith, c .before .shared-slice-known .given i, c .before .shared-slice-known .given (i + 1))
+
+add-result-2 : tie.Need-add-result-2
+add-result-2 c = let i = c .before .before .args .i in omega (arith, c .before .shared-slice-known .given i, c .before .shared-slice-known .given (i + 1))
+
+returns : tie.Need-returns
+unfolding u16
+returns c = (refl, let i = c .before .before .args .i in omega (arith, c .before .shared-slice-known .given i, c .before .shared-slice-known .given (i + 1)))
+
+pub pair-spec : {M : Type 1} → statement M
+pair-spec =
+    tie.close
+    (tie.spec
+    shared-slice-read-result
+    cast-result
+    add-result
+    shared-slice-read-result-2
+    cast-result-2
+    mul-result
+    add-result-2
+    returns)
