@@ -17,3 +17,4 @@ pub mod PolicyPaths
 pub mod Policies
 pub mod Acceptance
 pub mod Examples
+pub mod Depth

@@ -14,11 +14,25 @@ use Rattle.blocks.specs.Bytes.{Bytes, byte, zeros, within}
 use Rattle.blocks.specs.Block.{whole-blocks, sums-right, headed}
 use Rattle.questions.specs.Layout.{Question, start-of, node-count, node-at, node-of, question-of}
 
+-- 5, "gain" and "plan": the steps and the relation.
+unfoldable pub compares : Node → Bool
+compares x = within 1 6 (x .n) && within 1 3 (x .right)
+
+-- 5, "gain": p from -6000 to 6000, q = 1.
+unfoldable pub gain-bound : ℤ → ℕ → Bool
+gain-bound p q = eqb q 1 && leZ (negsuc 5999) p && leZ p (pos 6000)
+
+-- 5, "plan": p from 0 to q, q from 1 to 1,000,000.
+unfoldable pub plan-bound : ℤ → ℕ → Bool
+plan-bound p q = within 1 1000000 q && leZ (pos 0) p && leZ p (pos q)
+
+-- 5, "plan": the child too.
+unfoldable pub plan-in-range : ℕ → Node → Bool
+plan-in-range i x = compares x && ltb (x .left) i && plan-bound (x .p) (x .q)
+
 -- 5: the used fields of node i, a row for each operator. A node's children have smaller numbers than its own.
 unfoldable pub node-in-range : (A N : ℕ) → ℕ → Node → Bool
 node-in-range A N i x =
-    let steps : Bool = within 1 6 (x .n) in
-    let related : Bool = within 1 3 (x .right) in
     getD
     (false
     ∷ true
@@ -27,8 +41,8 @@ node-in-range A N i x =
     ∷ (ltb (x .left) i && ltb (x .right) i)
     ∷ ltb (x .left) A
     ∷ ltb (x .left) i
-    ∷ (steps && related && leZ (negsuc 5999) (x .p) && leZ (x .p) (pos 6000) && eqb (x .q) 1)
-    ∷ (steps && ltb (x .left) i && related && within 1 1000000 (x .q) && leZ (pos 0) (x .p) && leZ (x .p) (pos (x .q)))
+    ∷ (compares x && gain-bound (x .p) (x .q))
+    ∷ plan-in-range i x
     ∷ [])
     (x .operator)
     false

@@ -1,0 +1,92 @@
+-- Signed numbers of the machine: what a comparison of two says of the integers, and that sums and differences of small ones fit.
+use Prim.Native.Nat.{ℕ, zero, suc, _+_, _-_, _^_, _≤_, _<_}
+use native.Mathlib.Omega.{arith}
+use native.Mathlib.Nat.{le-trans}
+use native.Mathlib.Decide.{decLt, ℕ-discrete}
+use mathlib.Core.Path.{_≡_, refl, sym, ap, ap₂, _∙_}
+use mathlib.Core.Bool.{Bool, true, false, not, cond, _&&_}
+use lib.Dec.{eqb, ltb, leb}
+use lib.IntN.{ℤ, pos, negsuc, negℤ, _+ℤ_, _-ℤ_, +ℤ-assoc, +ℤ-comm, +ℤ-negℤ-cancel}
+use lib.Signed.{mag, ltZ, leZ}
+use mathlib.Core.Logic.{_⊎_, inl, inr}
+use mir.Syntax.{w32, w64}
+use mir.Val.{SFits, toZ, ofZ}
+use mir.ValLaws.{toZ-ofZ}
+use Rattle.logic.specs.Formula.{relation}
+use Rattle.logic.specs.Quantity.{integers, related}
+use borrow.Author.Tests.{lt-ltb, le-ltb, le-leb, lt-leb, eq-eqb, ne-eqb, ltb-true, ltb-false}
+
+ltb-leb : (a b : ℕ) → ltb a b ≡ not (leb b a)
+ltb-leb a b = go (decLt a b)
+  where
+    go : Dec (a < b) → ltb a b ≡ not (leb b a)
+    go (yes l) = lt-ltb a b l ∙ sym (ap not (lt-leb b a l))
+    go (no g) = le-ltb a b (omega arith) ∙ sym (ap not (le-leb b a (omega arith)))
+
+eqb-leb : (a b : ℕ) → eqb a b ≡ (leb a b && leb b a)
+eqb-leb a b = go (ℕ-discrete a b) (decLt a b)
+  where
+    go : Dec (a ≡ b) → Dec (a < b) → eqb a b ≡ (leb a b && leb b a)
+    go (yes e) d = eq-eqb a b e ∙ sym (ap₂ _&&_ (le-leb a b (omega arith)) (le-leb b a (omega arith)))
+    go (no n) (yes l) = ne-eqb a b n ∙ sym (ap₂ _&&_ (le-leb a b (omega arith)) (lt-leb b a l))
+    go (no n) (no g) = ne-eqb a b n ∙ sym (ap (λ t. t && leb b a) (lt-leb a b (omega arith)))
+
+pub less-is : (a b : ℤ) → ltZ a b ≡ not (leZ b a)
+less-is (pos a) (pos b) = ltb-leb a b
+less-is (pos a) (negsuc b) = refl
+less-is (negsuc a) (pos b) = refl
+less-is (negsuc a) (negsuc b) = ltb-leb b a
+
+-- Two numbers are equal when their bits are.
+pub same-bits : (a b : ℤ) → SFits w64 a → SFits w64 b → eqb (ofZ w64 a) (ofZ w64 b) ≡ (leZ a b && leZ b a)
+same-bits (pos a) (pos b) h g = eqb-leb a b
+same-bits (pos a) (negsuc b) h g = let x = h .sfits in let y = g .sfits in ne-eqb a (2 ^ 64 - suc b) (λ e. omega arith)
+same-bits (negsuc a) (pos b) h g = let x = h .sfits in let y = g .sfits in ne-eqb (2 ^ 64 - suc a) b (λ e. omega arith)
+same-bits (negsuc a) (negsuc b) h g = go (ℕ-discrete a b) ∙ eqb-leb b a
+  where
+    go : Dec (a ≡ b) → eqb (2 ^ 64 - suc a) (2 ^ 64 - suc b) ≡ eqb b a
+    go (yes e) = eq-eqb (2 ^ 64 - suc a) (2 ^ 64 - suc b) (omega arith) ∙ sym (eq-eqb b a (omega arith))
+    go (no f) = let x = h .sfits in let y = g .sfits in ne-eqb (2 ^ 64 - suc a) (2 ^ 64 - suc b) (λ e. f (omega arith)) ∙ sym (ne-eqb b a (λ e. f (omega arith)))
+
+pub fits32 : (z : ℤ) → mag z < 2 ^ 31 → toZ w32 (ofZ w32 z) ≡ z
+fits32 z h = toZ-ofZ w32 z (record { sfits = h })
+
+pub wider : (z : ℤ) → mag z < 2 ^ 31 → SFits w64 (toZ w32 (ofZ w32 z))
+wider z h = rw (fits32 z h) (record { sfits = omega arith })
+
+pub widened : (z : ℤ) → mag z < 2 ^ 31 → toZ w64 (ofZ w64 (toZ w32 (ofZ w32 z))) ≡ z
+widened z h = toZ-ofZ w64 (toZ w32 (ofZ w32 z)) (wider z h) ∙ fits32 z h
+
+mag-sub : (a b : ℕ) (t : Bool) → ltb a b ≡ t → mag (cond t (negsuc (b - suc a)) (pos (a - b))) ≤ a + b
+mag-sub a b true e = omega arith
+mag-sub a b false e = omega arith
+
+pub mag-add : (x y : ℤ) → mag (x +ℤ y) ≤ mag x + mag y + 1
+mag-add (pos a) (pos b) = omega arith
+mag-add (pos a) (negsuc b) = le-trans (mag-sub a (suc b) (ltb a (suc b)) refl) (omega arith)
+mag-add (negsuc a) (pos b) = le-trans (mag-sub b (suc a) (ltb b (suc a)) refl) (omega arith)
+mag-add (negsuc a) (negsuc b) = omega arith
+
+mag-negative : (x : ℤ) → mag (negℤ x) ≤ mag x + 1
+mag-negative (pos zero) = omega arith
+mag-negative (pos (suc n)) = omega arith
+mag-negative (negsuc n) = omega arith
+
+-- The difference of two numbers of 32 bits fits in 64.
+pub difference-fits : (x y : ℤ) → mag x < 2 ^ 31 → mag y < 2 ^ 31 → SFits w64 (x -ℤ y)
+difference-fits x y h g =
+    let c = mag-add x (negℤ y) in
+    let d = mag-negative y in
+    record { sfits = omega arith }
+
+-- What is left of a sum without its first part.
+pub rest-of-sum : (x y : ℤ) → (x +ℤ y) -ℤ x ≡ y
+rest-of-sum x y = ap (λ z. z -ℤ x) (+ℤ-comm x y) ∙ +ℤ-negℤ-cancel y x
+
+-- Relation numbers other than 0, 1 and 2 stand for "greater".
+pub greater-by : (k : ℕ) (a b : ℤ) → (k ≡ 1 → ⊥) → ((k ≡ 0) ⊎ (k ≡ 2) → ⊥) → related integers (relation k) a b ≡ not (leZ a b)
+unfolding related relation
+greater-by zero a b n1 n2 = absurd (n2 (inl refl))
+greater-by (suc zero) a b n1 n2 = absurd (n1 refl)
+greater-by (suc (suc zero)) a b n1 n2 = absurd (n2 (inr refl))
+greater-by (suc (suc (suc k))) a b n1 n2 = refl

@@ -1,0 +1,4 @@
+pub mod Path
+pub mod Reached
+pub mod Learnt
+pub mod Known
