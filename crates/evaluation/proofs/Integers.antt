@@ -51,6 +51,9 @@ same-bits (negsuc a) (negsuc b) h g = go (ℕ-discrete a b) ∙ eqb-leb b a
 pub fits32 : (z : ℤ) → mag z < 2 ^ 31 → toZ w32 (ofZ w32 z) ≡ z
 fits32 z h = toZ-ofZ w32 z (record { sfits = h })
 
+pub sum32 : (x y : ℤ) → mag x < 2 ^ 31 → mag y < 2 ^ 31 → mag (x +ℤ y) < 2 ^ 31 → toZ w32 (ofZ w32 (toZ w32 (ofZ w32 x) +ℤ toZ w32 (ofZ w32 y))) ≡ x +ℤ y
+sum32 x y h g k = ap₂ (λ a b. toZ w32 (ofZ w32 (a +ℤ b))) (fits32 x h) (fits32 y g) ∙ fits32 (x +ℤ y) k
+
 pub wider : (z : ℤ) → mag z < 2 ^ 31 → SFits w64 (toZ w32 (ofZ w32 z))
 wider z h = rw (fits32 z h) (record { sfits = omega arith })
 

@@ -1,3 +1,6 @@
 pub mod Integers
 pub mod Values
-pub mod Nodes
+pub mod Trails
+pub mod Meaning
+pub mod Knowing
+pub mod Stepping

@@ -4,7 +4,9 @@ use native.Mathlib.Numerals.{add-one}
 use mathlib.Core.Path.{_≡_, refl, sym, ap, _∙_}
 use mathlib.Core.List.{List, [], _∷_, _++_}
 use lib.IntN.{ℤ}
-use lib.ListN.{length, getD, set, take}
+use mathlib.Core.Bool.{Bool, true, false, cond}
+use lib.Dec.{leb}
+use lib.ListN.{length, getD, set, take, length-set}
 use lib.Seq.{take-suc}
 use borrow.Author.Tests.{eq-eqb, ne-eqb, le-leb, lt-leb}
 use Rattle.blocks.specs.Bytes.{Bytes, byte}
@@ -38,14 +40,14 @@ pub path-value : (q truth trail : Bytes) (gains : List ℤ) (h s d j : ℕ) (v :
 unfolding value-at
 path-value q truth trail gains h s d j v n = rw (ne-eqb d 0 n) refl
 
-module _ (q depths truth trail : Bytes) (gains : List ℤ) (h s : ℕ) where
+module _ (q : Bytes) (depths : List ℕ) (truth trail : Bytes) (gains : List ℤ) (h s : ℕ) where
   -- A node is learnt where it looks no further ahead than the path goes.
-  pub learn-now : (j d : ℕ) (v : List ℕ) → d ≡ byte depths j → d ≤ h
+  pub learn-now : (j d : ℕ) (v : List ℕ) → d ≡ getD depths j 0 → d ≤ h
       → learn-node q depths truth trail gains h s j v ≡ set v (7 * j + (h - d)) (value-at q truth trail gains h s d j v)
   unfolding learn-node
   learn-now j d v e l = rw (← e, le-leb d h l) refl
 
-  pub learn-later : (j d : ℕ) (v : List ℕ) → d ≡ byte depths j → h < d → learn-node q depths truth trail gains h s j v ≡ v
+  pub learn-later : (j d : ℕ) (v : List ℕ) → d ≡ getD depths j 0 → h < d → learn-node q depths truth trail gains h s j v ≡ v
   unfolding learn-node
   learn-later j d v e l = rw (← e, lt-leb d h l) refl
 
@@ -61,3 +63,16 @@ module _ (q depths truth trail : Bytes) (gains : List ℤ) (h s : ℕ) where
   learnt-more cone i v v₀ v₁ l e g =
       g ∙ ap (learn-node q depths truth trail gains h s (getD cone i 0)) e ∙ sym (learnt-append (take i cone) (getD cone i 0) v₀)
       ∙ ap (λ c. learnt q depths truth trail gains h s c v₀) (sym (ap (λ n. take n cone) (add-one i) ∙ take-suc cone i 0 l))
+
+  node-length : (j : ℕ) (v : List ℕ) → length (learn-node q depths truth trail gains h s j v) ≡ length v
+  unfolding learn-node
+  node-length j v = go (leb (getD depths j 0) h) (7 * j + (h - getD depths j 0)) (value-at q truth trail gains h s (getD depths j 0) j v)
+    where
+      go : (t : Bool) (i x : ℕ) → length (cond t (set v i x) v) ≡ length v
+      go true i x = length-set v i x
+      go false i x = refl
+
+  pub learnt-length : (cone v : List ℕ) → length (learnt q depths truth trail gains h s cone v) ≡ length v
+  unfolding learnt
+  learnt-length [] v = refl
+  learnt-length (j ∷ cone) v = learnt-length cone (learn-node q depths truth trail gains h s j v) ∙ node-length j v

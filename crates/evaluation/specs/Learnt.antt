@@ -43,9 +43,9 @@ value-by q trail gains h k j op v =
 unfoldable pub value-at : (q truth trail : Bytes) → List ℤ → (h s d j : ℕ) → List ℕ → ℕ
 value-at q truth trail gains h s d j v = cond (eqb d 0) (byte truth (32 * j + s)) (value-by q trail gains h (h - d) j ((node-of q j) .operator) v)
 
-module _ (q depths truth trail : Bytes) (gains : List ℤ) (h s : ℕ) where
+module _ (q : Bytes) (depths : List ℕ) (truth trail : Bytes) (gains : List ℤ) (h s : ℕ) where
   unfoldable pub learn-node : ℕ → List ℕ → List ℕ
-  learn-node j v = let d = byte depths j in cond (leb d h) (set v (7 * j + (h - d)) (value-at q truth trail gains h s d j v)) v
+  learn-node j v = let d = getD depths j 0 in cond (leb d h) (set v (7 * j + (h - d)) (value-at q truth trail gains h s d j v)) v
 
   unfoldable pub learnt : List ℕ → List ℕ → List ℕ
   learnt [] v = v

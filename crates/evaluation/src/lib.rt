@@ -79,15 +79,26 @@ fn value_by(q: &[u8], trail: &[u8], gains: &[i32], v: &[u8], h: u8, k: u8, j: u8
     }
 }
 
+// The depth of node j; 0 past the end.
+fn depth_at(depths: &[u32], j: u8) -> u32
+    ensures { λ r. ⌜ r ≡ getD (now (depths .entry)) j 0 ⌝ }
+{
+    let i = j as usize;
+    if i < depths.len() {
+        return depths[i];
+    }
+    0
+}
+
 // The value of node j, of depth d, where it becomes known after h steps.
-fn value_at(q: &[u8], truth: &[u8], trail: &[u8], gains: &[i32], v: &[u8], h: u8, s: u8, d: u8, j: u8) -> u8
+fn value_at(q: &[u8], truth: &[u8], trail: &[u8], gains: &[i32], v: &[u8], h: u8, s: u8, d: u32, j: u8) -> u8
     requires { ⌜ d ≤ h ⌝ }
     ensures { λ r. ⌜ r ≡ value-at (now (q .entry)) (now (truth .entry)) (now (trail .entry)) (now (gains .entry)) h s d j (now (v .entry)) ⌝ }
 {
     if d == 0 {
         return byte(truth, 32 * j as usize + s as usize);
     }
-    value_by(q, trail, gains, v, h, h - d, j)
+    value_by(q, trail, gains, v, h, h - d as u8, j)
 }
 
 fn store(v: &mut [u8], i: usize, x: u8)
@@ -98,18 +109,18 @@ fn store(v: &mut [u8], i: usize, x: u8)
     }
 }
 
-fn learn_node(q: &[u8], depths: &[u8], truth: &[u8], trail: &[u8], gains: &[i32], v: &mut [u8], h: u8, s: u8, j: u8)
+fn learn_node(q: &[u8], depths: &[u32], truth: &[u8], trail: &[u8], gains: &[i32], v: &mut [u8], h: u8, s: u8, j: u8)
     ensures { λ _. ⌜ now (v .exit) ≡ learn-node (now (q .entry)) (now (depths .entry)) (now (truth .entry)) (now (trail .entry)) (now (gains .entry)) h s j (now (v .entry)) ⌝ }
 {
-    let d = byte(depths, j as usize);
-    if d <= h {
+    let d = depth_at(depths, j);
+    if d <= h as u32 {
         let x = value_at(q, truth, trail, gains, v, h, s, d, j);
-        store(v, 7 * j as usize + (h - d) as usize, x);
+        store(v, 7 * j as usize + (h - d as u8) as usize, x);
     }
 }
 
 // What the last of h steps, which led to the state s, makes known of the nodes of a cone.
-pub fn learn(q: &[u8], depths: &[u8], truth: &[u8], trail: &[u8], gains: &[i32], cone: &[u8], v: &mut [u8], h: u8, s: u8)
+pub fn learn(q: &[u8], depths: &[u32], truth: &[u8], trail: &[u8], gains: &[i32], cone: &[u8], v: &mut [u8], h: u8, s: u8)
     ensures { λ _. ⌜ now (v .exit) ≡ learnt (now (q .entry)) (now (depths .entry)) (now (truth .entry)) (now (trail .entry)) (now (gains .entry)) h s (now (cone .entry)) (now (v .entry)) ⌝ }
 {
     let mut i: usize = 0;
@@ -120,7 +131,7 @@ pub fn learn(q: &[u8], depths: &[u8], truth: &[u8], trail: &[u8], gains: &[i32],
 }
 
 // Takes a step: the outcome o of action a in the state s, which the first h steps led to from the start. Gives the state reached.
-pub fn step(m: &[u8], q: &[u8], depths: &[u8], truth: &[u8], cone: &[u8], trail: &mut [u8], gains: &mut [i32], v: &mut [u8], start: u8, h: u8, s: u8, a: u8, o: u8) -> u8
+pub fn step(m: &[u8], q: &[u8], depths: &[u32], truth: &[u8], cone: &[u8], trail: &mut [u8], gains: &mut [i32], v: &mut [u8], start: u8, h: u8, s: u8, a: u8, o: u8) -> u8
     requires { ⌜ Ready (now m) (now q) start (now depths) (now truth) (now cone) ⌝ }
     requires { ⌜ Roomy (now trail) (now gains) (now v) ⌝ }
     requires { ⌜ Offered (now m) start (now trail) h s a o ⌝ }

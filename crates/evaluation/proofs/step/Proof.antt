@@ -1,3 +1,16 @@
+use Rattle.blocks.specs.Bytes.{byte, i16}
+use Rattle.models.specs.Layout.{outcome-of}
+use mathlib.Core.Path.{_≡_, refl, sym, ap, ap₂, _∙_}
+use Prim.Native.Nat.{_+_, _*_, _^_, _≤_, _<_}
+use native.Mathlib.Omega.{arith}
+use lib.IntN.{ℤ, pos, _+ℤ_}
+use lib.ListN.{length, getD, set, take}
+use lib.Seq.{length-take-le}
+use lib.Signed.{mag}
+use Rattle.evaluation.specs.Reached.{Ready}
+use Rattle.evaluation.proofs.Integers.{fits32, sum32, mag-add}
+use Rattle.evaluation.proofs.Trails.{gain-small}
+use Rattle.evaluation.proofs.Stepping.{outcome-small, sizes-small, stepped}
 use borrow.Author.Needs.{needs}
 use Rattle.evaluation.proofs.step.Statement.{statement}
 use Rattle.evaluation.proofs.step.Tie as tie
@@ -8,17 +21,36 @@ use Rattle.blocks.proofs.i16_at.Reads as i16-at-reads
 use Rattle.evaluation.proofs.learn.Reads as learn-reads
 use Rattle.models.proofs.outcome_at.Reads as outcome-at-reads
 
+-- What the contract asks, by name.
+abbrev P : (S : tie.Start) → Ready (S .args .m .now) (S .args .q .now) (S .args .start) (S .args .depths .now) (S .args .truth .now) (S .args .cone .now)
+P S = S .pre .0
+
+byte-fits : (S : tie.Start) → 4 * S .args .a + S .args .o < 256
+byte-fits S = omega (arith, sizes-small (P S) (S .pre .1 .1 .0) (S .pre .1 .1 .1), outcome-small (P S) (S .pre .1 .1 .0) (S .pre .1 .1 .1))
+
+-- The sum of the rewards so far is small.
+gain-so-far : (S : tie.Start) → mag (getD (S .args .gains .now) (S .args .h) (pos 0)) ≤ 6006
+gain-so-far S =
+    let K = S .pre .1 .1 .1 in
+    let T = take (S .args .h) (S .args .trail .now) in
+    let n : length T ≡ S .args .h = length-take-le (S .args .h) (S .args .trail .now) (omega (arith, S .pre .1 .0 .steps, S .pre .1 .1 .0 .steps)) in
+    let g = gain-small (S .args .m .now) (P S .model-accepted) (K .followed) (P S .state) (S .args .h) in
+    rw (K .gained .right (S .args .h) (omega arith)) (omega (arith, S .pre .1 .1 .0 .steps))
+
+sum-fits : (S : tie.Start) (r : ℤ) → mag r ≤ 32768 → mag (getD (S .args .gains .now) (S .args .h) (pos 0) +ℤ r) < 2 ^ 31
+sum-fits S r h = omega (arith, gain-so-far S, mag-add (getD (S .args .gains .now) (S .args .h) (pos 0)) r)
+
 -- src/lib.rt:130:9
 outcome-at-requires : tie.Need-outcome-at-requires
 outcome-at-requires c κs = search needs
 
 -- src/lib.rt:132:16
 mul-trail : tie.Need-mul-trail
-mul-trail c = ?
+mul-trail c = record { fits = omega (arith, byte-fits (c .before .before .before .before .before .before .before .before)) }
 
 -- src/lib.rt:132:16
 add-trail : tie.Need-add-trail
-add-trail c = ?
+add-trail c = record { fits = byte-fits (c .before .before .before .before .before .before .before .before) }
 
 -- src/lib.rt:132:5
 slice-write-trail : tie.Need-slice-write-trail
@@ -42,7 +74,10 @@ i16-at-requires c κs = search needs
 
 -- src/lib.rt:133:20
 add-gains : tie.Need-add-gains
-add-gains c = ?
+add-gains c = let S = c .before .before .before .before .before .before .before .before .before .before in
+    let r = c .i16-at in
+    rw (fits32 (getD (S .args .gains .now) (S .args .h) (pos 0)) (omega (arith, gain-so-far S)), fits32 (r .result) (omega (arith, r .ensures .1)))
+    (record { sfits = sum-fits S (r .result) (r .ensures .1) })
 
 -- src/lib.rt:133:11
 add-t19 : tie.Need-add-t19
@@ -82,7 +117,17 @@ same-length-3 c = search needs
 
 -- src/lib.rt:123:1
 returns : tie.Need-returns
-returns c = ?
+unfolding outcome-of
+returns c = let S = c .before .before .before .before .before .before .before .before .before .before .before .before .before .before .before .before .before in
+    let r = c .before .before .before .before .before .before .before .i16-at in
+    let g = getD (S .args .gains .now) (S .args .h) (pos 0) in
+    let at = c .before .before .before .before .before .before .before .before .before .outcome-at .ensures .0 in
+    stepped (P S) (S .pre .1 .1 .0) (S .pre .1 .1 .1) (S .pre .1 .0) _ _ _
+    (c .before .before .before .before .before .before .byte .ensures ∙ ap (byte (S .args .m .now)) at)
+    (ap (set (S .args .gains .now) (S .args .h + 1))
+    (sum32 g (r .result) (omega (arith, gain-so-far S)) (omega (arith, r .ensures .1)) (sum-fits S (r .result) (r .ensures .1))
+    ∙ ap (λ z. g +ℤ z) (r .ensures .0 ∙ ap (λ i. i16 (S .args .m .now) (i + 2)) at)))
+    (c .before .before .learn .ensures)
 
 pub step-spec : {M : Type 1} → statement M
 step-spec =

@@ -1,0 +1,198 @@
+-- What each operator computes of its children's values is its meaning on the path: an induction over the nodes of a cone, children first.
+use Prim.Native.Nat.{ℕ, zero, suc, _+_, _*_, _-_, _/_, _%_, _≤_, _<_}
+use native.Mathlib.Omega.{arith}
+use native.Mathlib.Nat.{le-max-left, le-max-right}
+use native.Mathlib.Numerals.{add-one}
+use native.Mathlib.Decide.{ℕ-discrete}
+use mathlib.Core.Path.{_≡_, refl, sym, ap, ap₂, subst, _∙_}
+use mathlib.Core.Bool.{Bool, true, false, not, _&&_}
+use mathlib.Core.List.{List, [], _∷_, _++_}
+use lib.Bits.{bitAnd}
+use lib.Dec.{eqb}
+use lib.IntN.{ℤ, pos, _+ℤ_, _-ℤ_, +ℤ-assoc, +ℤ-idl}
+use lib.ListN.{length, getD, take, drop, length-drop, take-append-drop, drop-of-length-le}
+use lib.Seq.{take-all, take-length, drop-cons, getD-take}
+use Rattle.logic.specs.Model.{Step}
+use Rattle.logic.specs.Quantity.{integers, sum, related}
+use Rattle.logic.specs.Formula.{Formula, Node, never, prop, neg, both, does, next, gain, plan, sat, depth, relation}
+use Rattle.logic.specs.Total.{one-if, value-of}
+use Rattle.logic.proofs.Tests.{getD-tabulate}
+use Rattle.blocks.specs.Bytes.{Bytes, byte}
+use Rattle.models.specs.Layout.{state-count, action-count, prop-count, entries, outcome-of, model-of}
+use Rattle.questions.specs.Layout.{node-count, node-of, formulas-of}
+use Rattle.questions.specs.Tables.{table}
+use Rattle.questions.proofs.Laws.{by-operator}
+use Rattle.questions.proofs.Accepted as questions
+use Rattle.evaluation.specs.Path.{step-of, steps-of, state-after, Trail, gain-of}
+use Rattle.evaluation.specs.Reached.{formula, Reached, under-not, and-left, and-right, under-next, reads-left, Earlier, Cone, root-of, Ready}
+use Rattle.evaluation.specs.Learnt.{known, gained, value-by, value-at}
+use Rattle.evaluation.specs.Known.{Known, Gained}
+use Rattle.evaluation.proofs.Integers.{rest-of-sum}
+use Rattle.evaluation.proofs.Values.{state-value, path-value}
+use Rattle.evaluation.proofs.Trails.{steps-length, steps-drop, state-next, used-at}
+
+flipped : (t : Bool) → one-if (eqb (one-if t) 0) ≡ one-if (not t)
+unfolding one-if
+flipped true = refl
+flipped false = refl
+
+joined : (t u : Bool) → bitAnd (one-if t) (one-if u) ≡ one-if (t && u)
+unfolding one-if
+joined true true = refl
+joined true false = refl
+joined false true = refl
+joined false false = refl
+
+pub gain-append : (r l : List Step) → gain-of (r ++ l) ≡ gain-of r +ℤ gain-of l
+unfolding sum
+gain-append [] l = sym (+ℤ-idl (gain-of l))
+gain-append (o ∷ r) l = ap (λ z. o .reward +ℤ z) (gain-append r l) ∙ sym (+ℤ-assoc (o .reward) (gain-of r) (gain-of l))
+
+module _ {m q : Bytes} {s : ℕ} {depths truth cone : List ℕ} (ready : Ready m q s depths truth cone) (t : List ℕ) where
+  -- The state at a place of the path, the steps from it on, and a node's value there.
+  abbrev at : ℕ → ℕ
+  at k = state-after m s (take k t)
+
+  abbrev from : ℕ → List Step
+  from k = drop k (steps-of m s t)
+
+  abbrev pub Needed : ℕ → ℕ → Type 0
+  Needed j k = Reached m q (root-of cone) s j (at k)
+
+  abbrev pub meaning : ℕ → ℕ → ℕ
+  meaning j k = value-of (model-of m) (formula q j) (at k) (from k)
+
+  abbrev node : ℕ → ℕ
+  node i = getD cone i 0
+
+  first-step : (k : ℕ) → k < length t → from k ≡ step-of m (at k) (getD t k 0) ∷ from (suc k)
+  unfolding steps-of
+  first-step k l =
+      steps-drop m s k t
+      ∙ ap (steps-of m (at k)) (drop-cons t k 0 l)
+      ∙ ap (λ r. step-of m (at k) (getD t k 0) ∷ r) (sym (steps-drop m s (suc k) t ∙ ap (λ x. steps-of m x (drop (suc k) t)) (state-next m s k t l)))
+
+  child-known : (i k j : ℕ) (v : List ℕ) → i < length cone → Known m q s cone t i v → Earlier cone i j → k + depth (formula q j) ≤ length t → Needed j k
+      → known v j k ≡ meaning j k
+  child-known i k j v l K e d r =
+      subst (λ x. k + depth (formula q x) ≤ length t → Needed x k → known v x k ≡ meaning x k) (e .2)
+      (λ d r. K .right (e .0) k (omega (arith, e .1)) d (λ z. e .1) r) d r
+
+  asked : questions.Accepted (state-count m) (action-count m) (prop-count m) q
+  asked = questions.accepted (state-count m) (action-count m) (prop-count m) q (ready .question-accepted)
+
+  module _ (trail : List ℕ) (prefix : t ≡ take (length t) trail) (gains : List ℤ) (followed : Trail m s t) (summed : Gained m s t gains) where
+    -- At the place i of the cone, a node that looks at steps.
+    module _ (i k : ℕ) (v : List ℕ) (l : i < length cone) (K : Known m q s cone t i v) (level : k + depth (formula q (node i)) ≡ length t)
+        (path : depth (formula q (node i)) ≡ 0 → ⊥) (r : Needed (node i) k) where
+      abbrev x : Node
+      x = node-of q (node i)
+
+      inside : node i < node-count q
+      inside = ready .ordered .nodes i l
+
+      left : (op : ℕ) → x .operator ≡ op → reads-left op ≡ true → Earlier cone i (x .left)
+      left op e h = ready .ordered .lefts i l path (ap reads-left e ∙ h)
+
+      of-not : x .operator ≡ 3 → one-if (eqb (known v (x .left) k) 0) ≡ meaning (node i) k
+      unfolding sat depth reads-left
+      of-not e =
+          let f = questions.at-neg (state-count m) (action-count m) (prop-count m) q asked (node i) inside e in
+          let d : k + depth (formula q (x .left)) ≤ length t = omega (arith, ap depth f) in
+          ap (λ y. one-if (eqb y 0)) (child-known i k (x .left) v l K (left 3 e refl) d (under-not r e))
+          ∙ flipped (sat (model-of m) (formula q (x .left)) (at k) (from k))
+          ∙ ap (λ φ. value-of (model-of m) φ (at k) (from k)) (sym f)
+
+      of-and : x .operator ≡ 4 → bitAnd (known v (x .left) k) (known v (x .right) k) ≡ meaning (node i) k
+      unfolding sat depth reads-left
+      of-and e =
+          let f = questions.at-both (state-count m) (action-count m) (prop-count m) q asked (node i) inside e in
+          let dl = depth (formula q (x .left)) in
+          let dr = depth (formula q (x .right)) in
+          let a : k + dl ≤ length t = omega (arith, ap depth f, le-max-left dl dr) in
+          let b : k + dr ≤ length t = omega (arith, ap depth f, le-max-right dl dr) in
+          ap₂ bitAnd (child-known i k (x .left) v l K (left 4 e refl) a (and-left r e))
+          (child-known i k (x .right) v l K (ready .ordered .rights i l path e) b (and-right r e))
+          ∙ joined (sat (model-of m) (formula q (x .left)) (at k) (from k)) (sat (model-of m) (formula q (x .right)) (at k) (from k))
+          ∙ ap (λ φ. value-of (model-of m) φ (at k) (from k)) (sym f)
+
+      of-do : x .operator ≡ 5 → one-if (eqb (byte trail k / 4) (x .left)) ≡ meaning (node i) k
+      unfolding sat depth step-of outcome-of
+      of-do e =
+          let f = questions.at-does (state-count m) (action-count m) (prop-count m) q asked (node i) inside e in
+          let h : k < length t = omega (arith, ap depth f) in
+          ap (λ y. one-if (eqb (y / 4) (x .left))) (sym (getD-take (length t) trail k 0 h) ∙ ap (λ z. getD z k 0) (sym prefix))
+          ∙ ap (λ z. value-of (model-of m) (does (x .left)) (at k) z) (sym (first-step k h))
+          ∙ ap (λ φ. value-of (model-of m) φ (at k) (from k)) (sym f)
+
+      of-next : x .operator ≡ 6 → known v (x .left) (k + 1) ≡ meaning (node i) k
+      unfolding sat depth reads-left step-of
+      of-next e =
+          let f = questions.at-next (state-count m) (action-count m) (prop-count m) q asked (node i) inside e in
+          let h : k < length t = omega (arith, ap depth f) in
+          let d : suc k + depth (formula q (x .left)) ≤ length t = omega (arith, ap depth f) in
+          let n = state-next m s k t h in
+          let b = getD t k 0 in
+          let u : Needed (x .left) (suc k) = subst (Reached m q (root-of cone) s (x .left)) (sym n) (under-next (b / 4) (b % 4) r e (used-at m followed k h)) in
+          ap (known v (x .left)) (add-one k)
+          ∙ child-known i (suc k) (x .left) v l K (left 6 e refl) d u
+          ∙ ap (λ y. value-of (model-of m) (formula q (x .left)) y (from (suc k))) n
+          ∙ ap (λ z. value-of (model-of m) (next (formula q (x .left))) (at k) z) (sym (first-step k h))
+          ∙ ap (λ φ. value-of (model-of m) φ (at k) (from k)) (sym f)
+
+      of-gain : x .operator ≡ 7 → one-if (gained q gains (length t) k (node i)) ≡ meaning (node i) k
+      unfolding sat depth gained
+      of-gain e =
+          let f = questions.at-gain (state-count m) (action-count m) (prop-count m) q asked (node i) inside e in
+          let n : k + x .n ≡ length t = omega (arith, ap depth f) in
+          let R = steps-of m s t in
+          let z : length R ≡ length t = steps-length m s t in
+          let all : gain-of (take (length t) R) ≡ gain-of (take k R) +ℤ gain-of (from k) =
+              ap gain-of (take-all (length t) R (omega arith) ∙ sym (take-append-drop k R)) ∙ gain-append (take k R) (from k) in
+          let g : getD gains (length t) (pos 0) -ℤ getD gains k (pos 0) ≡ gain-of (take (x .n) (from k)) =
+              ap₂ _-ℤ_ (summed .right (length t) (omega arith) ∙ all) (summed .right k (omega arith))
+              ∙ rest-of-sum (gain-of (take k R)) (gain-of (from k))
+              ∙ ap gain-of (sym (take-all (x .n) (from k) (omega (arith, length-drop k R)))) in
+          ap (λ y. one-if (related integers (relation (x .right)) y (x .p))) g
+          ∙ ap (λ φ. value-of (model-of m) φ (at k) (from k)) (sym f)
+
+      -- The other operators make state formulas.
+      flat : {A : Type 0} {φ : Formula} → formula q (node i) ≡ φ → depth φ ≡ 0 → A
+      flat f d = absurd (path (ap depth f ∙ d))
+
+      of-path : value-by q trail gains (length t) k (node i) (x .operator) v ≡ meaning (node i) k
+      unfolding value-by depth
+      of-path =
+          let S = state-count m in
+          let A = action-count m in
+          let N = prop-count m in
+          let range = asked .in-range (node i) inside in
+          by-operator (λ op. x .operator ≡ op → value-by q trail gains (length t) k (node i) op v ≡ meaning (node i) k)
+          (λ e. absurd (omega (arith, range .operator-from)))
+          (λ e. flat (questions.at-never S A N q asked (node i) inside e) refl)
+          (λ e. flat (questions.at-prop S A N q asked (node i) inside e) refl)
+          of-not of-and of-do of-next of-gain
+          (λ e. flat (questions.at-plan S A N q asked (node i) inside e) refl)
+          (λ n e. absurd (omega (arith, range .operator-to)))
+          (x .operator) refl
+
+    -- Any node, in the state reached.
+    pub of-node : (i k : ℕ) (v : List ℕ) → i < length cone → Known m q s cone t i v → k + depth (formula q (node i)) ≡ length t → Needed (node i) k
+        → value-at q truth trail gains (length t) (state-after m s t) (depth (formula q (node i))) (node i) v ≡ meaning (node i) k
+    of-node i k v l K level r = go (ℕ-discrete (depth (formula q (node i))) 0)
+      where
+        go : Dec (depth (formula q (node i)) ≡ 0)
+            → value-at q truth trail gains (length t) (state-after m s t) (depth (formula q (node i))) (node i) v ≡ meaning (node i) k
+        go (yes e) =
+            let n : k ≡ length t = omega arith in
+            let a : at k ≡ state-after m s t = ap (state-after m s) (take-all k t (omega arith)) in
+            let b : from k ≡ [] = drop-of-length-le (steps-of m s t) {i = k} (omega (arith, steps-length m s t)) in
+            state-value q truth trail gains (length t) (state-after m s t) (depth (formula q (node i))) (node i) v e
+            ∙ ap (λ y. byte truth (32 * node i + y)) (sym a)
+            ∙ ready .truth-right (node i) (at k) r e
+            ∙ ap (value-of (model-of m) (formula q (node i)) (at k)) (sym b)
+        go (no f) =
+            let n : length t - depth (formula q (node i)) ≡ k = omega arith in
+            path-value q truth trail gains (length t) (state-after m s t) (depth (formula q (node i))) (node i) v f
+            ∙ ap (λ y. value-by q trail gains (length t) y (node i) ((node-of q (node i)) .operator) v) n
+            ∙ of-path i k v l K level f r
