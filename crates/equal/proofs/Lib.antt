@@ -1,0 +1,9 @@
+pub mod Splice
+pub mod Grid
+pub mod Turns
+pub mod Totals
+pub mod Longest
+pub mod Combine
+pub mod Rooms
+pub mod Spans
+pub mod Bounds

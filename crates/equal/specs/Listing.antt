@@ -1,0 +1,53 @@
+-- What making the list of totals is handed, and what it promises.
+use Prim.Native.Nat.{ℕ, _+_, _*_, _≤_, _<_}
+use mathlib.Core.Path.{_≡_}
+use mathlib.Core.List.{List, _++_}
+use lib.IntN.{ℤ}
+use lib.ListN.{getD, length, take}
+use Rattle.logic.specs.Model.{Step}
+use Rattle.logic.specs.Formula.{depth}
+use Rattle.logic.specs.Total.{value-of}
+use Rattle.logic.specs.Limits.{plan-total}
+use Rattle.blocks.specs.Bytes.{Bytes}
+use Rattle.models.specs.Layout.{state-count, model-of, entries, outcome-of}
+use Rattle.models.specs.Used.{Used}
+use Rattle.evaluation.specs.Path.{steps-of, state-after}
+use Rattle.evaluation.specs.Reached.{formula, root-of, Ready}
+use Rattle.evaluation.specs.Known.{Knows, Roomy}
+
+-- The value of the condition at the cone's root on the path that begins with the trail t and goes on with r.
+abbrev pub onward : (m q : Bytes) (start : ℕ) (cone t : List ℕ) → List Step → ℕ
+onward m q start cone t r = value-of (model-of m) (formula q (root-of cone)) start (steps-of m start t ++ r)
+
+-- A table of the numbers of plans, 32 states for each number of steps, right where they are served.
+pub record Counts (m : Bytes) (table : List ℕ) : Type 0 where
+  pub right : (n s : ℕ) → n ≤ 6 → s < state-count m → plan-total (model-of m) n s ≤ 65536 → getD table (32 * n + s) 0 ≡ plan-total (model-of m) n s
+
+-- The tables for a search from the start for the condition at the cone's root, which looks d steps ahead.
+pub record Given (m q : Bytes) (start d : ℕ) (depths truth cone used table : List ℕ) : Type 0 where
+  pub ready : Ready m q start depths truth cone
+  pub uses : Used m used
+  pub counts : Counts m table
+  pub looks : d ≡ depth (formula q (root-of cone))
+
+-- After h steps from the start, in the state s, with k steps to go.
+pub record Here (m q : Bytes) (start d : ℕ) (cone trail : List ℕ) (gains : List ℤ) (v : List ℕ) (h s k : ℕ) : Type 0 where
+  pub steps : h + k ≤ 6
+  pub deep : d ≤ h + k
+  pub inside : s < state-count m
+  pub state : state-after m start (take h trail) ≡ s
+  pub roomy : Roomy trail gains v
+  pub knows : Knows m q start cone (take h trail) gains v
+
+-- The list xs was written at `at`, r numbers; what stands before it stayed, and the path's first h steps with what is known of them.
+pub record Written (xs : List ℕ) (m q : Bytes) (start : ℕ) (cone : List ℕ) (h at : ℕ) (trail trail′ : List ℕ) (gains′ : List ℤ)
+    (v′ buf buf′ : List ℕ) (r : ℕ) : Type 0 where
+  pub kept : take h trail′ ≡ take h trail
+  pub knows : Knows m q start cone (take h trail) gains′ v′
+  pub count : r ≡ length xs
+  pub listed : take (at + length xs) buf′ ≡ take at buf ++ xs
+
+-- Of the outcomes of an action, one with the most plans of k steps below it.
+pub record Longest (m : Bytes) (table : List ℕ) (s a c k j : ℕ) : Type 0 where
+  pub inside : j < c
+  pub most : (o : ℕ) → o < c → getD table (32 * k + (outcome-of m s a o) .target) 0 ≤ getD table (32 * k + (outcome-of m s a j) .target) 0
