@@ -1,2 +1,3 @@
 pub mod Histories
 pub mod Demand3
+pub mod Sheets

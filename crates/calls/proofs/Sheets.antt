@@ -4,10 +4,10 @@ use Prim.Native.Nat.{ℕ, zero, suc, _+_, _*_, _-_, _^_, _≤_, _<_}
 use native.Mathlib.Omega.{arith}
 use native.Mathlib.Nat.{le-refl, le-trans, lt-of-le-of-lt, add-le-add, suc-mul, mul-le-mul-right, pow-le-pow-left, pow-le-pow-right}
 use mathlib.Core.Path.{_≡_, refl, sym, ap, subst, _∙_}
-use mathlib.Core.Bool.{Bool, true, false, cond, false≢true}
+use mathlib.Core.Bool.{Bool, true, false, cond, _&&_, false≢true}
 use mathlib.Core.List.{List, [], _∷_, _++_, flatMap, List·Memᴰ}
 use mathlib.Core.Option.{some}
-use lib.Dec.{lit<}
+use lib.Dec.{leb, lit<}
 use lib.IntN.{pos}
 use lib.ListN.{length, getD, length-append}
 use Rattle.logic.specs.Checked.{ok, refusal}
@@ -15,14 +15,17 @@ use Rattle.logic.specs.Lists.{keep}
 use Rattle.logic.specs.Model.{Model, Step, outcomes}
 use Rattle.logic.specs.Quantity.{naturals, sum}
 use Rattle.logic.specs.Plan.{Plan, plans, choices, paths, weight, Match, ends, pair}
+use Rattle.logic.specs.Accepted.{Accepted}
 use Rattle.logic.specs.Order.{Is-plan}
 use Rattle.logic.specs.Formula.{Formula, never, prop, neg, both, does, next, gain, plan, sat, W}
+use Rattle.logic.proofs.Checked.{ok-same}
 use Rattle.logic.proofs.Dictionary.{plans-are}
 use Rattle.logic.proofs.PathWeights.{path-weights}
-use Rattle.logic.proofs.Tests.{length-tabulate}
-use Rattle.blocks.specs.Bytes.{Bytes}
-use Rattle.models.specs.Layout.{state-count, denominator-of, model-of, entries, outcome-of}
-use Rattle.models.specs.Grounds.{read-model}
+use Rattle.logic.proofs.Tests.{and-left, and-right, length-tabulate}
+use borrow.Author.Tests.{leb-true}
+use Rattle.blocks.specs.Bytes.{Bytes, within}
+use Rattle.models.specs.Layout.{state-count, action-count, prop-count, denominator-of, model-of, entries, outcome-of}
+use Rattle.models.specs.Grounds.{sizes-right, read-model}
 use Rattle.models.proofs.Passed.{passed-all, read-passed}
 use Rattle.models.proofs.Readable.{readable}
 use Rattle.models.proofs.Rows.{entries-few, outcomes-are}
@@ -104,7 +107,7 @@ module _ (S A N : ℕ) (c : Bytes) (a : questions.Accepted S A N c) (i : ℕ) (h
   unfolding is-plan
   plan-operator =
       by-operator (λ o. node-of c i .operator ≡ o → node-of c i .operator ≡ 8)
-      (λ z. absurd (omega (arith, a .questions.in-range i h .operator-from)))
+      (λ z. absurd (omega (arith, a .in-range i h .operator-from)))
       (λ z. not-here (questions.at-never S A N c a i h z) refl)
       (λ z. not-here (questions.at-prop S A N c a i h z) refl)
       (λ z. not-here (questions.at-neg S A N c a i h z) refl)
@@ -113,7 +116,7 @@ module _ (S A N : ℕ) (c : Bytes) (a : questions.Accepted S A N c) (i : ℕ) (h
       (λ z. not-here (questions.at-next S A N c a i h z) refl)
       (λ z. not-here (questions.at-gain S A N c a i h z) refl)
       (λ z. z)
-      (λ k z. absurd (omega (arith, a .questions.in-range i h .operator-to)))
+      (λ k z. absurd (omega (arith, a .in-range i h .operator-to)))
       (node-of c i .operator) refl
 
   plan-steps : (1 ≤ steps (getD (formulas-of c) i never)) × (steps (getD (formulas-of c) i never) ≤ 6)
@@ -122,3 +125,90 @@ module _ (S A N : ℕ) (c : Bytes) (a : questions.Accepted S A N c) (i : ℕ) (h
       let o = plan-operator in
       let r = a .in-range i h .of-plan o .compares in
       subst (λ n. (1 ≤ n) × (n ≤ 6)) (ap steps (sym (questions.at-plan S A N c a i h o))) (r .some-step, r .few-steps)
+
+-- ---- the denominator that an accepted model has
+
+denominator-most : (b : Bytes) → sizes-right b ≡ true → denominator-of b ≤ 100
+unfolding sizes-right within
+denominator-most b e =
+    let four : Bool = within 1 32 (state-count b) && within 1 8 (action-count b) && within 1 32 (prop-count b) && within 1 100 (denominator-of b) in
+    let three : Bool = within 1 32 (state-count b) && within 1 8 (action-count b) && within 1 32 (prop-count b) in
+    let d = and-right three (within 1 100 (denominator-of b)) (and-left four _ e) in
+    leb-true _ _ (and-right (leb 1 (denominator-of b)) (leb (denominator-of b) 100) d)
+
+-- ---- the whole
+
+module _ {calls : List Call} (x : Plan-question calls) where
+  abbrev s : ℕ
+  s = x .question .start
+
+  -- The bytes that the held model and question were read from.
+  model-bytes : (b : Bytes) × (read-model b ≡ ok (x .model))
+  model-bytes = model-told calls (x .model) (x .held-model)
+
+  abbrev b : Bytes
+  b = model-bytes .0
+
+  passed : refusal (read-model b) ≡ 0
+  passed = ap refusal (model-bytes .1)
+
+  same-model : x .model ≡ model-of b
+  same-model = ok-same (sym (model-bytes .1) ∙ read-passed b (passed-all b passed))
+
+  question-bytes : (c : Bytes) × (read-question (length (x .model .states)) (length (x .model .actions)) (x .model .propositions) c ≡ ok (x .question))
+  question-bytes = question-told calls (x .model) (x .question) (x .held-model) (x .held-question)
+
+  abbrev c : Bytes
+  c = question-bytes .0
+
+  asked : questions.Accepted (length (x .model .states)) (length (x .model .actions)) (x .model .propositions) c
+  asked = questions.accepted (length (x .model .states)) (length (x .model .actions)) (x .model .propositions) c (ap refusal (question-bytes .1))
+
+  same-question : x .question ≡ question-of c
+  same-question = ok-same (sym (question-bytes .1) ∙ asked .read)
+
+  last-node : node-count c - 1 < node-count c
+  last-node = omega (arith, asked .some-node)
+
+  root-plan : getD (formulas-of c) (node-count c - 1) never ≡ plan (x .n) (x .condition) (x .relation) (x .p) (x .q)
+  unfolding question-of
+  root-plan = sym (ap (λ q. q .root) same-question) ∙ x .plan-root
+
+  steps-asked : (1 ≤ x .n) × (x .n ≤ 6)
+  unfolding steps is-plan
+  steps-asked =
+      subst (λ n. (1 ≤ n) × (n ≤ 6)) (ap steps root-plan)
+      (plan-steps (length (x .model .states)) (length (x .model .actions)) (x .model .propositions) c asked (node-count c - 1) last-node (ap is-plan root-plan))
+
+  start-inside : s < length (x .model .states)
+  unfolding question-of
+  start-inside = subst (λ q. q .start < length (x .model .states)) (sym same-question) (asked .starts)
+
+  outcomes-few : (t a : ℕ) → length (outcomes (x .model) t a) ≤ 4
+  outcomes-few t a =
+      subst (λ m. length (outcomes m t a) ≤ 4) (sym same-model)
+      (subst (λ n. n ≤ 4) (sym (ap length (outcomes-are b t a) ∙ length-tabulate (outcome-of b t a) (entries b t a))) (entries-few b (readable b passed) t a))
+
+  denominator-few : x .model .denominator ≤ 100
+  unfolding model-of
+  denominator-few = subst (λ m. m .denominator ≤ 100) (sym same-model) (denominator-most b (passed-all b passed .sizes))
+
+  module _ (π : Plan (x .n)) (i : List·Memᴰ π (plans (x .model) (x .n) s)) where
+    choices-few : length (choices (x .n) π) ≤ 1365
+    choices-few = le-trans (few-choices (x .model) outcomes-few (x .n) s π (plans-are (x .model) (x .n) s π .0 i)) (room-most (x .n) (steps-asked .1))
+
+    weight-few : W (x .model) (x .condition) (x .n) s π < 18446744073709551616
+    unfolding W
+    weight-few =
+        let k = kept-less weight (sat (x .model) (x .condition) s) (paths (x .model) (x .n) s π) in
+        let e = path-weights (x .model) (subst Accepted (sym same-model) (accepted b (passed-all b passed))) (x .n) s start-inside π i in
+        let d : x .model .denominator ^ x .n ≤ 100 ^ 6 = le-trans (pow-le-pow-left denominator-few (x .n)) (pow-le-pow-right (lit< tt) (steps-asked .1)) in
+        lt-of-le-of-lt (le-trans k (subst (λ z. z ≤ 100 ^ 6) (sym e) d)) (lit< tt)
+
+pub sheets-read-back : Reads-back
+sheets-read-back =
+    record
+    { sheet = λ calls x π i.
+        reads-back (x .n) (x .question .start) (W (x .model) (x .condition) (x .n) (x .question .start) π) (choices (x .n) π)
+        (weight-few x π i) (some-choice (x .n) π (steps-asked x .0)) (choices-few x π i)
+    }

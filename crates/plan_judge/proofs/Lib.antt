@@ -1,2 +1,3 @@
 pub mod Kept
 pub mod Returns
+pub mod Demand3
