@@ -8,7 +8,7 @@ use mathlib.Core.Path.{_≡_, refl, sym, ap, ap₂, subst, _∙_}
 use mathlib.Core.Logic.{_↔_}
 use mathlib.Core.Bool.{Bool, true, false, cond, _&&_}
 use mathlib.Core.Option.{Option, none, some}
-use mathlib.Core.List.{List, [], _∷_, _++_, List·Memᴰ}
+use mathlib.Core.List.{List, [], _++_, List·Memᴰ}
 use lib.Dec.{T, leb, le→leb, leb→le}
 use lib.IntN.{ℤ, pos, negsuc}
 use lib.ListN.{length, take, drop}
@@ -17,12 +17,12 @@ use lib.Signed.{leZ}
 use Rattle.logic.specs.Checked.{Checked, ok, refused, _>>=_, _>>_, held, guard}
 use Rattle.logic.specs.Model.{Model}
 use Rattle.logic.specs.Plan.{Plan, plans, choices}
-use Rattle.logic.specs.Formula.{Formula, plan, sat, W, nonnegative}
+use Rattle.logic.specs.Formula.{plan, sat, W, nonnegative}
 use Rattle.logic.specs.Verdict.{Goal, goal, plan-goal, Verdict, no, yes, yes-plan, shown, announced, verdict-by, verdict}
 use Rattle.logic.specs.Limits.{limits}
 use Rattle.logic.specs.Choices.{plan-of}
-use Rattle.logic.proofs.Tests.{T→true, true→T, and-left, and-right, none≢some, some-same}
-use Rattle.logic.proofs.Checked.{not-ok, ok-same, bind-ok, guard-ok}
+use Rattle.logic.proofs.Tests.{T→true, true→T, and-left, and-right}
+use Rattle.logic.proofs.Checked.{not-ok, ok-same, bind-ok}
 use Rattle.logic.proofs.Reading.{plan-of-sound, plan-of-complete}
 use Rattle.logic.proofs.Shown.{goal-led, shown-there, shown-meets}
 use Rattle.blocks.specs.Bytes.{Bytes}
@@ -31,7 +31,7 @@ use Rattle.sheets.specs.Layout.{Sheet, sheet-bytes}
 use Rattle.sheets.specs.Grounds.{read-sheet}
 use Rattle.calls.specs.Calls.{Call, check, judge, write, Held, Answer, judged, written, accepted, refuse, Reply, replied, yields, same, shown-sheet, do-judge, do-write, do-check}
 use Rattle.calls.specs.History.{after}
-use Rattle.calls.specs.Demand3.{Session, Plan-question, path-weights, meets-bound, Claims, Accepts, Meeting-sheet, Says-yes, Writes-shown, Demand-3, Demand-3-always}
+use Rattle.calls.specs.Demand3.{Session, Plan-question, path-weights, meets-bound, Claims, Accepts, Meeting-sheet, Says-yes, Writes-shown, Demand-3-always}
 use Rattle.calls.proofs.Histories.{verdict-told}
 
 -- ---- equality of weights by its test
@@ -156,9 +156,10 @@ module _ (session : Session) (yielding : (calls : List Call) (c : Call) → sess
 
   check-exact : (sheet : Bytes) (w : ℤ) (π : Plan (x .n)) → Claims session x sheet w π → ((met : Bool) × Accepts session x sheet met) ↔ (w ≡ pos (path-weights session x π))
   unfolding W
-  check-exact sheet w π c =
-      (λ a. same-equal w (asked-for .total π) (passed-test (same w (asked-for .total π)) (asked-for .met π) (a .0) (sym (claimed-answer sheet w π c) ∙ a .1) .0),
-       λ e. (asked-for .met π, claimed-answer sheet w π c ∙ ap (λ t. checked-by (guard 11 t >> ok (asked-for .met π))) (subst (λ z. same w z ≡ true) e (same-self w))))
+  check-exact sheet w π c = (
+    λ a. same-equal w (asked-for .total π) (passed-test (same w (asked-for .total π)) (asked-for .met π) (a .0) (sym (claimed-answer sheet w π c) ∙ a .1) .0),
+    λ e. (asked-for .met π, claimed-answer sheet w π c ∙ ap (λ t. checked-by (guard 11 t >> ok (asked-for .met π))) (subst (λ z. same w z ≡ true) e (same-self w))),
+  )
 
   check-says : (sheet : Bytes) (w : ℤ) (π : Plan (x .n)) → Claims session x sheet w π → (met : Bool) → Accepts session x sheet met → met ≡ meets-bound session x π
   unfolding W
@@ -212,19 +213,20 @@ module _ (session : Session) (yielding : (calls : List Call) (c : Call) → sess
 
     yes-exact : Says-yes session x ↔ ((sheet : Bytes) × (π : Plan (x .n)) × Meeting-sheet session x sheet π)
     unfolding W
-    yes-exact =
-        (λ y.
+    yes-exact = (
+      λ y.
           let u = shown-said (x .model) s asked-for (shown (x .model) s asked-for) (y .total) (x .n) (y .count) (y .chosen) (judged-same (sym judge-answer ∙ y .answers)) in
           let h = shown-meets (x .model) s asked-for (u .0) (u .1) in
           (sheet-for (u .0 .1), u .0 .1, meeting (u .0 .1) (h .0) (h .1)),
-         λ z.
+      λ z.
           let u = led-shown (z .1) (z .2 .claims .is-plan) (z .2 .meets-it) in
-          record
-          { total = asked-for .total (u .0 .1)
-          ; count = cond (asked-for .counts) (u .0 .0) 0
-          ; chosen = choices (x .n) (u .0 .1)
-          ; answers = judge-answer ∙ ap (λ o. judged (announced (x .model) s asked-for o)) (u .1)
-          })
+          record {
+            total = asked-for .total (u .0 .1);
+            count = cond (asked-for .counts) (u .0 .0) 0;
+            chosen = choices (x .n) (u .0 .1);
+            answers = judge-answer ∙ ap (λ o. judged (announced (x .model) s asked-for o)) (u .1);
+          },
+    )
 
     -- ---- write
 
@@ -246,12 +248,12 @@ module _ (session : Session) (yielding : (calls : List Call) (c : Call) → sess
         let l : length b ≡ filled = written-same (sym (ap (λ z. z .answer) i) ∙ h) in
         let u = shown-meets (x .model) s asked-for (y .0) (y .1) in
         let t : take filled (r .buffer) ≡ b = ap (λ z. take filled (z .buffer)) i ∙ take-at b (drop (length b) a) filled l in
-        record
-        { place = y .0 .0
-        ; shown-plan = y .0 .1
-        ; is-shown = y .1
-        ; sheet = subst (λ z. Meeting-sheet session x z (y .0 .1)) (sym (t ∙ y .2)) (meeting (y .0 .1) (u .0) (u .1))
-        ; beyond = ap (λ z. drop filled (z .buffer)) i ∙ drop-at b (drop (length b) a) filled l ∙ ap (λ n. drop n a) l
+        record {
+          place = y .0 .0;
+          shown-plan = y .0 .1;
+          is-shown = y .1;
+          sheet = subst (λ z. Meeting-sheet session x z (y .0 .1)) (sym (t ∙ y .2)) (meeting (y .0 .1) (u .0) (u .1));
+          beyond = ap (λ z. drop filled (z .buffer)) i ∙ drop-at b (drop (length b) a) filled l ∙ ap (λ n. drop n a) l;
         }
     writes a filled (refused j) e r i h = absurd (not-written (sym (ap (λ z. z .answer) i) ∙ h))
 
@@ -261,10 +263,10 @@ module _ (session : Session) (yielding : (calls : List Call) (c : Call) → sess
 
 pub demand-3 : (session : Session) → ((calls : List Call) (c : Call) → session calls c ≡ yields (after calls) c) → Reads-back → Demand-3-always session
 demand-3 session yielding back calls x =
-    record
-    { check-exact = check-exact session yielding x
-    ; check-says = check-says session yielding x
-    ; accepted-claims = accepted-claims session yielding x
-    ; yes-exact = yes-exact session yielding x back
-    ; write-exact = write-exact session yielding x back
+    record {
+      check-exact = check-exact session yielding x;
+      check-says = check-says session yielding x;
+      accepted-claims = accepted-claims session yielding x;
+      yes-exact = yes-exact session yielding x back;
+      write-exact = write-exact session yielding x back;
     }

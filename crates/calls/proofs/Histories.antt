@@ -2,7 +2,6 @@
 -- question and the verdict, a judge that is not refused the verdict; every other call leaves them. The last call of the longer list is
 -- looked at first: if it leaves something, nothing is since; if not, it is added to the calls since.
 use Prim.Native.Nat.{ℕ}
-use native.Mathlib.Omega.{arith}
 use mathlib.Core.Path.{_≡_, refl, sym, ap, ap₂, subst, _∙_}
 use mathlib.Core.Bool.{Bool, true, false, cond, _&&_, _||_, or-false, or-true, and-false}
 use mathlib.Core.List.{List, [], _∷_, _++_}
@@ -234,6 +233,7 @@ question-told cs m q e f = from (last-left loaded cs) e f
     since : (n : Model) (l : List Call) (o : Option (Question × List Call)) → last-left (asked n) l ≡ o → (held-since n o) .question ≡ some q → (b : Bytes) × (question-for n b ≡ ok q)
     since n l none i h = absurd (none≢some h)
     since n l (some x) i h = let c = last-left-some (asked n) l i in asked-read n (c .0) (c .1 ∙ h)
+
     from : (o : Option (Model × List Call)) → (held-from o) .model ≡ some m → (held-from o) .question ≡ some q → (b : Bytes) × (question-for m b ≡ ok q)
     from none h k = absurd (none≢some h)
     from (some x) h k =

@@ -2,17 +2,15 @@
 -- at most 4 outcomes, so that a plan has 1 to 1,365 choices; and W is at most D to the n, below 2 to the 64.
 use Prim.Native.Nat.{ℕ, zero, suc, _+_, _*_, _-_, _^_, _≤_, _<_}
 use native.Mathlib.Omega.{arith}
-use native.Mathlib.Nat.{le-refl, le-trans, lt-of-le-of-lt, add-le-add, suc-mul, mul-le-mul-right, pow-le-pow-left, pow-le-pow-right}
+use native.Mathlib.Nat.{le-refl, le-trans, lt-of-le-of-lt, suc-mul, mul-le-mul-right, pow-le-pow-left, pow-le-pow-right}
 use mathlib.Core.Path.{_≡_, refl, sym, ap, subst, _∙_}
 use mathlib.Core.Bool.{Bool, true, false, cond, _&&_, false≢true}
-use mathlib.Core.List.{List, [], _∷_, _++_, flatMap, List·Memᴰ}
-use mathlib.Core.Option.{some}
+use mathlib.Core.List.{List, [], _∷_, flatMap, List·Memᴰ}
 use lib.Dec.{leb, lit<}
-use lib.IntN.{pos}
 use lib.ListN.{length, getD, length-append}
 use Rattle.logic.specs.Checked.{ok, refusal}
 use Rattle.logic.specs.Lists.{keep}
-use Rattle.logic.specs.Model.{Model, Step, outcomes}
+use Rattle.logic.specs.Model.{Model, outcomes}
 use Rattle.logic.specs.Quantity.{naturals, sum}
 use Rattle.logic.specs.Plan.{Plan, plans, choices, paths, weight, Match, ends, pair}
 use Rattle.logic.specs.Accepted.{Accepted}
@@ -29,8 +27,8 @@ use Rattle.models.specs.Grounds.{sizes-right, read-model}
 use Rattle.models.proofs.Passed.{passed-all, read-passed}
 use Rattle.models.proofs.Readable.{readable}
 use Rattle.models.proofs.Rows.{entries-few, outcomes-are}
-use Rattle.models.proofs.Held.{accepted, states-held}
-use Rattle.questions.specs.Layout.{Question, node-of, node-count, formulas-of, question-of}
+use Rattle.models.proofs.Held.{accepted}
+use Rattle.questions.specs.Layout.{node-of, node-count, formulas-of, question-of}
 use Rattle.questions.specs.Grounds.{read-question}
 use Rattle.questions.proofs.Accepted as questions
 use Rattle.questions.proofs.Laws.{by-operator}
@@ -207,8 +205,8 @@ module _ {calls : List Call} (x : Plan-question calls) where
 
 pub sheets-read-back : Reads-back
 sheets-read-back =
-    record
-    { sheet = λ calls x π i.
-        reads-back (x .n) (x .question .start) (W (x .model) (x .condition) (x .n) (x .question .start) π) (choices (x .n) π)
-        (weight-few x π i) (some-choice (x .n) π (steps-asked x .0)) (choices-few x π i)
+    record {
+      sheet = λ calls x π i.
+          reads-back (x .n) (x .question .start) (W (x .model) (x .condition) (x .n) (x .question .start) π) (choices (x .n) π)
+          (weight-few x π i) (some-choice (x .n) π (steps-asked x .0)) (choices-few x π i);
     }

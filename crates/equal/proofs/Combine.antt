@@ -51,7 +51,7 @@ pub first-held : (a b b′ : List ℕ) (at : ℕ) (xs : List ℕ) (w : ℕ) → 
     → b′ ≡ splice b at (map (λ y. 0 + w * y) (part b at (length xs))) → Holds a b′ at (map (λ y. w * y) xs)
 first-held a b b′ at xs w in-a in-b H e =
     let f : b′ ≡ splice b at (map (λ y. w * y) xs) =
-        e ∙ ap₂ (λ g l. splice b at (map g l)) (fun-ext (λ y. zero-add (w * y))) (held-part a b at xs in-a H) in
+    e ∙ ap₂ (λ g l. splice b at (map g l)) (fun-ext (λ y. zero-add (w * y))) (held-part a b at xs in-a H) in
     subst (λ l. Holds a l at (map (λ y. w * y) xs)) (sym f) (held-written a b at xs in-a H in-b (map (λ y. w * y) xs))
 
 -- A further list ys, made behind the product, weighed and joined on.
@@ -86,9 +86,9 @@ module _ (a b b₁ : List ℕ) (at : ℕ) (xs ys : List ℕ) (in-a : at ≤ leng
         others = some;
         room = room;
         fits = λ x y i j.
-          let p : x ≤ d = hx x (subst (List·Memᴰ x) still-part i) in
-          let q : w * y ≤ e = hy (w * y) (in-map (λ y. w * y) (subst (List·Memᴰ y) new-part j)) in
-          omega arith;
+            let p : x ≤ d = hx x (subst (List·Memᴰ x) still-part i) in
+            let q : w * y ≤ e = hy (w * y) (in-map (λ y. w * y) (subst (List·Memᴰ y) new-part j)) in
+            omega arith;
       }
 
 -- ---- the outcomes taken: lo to hi, and o beside them

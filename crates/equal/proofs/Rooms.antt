@@ -54,8 +54,10 @@ module _ {n count at size : ℕ} (R : Room (suc n) count at size) where
     where
       square : x * x ≤ R .root * R .root
       square = le-trans (mul-le-mul-right x (le-trans h g)) (le-trans e (R .small))
+
       single : x ≤ len * x
       single = subst (λ k. x ≤ k) (mul-comm x len) (le-mul-of-pos-right x p)
+
       go : {spare : ℕ} → Spare (suc n) (R .root) spare → at + count + spare ≤ size → Room n x (at + len * x) size
       go (roots {next = next} {spare = s} i c) f =
           record {

@@ -54,6 +54,7 @@ module _ (m : Model) where
     where
       term : Step → Plan n → ℕ
       term o q = o .weight * total naturals m n (o .target) q (λ r. f (o ∷ r))
+
       choice : (a : ℕ) → map (λ π. total naturals m (suc n) s π f) (block m n s a) ≡ combined (weighed m n f) (outcomes m s a)
       choice a =
           let P : List (List (Plan n)) = product (map (λ o. plans m n (o .target)) (outcomes m s a)) in

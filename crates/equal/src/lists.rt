@@ -9,11 +9,14 @@ ghost use Rattle.models.specs.Layout.{action-count, model-of, entries, outcome-
 ghost use Rattle.equal.specs.Totals.{totals, combined, weighed};
 ghost use Rattle.equal.specs.Room.{Room};
 ghost use Rattle.equal.specs.Listing.{onward, Given, Here, Written, Longest};
-
+use crate::spread::fill;
+use crate::spread::join;
+use crate::spread::shift;
 use blocks::wide;
-use evaluation::{known, step};
-use models::{target, weight};
-use crate::spread::{fill, join, shift};
+use evaluation::known;
+use evaluation::step;
+use models::target;
+use models::weight;
 
 // The number of plans of k steps from a state, by the table.
 fn count(table: &[u64; 224], k: u8, t: usize) -> usize

@@ -20,12 +20,20 @@ pub fn shift(buf: &mut [u64], from: usize, to: usize, count: usize, w: u64, x: u
 
 // Writes the sums of v times each of the n numbers at `slow` and w times each of the c numbers at `fast`, from the last one down, so
 // that what is still to be read is not yet written over.
-pub fn spread(buf: &mut [u64], at: usize, slow: usize, n: usize, v: u64, fast: usize, c: usize, w: u64)
+pub fn spread(
+    buf: &mut [u64],
+    at: usize,
+    slow: usize,
+    n: usize,
+    v: u64,
+    fast: usize,
+    c: usize,
+    w: u64,
+)
     requires { ⌜ Spreads (now buf) at slow n v fast c w ⌝ }
     ensures { λ r.
         ⌜ now (buf .exit)
-        ≡ splice (now (buf .entry)) at (grid (map (λ x. v * x) (part (now (buf .entry)) slow n)) (map (λ y. w * y) (part (now (buf .entry)) fast c))) ⌝
-    }
+        ≡ splice (now (buf .entry)) at (grid (map (λ x. v * x) (part (now (buf .entry)) slow n)) (map (λ y. w * y) (part (now (buf .entry)) fast c))) ⌝ }
 {
     let mut i = n;
     while 0 < i {

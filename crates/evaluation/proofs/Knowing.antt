@@ -1,14 +1,14 @@
 -- `learn` makes known what the last step makes known, and a longer path keeps what a shorter one made known, since no node looks further
 -- than its depth.
-use Prim.Native.Nat.{ℕ, zero, suc, _+_, _*_, _-_, _/_, _%_, _≤_, _<_}
+use Prim.Native.Nat.{ℕ, zero, suc, _+_, _*_, _-_, _≤_, _<_}
 use native.Mathlib.Omega.{arith}
 use native.Mathlib.Numerals.{add-one}
 use native.Mathlib.Decide.{ℕ-discrete, decLt}
 use mathlib.Core.Path.{_≡_, refl, sym, ap, ap₂, subst, _∙_}
 use mathlib.Core.List.{List, [], _∷_, _++_}
 use lib.IntN.{ℤ, pos, _+ℤ_, +ℤ-idr}
-use lib.ListN.{length, getD, set, take, drop, length-append, length-set, length-drop}
-use lib.Seq.{take-all, take-length, take-append-le, drop-append-le, getD-set-same, getD-set-other, length-take-le}
+use lib.ListN.{length, getD, set, take, drop, length-append, length-drop}
+use lib.Seq.{take-all, take-length, take-append-le, drop-append-le, getD-set-same, getD-set-other}
 use Rattle.logic.specs.Formula.{depth}
 use Rattle.logic.specs.Total.{one-if, value-of}
 use Rattle.logic.specs.Quantity.{sum}
@@ -16,7 +16,6 @@ use Rattle.logic.proofs.Depth.{sat-same}
 use Rattle.logic.proofs.Tests.{getD-tabulate}
 use Rattle.blocks.specs.Bytes.{Bytes}
 use Rattle.models.specs.Layout.{state-count, action-count, prop-count, model-of}
-use Rattle.questions.specs.Layout.{node-count, formulas-of}
 use Rattle.questions.specs.Tables.{table}
 use Rattle.questions.proofs.Accepted as questions
 use Rattle.evaluation.specs.Path.{step-of, steps-of, state-after, Trail, gain-of}

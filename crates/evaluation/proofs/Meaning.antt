@@ -1,5 +1,5 @@
 -- What each operator computes of its children's values is its meaning on the path: an induction over the nodes of a cone, children first.
-use Prim.Native.Nat.{ℕ, zero, suc, _+_, _*_, _-_, _/_, _%_, _≤_, _<_}
+use Prim.Native.Nat.{ℕ, suc, _+_, _*_, _-_, _/_, _%_, _≤_, _<_}
 use native.Mathlib.Omega.{arith}
 use native.Mathlib.Nat.{le-max-left, le-max-right}
 use native.Mathlib.Numerals.{add-one}
@@ -11,20 +11,18 @@ use lib.Bits.{bitAnd}
 use lib.Dec.{eqb}
 use lib.IntN.{ℤ, pos, _+ℤ_, _-ℤ_, +ℤ-assoc, +ℤ-idl}
 use lib.ListN.{length, getD, take, drop, length-drop, take-append-drop, drop-of-length-le}
-use lib.Seq.{take-all, take-length, drop-cons, getD-take}
+use lib.Seq.{take-all, drop-cons, getD-take}
 use Rattle.logic.specs.Model.{Step}
 use Rattle.logic.specs.Quantity.{integers, sum, related}
-use Rattle.logic.specs.Formula.{Formula, Node, never, prop, neg, both, does, next, gain, plan, sat, depth, relation}
+use Rattle.logic.specs.Formula.{Formula, Node, does, next, sat, depth, relation}
 use Rattle.logic.specs.Total.{one-if, value-of}
-use Rattle.logic.proofs.Tests.{getD-tabulate}
 use Rattle.blocks.specs.Bytes.{Bytes, byte}
-use Rattle.models.specs.Layout.{state-count, action-count, prop-count, entries, outcome-of, model-of}
-use Rattle.questions.specs.Layout.{node-count, node-of, formulas-of}
-use Rattle.questions.specs.Tables.{table}
+use Rattle.models.specs.Layout.{state-count, action-count, prop-count, outcome-of, model-of}
+use Rattle.questions.specs.Layout.{node-count, node-of}
 use Rattle.questions.proofs.Laws.{by-operator}
 use Rattle.questions.proofs.Accepted as questions
 use Rattle.evaluation.specs.Path.{step-of, steps-of, state-after, Trail, gain-of}
-use Rattle.evaluation.specs.Reached.{formula, Reached, under-not, and-left, and-right, under-next, reads-left, Earlier, Cone, root-of, Ready}
+use Rattle.evaluation.specs.Reached.{formula, Reached, under-not, and-left, and-right, under-next, reads-left, Earlier, root-of, Ready}
 use Rattle.evaluation.specs.Learnt.{known, gained, value-by, value-at}
 use Rattle.evaluation.specs.Known.{Known, Gained}
 use Rattle.evaluation.proofs.Integers.{rest-of-sum}
@@ -148,11 +146,11 @@ module _ {m q : Bytes} {s : ℕ} {depths truth cone : List ℕ} (ready : Ready m
           let R = steps-of m s t in
           let z : length R ≡ length t = steps-length m s t in
           let all : gain-of (take (length t) R) ≡ gain-of (take k R) +ℤ gain-of (from k) =
-              ap gain-of (take-all (length t) R (omega arith) ∙ sym (take-append-drop k R)) ∙ gain-append (take k R) (from k) in
+          ap gain-of (take-all (length t) R (omega arith) ∙ sym (take-append-drop k R)) ∙ gain-append (take k R) (from k) in
           let g : getD gains (length t) (pos 0) -ℤ getD gains k (pos 0) ≡ gain-of (take (x .n) (from k)) =
-              ap₂ _-ℤ_ (summed .right (length t) (omega arith) ∙ all) (summed .right k (omega arith))
-              ∙ rest-of-sum (gain-of (take k R)) (gain-of (from k))
-              ∙ ap gain-of (sym (take-all (x .n) (from k) (omega (arith, length-drop k R)))) in
+          ap₂ _-ℤ_ (summed .right (length t) (omega arith) ∙ all) (summed .right k (omega arith))
+          ∙ rest-of-sum (gain-of (take k R)) (gain-of (from k))
+          ∙ ap gain-of (sym (take-all (x .n) (from k) (omega (arith, length-drop k R)))) in
           ap (λ y. one-if (related integers (relation (x .right)) y (x .p))) g
           ∙ ap (λ φ. value-of (model-of m) φ (at k) (from k)) (sym f)
 

@@ -1,14 +1,13 @@
 -- A step taken: its byte names the outcome, the sum of rewards goes on, and what `learn` adds is all that the step makes known.
-use Prim.Native.Nat.{ℕ, zero, suc, _+_, _*_, _-_, _/_, _%_, _≤_, _<_}
+use Prim.Native.Nat.{ℕ, suc, _+_, _*_, _-_, _/_, _%_, _≤_, _<_}
 use native.Mathlib.Omega.{arith}
 use native.Mathlib.Numerals.{add-one}
 use mathlib.Core.Path.{_≡_, refl, sym, ap, ap₂, subst, _∙_}
-use mathlib.Core.Bool.{Bool, true, false, cond, _&&_}
+use mathlib.Core.Bool.{Bool, true, false, cond}
 use mathlib.Core.List.{List, [], _∷_, _++_}
-use lib.Dec.{ltb}
 use lib.IntN.{ℤ, pos, _+ℤ_}
 use lib.ListN.{length, getD, set, take, length-append}
-use lib.Seq.{take-suc-set, length-take-le, take-set-le}
+use lib.Seq.{take-suc-set, length-take-le}
 use Rattle.logic.specs.Model.{true-of}
 use Rattle.blocks.specs.Bytes.{Bytes}
 use Rattle.models.specs.Layout.{state-count, action-count, pre-of, state-mask, post-count, entries, outcome-of, model-of}
@@ -88,12 +87,12 @@ module _ {m q : Bytes} {start : ℕ} {depths truth cone : List ℕ} (ready : Rea
           let on = T ++ (b ∷ []) in
           let followed : Trail m start on = trail-longer m (knows .followed) b used-here in
           let g : set gains (suc (length T)) (getD gains (length T) (pos 0) +ℤ (step-of m (state-after m start T) b) .reward) ≡ gains′ =
-              ap₂ (λ n z. set gains n z) (ap suc T-length ∙ sym (add-one h)) (ap₂ (λ n z. getD gains n (pos 0) +ℤ z) T-length (ap (λ z. z .reward) the-step)) ∙ sym eg in
+          ap₂ (λ n z. set gains n z) (ap suc T-length ∙ sym (add-one h)) (ap₂ (λ n z. getD gains n (pos 0) +ℤ z) T-length (ap (λ z. z .reward) the-step)) ∙ sym eg in
           let gained = subst (λ x. Gained m start on x) g (gained-longer m q start cone T b gains (omega (arith, T-length, roomy .sums, offered .steps)) (knows .gained)) in
           let p : on ≡ take (length on) (set trail h b) = sym (ap (λ n. take n (set trail h b)) on-length ∙ longer) in
           let K = known-all ready on (set trail h b) p (omega (arith, on-length, offered .steps)) gains′ followed gained v (roomy .places) (known-longer m q start cone T b v (knows .values)) in
           let e : learnt q depths truth (set trail h b) gains′ (length on) (state-after m start on) cone v ≡ v′ =
-              ap₂ (λ n z. learnt q depths truth (set trail h b) gains′ n z cone v) on-length (state-on ∙ sym et) ∙ sym ev in
+          ap₂ (λ n z. learnt q depths truth (set trail h b) gains′ n z cone v) on-length (state-on ∙ sym et) ∙ sym ev in
           let N : Knows m q start cone on gains′ v′ = record { followed = followed; gained = gained; values = subst (Known m q start cone on (length cone)) e K } in
           record { longer = longer; state = et; knows = subst (λ l. Knows m q start cone l gains′ v′) (sym longer) N }
 

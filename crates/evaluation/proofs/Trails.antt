@@ -2,8 +2,8 @@
 use Prim.Native.Nat.{ℕ, zero, suc, _+_, _*_, _/_, _%_, _≤_, _<_}
 use native.Mathlib.Omega.{arith}
 use native.Mathlib.Nat.{le-of-suc-le-suc}
-use mathlib.Core.Path.{_≡_, refl, sym, ap, ap₂, subst, _∙_}
-use mathlib.Core.List.{List, [], _∷_, _++_, append-assoc}
+use mathlib.Core.Path.{_≡_, refl, ap}
+use mathlib.Core.List.{List, [], _∷_, _++_}
 use mathlib.Core.Bool.{true, _&&_}
 use native.Mathlib.Decide.{decLt}
 use lib.Dec.{ltb, leb}
@@ -14,7 +14,6 @@ use borrow.Author.Tests.{ltb-true, leb-true}
 use Rattle.logic.specs.Checked.{refusal}
 use Rattle.logic.specs.Quantity.{sum}
 use Rattle.logic.proofs.Tests.{and-both}
-use Rattle.logic.specs.Model.{Step}
 use Rattle.blocks.specs.Bytes.{Bytes, within}
 use Rattle.models.specs.Layout.{state-count, action-count, entries, outcome-of}
 use Rattle.models.specs.Grounds.{outcome-in-range, read-model}
@@ -92,11 +91,11 @@ module _ (m : Bytes) (accepted : refusal (read-model m) ≡ 0) where
           let x = and-both (ltb ((outcome-of m s a i) .target) (state-count m) && (leb 1 ((outcome-of m s a i) .weight) && leb ((outcome-of m s a i) .weight) 100) && leZ (negsuc 999) ((outcome-of m s a i) .reward)) (leZ ((outcome-of m s a i) .reward) (pos 1000)) e in
           let y = and-both (ltb ((outcome-of m s a i) .target) (state-count m) && (leb 1 ((outcome-of m s a i) .weight) && leb ((outcome-of m s a i) .weight) 100)) (leZ (negsuc 999) ((outcome-of m s a i) .reward)) (x .0) in
           let z = and-both (ltb ((outcome-of m s a i) .target) (state-count m)) (leb 1 ((outcome-of m s a i) .weight) && leb ((outcome-of m s a i) .weight) 100) (y .0) in
-          record
-          { action = l
-          ; reaches = ltb-true ((outcome-of m s a i) .target) (state-count m) (z .0)
-          ; light = leb-true ((outcome-of m s a i) .weight) 100 (and-both (leb 1 ((outcome-of m s a i) .weight)) _ (z .1) .1)
-          ; modest = modest-reward ((outcome-of m s a i) .reward) (y .1) (x .1)
+          record {
+            action = l;
+            reaches = ltb-true ((outcome-of m s a i) .target) (state-count m) (z .0);
+            light = leb-true ((outcome-of m s a i) .weight) 100 (and-both (leb 1 ((outcome-of m s a i) .weight)) _ (z .1) .1);
+            modest = modest-reward ((outcome-of m s a i) .reward) (y .1) (x .1);
           }
 
   pub state-inside : {s : ℕ} {t : List ℕ} → Trail m s t → s < state-count m → state-after m s t < state-count m

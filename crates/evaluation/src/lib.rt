@@ -12,10 +12,13 @@ ghost use Rattle.evaluation.specs.Learnt as spec;
 ghost use Rattle.evaluation.specs.Reached.{Ready};
 ghost use Rattle.evaluation.specs.Known.{Knows, Roomy, Offered, Stepped};
 ghost use Rattle.questions.specs.Layout.{node-of};
-
-use blocks::{byte, i16_at};
+use blocks::byte;
+use blocks::i16_at;
 use models::outcome_at;
-use questions::{left, operator, p, right};
+use questions::left;
+use questions::operator;
+use questions::p;
+use questions::right;
 
 fn bit(t: bool) -> u8
     ensures { λ r. ⌜ r ≡ one-if t ⌝ }
@@ -91,7 +94,17 @@ fn depth_at(depths: &[u32], j: u8) -> u32
 }
 
 // The value of node j, of depth d, where it becomes known after h steps.
-fn value_at(q: &[u8], truth: &[u8], trail: &[u8], gains: &[i32], v: &[u8], h: u8, s: u8, d: u32, j: u8) -> u8
+fn value_at(
+    q: &[u8],
+    truth: &[u8],
+    trail: &[u8],
+    gains: &[i32],
+    v: &[u8],
+    h: u8,
+    s: u8,
+    d: u32,
+    j: u8,
+) -> u8
     requires { ⌜ d ≤ h ⌝ }
     ensures { λ r. ⌜ r ≡ value-at (now (q .entry)) (now (truth .entry)) (now (trail .entry)) (now (gains .entry)) h s d j (now (v .entry)) ⌝ }
 {
@@ -109,7 +122,17 @@ fn store(v: &mut [u8], i: usize, x: u8)
     }
 }
 
-fn learn_node(q: &[u8], depths: &[u32], truth: &[u8], trail: &[u8], gains: &[i32], v: &mut [u8], h: u8, s: u8, j: u8)
+fn learn_node(
+    q: &[u8],
+    depths: &[u32],
+    truth: &[u8],
+    trail: &[u8],
+    gains: &[i32],
+    v: &mut [u8],
+    h: u8,
+    s: u8,
+    j: u8,
+)
     ensures { λ _. ⌜ now (v .exit) ≡ learn-node (now (q .entry)) (now (depths .entry)) (now (truth .entry)) (now (trail .entry)) (now (gains .entry)) h s j (now (v .entry)) ⌝ }
 {
     let d = depth_at(depths, j);
@@ -120,7 +143,17 @@ fn learn_node(q: &[u8], depths: &[u32], truth: &[u8], trail: &[u8], gains: &[i32
 }
 
 // What the last of h steps, which led to the state s, makes known of the nodes of a cone.
-pub fn learn(q: &[u8], depths: &[u32], truth: &[u8], trail: &[u8], gains: &[i32], cone: &[u8], v: &mut [u8], h: u8, s: u8)
+pub fn learn(
+    q: &[u8],
+    depths: &[u32],
+    truth: &[u8],
+    trail: &[u8],
+    gains: &[i32],
+    cone: &[u8],
+    v: &mut [u8],
+    h: u8,
+    s: u8,
+)
     ensures { λ _. ⌜ now (v .exit) ≡ learnt (now (q .entry)) (now (depths .entry)) (now (truth .entry)) (now (trail .entry)) (now (gains .entry)) h s (now (cone .entry)) (now (v .entry)) ⌝ }
 {
     let mut i: usize = 0;
@@ -131,7 +164,21 @@ pub fn learn(q: &[u8], depths: &[u32], truth: &[u8], trail: &[u8], gains: &[i32]
 }
 
 // Takes a step: the outcome o of action a in the state s, which the first h steps led to from the start. Gives the state reached.
-pub fn step(m: &[u8], q: &[u8], depths: &[u32], truth: &[u8], cone: &[u8], trail: &mut [u8], gains: &mut [i32], v: &mut [u8], start: u8, h: u8, s: u8, a: u8, o: u8) -> u8
+pub fn step(
+    m: &[u8],
+    q: &[u8],
+    depths: &[u32],
+    truth: &[u8],
+    cone: &[u8],
+    trail: &mut [u8],
+    gains: &mut [i32],
+    v: &mut [u8],
+    start: u8,
+    h: u8,
+    s: u8,
+    a: u8,
+    o: u8,
+) -> u8
     requires { ⌜ Ready (now m) (now q) start (now depths) (now truth) (now cone) ⌝ }
     requires { ⌜ Roomy (now trail) (now gains) (now v) ⌝ }
     requires { ⌜ Offered (now m) start (now trail) h s a o ⌝ }

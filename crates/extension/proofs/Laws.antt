@@ -13,11 +13,11 @@ use lib.ListN.{length, getD, take, drop, set, length-append, length-drop, length
 use lib.Seq.{take-at, drop-append-add, drop-drop, length-take-le, set-split, getD-drop}
 use borrow.Author.Tests.{lt-ltb, le-ltb}
 use Rattle.logic.specs.Lists.{keep, count-from, tabulate}
-use Rattle.logic.specs.Model.{Model, Step, enabled, outcomes}
+use Rattle.logic.specs.Model.{Model, Step, outcomes}
 use Rattle.logic.specs.Extension.{first-choice}
-use Rattle.logic.proofs.Tests.{tabulate-more, count-more, keep-append, keep-same, counted-range}
+use Rattle.logic.proofs.Tests.{tabulate-more, count-more, keep-append, keep-same}
 use Rattle.blocks.specs.Bytes.{Bytes}
-use Rattle.models.specs.Layout.{state-count, action-count, outcome-of, entries, model-of}
+use Rattle.models.specs.Layout.{state-count, outcome-of, entries, model-of}
 use Rattle.models.specs.Readable.{Readable}
 use Rattle.models.specs.Used.{Used}
 use Rattle.models.proofs.Laws.{entries-past-actions}

@@ -4,7 +4,7 @@ use Prim.Native.Nat.{ℕ, zero, suc, _+_, _*_, _-_, _/_, _%_, _≤_, _<_, min}
 use native.Mathlib.Omega.{arith}
 use native.Mathlib.Numerals.{add-one}
 use native.Mathlib.Decide.{decLt, ℕ-discrete}
-use native.Mathlib.Nat.{min-le-left, min-le-right, min-eq-left, min-eq-right, le-trans, mul-le-mul-left, mul-le-mul-right, mul-assoc, mul-one, one-mul, mul-comm, add-zero, zero-add, add-assoc, zero-mul, mul-zero}
+use native.Mathlib.Nat.{min-le-left, min-eq-left, min-eq-right, le-trans, mul-le-mul-left, mul-assoc, mul-one, mul-comm, add-zero, add-assoc, mul-zero}
 use mathlib.Core.Path.{_≡_, refl, sym, ap, ap₂, subst, _∙_}
 use mathlib.Core.Logic.{_⊎_, inl, inr, ⊎-elim}
 use mathlib.Core.Bool.{Bool, true, false, cond}

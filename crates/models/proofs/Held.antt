@@ -4,15 +4,15 @@ use Prim.Native.Nat.{ℕ, zero, suc, _+_, _<_, _≤_}
 use native.Mathlib.Omega.{arith}
 use native.Mathlib.Nat.{zero-add, add-zero}
 use mathlib.Core.Path.{_≡_, refl, sym, ap, ap₂, subst, _∙_}
-use mathlib.Core.Bool.{Bool, true, false, _&&_, _||_, false≢true}
-use mathlib.Core.List.{List, [], _∷_, _++_, map, List·Memᴰ, List·Memᴰ·head, List·Memᴰ·tail, List·Memᴰ·not-nil}
+use mathlib.Core.Bool.{Bool, true, false, _&&_}
+use mathlib.Core.List.{List, [], _∷_, map, List·Memᴰ, List·Memᴰ·not-nil}
 use lib.Dec.{eqb, ltb}
 use lib.IntN.{negsuc}
 use lib.Signed.{leZ}
 use lib.ListN.{length, getD}
 use borrow.Author.Tests.{lt-ltb, le-ltb}
-use Rattle.logic.specs.Lists.{keep, count-from, tabulate, every, some-below}
-use Rattle.logic.specs.Model.{Model, Step, Action, true-of, contradict, mask, enabled, outcomes, no-action}
+use Rattle.logic.specs.Lists.{keep, count-from, tabulate, every}
+use Rattle.logic.specs.Model.{Step, Action, true-of, contradict, mask, enabled, outcomes, no-action}
 use Rattle.logic.specs.Quantity.{naturals, sum}
 use Rattle.logic.specs.Order.{Rising, nothing, first}
 use Rattle.logic.specs.Accepted.{Accepted, Executable}
@@ -93,7 +93,7 @@ module _ (b : Bytes) where
       let acts : ℕ → Action = λ a. record { pre = pre-of b a; posts = tabulate (post-count b a) (post-of b a) } in
       ap (λ n. keep (λ a. true-of ((getD (tabulate (action-count b) acts) a no-action) .pre) (mask (model-of b) s)) (count-from 0 n)) (length-tabulate acts (action-count b))
       ∙ keep-same _ _ (count-from 0 (action-count b))
-        (λ a i. ap₂ (λ (x : Action) v. true-of (x .pre) v) (getD-tabulate acts (action-count b) no-action (omega (arith, counted-range 0 (action-count b) i .1))) (mask-held s h))
+      (λ a i. ap₂ (λ (x : Action) v. true-of (x .pre) v) (getD-tabulate acts (action-count b) no-action (omega (arith, counted-range 0 (action-count b) i .1))) (mask-held s h))
 
   pub enabled-in : (s a : ℕ) → s < state-count b → a < action-count b → true-of (pre-of b a) (state-mask b s) ≡ true → List·Memᴰ a (enabled (model-of b) s)
   enabled-in s a h g e =
@@ -170,11 +170,11 @@ module _ (b : Bytes) (p : Passed b) where
   pub accepted : Accepted (model-of b)
   unfolding outcome-of
   accepted =
-      record
-      { some-choice = λ s h. let l = subst (λ n. s < n) (states-held b) h in let w = some-below-index _ (action-count b) (state-passed b p s l) in first-of (enabled (model-of b) s) (enabled-in b s (w .0) l (w .1) (w .2))
-      ; sums = λ x. summed x ∙ sym (denominator-held b)
-      ; weighs = λ x o i. let w = member x o i in subst (λ z. 0 < z .weight) (sym (w .2)) (range x (w .0) (w .1) .1)
-      ; inside = λ x o i. let w = member x o i in rw (states-held b) (subst (λ z. z .target < state-count b) (sym (w .2)) (range x (w .0) (w .1) .0))
-      ; named = λ x o i. let w = member x o i in ap (λ z. z .choice) (w .2)
-      ; apart = λ {s} {a} x. subst (Rising (λ x y. x .target ≡ y .target → ⊥)) (sym (held x)) (rising-tabulate (λ x y. x .target ≡ y .target → ⊥) (outcome-of b s a) (entries b s a) (differ x))
+      record {
+        some-choice = λ s h. let l = subst (λ n. s < n) (states-held b) h in let w = some-below-index _ (action-count b) (state-passed b p s l) in first-of (enabled (model-of b) s) (enabled-in b s (w .0) l (w .1) (w .2));
+        sums = λ x. summed x ∙ sym (denominator-held b);
+        weighs = λ x o i. let w = member x o i in subst (λ z. 0 < z .weight) (sym (w .2)) (range x (w .0) (w .1) .1);
+        inside = λ x o i. let w = member x o i in rw (states-held b) (subst (λ z. z .target < state-count b) (sym (w .2)) (range x (w .0) (w .1) .0));
+        named = λ x o i. let w = member x o i in ap (λ z. z .choice) (w .2);
+        apart = λ {s} {a} x. subst (Rising (λ x y. x .target ≡ y .target → ⊥)) (sym (held x)) (rising-tabulate (λ x y. x .target ≡ y .target → ⊥) (outcome-of b s a) (entries b s a) (differ x));
       }

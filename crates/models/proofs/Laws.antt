@@ -1,8 +1,8 @@
 -- Facts that the tests' proofs share: one turn more of a loop that tests every number, and the cells of a table as a grid.
-use Prim.Native.Nat.{ℕ, zero, suc, _+_, _*_, _/_, _%_, _^_, _-_, _≤_, _<_}
+use Prim.Native.Nat.{ℕ, _+_, _*_, _/_, _%_, _^_, _-_, _≤_, _<_}
 use native.Mathlib.Omega.{arith}
 use native.Mathlib.Numerals.{add-one}
-use mathlib.Core.Path.{_≡_, refl, sym, ap, ap₂, _∙_}
+use mathlib.Core.Path.{_≡_, refl, sym, ap₂, _∙_}
 use mathlib.Core.Bool.{Bool, true, false, not, _&&_, _||_}
 use native.Mathlib.Nat.{div-lt-iff-lt-mul, eq-zero-or-pos}
 use mathlib.Core.Logic.{⊎-elim}
@@ -40,9 +40,10 @@ shift-zero v n =
     (λ e. eq-eqb (v / 2 ^ n) 0 (div-lt-one .1 (ltb-true v (2 ^ n) e)))
   where
     div-lt-one : (v / 2 ^ n ≡ 0 → v < 2 ^ n) × (v < 2 ^ n → v / 2 ^ n ≡ 0)
-    div-lt-one =
-        ( λ e. let h : v < 1 * 2 ^ n = div-lt-iff-lt-mul (pow-pos n) .0 (omega arith) in omega arith
-        , λ h. let g : v < 1 * 2 ^ n = omega arith in let l : v / 2 ^ n < 1 = div-lt-iff-lt-mul (pow-pos n) .1 g in omega arith )
+    div-lt-one = (
+      λ e. let h : v < 1 * 2 ^ n = div-lt-iff-lt-mul (pow-pos n) .0 (omega arith) in omega arith,
+      λ h. let g : v < 1 * 2 ^ n = omega arith in let l : v / 2 ^ n < 1 = div-lt-iff-lt-mul (pow-pos n) .1 g in omega arith,
+    )
 
 -- A table's cells, 8 to a row, are a grid; those from column A up pass.
 pub grid : (f : ℕ → ℕ → Bool) (m A : ℕ) → A ≤ 8 → ((s a : ℕ) → A ≤ a → a < 8 → f s a ≡ true)
@@ -97,7 +98,7 @@ module _ (b : Bytes) (sized : Sized b) where
   entries-small s a =
       ⊎-elim (λ z. rw (entries-past-states b s a (omega arith)) (omega arith))
       (λ h. ⊎-elim (λ z. rw (entries-past-actions b s a (omega arith)) (omega arith))
-        (λ g. rw (entries-inside b s a (omega arith) (omega arith)) (go (true-of (pre-of b a) (state-mask b s)) (sized .posts a (omega arith)))) (eq-zero-or-pos (action-count b - a)))
+      (λ g. rw (entries-inside b s a (omega arith) (omega arith)) (go (true-of (pre-of b a) (state-mask b s)) (sized .posts a (omega arith)))) (eq-zero-or-pos (action-count b - a)))
       (eq-zero-or-pos (state-count b - s))
     where
       go : (t : Bool) → post-count b a ≤ 4 → cond t (post-count b a) 0 ≤ 4
@@ -144,12 +145,12 @@ sizes b e =
     let a = and-right (within 1 32 (state-count b)) _ e2 in
     let p = and-right (within 1 32 (state-count b) && within 1 8 (action-count b)) _ e3 in
     let r = and-right (within 1 32 (state-count b) && within 1 8 (action-count b) && within 1 32 (prop-count b) && within 1 100 (denominator-of b)) _ e in
-    record
-    { some = at-least 1 32 (state-count b) s
-    ; states = at-most 1 32 (state-count b) s
-    ; actions = at-most 1 8 (action-count b) a
-    ; props = at-most 1 32 (prop-count b) p
-    ; blocks = eqb-true _ _ r
+    record {
+      some = at-least 1 32 (state-count b) s;
+      states = at-most 1 32 (state-count b) s;
+      actions = at-most 1 8 (action-count b) a;
+      props = at-most 1 32 (prop-count b) p;
+      blocks = eqb-true _ _ r;
     }
 
 -- What a test's negation says, of the test that the call's result is.
@@ -166,10 +167,10 @@ sized b w z e =
     let n = sizes b z in
     let l = blocks-within b 2 12 w .0 in
     let k = n .blocks in
-    record
-    { some = n .some
-    ; states = n .states
-    ; actions = n .actions
-    ; posts = λ a h. at-most 1 4 (post-count b a) (and-right (literals-in-range b (pre-of b a)) _ (and-left _ _ (every-at (action-in-range b) (action-count b) (and-right (every (state-count b) (λ s. mask-in-range b (state-mask b s))) _ (and-left _ _ e)) h)))
-    ; bytes = omega arith
+    record {
+      some = n .some;
+      states = n .states;
+      actions = n .actions;
+      posts = λ a h. at-most 1 4 (post-count b a) (and-right (literals-in-range b (pre-of b a)) _ (and-left _ _ (every-at (action-in-range b) (action-count b) (and-right (every (state-count b) (λ s. mask-in-range b (state-mask b s))) _ (and-left _ _ e)) h)));
+      bytes = omega arith;
     }

@@ -1,16 +1,15 @@
 -- A model that is not refused has passed the test of each ground: a chain of tests whose refusal is 0 has no test that fails.
-use Prim.Native.Nat.{ℕ, suc, _<_, _≤_}
-use native.Mathlib.Omega.{arith}
-use mathlib.Core.Path.{_≡_, refl, sym, _∙_}
-use mathlib.Core.Bool.{Bool, true, false, _&&_}
+use Prim.Native.Nat.{ℕ, _<_, _≤_}
+use mathlib.Core.Path.{_≡_, refl}
+use mathlib.Core.Bool.{true, _&&_}
 use Rattle.logic.specs.Lists.{every, some-below}
-use Rattle.logic.specs.Checked.{Checked, ok, refused, _>>_, guard, refusal}
+use Rattle.logic.specs.Checked.{ok, refused, refusal}
 use Rattle.logic.specs.Model.{true-of}
 use Rattle.logic.proofs.Checked.{guard-passed}
 use Rattle.logic.proofs.Tests.{and-both, every-at}
 use Rattle.blocks.specs.Bytes.{Bytes, within}
 use Rattle.blocks.specs.Block.{whole-blocks, sums-right}
-use Rattle.models.specs.Layout.{state-count, action-count, pre-of, state-mask, post-count, post-of, outcome-of, entries, model-of}
+use Rattle.models.specs.Layout.{state-count, action-count, pre-of, state-mask, post-count, outcome-of, entries, model-of}
 use Rattle.models.specs.Grounds.{kinds-right, sizes-right, mask-in-range, literals-in-range, action-in-range, outcome-in-range, cell-in-range, fields-right, head-spare, rows-spare, cells-spare, posts-contradict, cell-consistent, consistent, no-dead-ends, read-model}
 use Rattle.models.specs.Used.{Sized}
 use Rattle.models.proofs.Laws.{sized, at-least}
@@ -37,15 +36,15 @@ module _ (b : Bytes) (e : refusal (read-model b) ≡ 0) where
       let t6 = guard-passed 5 (head-spare b && rows-spare b && cells-spare b) _ (t5 .1) in
       let t7 = guard-passed 6 (consistent b) _ (t6 .1) in
       let t8 = guard-passed 7 (no-dead-ends b) _ (t7 .1) in
-      record
-      { whole = t1 .0
-      ; sums = t2 .0
-      ; kinds = t3 .0
-      ; sizes = t4 .0
-      ; fields = t5 .0
-      ; spare = t6 .0
-      ; agrees = t7 .0
-      ; lives = t8 .0
+      record {
+        whole = t1 .0;
+        sums = t2 .0;
+        kinds = t3 .0;
+        sizes = t4 .0;
+        fields = t5 .0;
+        spare = t6 .0;
+        agrees = t7 .0;
+        lives = t8 .0;
       }
 
 pub read-passed : (b : Bytes) → Passed b → read-model b ≡ ok (model-of b)

@@ -8,13 +8,13 @@ use mathlib.Core.Path.{_≡_, refl, sym, ap, ap₂, _∙_}
 use mathlib.Core.Bool.{Bool, true, false, cond}
 use mathlib.Core.List.{List, [], _∷_, _++_, append-nil}
 use lib.Dec.{ltb}
-use lib.ListN.{length, getD, List·getD-eq-default}
+use lib.ListN.{getD, List·getD-eq-default}
 use borrow.Author.Tests.{lt-ltb}
 use Rattle.logic.specs.Lists.{keep, count-from, tabulate}
 use Rattle.logic.specs.Model.{Model, Step, true-of, mask, enabled, outcomes, no-action}
 use Rattle.logic.proofs.Tests.{length-tabulate, getD-tabulate, counted-range, count-more, keep-append, keep-same}
 use Rattle.blocks.specs.Bytes.{Bytes}
-use Rattle.models.specs.Layout.{state-count, action-count, state-mask, pre-of, post-count, post-of, outcome-of, entries, model-of}
+use Rattle.models.specs.Layout.{state-count, action-count, state-mask, pre-of, post-count, outcome-of, entries, model-of}
 use Rattle.models.specs.Readable.{Readable}
 use Rattle.models.proofs.Laws.{entries-past-states, entries-past-actions, entries-inside}
 

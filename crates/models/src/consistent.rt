@@ -10,9 +10,14 @@ ghost use Rattle.models.specs.Layout.{literals, state-count, action-coun
 ghost use Rattle.models.specs.Grounds.{posts-contradict, cell-consistent, no-dead-ends};
 ghost use Rattle.models.specs.Grounds as grounds;
 ghost use Rattle.models.specs.Used.{Used};
-
-use blocks::{u32_at, wide};
-use crate::{holds, post_count, state_mask, target, weight, widened};
+use crate::holds;
+use crate::post_count;
+use crate::state_mask;
+use crate::target;
+use crate::weight;
+use crate::widened;
+use blocks::u32_at;
+use blocks::wide;
 
 // Whether the literals at two places contradict.
 fn contradict(b: &[u8], i: usize, j: usize) -> bool

@@ -7,9 +7,15 @@ ghost use Rattle.logic.specs.Lists.{every};
 ghost use Rattle.models.specs.Layout.{literals, state-count, prop-count, action-count, state-mask, post-of, outcome-of, entries};
 ghost use Rattle.models.specs.Grounds.{mask-in-range, literals-in-range, action-in-range, outcome-in-range, cell-in-range, sizes-right, fields-right};
 ghost use Rattle.models.specs.Used.{Used};
-
-use blocks::{u32_at, wide, within};
-use crate::{post_count, reward, state_mask, target, weight, widened};
+use crate::post_count;
+use crate::reward;
+use crate::state_mask;
+use crate::target;
+use crate::weight;
+use crate::widened;
+use blocks::u32_at;
+use blocks::wide;
+use blocks::within;
 
 // Whether a mask has no bit from n up.
 fn below_bit(v: u32, n: usize) -> bool
@@ -86,7 +92,10 @@ fn outcome_in_range(b: &[u8], s: usize, a: usize, i: usize) -> bool
     ensures { λ r. ⌜ r ≡ outcome-in-range (now (b .entry)) (outcome-of (now (b .entry)) s a i) ⌝ }
 {
     let gain = reward(b, s, a, i);
-    (target(b, s, a, i) < wide(b, 2)) & within(1, 100, weight(b, s, a, i)) & (-1000 <= gain) & (gain <= 1000)
+    (target(b, s, a, i) < wide(b, 2))
+        & within(1, 100, weight(b, s, a, i))
+        & (-1000 <= gain)
+        & (gain <= 1000)
 }
 
 // A cell with n used outcomes.

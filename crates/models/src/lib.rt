@@ -13,11 +13,17 @@ ghost use Rattle.models.specs.Layout as layout;
 ghost use Rattle.models.specs.Grounds.{kinds-right, sizes-right, read-model};
 ghost use Rattle.models.specs.Used.{Used};
 
+mod consistent;
 mod fields;
 mod spare;
-mod consistent;
 
-use blocks::{headed, i16_at, sums_right, u32_at, whole_blocks, wide, within};
+use blocks::headed;
+use blocks::i16_at;
+use blocks::sums_right;
+use blocks::u32_at;
+use blocks::whole_blocks;
+use blocks::wide;
+use blocks::within;
 
 // Whether the literals at a place are true of a mask.
 pub fn holds(b: &[u8], at: usize, v: u32) -> bool
@@ -132,7 +138,11 @@ fn sizes_right(b: &[u8]) -> bool
 {
     let s = wide(b, 2);
     let rows = b.len() / 512 == 1 + (s + 2) / 3;
-    within(1, 32, s) & within(1, 8, wide(b, 3)) & within(1, 32, wide(b, 4)) & within(1, 100, wide(b, 5)) & rows
+    within(1, 32, s)
+        & within(1, 8, wide(b, 3))
+        & within(1, 32, wide(b, 4))
+        & within(1, 100, wide(b, 5))
+        & rows
 }
 
 // The number of the first ground on which a model is refused; 0 where there is none.

@@ -7,9 +7,11 @@ ghost use lib.ListN.{length};
 ghost use Rattle.models.specs.Layout.{action-count, cell-at, entries, post-count};
 ghost use Rattle.models.specs.Grounds.{action-spare, head-spare, row-spare, rows-spare, cell-spare, cells-spare};
 ghost use Rattle.models.specs.Used.{Used, Sized};
-
-use blocks::{wide, zeros};
-use crate::{outcome_at, post_count, widened};
+use crate::outcome_at;
+use crate::post_count;
+use crate::widened;
+use blocks::wide;
+use blocks::zeros;
 
 // Of an action: the 3 bytes after the count, and the postconditions beyond it.
 fn action_spare(b: &[u8], a: usize) -> bool

@@ -5,10 +5,10 @@ use mathlib.Core.Path.{_≡_, refl, sym, ap, ap₂, subst, _∙_}
 use mathlib.Core.Bool.{Bool, true, false, cond}
 use mathlib.Core.List.{List, [], _∷_, _++_, append-nil, append-assoc, List·Memᴰ}
 use mathlib.Core.Option.{Option, none, some}
-use lib.IntN.{ℤ, pos}
-use lib.ListN.{length, take, drop, replicate}
+use lib.IntN.{pos}
+use lib.ListN.{length, drop, replicate}
 use lib.Seq.{take-at}
-use Rattle.logic.specs.Checked.{Checked, ok, refused, _>>=_, _>>_, held, guard}
+use Rattle.logic.specs.Checked.{Checked, ok, refused, _>>=_, _>>_, held}
 use Rattle.logic.specs.Model.{Model}
 use Rattle.logic.specs.Plan.{Plan, plans, choices}
 use Rattle.logic.specs.Formula.{Formula, never, prop, neg, both, does, next as then, gain, plan, nonnegative, sat}
@@ -17,7 +17,7 @@ use Rattle.logic.specs.Verdict.{Goal, goal, shown, announced, verdict-by, verdi
 use Rattle.logic.specs.Choices.{read-plan}
 use Rattle.logic.specs.Limits.{limits}
 use Rattle.logic.proofs.Checked.{not-ok, ok-same, bind-ok, guard-ok}
-use Rattle.logic.proofs.Tests.{some-same, and-left, and-right, eqb-eq}
+use Rattle.logic.proofs.Tests.{and-left, and-right, eqb-eq}
 use Rattle.logic.proofs.Reading.{read-complete}
 use Rattle.logic.proofs.Shown.{shown-meets}
 use borrow.Author.Tests.{leb-true}
@@ -27,14 +27,14 @@ use Rattle.blocks.specs.Block.{whole-blocks, block-count}
 use Rattle.models.specs.Grounds.{read-model}
 use Rattle.questions.specs.Layout.{Question}
 use Rattle.questions.specs.Grounds.{read-question}
-use Rattle.calls.specs.Calls.{Call, load, put, check, write, judge, Held, done, judged, written, accepted, refuse, Reply, replied, yields, question-for, do-put, do-judge, do-write, do-check}
+use Rattle.calls.specs.Calls.{Call, load, put, check, write, judge, Held, done, judged, written, accepted, replied, yields, do-put, do-judge, do-write, do-check}
 use Rattle.calls.specs.History.{got, last-left, held-from, after}
 use Rattle.calls.proofs.Histories.{settled, next, after-next}
 use Rattle.calls.proofs.Demand3.{held-some, then-ok}
 use Rattle.plan_judge.specs.declared.Desk.{Desk}
 use Rattle.plan_judge.specs.View.{model-bytes, question-in, choices-in, verdict-in, verdict-on, view}
 use Rattle.plan_judge.specs.Values.{padded, nothing, taking, holding, loaded-by, asking, put-by, verdict-code, choices-code, settling, judging, judged-by, writing, written-by, filling, filled-by, checking, checked-by}
-use Rattle.plan_judge.specs.Session.{said-taken, said-verdict, said-judgement, said-written, said-checking, Outcome, step, desk-after, session}
+use Rattle.plan_judge.specs.Session.{said-taken, said-verdict, said-judgement, said-written, said-checking, step, desk-after, session}
 
 -- ---- the replies
 
@@ -112,6 +112,7 @@ module _ (m : Model) (q : Question) where
       other : (t : Bool) → verdict-in (choices-in m q (choices-code (cond t logic.yes (logic.no 0)))) (verdict-code (cond t logic.yes (logic.no 0))) ≡ some (cond t logic.yes (logic.no 0))
       other true = refl
       other false = refl
+
       by : (c : Checked Goal) → goal m s (q .root) ≡ c → (t : Bool)
           → verdict-in (choices-in m q (choices-code (verdict-by m s t c))) (verdict-code (verdict-by m s t c)) ≡ some (verdict-by m s t c)
       by (ok g) e t = announced-read g e (shown m s g) refl
@@ -130,12 +131,12 @@ unfolding do-judge
 judged-with h v e =
     let a = bind-ok (held 20 (h .model)) _ e in
     let b = bind-ok (held 21 (h .question)) _ (a .2) in
-    record
-    { model = a .0
-    ; question = b .0
-    ; held-model = held-some 20 (h .model) (a .1)
-    ; held-question = held-some 21 (h .question) (b .1)
-    ; said = sym (ok-same (then-ok (limits (a .0) (b .0 .nodes)) _ (b .2)))
+    record {
+      model = a .0;
+      question = b .0;
+      held-model = held-some 20 (h .model) (a .1);
+      held-question = held-some 21 (h .question) (b .1);
+      said = sym (ok-same (then-ok (limits (a .0) (b .0 .nodes)) _ (b .2)));
     }
 
 -- The verdict that judge returns and holds is read back as the one said.

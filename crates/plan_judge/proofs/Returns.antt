@@ -2,13 +2,12 @@
 -- definition's.
 use Prim.Native.Nat.{ℕ, zero, suc, _+_, _*_, _-_, _/_, _≤_, _<_, min}
 use native.Mathlib.Omega.{arith}
-use native.Mathlib.Nat.{le-of-suc-le-suc, not-suc-le-zero}
-use mathlib.Core.Path.{_≡_, refl, sym, ap, ap₂, subst, _∙_}
+use mathlib.Core.Path.{_≡_, refl, sym, ap, ap₂, _∙_}
 use mathlib.Core.Bool.{Bool, true, false, cond}
-use mathlib.Core.List.{List, [], _∷_, _++_}
-use mathlib.Core.Option.{Option, none, some}
+use mathlib.Core.List.{_++_}
+use mathlib.Core.Option.{none, some}
 use lib.Dec.{eqb, leb}
-use lib.ListN.{length, take, drop, getD, replicate, length-take}
+use lib.ListN.{length, take, drop, replicate, length-take}
 use lib.Seq.{take-all, getD-take}
 use borrow.Author.Tests.{eq-eqb, ne-eqb, eqb-true, leb-true, leb-false}
 use Rattle.logic.specs.Checked.{Checked, ok, refused, refusal, _>>=_, held}
@@ -24,10 +23,8 @@ use Rattle.questions.specs.Grounds.{read-question}
 use Rattle.questions.proofs.Accepted.{accepted}
 use Rattle.calls.specs.Calls.{question-for, do-put}
 use Rattle.calls.specs.History.{got}
-
 use Rattle.plan_judge.specs.declared.Desk.{Desk}
 use Rattle.plan_judge.specs.declared.Taken.the-variants.{Done, Refused}
-use Rattle.plan_judge.specs.declared.Taking.{Taking}
 use Rattle.plan_judge.specs.declared.Verdict.the-variants.{No}
 use Rattle.plan_judge.specs.View.{model-bytes, held-size, view}
 use Rattle.plan_judge.specs.Values.{padded, taking, holding, loaded-by, asking, put-by}

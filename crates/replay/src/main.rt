@@ -1,7 +1,9 @@
 // Replays a list of calls from standard input on a desk that begins empty, and prints a line for each: what second/README.md describes, so
 // that the two can be compared. A record that is cut short, too long or of another operation ends the list.
-use libc::{STDIN_FILENO, STDOUT_FILENO};
-use plan_judge::{Desk, Taken};
+use libc::STDIN_FILENO;
+use libc::STDOUT_FILENO;
+use plan_judge::Desk;
+use plan_judge::Taken;
 
 // The desk after a call, and whether there was one.
 struct Turn {
@@ -33,14 +35,20 @@ fn call(desk: Desk, operation: u8, input: &[u8]) -> Turn {
         let a = r.answer;
         say_taken(b"load", a);
         let d = r.desk;
-        return Turn { going: true, desk: d };
+        return Turn {
+            going: true,
+            desk: d,
+        };
     }
     if operation == 2 {
         let r = plan_judge::put(desk, input);
         let a = r.answer;
         say_taken(b"put", a);
         let d = r.desk;
-        return Turn { going: true, desk: d };
+        return Turn {
+            going: true,
+            desk: d,
+        };
     }
     Turn { going: false, desk }
 }

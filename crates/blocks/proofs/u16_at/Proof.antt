@@ -1,4 +1,3 @@
-
 use Rattle.blocks.specs.Bytes.{u16}
 use borrow.Author.Needs.{needs}
 use Rattle.blocks.proofs.u16_at.Statement.{statement}

@@ -1,4 +1,3 @@
-
 use Rattle.blocks.specs.Bytes.{u32}
 use borrow.Author.Needs.{needs}
 use Rattle.blocks.proofs.u32_at.Statement.{statement}

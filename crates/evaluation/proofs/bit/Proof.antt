@@ -2,15 +2,11 @@ use borrow.Author.Needs.{needs}
 use Rattle.logic.specs.Total.{one-if}
 use Rattle.evaluation.proofs.bit.Statement.{statement}
 use Rattle.evaluation.proofs.bit.Tie as tie
-use Rattle.evaluation.proofs.bit.Reads as reads
-use Rattle.evaluation.proofs.bit.Lts as lts
 
--- src/lib.rt:24:9
 returns : tie.Need-returns
 unfolding one-if
 returns c = search needs
 
--- src/lib.rt:20:1
 returns-2 : tie.Need-returns-2
 unfolding one-if
 returns-2 c = search needs

@@ -3,22 +3,16 @@ use lib.ListN.{List·getD-eq-default}
 use borrow.Author.Needs.{needs}
 use Rattle.evaluation.proofs.depth_at.Statement.{statement}
 use Rattle.evaluation.proofs.depth_at.Tie as tie
-use Rattle.evaluation.proofs.depth_at.Reads as reads
-use Rattle.evaluation.proofs.depth_at.Lts as lts
 
--- src/lib.rt:88:16
 mul-result : tie.Need-mul-result
 mul-result c = search needs
 
--- src/lib.rt:88:16
 shared-slice-read-result : tie.Need-shared-slice-read-result
 shared-slice-read-result c = search needs
 
--- src/lib.rt:88:9
 returns : tie.Need-returns
 returns c = search needs
 
--- src/lib.rt:83:1
 returns-2 : tie.Need-returns-2
 returns-2 c = sym (List·getD-eq-default (c .before .args .depths .now) 0 (c .if1 .left))
 

@@ -4,22 +4,16 @@ use lib.ListN.{List·getD-eq-default}
 use borrow.Author.Needs.{needs}
 use Rattle.evaluation.proofs.gain_at.Statement.{statement}
 use Rattle.evaluation.proofs.gain_at.Tie as tie
-use Rattle.evaluation.proofs.gain_at.Reads as reads
-use Rattle.evaluation.proofs.gain_at.Lts as lts
 
--- src/lib.rt:42:16
 mul-result : tie.Need-mul-result
 mul-result c = search needs
 
--- src/lib.rt:42:16
 shared-slice-copy-out-result : tie.Need-shared-slice-copy-out-result
 shared-slice-copy-out-result c = search needs
 
--- src/lib.rt:42:9
 returns : tie.Need-returns
 returns c = search needs
 
--- src/lib.rt:37:1
 returns-2 : tie.Need-returns-2
 returns-2 c = sym (List·getD-eq-default (c .before .args .gains .now) (pos 0) (c .if1 .left))
 

@@ -2,57 +2,41 @@ use mir.Syntax.{w64}
 use mir.ValLaws.{toZ-ofZ}
 use lib.IntN.{_-ℤ_}
 use Rattle.evaluation.specs.Learnt.{gained}
-use mathlib.Core.Path.{_≡_, refl, sym, ap, ap₂, _∙_}
+use mathlib.Core.Path.{refl, _∙_}
 use Rattle.evaluation.proofs.Integers.{wider, widened, difference-fits}
 use borrow.Author.Needs.{needs}
 use Rattle.evaluation.proofs.gained.Statement.{statement}
 use Rattle.evaluation.proofs.gained.Tie as tie
-use Rattle.evaluation.proofs.gained.Reads as reads
-use Rattle.evaluation.proofs.gained.Lts as lts
-use Rattle.evaluation.proofs.gain_at.Reads as gain-at-reads
-use Rattle.evaluation.proofs.related.Reads as related-reads
-use Rattle.questions.proofs.p.Reads as p-reads
-use Rattle.questions.proofs.right.Reads as right-reads
 
--- src/lib.rt:62:16
 gain-at-requires : tie.Need-gain-at-requires
 gain-at-requires c κs = search needs
 
--- src/lib.rt:62:16
 cast-gain : tie.Need-cast-gain
 cast-gain c = wider (c .gain-at .result) (c .gain-at .ok)
 
--- src/lib.rt:62:43
 gain-at-requires-2 : tie.Need-gain-at-requires-2
 gain-at-requires-2 c κs = search needs
 
--- src/lib.rt:62:43
 cast-gain-2 : tie.Need-cast-gain-2
 cast-gain-2 c = wider (c .gain-at2 .result) (c .gain-at2 .ok)
 
--- src/lib.rt:62:16
 sub-gain : tie.Need-sub-gain
 sub-gain c = let x = c .before .gain-at in
     let y = c .gain-at2 in
     rw (widened (x .result) (x .ok), widened (y .result) (y .ok)) (difference-fits (x .result) (y .result) (x .ok) (y .ok))
 
--- src/lib.rt:63:13
 right-requires : tie.Need-right-requires
 right-requires c κs = search needs
 
--- src/lib.rt:63:32
 p-requires : tie.Need-p-requires
 p-requires c κs = search needs
 
--- src/lib.rt:63:32
 cast-related : tie.Need-cast-related
 cast-related c = wider (c .p .result) (c .p .ok)
 
--- src/lib.rt:63:5
 related-requires : tie.Need-related-requires
 related-requires c κs = search needs
 
--- src/lib.rt:59:1
 returns : tie.Need-returns
 unfolding gained
 returns c = let x = c .before .before .before .before .gain-at in

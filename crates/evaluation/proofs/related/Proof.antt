@@ -2,15 +2,12 @@ use mathlib.Core.Logic.{⊎-elim}
 use mir.Syntax.{w64}
 use mir.ValLaws.{toZ-ofZ}
 use Rattle.evaluation.proofs.Integers.{less-is, same-bits, greater-by}
-use mathlib.Core.Path.{_≡_, refl, sym, ap, ap₂, _∙_}
+use mathlib.Core.Path.{sym, _∙_}
 use Rattle.logic.specs.Quantity.{related}
 use Rattle.logic.specs.Formula.{relation}
 use Rattle.evaluation.proofs.related.Statement.{statement}
 use Rattle.evaluation.proofs.related.Tie as tie
-use Rattle.evaluation.proofs.related.Reads as reads
-use Rattle.evaluation.proofs.related.Lts as lts
 
--- src/lib.rt:48:1
 returns : tie.Need-returns
 unfolding related relation
 returns c = let a = c .before .args .gain in
@@ -19,7 +16,6 @@ returns c = let a = c .before .args .gain in
     let y = c .before .fits .bound in
     rw (toZ-ofZ w64 a x, toZ-ofZ w64 b y, c .match .keys1) (less-is a b)
 
--- src/lib.rt:48:1
 returns-2 : tie.Need-returns-2
 unfolding related relation
 returns-2 c = let a = c .before .args .gain in
@@ -28,7 +24,6 @@ returns-2 c = let a = c .before .args .gain in
     let y = c .before .fits .bound in
     ⊎-elim (λ e. rw e (same-bits a b x y)) (λ e. rw e (same-bits a b x y)) (c .match .keys2)
 
--- src/lib.rt:48:1
 returns-3 : tie.Need-returns-3
 returns-3 c = let a = c .before .args .gain in
     let b = c .before .args .bound in

@@ -1,6 +1,6 @@
 use Rattle.blocks.specs.Bytes.{byte, i16}
 use Rattle.models.specs.Layout.{outcome-of}
-use mathlib.Core.Path.{_≡_, refl, sym, ap, ap₂, _∙_}
+use mathlib.Core.Path.{_≡_, ap, _∙_}
 use Prim.Native.Nat.{_+_, _*_, _^_, _≤_, _<_}
 use native.Mathlib.Omega.{arith}
 use lib.IntN.{ℤ, pos, _+ℤ_}
@@ -14,12 +14,6 @@ use Rattle.evaluation.proofs.Stepping.{outcome-small, sizes-small, step
 use borrow.Author.Needs.{needs}
 use Rattle.evaluation.proofs.step.Statement.{statement}
 use Rattle.evaluation.proofs.step.Tie as tie
-use Rattle.evaluation.proofs.step.Reads as reads
-use Rattle.evaluation.proofs.step.Lts as lts
-use Rattle.blocks.proofs.byte.Reads as byte-reads
-use Rattle.blocks.proofs.i16_at.Reads as i16-at-reads
-use Rattle.evaluation.proofs.learn.Reads as learn-reads
-use Rattle.models.proofs.outcome_at.Reads as outcome-at-reads
 
 -- What the contract asks, by name.
 abbrev P : (S : tie.Start) → Ready (S .args .m .now) (S .args .q .now) (S .args .start) (S .args .depths .now) (S .args .truth .now) (S .args .cone .now)
@@ -40,82 +34,63 @@ gain-so-far S =
 sum-fits : (S : tie.Start) (r : ℤ) → mag r ≤ 32768 → mag (getD (S .args .gains .now) (S .args .h) (pos 0) +ℤ r) < 2 ^ 31
 sum-fits S r h = omega (arith, gain-so-far S, mag-add (getD (S .args .gains .now) (S .args .h) (pos 0)) r)
 
--- src/lib.rt:130:9
 outcome-at-requires : tie.Need-outcome-at-requires
 outcome-at-requires c κs = search needs
 
--- src/lib.rt:132:16
 mul-trail : tie.Need-mul-trail
 mul-trail c = record { fits = omega (arith, byte-fits (c .before .before .before .before .before .before .before .before)) }
 
--- src/lib.rt:132:16
 add-trail : tie.Need-add-trail
 add-trail c = record { fits = byte-fits (c .before .before .before .before .before .before .before .before) }
 
--- src/lib.rt:132:5
 slice-write-trail : tie.Need-slice-write-trail
 slice-write-trail c = search needs
 
--- src/lib.rt:133:20
 mul-gains : tie.Need-mul-gains
 mul-gains c = search needs
 
--- src/lib.rt:133:20
 slice-copy-out-gains : tie.Need-slice-copy-out-gains
 slice-copy-out-gains c = search needs
 
--- src/lib.rt:133:41
 add-i16-at : tie.Need-add-i16-at
 add-i16-at c = search needs
 
--- src/lib.rt:133:31
 i16-at-requires : tie.Need-i16-at-requires
 i16-at-requires c κs = search needs
 
--- src/lib.rt:133:20
 add-gains : tie.Need-add-gains
 add-gains c = let S = c .before .before .before .before .before .before .before .before .before .before in
     let r = c .i16-at in
     rw (fits32 (getD (S .args .gains .now) (S .args .h) (pos 0)) (omega (arith, gain-so-far S)), fits32 (r .result) (omega (arith, r .ensures .1)))
     (record { sfits = sum-fits S (r .result) (r .ensures .1) })
 
--- src/lib.rt:133:11
 add-t19 : tie.Need-add-t19
 add-t19 c = search needs
 
--- src/lib.rt:133:5
 mul-t27 : tie.Need-mul-t27
 mul-t27 c = search needs
 
--- src/lib.rt:133:5
 slice-set-from-gains : tie.Need-slice-set-from-gains
 slice-set-from-gains c = search needs
 
--- src/lib.rt:134:9
 byte-requires : tie.Need-byte-requires
 byte-requires c κs = search needs
 
--- src/lib.rt:135:52
 add-learn : tie.Need-add-learn
 add-learn c = search needs
 
--- src/lib.rt:135:5
 learn-requires : tie.Need-learn-requires
 learn-requires c κs = search needs
 
--- src/lib.rt:123:1
 same-length : tie.Need-same-length
 same-length c = search needs
 
--- src/lib.rt:123:1
 same-length-2 : tie.Need-same-length-2
 same-length-2 c = search needs
 
--- src/lib.rt:123:1
 same-length-3 : tie.Need-same-length-3
 same-length-3 c = search needs
 
--- src/lib.rt:123:1
 returns : tie.Need-returns
 unfolding outcome-of
 returns c = let S = c .before .before .before .before .before .before .before .before .before .before .before .before .before .before .before .before .before in

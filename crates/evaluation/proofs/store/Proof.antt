@@ -1,24 +1,18 @@
-use mathlib.Core.Path.{_≡_, refl, sym, ap, ap₂, _∙_}
+use mathlib.Core.Path.{sym}
 use lib.Seq.{set-out}
 use borrow.Author.Needs.{needs}
 use Rattle.evaluation.proofs.store.Statement.{statement}
 use Rattle.evaluation.proofs.store.Tie as tie
-use Rattle.evaluation.proofs.store.Reads as reads
-use Rattle.evaluation.proofs.store.Lts as lts
 
--- src/lib.rt:97:9
 slice-write-v : tie.Need-slice-write-v
 slice-write-v c = search needs
 
--- src/lib.rt:93:1
 same-length : tie.Need-same-length
 same-length c = search needs
 
--- src/lib.rt:93:1
 returns : tie.Need-returns
 returns c = search needs
 
--- src/lib.rt:93:1
 returns-2 : tie.Need-returns-2
 returns-2 c = sym (set-out (c .before .args .v .now) (c .before .args .i) (c .before .args .x) (c .if1 .left))
 

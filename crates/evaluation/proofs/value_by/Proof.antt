@@ -1,4 +1,4 @@
-use mathlib.Core.Path.{_≡_, refl, sym, ap, ap₂, _∙_}
+use mathlib.Core.Path.{_≡_, sym, ap, ap₂, _∙_}
 use Prim.Native.Nat.{ℕ, _+_, _/_}
 use lib.Bits.{bitAnd}
 use lib.Dec.{eqb}
@@ -9,15 +9,6 @@ use Rattle.evaluation.proofs.Values.{other-value}
 use borrow.Author.Needs.{needs}
 use Rattle.evaluation.proofs.value_by.Statement.{statement}
 use Rattle.evaluation.proofs.value_by.Tie as tie
-use Rattle.evaluation.proofs.value_by.Reads as reads
-use Rattle.evaluation.proofs.value_by.Lts as lts
-use Rattle.blocks.proofs.byte.Reads as byte-reads
-use Rattle.evaluation.proofs.bit.Reads as bit-reads
-use Rattle.evaluation.proofs.gained.Reads as gained-reads
-use Rattle.evaluation.proofs.known.Reads as known-reads
-use Rattle.questions.proofs.left.Reads as left-reads
-use Rattle.questions.proofs.operator.Reads as operator-reads
-use Rattle.questions.proofs.right.Reads as right-reads
 
 -- The value by an operator's number, where the function starts.
 abbrev at-op : tie.Start → ℕ → ℕ
@@ -29,102 +20,80 @@ operator-of S = node-of (S .args .q .now) (S .args .j) .operator
 by-op : (S : tie.Start) (n : ℕ) {r x : ℕ} → r ≡ operator-of S → r ≡ n → x ≡ at-op S n → x ≡ at-op S (operator-of S)
 by-op S n e k g = g ∙ ap (at-op S) (sym k ∙ e)
 
--- src/lib.rt:71:9
 operator-requires : tie.Need-operator-requires
 operator-requires c κs = search needs
 
--- src/lib.rt:73:27
 left-requires : tie.Need-left-requires
 left-requires c κs = search needs
 
--- src/lib.rt:73:18
 known-requires : tie.Need-known-requires
 known-requires c κs = search needs
 
--- src/lib.rt:73:14
 bit-requires : tie.Need-bit-requires
 bit-requires c κs = search needs
 
--- src/lib.rt:74:23
 left-requires-2 : tie.Need-left-requires-2
 left-requires-2 c κs = search needs
 
--- src/lib.rt:74:14
 known-requires-2 : tie.Need-known-requires-2
 known-requires-2 c κs = search needs
 
--- src/lib.rt:74:49
 right-requires : tie.Need-right-requires
 right-requires c κs = search needs
 
--- src/lib.rt:74:40
 known-requires-3 : tie.Need-known-requires-3
 known-requires-3 c κs = search needs
 
--- src/lib.rt:75:18
 byte-requires : tie.Need-byte-requires
 byte-requires c κs = search needs
 
--- src/lib.rt:75:49
 left-requires-3 : tie.Need-left-requires-3
 left-requires-3 c κs = search needs
 
--- src/lib.rt:75:14
 bit-requires-2 : tie.Need-bit-requires-2
 bit-requires-2 c κs = search needs
 
--- src/lib.rt:76:23
 left-requires-4 : tie.Need-left-requires-4
 left-requires-4 c κs = search needs
 
--- src/lib.rt:76:35
 add-known : tie.Need-add-known
 add-known c = search needs
 
--- src/lib.rt:76:14
 known-requires-4 : tie.Need-known-requires-4
 known-requires-4 c κs = search needs
 
--- src/lib.rt:77:18
 gained-requires : tie.Need-gained-requires
 gained-requires c κs = search needs
 
--- src/lib.rt:77:14
 bit-requires-3 : tie.Need-bit-requires-3
 bit-requires-3 c κs = search needs
 
--- src/lib.rt:67:1
 returns : tie.Need-returns
 unfolding value-by
 returns c = by-op (c .before .before .before .before .before .before .before .before) 3 (c .before .before .before .before .operator .ensures) (c .before .before .before .match .keys1)
     (c .bit .ensures ∙ ap (λ (x : ℕ). one-if (eqb x 0)) (c .before .known .ensures ∙ ap (λ (l : ℕ). known (c .before .before .before .before .before .before .before .before .args .v .now) l (c .before .before .before .before .before .before .before .before .args .k)) (c .before .before .left .ensures)))
 
--- src/lib.rt:67:1
 returns-2 : tie.Need-returns-2
 unfolding value-by
 returns-2 c = by-op (c .before .before .before .before .before .before .before .before .before) 4 (c .before .before .before .before .before .operator .ensures) (c .before .before .before .before .match .keys2)
     (ap₂ bitAnd (c .before .before .known2 .ensures ∙ ap (λ (l : ℕ). known (c .before .before .before .before .before .before .before .before .before .args .v .now) l (c .before .before .before .before .before .before .before .before .before .args .k)) (c .before .before .before .left2 .ensures))
     (c .known3 .ensures ∙ ap (λ (l : ℕ). known (c .before .before .before .before .before .before .before .before .before .args .v .now) l (c .before .before .before .before .before .before .before .before .before .args .k)) (c .before .right .ensures)))
 
--- src/lib.rt:67:1
 returns-3 : tie.Need-returns-3
 unfolding value-by
 returns-3 c = by-op (c .before .before .before .before .before .before .before .before) 5 (c .before .before .before .before .operator .ensures) (c .before .before .before .match .keys3)
     (c .bit2 .ensures ∙ ap₂ (λ (x l : ℕ). one-if (eqb (x / 4) l)) (c .before .before .byte .ensures) (c .before .left3 .ensures))
 
--- src/lib.rt:67:1
 returns-4 : tie.Need-returns-4
 unfolding value-by
 returns-4 c = by-op (c .before .before .before .before .before .before .before) 6 (c .before .before .before .operator .ensures) (c .before .before .match .keys4)
     (c .known4 .ensures ∙ ap (λ (l : ℕ). known (c .before .before .before .before .before .before .before .args .v .now) l (c .before .before .before .before .before .before .before .args .k + 1)) (c .before .left4 .ensures))
 
--- src/lib.rt:67:1
 returns-5 : tie.Need-returns-5
 unfolding value-by
 returns-5 c = by-op (c .before .before .before .before .before .before .before) 7 (c .before .before .before .operator .ensures) (c .before .before .match .keys5)
     (c .bit3 .ensures ∙ ap one-if (c .before .gained .ensures))
 
--- src/lib.rt:67:1
 returns-6 : tie.Need-returns-6
 returns-6 c = let S = c .before .before .before .before .before in
     let n = c .match .rest in

@@ -9,34 +9,25 @@ use Rattle.plan_judge.proofs.Returns.{take-short, held-refused, held-wh
 use borrow.Author.Needs.{needs}
 use Rattle.plan_judge.proofs.held_bytes.Statement.{statement}
 use Rattle.plan_judge.proofs.held_bytes.Tie as tie
-use Rattle.plan_judge.proofs.held_bytes.Reads as reads
-use Rattle.plan_judge.proofs.held_bytes.Lts as lts
-use Rattle.models.proofs.model_refusal.Reads as model-refusal-reads
-use Rattle.plan_judge.proofs.blocks_end.Reads as blocks-end-reads
 
 -- The part that is cut is what the desk says it has.
 cut : (l : Bytes) (blocks n : ℕ) → n ≡ min (512 * blocks) (length l) → take n l ≡ take (512 * blocks) l
 cut l blocks n e = ap (λ k. take k l) e ∙ take-short (512 * blocks) l
 
--- src/lib.rt:125:9
 blocks-end-requires : tie.Need-blocks-end-requires
 blocks-end-requires c κs = search needs
 
--- src/lib.rt:126:30
 slice-aggregate-model-refusal : tie.Need-slice-aggregate-model-refusal
 slice-aggregate-model-refusal c = let l = c .before .before .before .args .model .now in let e = c .before .blocks-end .ensures in simp length-take (omega arith)
 
--- src/lib.rt:126:8
 model-refusal-requires : tie.Need-model-refusal-requires
 model-refusal-requires c κs = search needs
 
--- src/lib.rt:127:9
 returns : tie.Need-returns
 returns c = let l = c .before .before .before .before .before .args .model .now in
     let n = c .before .before .before .before .before .args .blocks in
     held-refused l n (c .before .model-refusal .result) (c .before .model-refusal .ensures ∙ ap (λ z. refusal (read-model z)) (cut l n (c .before .before .before .blocks-end .result) (c .before .before .before .blocks-end .ensures))) (c .if1 .taken)
 
--- src/lib.rt:122:1
 returns-2 : tie.Need-returns-2
 returns-2 c = let l = c .before .before .before .before .before .args .model .now in
     let n = c .before .before .before .before .before .args .blocks in

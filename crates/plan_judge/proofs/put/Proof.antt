@@ -3,37 +3,25 @@ use Rattle.plan_judge.proofs.Returns.{padded-copy, put-unheld, put-refu
 use borrow.Author.Needs.{needs}
 use Rattle.plan_judge.proofs.put.Statement.{statement}
 use Rattle.plan_judge.proofs.put.Tie as tie
-use Rattle.plan_judge.proofs.put.Reads as reads
-use Rattle.plan_judge.proofs.put.Lts as lts
-use Rattle.plan_judge.proofs.held_bytes.Reads as held-bytes-reads
-use Rattle.plan_judge.proofs.question_ground.Reads as question-ground-reads
-use Rattle.sheets.proofs.writer.copy.Reads as copy-reads
 
--- src/lib.rt:149:8
 held-bytes-requires : tie.Need-held-bytes-requires
 held-bytes-requires c κs = search needs
 
--- src/lib.rt:150:9
 returns : tie.Need-returns
 returns c = put-unheld (c .before .before .before .before .before .before .args .t1) (c .before .before .before .before .before .before .args .b .now) (sym (c .before .held-bytes .ensures) ∙ c .if1 .taken)
 
--- src/lib.rt:155:9
 question-ground-requires : tie.Need-question-ground-requires
 question-ground-requires c κs = search needs
 
--- src/lib.rt:157:9
 returns-2 : tie.Need-returns-2
 returns-2 c = put-refused (c .before .before .before .before .before .before .before .before .before .before .before .args .t1) (λ z. c .before .before .before .before .before .if1 .left (c .before .before .before .before .before .before .held-bytes .ensures ∙ z)) (c .before .before .before .before .before .before .before .before .before .before .before .args .b .now) (c .before .question-ground .result) (c .before .question-ground .ensures) (c .if2 .taken)
 
--- src/lib.rt:164:26
 slice-aggregate-copy : tie.Need-slice-aggregate-copy
 slice-aggregate-copy c = search needs
 
--- src/lib.rt:164:5
 copy-requires : tie.Need-copy-requires
 copy-requires c κs = put-fits (c .before .before .before .before .before .before .before .before .before .before .before .before .before .args .t1) (λ z. c .before .before .before .before .before .before .before .if1 .left (c .before .before .before .before .before .before .before .before .held-bytes .ensures ∙ z)) (c .before .before .before .before .before .before .before .before .before .before .before .before .before .args .b .now) (sym (c .before .before .before .question-ground .ensures) ∙ c .before .before .if2 .left)
 
--- src/lib.rt:146:1
 returns-3 : tie.Need-returns-3
 returns-3 c = put-done (c .before .before .before .before .before .before .before .before .before .before .before .before .before .before .before .args .t1) (λ z. c .before .before .before .before .before .before .before .before .before .if1 .left (c .before .before .before .before .before .before .before .before .before .before .held-bytes .ensures ∙ z)) (c .before .before .before .before .before .before .before .before .before .before .before .before .before .before .before .args .b .now) (sym (c .before .before .before .before .before .question-ground .ensures) ∙ c .before .before .before .before .if2 .left) _ (padded-copy 512 (c .before .before .before .before .before .before .before .before .before .before .before .before .before .before .before .args .b .now) _ (c .before .copy .ensures))
 

@@ -3,81 +3,58 @@ use lib.ListN.{length-take, length-append, length-drop}
 use borrow.Author.Needs.{needs}
 use Rattle.replay.proofs.replay_one.Statement.{statement}
 use Rattle.replay.proofs.replay_one.Tie as tie
-use Rattle.replay.proofs.replay_one.Reads as reads
-use Rattle.replay.proofs.replay_one.Lts as lts
-use Rattle.blocks.proofs.u32_at.Reads as u32-at-reads
-use Rattle.io.proofs.read_full.Reads as read-full-reads
-use Rattle.replay.proofs.call.Reads as call-reads
 
--- src/main.rt:51:43
 slice-aggregate-read-full : tie.Need-slice-aggregate-read-full
 slice-aggregate-read-full c = search needs
 
--- src/main.rt:51:9
 read-full-requires : tie.Need-read-full-requires
 read-full-requires c κs = search needs
 
--- src/main.rt:53:9
 returns : tie.Need-returns
 returns c = search needs
 
--- src/main.rt:55:21
 array-read-operation : tie.Need-array-read-operation
 array-read-operation c = search needs
 
--- src/main.rt:56:28
 slice-aggregate-u32-at : tie.Need-slice-aggregate-u32-at
 slice-aggregate-u32-at c = search needs
 
--- src/main.rt:56:13
 u32-at-requires : tie.Need-u32-at-requires
 u32-at-requires c κs = search needs
 
--- src/main.rt:56:13
 cast-n : tie.Need-cast-n
 cast-n c = search needs
 
--- src/main.rt:58:9
 returns-2 : tie.Need-returns-2
 returns-2 c = search needs
 
--- src/main.rt:60:44
 slice-relend-prefix-read-full : tie.Need-slice-relend-prefix-read-full
 slice-relend-prefix-read-full c = search needs
 
--- src/main.rt:60:44
 slice-aggregate-read-full-2 : tie.Need-slice-aggregate-read-full-2
 slice-aggregate-read-full-2 c = simp length-take (omega arith)
 
--- src/main.rt:60:9
 read-full-requires-2 : tie.Need-read-full-requires-2
 read-full-requires-2 c κs = search needs
 
--- src/main.rt:62:9
 same-length : tie.Need-same-length
 same-length c = search needs
 
--- src/main.rt:62:9
 returns-3 : tie.Need-returns-3
 returns-3 c = search needs
 
--- src/main.rt:64:27
 slice-reshare-prefix-call : tie.Need-slice-reshare-prefix-call
 slice-reshare-prefix-call c = search needs
 
--- src/main.rt:64:27
 slice-aggregate-call : tie.Need-slice-aggregate-call
 slice-aggregate-call c = simp (length-take, length-append, length-drop) (omega arith)
 
--- src/main.rt:64:5
 call-requires : tie.Need-call-requires
 call-requires c κs = search needs
 
--- src/main.rt:49:1
 same-length-2 : tie.Need-same-length-2
 same-length-2 c = search needs
 
--- src/main.rt:49:1
 returns-4 : tie.Need-returns-4
 returns-4 c = search needs
 

@@ -4,16 +4,12 @@ use lib.ListN.{getD}
 use Prim.Native.Nat.{_+_, _-_, _*_, _≤_, _<_}
 use native.Mathlib.Nat.{le-refl}
 use native.Mathlib.Omega.{arith}
-use mathlib.Core.Path.{_≡_, sym, ap, subst, _∙_}
+use mathlib.Core.Path.{_≡_, ap, subst, _∙_}
 use mathlib.Core.Logic.{⊎-elim}
 use Rattle.equal.specs.Listing.{Longest}
 use Rattle.equal.proofs.Longest.{size, longer, no-longer}
 use Rattle.equal.proofs.lists.longest.Statement.{statement}
 use Rattle.equal.proofs.lists.longest.Tie as tie
-use Rattle.equal.proofs.lists.longest.Reads as reads
-use Rattle.equal.proofs.lists.longest.Lts as lts
-use Rattle.equal.proofs.lists.count.Reads as count-reads
-use Rattle.models.proofs.target.Reads as target-reads
 
 abbrev Inv-loop : tie.InvT-loop
 Inv-loop m table s a c k best₀ o₀ best o = (1 ≤ o) × (o ≤ c) × Longest m table s a o k best
@@ -21,46 +17,36 @@ Inv-loop m table s a c k best₀ o₀ best o = (1 ≤ o) × (o ≤ c) × Longest
 abbrev μ-loop : tie.MeasureT-loop
 μ-loop m table s a c k best₀ o₀ best o = c - o
 
--- src/lists.rt:41:5
 loop-holds : tie.Need-loop-holds Inv-loop μ-loop
 loop-holds c = (omega arith, omega (arith, c .before .pre .1), record { inside = omega arith; most = λ o h. let z : o ≡ 0 = omega arith in rw z (le-refl _) })
 
--- src/lists.rt:42:67
 cast-target : tie.Need-cast-target Inv-loop μ-loop
 cast-target c = search needs
 
--- src/lists.rt:42:33
 target-requires : tie.Need-target-requires Inv-loop μ-loop
 target-requires c κs = (search needs, search needs, search needs)
 
--- src/lists.rt:42:13
 count-requires : tie.Need-count-requires Inv-loop μ-loop
 count-requires c κs = let S = c .before .before .before .before in
     (S .pre .0, rw (c .target .ensures .0) (S .pre .2 (c .before .before .loop .o) (c .before .loop-test .taken)))
 
--- src/lists.rt:43:62
 cast-target-2 : tie.Need-cast-target-2 Inv-loop μ-loop
 cast-target-2 c = search needs
 
--- src/lists.rt:43:28
 target-requires-2 : tie.Need-target-requires-2 Inv-loop μ-loop
 target-requires-2 c κs = (search needs, search needs, search needs)
 
--- src/lists.rt:43:12
 count-requires-2 : tie.Need-count-requires-2 Inv-loop μ-loop
 count-requires-2 c κs = let S = c .before .before .before .before .before .before in
     let L = c .before .before .before .before .loop in
     (S .pre .0, rw (c .target2 .ensures .0) (S .pre .2 (L .best) (omega (arith, L .inv .2 .inside))))
 
--- src/lists.rt:46:9
 add-o : tie.Need-add-o Inv-loop μ-loop
 add-o c = omega arith
 
--- src/lists.rt:41:5
 loop-less : tie.Need-loop-less Inv-loop μ-loop
 loop-less c = omega arith
 
--- src/lists.rt:41:5
 loop-again : tie.Need-loop-again Inv-loop μ-loop
 loop-again c = let S = c .before .before .before .before .before .before .before .before in
     let L = c .before .before .before .before .before .before .loop in
@@ -69,15 +55,15 @@ loop-again c = let S = c .before .before .before .before .before .before .before
     let n2 = c .before .count2 in
     let t2 = c .before .before .target2 in
     let e : n .result ≡ size (L .inv .2) (L .o) = n .ensures ∙ ap (λ x. getD (S .args .table .now) (32 * S .args .k + x) 0) (t .ensures .0) in
-    let e2 : n2 .result ≡ size (L .inv .2) (L .best) = n2 .ensures ∙ ap (λ x. getD (S .args .table .now) (32 * S .args .k + x) 0) (t2 .ensures .0) in
-    ( omega arith
-    , omega arith
-    , ⊎-elim
-      (λ w. let g : size (L .inv .2) (L .best) < size (L .inv .2) (L .o) = omega (arith, w .0 .taken) in rw (w .1) (longer (L .inv .2) g))
-      (λ w. let g : size (L .inv .2) (L .o) ≤ size (L .inv .2) (L .best) = omega (arith, w .0 .left) in rw (w .1) (no-longer (L .inv .2) g))
-      (c .if1 .came))
+    let e2 : n2 .result ≡ size (L .inv .2) (L .best) = n2 .ensures ∙ ap (λ x. getD (S .args .table .now) (32 * S .args .k + x) 0) (t2 .ensures .0) in (
+      omega arith,
+      omega arith,
+      ⊎-elim
+          (λ w. let g : size (L .inv .2) (L .best) < size (L .inv .2) (L .o) = omega (arith, w .0 .taken) in rw (w .1) (longer (L .inv .2) g))
+          (λ w. let g : size (L .inv .2) (L .o) ≤ size (L .inv .2) (L .best) = omega (arith, w .0 .left) in rw (w .1) (no-longer (L .inv .2) g))
+          (c .if1 .came),
+    )
 
--- src/lists.rt:35:1
 returns : tie.Need-returns Inv-loop μ-loop
 returns c = let L = c .before .loop in
     let S = c .before .before .before in

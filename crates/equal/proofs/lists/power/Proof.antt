@@ -6,8 +6,6 @@ use mathlib.Core.Path.{_≡_, sym, ap, _∙_}
 use Rattle.equal.proofs.Bounds.{power-fits, power-more}
 use Rattle.equal.proofs.lists.power.Statement.{statement}
 use Rattle.equal.proofs.lists.power.Tie as tie
-use Rattle.equal.proofs.lists.power.Reads as reads
-use Rattle.equal.proofs.lists.power.Lts as lts
 
 abbrev Inv-loop : tie.InvT-loop
 Inv-loop d k x₀ i₀ x i = (i ≤ k) × (x ≡ d ^ i)
@@ -15,27 +13,21 @@ Inv-loop d k x₀ i₀ x i = (i ≤ k) × (x ≡ d ^ i)
 abbrev μ-loop : tie.MeasureT-loop
 μ-loop d k x₀ i₀ x i = k - i
 
--- src/lists.rt:77:5
 loop-holds : tie.Need-loop-holds Inv-loop μ-loop
 loop-holds c = (omega arith, sym (pow-zero _))
 
--- src/lists.rt:78:13
 mul-x : tie.Need-mul-x Inv-loop μ-loop
 mul-x c = let L = c .before .loop in let S = c .before .before in record { fits = power-fits (S .args .d) (L .i) (S .pre .0) (omega (arith, S .pre .1)) (L .inv .1) }
 
--- src/lists.rt:79:9
 add-i : tie.Need-add-i Inv-loop μ-loop
 add-i c = omega arith
 
--- src/lists.rt:77:5
 loop-less : tie.Need-loop-less Inv-loop μ-loop
 loop-less c = omega arith
 
--- src/lists.rt:77:5
 loop-again : tie.Need-loop-again Inv-loop μ-loop
 loop-again c = let L = c .before .loop in let S = c .before .before in (omega arith, power-more (S .args .d) (L .i) (L .inv .1))
 
--- src/lists.rt:71:1
 returns : tie.Need-returns Inv-loop μ-loop
 returns c = let L = c .before .loop in let S = c .before .before in let e : L .i ≡ S .args .k = omega arith in L .inv .1 ∙ ap (λ j. S .args .d ^ j) e
 

@@ -1,5 +1,5 @@
 -- `spread::fill`: after i turns, i copies stand there.
-use Prim.Native.Nat.{_+_, _-_, _≤_}
+use Prim.Native.Nat.{_-_, _≤_}
 use native.Mathlib.Omega.{arith}
 use mathlib.Core.Path.{_≡_, sym, ap, _∙_}
 use lib.ListN.{length, replicate}
@@ -8,8 +8,6 @@ use Rattle.equal.proofs.Splice.{splice-none}
 use Rattle.equal.proofs.Turns.{fill-whole, fill-turn}
 use Rattle.equal.proofs.spread.fill.Statement.{statement}
 use Rattle.equal.proofs.spread.fill.Tie as tie
-use Rattle.equal.proofs.spread.fill.Reads as reads
-use Rattle.equal.proofs.spread.fill.Lts as lts
 
 abbrev Inv-loop : tie.InvT-loop
 Inv-loop buf₀ at n x i₀ buf i = (i ≤ n) × (buf ≡ splice buf₀ at (replicate i x))
@@ -17,39 +15,30 @@ Inv-loop buf₀ at n x i₀ buf i = (i ≤ n) × (buf ≡ splice buf₀ at (repl
 abbrev μ-loop : tie.MeasureT-loop
 μ-loop buf₀ at n x i₀ buf i = n - i
 
--- src/spread.rt:57:5
 loop-holds : tie.Need-loop-holds Inv-loop μ-loop
 loop-holds c = (omega arith, sym (splice-none _ _))
 
--- src/spread.rt:58:13
 add-buf : tie.Need-add-buf Inv-loop μ-loop
 add-buf c = omega arith
 
--- src/spread.rt:58:9
 mul-buf : tie.Need-mul-buf Inv-loop μ-loop
 mul-buf c = omega arith
 
--- src/spread.rt:58:9
 slice-write-buf : tie.Need-slice-write-buf Inv-loop μ-loop
 slice-write-buf c = let L = c .before .loop in let S = c .before .before in let A = S .args in omega (arith, ap length (L .inv .1), fill-whole (A .buf .now) (A .at) (A .n) (A .x) (S .pre) (L .i) (L .inv .0))
 
--- src/spread.rt:59:9
 add-i : tie.Need-add-i Inv-loop μ-loop
 add-i c = omega arith
 
--- src/spread.rt:57:5
 loop-less : tie.Need-loop-less Inv-loop μ-loop
 loop-less c = omega arith
 
--- src/spread.rt:57:5
 loop-again : tie.Need-loop-again Inv-loop μ-loop
 loop-again c = let L = c .before .loop in let S = c .before .before in (omega arith, fill-turn _ _ _ _ (S .pre) (L .i) (c .loop-test .taken) (L .inv .1))
 
--- src/spread.rt:52:1
 same-length : tie.Need-same-length Inv-loop μ-loop
 same-length c = let L = c .before .loop in let S = c .before .before in ap length (L .inv .1) ∙ fill-whole _ _ _ (S .args .x) (S .pre) (L .i) (L .inv .0)
 
--- src/spread.rt:52:1
 returns : tie.Need-returns Inv-loop μ-loop
 returns c = let L = c .before .loop in let S = c .before .before in let e : L .i ≡ S .args .n = omega arith in L .inv .1 ∙ ap (λ k. splice (S .args .buf .now) (S .args .at) (replicate k (S .args .x))) e
 

@@ -1,44 +1,30 @@
 -- `spread::join`: the list in its place varies slowest where the other comes on its right, and fastest where it comes on its left.
-use native.Mathlib.Omega.{arith}
-use mathlib.Core.Path.{_≡_, sym, ap, subst, _∙_}
-use mathlib.Core.Bool.{Bool}
 use Rattle.equal.proofs.Turns.{join-right, join-left, right-joined, left-joined}
 use borrow.Author.Needs.{needs}
 use Rattle.equal.proofs.spread.join.Statement.{statement}
 use Rattle.equal.proofs.spread.join.Tie as tie
-use Rattle.equal.proofs.spread.join.Reads as reads
-use Rattle.equal.proofs.spread.join.Lts as lts
-use Rattle.equal.proofs.spread.spread.Reads as spread-reads
 
--- src/spread.rt:43:20
 mul-end : tie.Need-mul-end
 mul-end c = search needs
 
--- src/spread.rt:43:15
 add-end : tie.Need-add-end
 add-end c = search needs
 
--- src/spread.rt:45:9
 spread-requires : tie.Need-spread-requires
 spread-requires c κs = join-right _ _ _ _ _ (c .before .before .before .pre)
 
--- src/spread.rt:47:9
 spread-requires-2 : tie.Need-spread-requires-2
 spread-requires-2 c κs = join-left _ _ _ _ _ (c .before .before .before .pre)
 
--- src/spread.rt:39:1
 same-length : tie.Need-same-length
 same-length c = search needs
 
--- src/spread.rt:39:1
 returns : tie.Need-returns
 returns c = right-joined _ _ _ _ _ (c .before .before .before .before .before .before .pre) (c .before .before .before .before .if1 .taken) (c .before .before .spread .ensures)
 
--- src/spread.rt:39:1
 same-length-2 : tie.Need-same-length-2
 same-length-2 c = search needs
 
--- src/spread.rt:39:1
 returns-2 : tie.Need-returns-2
 returns-2 c = left-joined _ _ _ _ _ (c .before .before .before .before .before .before .pre) (c .before .before .before .before .if1 .left) (c .before .before .spread2 .ensures)
 

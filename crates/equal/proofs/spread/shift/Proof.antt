@@ -1,16 +1,13 @@
 -- `spread::shift`: after i turns the buffer has the first i sums at `to`, and all else as at the start.
-use Prim.Native.Nat.{_+_, _-_, _*_, _≤_}
+use Prim.Native.Nat.{_-_, _≤_}
 use native.Mathlib.Omega.{arith}
 use mathlib.Core.Path.{_≡_, sym, ap, _∙_}
-use mathlib.Core.List.{map}
 use lib.ListN.{length}
-use Rattle.equal.specs.Totals.{part, splice}
+use Rattle.equal.specs.Totals.{part}
 use Rattle.equal.proofs.Splice.{splice-none}
-use Rattle.equal.proofs.Turns.{shifted, Turn, shift-whole, shift-turn}
+use Rattle.equal.proofs.Turns.{shifted, shift-whole, shift-turn}
 use Rattle.equal.proofs.spread.shift.Statement.{statement}
 use Rattle.equal.proofs.spread.shift.Tie as tie
-use Rattle.equal.proofs.spread.shift.Reads as reads
-use Rattle.equal.proofs.spread.shift.Lts as lts
 
 abbrev Inv-loop : tie.InvT-loop
 Inv-loop buf₀ from to count w x i₀ buf i = (i ≤ count) × (buf ≡ shifted buf₀ from to w x i)
@@ -18,60 +15,46 @@ Inv-loop buf₀ from to count w x i₀ buf i = (i ≤ count) × (buf ≡ shifted
 abbrev μ-loop : tie.MeasureT-loop
 μ-loop buf₀ from to count w x i₀ buf i = count - i
 
--- src/spread.rt:14:5
 loop-holds : tie.Need-loop-holds Inv-loop μ-loop
 unfolding part
 loop-holds c = (omega arith, sym (splice-none _ _))
 
--- src/spread.rt:15:35
 add-buf : tie.Need-add-buf Inv-loop μ-loop
 add-buf c = omega (arith, c .before .before .pre .source)
 
--- src/spread.rt:15:31
 mul-buf : tie.Need-mul-buf Inv-loop μ-loop
 mul-buf c = omega (arith, c .before .before .pre .source)
 
--- src/spread.rt:15:31
 slice-read-buf : tie.Need-slice-read-buf Inv-loop μ-loop
 slice-read-buf c = let L = c .before .before .loop in let S = c .before .before .before in let t = shift-turn _ _ _ _ _ _ (S .pre) (L .i) (L .inv .1) (c .before .loop-test .taken) in omega (arith, t .whole, S .pre .source)
 
--- src/spread.rt:15:27
 mul-buf-2 : tie.Need-mul-buf-2 Inv-loop μ-loop
 mul-buf-2 c = let L = c .before .before .loop in let S = c .before .before .before in let t = shift-turn _ _ _ _ _ _ (S .pre) (L .i) (L .inv .1) (c .before .loop-test .taken) in omega (arith, t .fits)
 
--- src/spread.rt:15:23
 add-buf-2 : tie.Need-add-buf-2 Inv-loop μ-loop
 add-buf-2 c = let L = c .before .before .loop in let S = c .before .before .before in let t = shift-turn _ _ _ _ _ _ (S .pre) (L .i) (L .inv .1) (c .before .loop-test .taken) in omega (arith, t .fits)
 
--- src/spread.rt:15:13
 add-buf-3 : tie.Need-add-buf-3 Inv-loop μ-loop
 add-buf-3 c = omega (arith, c .before .before .before .pre .target)
 
--- src/spread.rt:15:9
 mul-buf-3 : tie.Need-mul-buf-3 Inv-loop μ-loop
 mul-buf-3 c = omega (arith, c .before .before .before .pre .target)
 
--- src/spread.rt:15:9
 slice-write-buf : tie.Need-slice-write-buf Inv-loop μ-loop
 slice-write-buf c = let L = c .before .before .loop in let S = c .before .before .before in let t = shift-turn _ _ _ _ _ _ (S .pre) (L .i) (L .inv .1) (c .before .loop-test .taken) in omega (arith, t .whole, S .pre .target)
 
--- src/spread.rt:16:9
 add-i : tie.Need-add-i Inv-loop μ-loop
 add-i c = omega arith
 
--- src/spread.rt:14:5
 loop-less : tie.Need-loop-less Inv-loop μ-loop
 loop-less c = omega arith
 
--- src/spread.rt:14:5
 loop-again : tie.Need-loop-again Inv-loop μ-loop
 loop-again c = let L = c .before .before .loop in let S = c .before .before .before in let t = shift-turn _ _ _ _ _ _ (S .pre) (L .i) (L .inv .1) (c .before .loop-test .taken) in (omega arith, t .again)
 
--- src/spread.rt:9:1
 same-length : tie.Need-same-length Inv-loop μ-loop
 same-length c = let L = c .before .loop in let S = c .before .before in ap length (L .inv .1) ∙ shift-whole _ _ _ _ _ _ (S .pre) (L .i) (L .inv .0)
 
--- src/spread.rt:9:1
 returns : tie.Need-returns Inv-loop μ-loop
 returns c = let L = c .before .loop in let S = c .before .before in let e : L .i ≡ S .args .count = omega arith in L .inv .1 ∙ ap (shifted (S .args .buf .now) (S .args .from) (S .args .to) (S .args .w) (S .args .x)) e
 

@@ -1,14 +1,11 @@
 -- `spread::spread`: with i of the slow numbers left, the sums of the others stand where they belong, and all before them as at the start.
-use Prim.Native.Nat.{_+_, _-_, _*_, _≤_}
+use Prim.Native.Nat.{_-_, _≤_}
 use native.Mathlib.Omega.{arith}
-use mathlib.Core.Path.{_≡_, sym, ap, _∙_}
+use mathlib.Core.Path.{_≡_, ap, _∙_}
 use lib.ListN.{length}
-use Rattle.equal.proofs.Turns.{spreading, Row, spread-start, spread-end, spread-whole, spread-turn}
+use Rattle.equal.proofs.Turns.{spreading, spread-start, spread-end, spread-whole, spread-turn}
 use Rattle.equal.proofs.spread.spread.Statement.{statement}
 use Rattle.equal.proofs.spread.spread.Tie as tie
-use Rattle.equal.proofs.spread.spread.Reads as reads
-use Rattle.equal.proofs.spread.spread.Lts as lts
-use Rattle.equal.proofs.spread.shift.Reads as shift-reads
 
 abbrev Inv-loop : tie.InvT-loop
 Inv-loop buf₀ at slow n v fast c w i₀ buf i = (i ≤ n) × (buf ≡ spreading buf₀ at slow n v fast c w i)
@@ -16,55 +13,42 @@ Inv-loop buf₀ at slow n v fast c w i₀ buf i = (i ≤ n) × (buf ≡ spreadin
 abbrev μ-loop : tie.MeasureT-loop
 μ-loop buf₀ at slow n v fast c w i₀ buf i = i
 
--- src/spread.rt:30:5
 loop-holds : tie.Need-loop-holds Inv-loop μ-loop
 loop-holds c = (omega arith, spread-start _ _ _ _ _ _ _ _ (c .before .pre))
 
--- src/spread.rt:31:9
 sub-i : tie.Need-sub-i Inv-loop μ-loop
 sub-i c = omega arith
 
--- src/spread.rt:32:25
 add-x : tie.Need-add-x Inv-loop μ-loop
 add-x c = omega (arith, c .before .before .before .pre .slowly)
 
--- src/spread.rt:32:21
 mul-x : tie.Need-mul-x Inv-loop μ-loop
 mul-x c = omega (arith, c .before .before .before .pre .slowly)
 
--- src/spread.rt:32:21
 slice-read-x : tie.Need-slice-read-x Inv-loop μ-loop
 slice-read-x c = let L = c .before .before .loop in let S = c .before .before .before .before in let t = spread-turn _ _ _ _ _ _ _ _ (S .pre) (L .i) (c .before .loop-test .taken) (L .inv .0) (L .inv .1) in omega (arith, t .whole, S .pre .slowly)
 
--- src/spread.rt:32:17
 mul-x-2 : tie.Need-mul-x-2 Inv-loop μ-loop
 mul-x-2 c = let L = c .before .before .loop in let S = c .before .before .before .before in let t = spread-turn _ _ _ _ _ _ _ _ (S .pre) (L .i) (c .before .loop-test .taken) (L .inv .0) (L .inv .1) in omega (arith, t .fits)
 
--- src/spread.rt:33:31
 mul-shift : tie.Need-mul-shift Inv-loop μ-loop
 mul-shift c = let L = c .before .before .before .loop in let S = c .before .before .before .before .before in let t = spread-turn _ _ _ _ _ _ _ _ (S .pre) (L .i) (c .before .before .loop-test .taken) (L .inv .0) (L .inv .1) in omega (arith, t .whole, t .shifts .target)
 
--- src/spread.rt:33:26
 add-shift : tie.Need-add-shift Inv-loop μ-loop
 add-shift c = let L = c .before .before .before .loop in let S = c .before .before .before .before .before in let t = spread-turn _ _ _ _ _ _ _ _ (S .pre) (L .i) (c .before .before .loop-test .taken) (L .inv .0) (L .inv .1) in omega (arith, t .whole, t .shifts .target)
 
--- src/spread.rt:33:9
 shift-requires : tie.Need-shift-requires Inv-loop μ-loop
 shift-requires c κs = let L = c .before .before .before .loop in let S = c .before .before .before .before .before in let t = spread-turn _ _ _ _ _ _ _ _ (S .pre) (L .i) (c .before .before .loop-test .taken) (L .inv .0) (L .inv .1) in t .shifts
 
--- src/spread.rt:30:5
 loop-less : tie.Need-loop-less Inv-loop μ-loop
 loop-less c = omega arith
 
--- src/spread.rt:30:5
 loop-again : tie.Need-loop-again Inv-loop μ-loop
 loop-again c = let L = c .before .before .before .before .before .before .loop in let S = c .before .before .before .before .before .before .before .before in let t = spread-turn _ _ _ _ _ _ _ _ (S .pre) (L .i) (c .before .before .before .before .before .loop-test .taken) (L .inv .0) (L .inv .1) in (omega arith, t .again (c .before .before .shift .ensures))
 
--- src/spread.rt:22:1
 same-length : tie.Need-same-length Inv-loop μ-loop
 same-length c = let L = c .before .loop in let S = c .before .before .before in ap length (L .inv .1) ∙ spread-whole _ _ _ _ _ _ _ _ (S .pre) (L .i) (L .inv .0)
 
--- src/spread.rt:22:1
 returns : tie.Need-returns Inv-loop μ-loop
 returns c = let L = c .before .loop in
     let S = c .before .before .before in
