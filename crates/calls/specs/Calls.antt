@@ -2,7 +2,7 @@
 -- document 01's word for the judge's state.
 use Prim.Native.Nat.{ℕ}
 use mathlib.Core.Bool.{Bool, _&&_}
-use mathlib.Core.List.{List, [], _++_}
+use mathlib.Core.List.{[], _++_}
 use mathlib.Core.Option.{Option}
 use lib.Dec.{leb}
 use lib.IntN.{ℤ}
@@ -11,7 +11,7 @@ use lib.Signed.{leZ}
 use Rattle.logic.specs.Checked.{Checked, ok, refused, _>>=_, _>>_, held, guard}
 use Rattle.logic.specs.Model.{Model}
 use Rattle.logic.specs.Formula.{nonnegative}
-use Rattle.logic.specs.Verdict.{Goal, goal, Verdict, no, yes, yes-plan, verdict}
+use Rattle.logic.specs.Verdict.{goal, Verdict, no, yes, yes-plan, verdict}
 use Rattle.logic.specs.Limits.{limits}
 use Rattle.logic.specs.Choices.{plan-of}
 use Rattle.blocks.specs.Bytes.{Bytes}

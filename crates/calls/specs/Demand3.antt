@@ -10,12 +10,12 @@ use mathlib.Core.Path.{_≡_}
 use mathlib.Core.Logic.{_↔_}
 use mathlib.Core.Bool.{Bool, true}
 use mathlib.Core.List.{List, List·Memᴰ}
-use mathlib.Core.Option.{Option, some}
+use mathlib.Core.Option.{some}
 use lib.IntN.{ℤ, pos}
 use lib.ListN.{take, drop}
 use Rattle.logic.specs.Checked.{ok}
 use Rattle.logic.specs.Lists.{keep}
-use Rattle.logic.specs.Model.{Model, Step}
+use Rattle.logic.specs.Model.{Model}
 use Rattle.logic.specs.Quantity.{naturals, sum, Relation}
 use Rattle.logic.specs.Plan.{Plan, plans, choices, paths, weight}
 use Rattle.logic.specs.Formula.{Formula, plan, sat, meets}
@@ -23,9 +23,8 @@ use Rattle.logic.specs.Verdict.{plan-goal, shown, yes-plan}
 use Rattle.logic.specs.Limits.{limits}
 use Rattle.blocks.specs.Bytes.{Bytes}
 use Rattle.questions.specs.Layout.{Question}
-use Rattle.sheets.specs.Layout.{Sheet}
 use Rattle.sheets.specs.Grounds.{read-sheet}
-use Rattle.calls.specs.Calls.{Call, check, judge, write, Held, judged, written, accepted, Reply}
+use Rattle.calls.specs.Calls.{Call, check, judge, write, judged, written, accepted, Reply}
 use Rattle.calls.specs.History.{after}
 
 -- What the calls reply: to a call made after a list of calls on a desk that began empty.

@@ -1,6 +1,5 @@
 -- What the desk holds after a list of calls from the empty desk, told by the list. Document 01: "Held are the model of the last load done,
 -- the question of the last put done since, and its verdict once judged."
-use Prim.Native.Nat.{ℕ}
 use mathlib.Core.Bool.{Bool, true, false, cond, _&&_}
 use mathlib.Core.List.{List, [], _∷_}
 use mathlib.Core.Option.{Option, none, some}
