@@ -1,7 +1,7 @@
 -- How large totals are: those of conditions, which are 0 or 1 on each path, are at most the denominator to the number of steps; where
 -- the condition is decided already, all are alike.
 use Prim.Native.Nat.{ℕ, zero, suc, _+_, _*_, _^_, _≤_, _<_}
-use native.Mathlib.Nat.{add-le-add, mul-le-mul-left, mul-one, mul-comm, le-refl, suc-mul, le-trans, pow-suc, pow-le-pow-left, pow-le-pow-right}
+use native.Mathlib.Nat.{add-le-add, mul-le-mul-left, mul-one, mul-comm, le-refl, le-trans, suc-mul, pow-suc}
 use native.Mathlib.Numerals.{add-one}
 use native.Mathlib.Omega.{arith}
 use mathlib.Core.Path.{_≡_, refl, sym, ap, ap₂, subst, _∙_, fun-ext}
@@ -69,16 +69,3 @@ module _ (m : Model) (accepted : Accepted m) (n s : ℕ) (k : s < length (m .sta
       ∙ sum-times naturals naturals-additive v (λ r. weight r * 1) (paths m n s π)
       ∙ ap (λ z. v * z) (total-ones m accepted n s k π i))
       ∙ ap (λ z. replicate z (v * m .denominator ^ n)) (plan-count m n s)
-
--- ---- powers
-
-pub power-le : (d i n : ℕ) → d ≤ 100 → i ≤ n → d ^ i ≤ 100 ^ n
-power-le d i n h k = le-trans (pow-le-pow-left h i) (pow-le-pow-right {n = 100} (omega arith) k)
-
-pub power-more : (d i : ℕ) {x : ℕ} → x ≡ d ^ i → x * d ≡ d ^ (i + 1)
-power-more d i e = rw (add-one, pow-suc d i) (ap (λ z. z * d) e)
-
-pub power-fits : (d i : ℕ) {x : ℕ} → d ≤ 100 → i < 6 → x ≡ d ^ i → x * d < 2 ^ 64
-power-fits d i h k e =
-    let l : d ^ suc i ≤ 100 ^ 6 = power-le d (suc i) 6 h k in
-    omega (arith, power-more d i e, ap (λ j. d ^ j) (add-one i))

@@ -13,6 +13,7 @@ use crate::spread::fill;
 use crate::spread::join;
 use crate::spread::shift;
 use blocks::wide;
+use bounds::power;
 use evaluation::known;
 use evaluation::step;
 use models::target;
@@ -69,17 +70,4 @@ fn most(x: u8, y: u8) -> u8
     ensures { λ r. ⌜ r ≡ max x y ⌝ }
 {
     if x < y { y } else { x }
-}
-
-fn power(d: usize, k: u8) -> u64
-    requires { ⌜ (d ≤ 100) × (k ≤ 6) ⌝ }
-    ensures { λ r. ⌜ r ≡ d ^ k ⌝ }
-{
-    let mut x: u64 = 1;
-    let mut i: u8 = 0;
-    while i < k {
-        x = x * d as u64;
-        i += 1;
-    }
-    x
 }

@@ -29,12 +29,12 @@ use Rattle.evaluation.proofs.Integers.{rest-of-sum}
 use Rattle.evaluation.proofs.Values.{state-value, path-value}
 use Rattle.evaluation.proofs.Trails.{steps-length, steps-drop, state-next, used-at}
 
-flipped : (t : Bool) → one-if (eqb (one-if t) 0) ≡ one-if (not t)
+pub flipped : (t : Bool) → one-if (eqb (one-if t) 0) ≡ one-if (not t)
 unfolding one-if
 flipped true = refl
 flipped false = refl
 
-joined : (t u : Bool) → bitAnd (one-if t) (one-if u) ≡ one-if (t && u)
+pub joined : (t u : Bool) → bitAnd (one-if t) (one-if u) ≡ one-if (t && u)
 unfolding one-if
 joined true true = refl
 joined true false = refl

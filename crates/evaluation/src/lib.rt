@@ -20,7 +20,7 @@ use questions::operator;
 use questions::p;
 use questions::right;
 
-fn bit(t: bool) -> u8
+pub fn bit(t: bool) -> u8
     ensures { λ r. ⌜ r ≡ one-if t ⌝ }
 {
     if t {
@@ -83,7 +83,7 @@ fn value_by(q: &[u8], trail: &[u8], gains: &[i32], v: &[u8], h: u8, k: u8, j: u8
 }
 
 // The depth of node j; 0 past the end.
-fn depth_at(depths: &[u32], j: u8) -> u32
+pub fn depth_at(depths: &[u32], j: u8) -> u32
     ensures { λ r. ⌜ r ≡ getD (now (depths .entry)) j 0 ⌝ }
 {
     let i = j as usize;
@@ -114,7 +114,7 @@ fn value_at(
     value_by(q, trail, gains, v, h, h - d as u8, j)
 }
 
-fn store(v: &mut [u8], i: usize, x: u8)
+pub fn store(v: &mut [u8], i: usize, x: u8)
     ensures { λ _. ⌜ now (v .exit) ≡ set (now (v .entry)) i x ⌝ }
 {
     if i < v.len() {

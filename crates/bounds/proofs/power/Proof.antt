@@ -1,11 +1,11 @@
--- `lists::power`: after i turns x is d to the i, which is at most 100 to the 6.
+-- `power`: after i turns x is d to the i, which is at most 100 to the 6.
 use Prim.Native.Nat.{_-_, _≤_, _^_}
 use native.Mathlib.Nat.{pow-zero}
 use native.Mathlib.Omega.{arith}
 use mathlib.Core.Path.{_≡_, sym, ap, _∙_}
-use Rattle.equal.proofs.Bounds.{power-fits, power-more}
-use Rattle.equal.proofs.lists.power.Statement.{statement}
-use Rattle.equal.proofs.lists.power.Tie as tie
+use Rattle.bounds.proofs.Powers.{power-fits, power-more}
+use Rattle.bounds.proofs.power.Statement.{statement}
+use Rattle.bounds.proofs.power.Tie as tie
 
 abbrev Inv-loop : tie.InvT-loop
 Inv-loop d k x₀ i₀ x i = (i ≤ k) × (x ≡ d ^ i)
