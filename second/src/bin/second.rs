@@ -1,7 +1,7 @@
 //! The second implementation's commands; `README.md` describes each.
 
 use second::compare::compare;
-use second::desk::{next_call, verdict_line, Desk, JudgeKind};
+use second::desk::{c_calls, next_call, verdict_line, Desk, JudgeKind};
 use second::generate::{bench_cases, stream};
 use second::tally::tally;
 use second::timing::time;
@@ -11,6 +11,7 @@ use std::process::ExitCode;
 const USAGE: &str = "usage: second [--plain] COMMAND
   verdict                    a model and a question to their verdict line
   replay                     a stream of calls to a line for each
+  ccalls                     the C call on what a stream of calls loads and puts
   tally                      a stream of calls to counts of its answers
   generate KIND SEED COUNT   a stream of models, questions, judges, sheets or lists
   compare SEED COUNT         the fast judge against the plain one
@@ -40,6 +41,7 @@ fn run(kind: JudgeKind, words: &[&str]) -> io::Result<ExitCode> {
     match words {
         ["verdict"] => print_line(&verdict_line(&read_input()?, kind))?,
         ["replay"] => replay(kind, &read_input()?)?,
+        ["ccalls"] => ccalls(kind, &read_input()?)?,
         ["tally"] => print_tally(&read_input()?)?,
         ["generate", kind, seed, count] => return generate(kind, seed, count),
         ["compare", seed, count] => return compare_judges(seed, count),
@@ -72,6 +74,14 @@ fn replay(kind: JudgeKind, stream: &[u8]) -> io::Result<()> {
     let mut out = io::BufWriter::new(io::stdout().lock());
     while let Some(call) = next_call(&mut rest) {
         writeln!(out, "{}", call.make(&mut desk))?;
+    }
+    out.flush()
+}
+
+fn ccalls(kind: JudgeKind, stream: &[u8]) -> io::Result<()> {
+    let mut out = io::BufWriter::new(io::stdout().lock());
+    for line in c_calls(kind, stream) {
+        writeln!(out, "{line}")?;
     }
     out.flush()
 }

@@ -1,9 +1,11 @@
 //! The desk and its five calls, and lists of calls.
 
+mod c_call;
 mod calls;
 mod line;
 mod list;
 
+pub use c_call::c_calls;
 pub use calls::{Desk, JudgeKind};
 pub use line::{verdict_line, verdict_of};
 pub use list::{adler, next_call, Answer, Call};
