@@ -1,6 +1,13 @@
-// Bounds: powers of the denominator, and a total against the bound of a "plan" node.
+// Bounds: powers of the denominator, and a total against the bound of a "plan" node, W times q against p times D to the n.
 ghost use mathlib.Core.Path.{_≡_};
-ghost use Prim.Native.Nat.{_^_, _≤_};
+ghost use Prim.Native.Nat.{_*_, _^_, _≤_};
+ghost use Rattle.logic.specs.Formula.{relation, nonnegative};
+ghost use Rattle.logic.specs.Quantity.{naturals};
+ghost use Rattle.logic.specs.Quantity as quantity;
+ghost use Rattle.models.specs.Layout.{denominator-of};
+ghost use Rattle.questions.specs.Layout.{node-of};
+ghost use Rattle.bounds.specs.Bounded.{Bounded, Exactly, meets-at};
+use blocks::wide;
 
 // The denominator to the number of steps.
 pub fn power(d: usize, k: u8) -> u64
@@ -14,4 +21,55 @@ pub fn power(d: usize, k: u8) -> u64
         i += 1;
     }
     x
+}
+
+// Whether a number stands in the relation of this number to another.
+fn related(kind: u8, a: u64, b: u64) -> bool
+    ensures { λ r. ⌜ r ≡ quantity.related naturals (relation kind) a b ⌝ }
+{
+    match kind {
+        1 => a < b,
+        0 | 2 => a == b,
+        _ => a > b,
+    }
+}
+
+// The denominator to the steps of node j, a "plan", times its p.
+fn bound(m: &[u8], q: &[u8], j: u8) -> u64
+    requires { ⌜ Bounded (now m) (now q) j ⌝ }
+    ensures { λ r. ⌜ r ≡ denominator-of (now (m .entry)) ^ (node-of (now (q .entry)) j .n) * nonnegative (node-of (now (q .entry)) j .p) ⌝ }
+{
+    power(wide(m, 5), questions::steps(q, j)) * questions::p(q, j) as u64
+}
+
+// Whether a total meets the bound of node j, a "plan".
+pub fn meets(m: &[u8], q: &[u8], j: u8, w: u64) -> bool
+    requires { ⌜ Bounded (now m) (now q) j ⌝ }
+    requires { ⌜ w ≤ denominator-of (now m) ^ (node-of (now q) j .n) ⌝ }
+    ensures { λ r. ⌜ r ≡ meets-at (now (m .entry)) (now (q .entry)) j w ⌝ }
+{
+    related(
+        questions::right(q, j),
+        questions::q(q, j) as u64 * w,
+        bound(m, q, j),
+    )
+}
+
+// The one total that meets "equal", if it is whole.
+pub struct Exact {
+    pub whole: bool,
+    pub total: u64,
+}
+
+// What a total of node j, a "plan", would have to be to be equal to the bound.
+pub fn exact_total(m: &[u8], q: &[u8], j: u8) -> Exact
+    requires { ⌜ Bounded (now m) (now q) j ⌝ }
+    ensures { λ r. ⌜ Exactly (now (m .entry)) (now (q .entry)) j (r .whole) (r .total) ⌝ }
+{
+    let all = bound(m, q, j);
+    let parts = questions::q(q, j) as u64;
+    Exact {
+        whole: all % parts == 0,
+        total: all / parts,
+    }
 }
