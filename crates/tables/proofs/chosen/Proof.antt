@@ -1,0 +1,59 @@
+-- The invariant: the marked nodes from j on have been entered.
+use Prim.Native.Nat.{ℕ, _+_, _-_, _≤_}
+use native.Mathlib.Omega.{arith}
+use mathlib.Core.Path.{_≡_, sym, subst, _∙_}
+use borrow.Author.Needs.{needs}
+use Rattle.tables.proofs.Cones.{Choosing, choosing-start, choosing-more, choosing-end}
+use Rattle.tables.proofs.chosen.Statement.{statement}
+use Rattle.tables.proofs.chosen.Tie as tie
+
+abbrev Inv-loop : tie.InvT-loop
+Inv-loop q depths c marks₀ top j₀ marks j = (j ≤ c + 1) × Choosing q c marks j
+
+abbrev μ-loop : tie.MeasureT-loop
+μ-loop q depths c marks₀ top j₀ marks j = j
+
+array-write-marks : tie.Need-array-write-marks Inv-loop μ-loop
+array-write-marks c = omega (arith, c .before .before .pre .0 .few)
+
+add-j : tie.Need-add-j Inv-loop μ-loop
+add-j c = omega (arith, c .before .before .pre .0 .few)
+
+loop-holds : tie.Need-loop-holds Inv-loop μ-loop
+loop-holds c = (omega arith, choosing-start (c .before .before .args .q .now) (c .before .before .args .c) (omega (arith, c .before .before .pre .0 .few)))
+
+sub-j : tie.Need-sub-j Inv-loop μ-loop
+sub-j c = omega arith
+
+slice-aggregate-enter : tie.Need-slice-aggregate-enter Inv-loop μ-loop
+slice-aggregate-enter c = sym ((c .before .before .loop .inv .1) .size)
+
+enter-requires : tie.Need-enter-requires Inv-loop μ-loop
+enter-requires c κs = (c .before .before .before .before .before .pre .0, c .before .before .before .before .before .pre .1, (c .before .before .loop .inv .1) .size, omega arith)
+
+loop-less : tie.Need-loop-less Inv-loop μ-loop
+loop-less c = omega arith
+
+loop-again : tie.Need-loop-again Inv-loop μ-loop
+loop-again c = let L = c .before .before .before .before .loop in
+    let n = c .before .enter in
+    (omega arith, choosing-more (L .j - 1) (subst (Choosing (c .before .before .before .before .before .before .before .args .q .now) (c .before .before .before .before .before .before .before .args .c) (L .marks)) (omega arith) (L .inv .1)) (omega arith) (n .kept .1 .1 .0) (n .ensures .0) (n .ensures .1))
+
+returns : tie.Need-returns Inv-loop μ-loop
+returns c = let L = c .before .loop in choosing-end (subst (Choosing (c .before .before .before .before .args .q .now) (c .before .before .before .before .args .c) (L .marks)) (omega arith) (L .inv .1))
+
+pub chosen-spec : {M : Type 1} → statement M
+chosen-spec =
+    tie.close
+    (tie.spec
+    Inv-loop
+    μ-loop
+    array-write-marks
+    add-j
+    loop-holds
+    sub-j
+    slice-aggregate-enter
+    enter-requires
+    loop-less
+    loop-again
+    returns)

@@ -1,0 +1,117 @@
+-- Each operator that reads its children on the path marks them.
+use Prim.Native.Nat.{ℕ}
+use native.Mathlib.Omega.{arith}
+use mathlib.Core.Path.{_≡_, sym, ap, ap₂, subst, _∙_}
+use mathlib.Core.Logic.{inl, inr, ⊎-elim}
+use mathlib.Core.List.{List}
+use lib.ListN.{set}
+use borrow.Author.Needs.{needs}
+use Rattle.tables.proofs.Marks.{grown-none}
+use Rattle.tables.proofs.Cones.{Node-done, depth-in, entered-flat, entered-none, left-entered, both-entered}
+use Rattle.tables.proofs.enter.Statement.{statement}
+use Rattle.tables.proofs.enter.Tie as tie
+
+byte-requires : tie.Need-byte-requires
+byte-requires c κs = search needs
+
+same-length : tie.Need-same-length
+same-length c = search needs
+
+returns : tie.Need-returns
+returns c = (grown-none _ _ (c .before .before .before .before .before .before .args .marks .now), λ e. absurd (c .if1 .taken (c .before .byte .ensures ∙ e)))
+
+depth-at-requires : tie.Need-depth-at-requires
+depth-at-requires c κs = search needs
+
+same-length-2 : tie.Need-same-length-2
+same-length-2 c = search needs
+
+returns-2 : tie.Need-returns-2
+returns-2 c = let S = c .before .before .before .before .before .before .before .before in
+    let d = depth-in (S .args .q .now) (S .args .depths .now) (S .pre .1) (S .args .j) (omega (arith, S .pre .0 .few)) in
+    (grown-none _ _ (S .args .marks .now), λ e. entered-flat (sym d ∙ sym (c .before .depth-at .ensures) ∙ c .if2 .taken))
+
+operator-requires : tie.Need-operator-requires
+operator-requires c κs = search needs
+
+left-requires : tie.Need-left-requires
+left-requires c κs = search needs
+
+cast-store : tie.Need-cast-store
+cast-store c = search needs
+
+store-requires : tie.Need-store-requires
+store-requires c κs = search needs
+
+left-requires-2 : tie.Need-left-requires-2
+left-requires-2 c κs = search needs
+
+cast-store-2 : tie.Need-cast-store-2
+cast-store-2 c = search needs
+
+store-requires-2 : tie.Need-store-requires-2
+store-requires-2 c κs = search needs
+
+right-requires : tie.Need-right-requires
+right-requires c κs = search needs
+
+cast-store-3 : tie.Need-cast-store-3
+cast-store-3 c = search needs
+
+store-requires-3 : tie.Need-store-requires-3
+store-requires-3 c κs = search needs
+
+same-length-3 : tie.Need-same-length-3
+same-length-3 c = search needs
+
+returns-3 : tie.Need-returns-3
+returns-3 c = let S = c .before .before .before .before .before .before .before .before .before .before .before .before .before .before .before in
+    let marks = S .args .marks .now in
+    let e = c .before .before .before .before .before .before .operator .ensures in
+    subst (Node-done (S .args .q .now) (S .args .j) marks) (sym (c .before .before .store .ensures ∙ ap (λ (l : ℕ). set marks l 1) (c .before .before .before .left .ensures)))
+    (left-entered (S .args .q .now) (S .args .j) marks (S .pre .0) (S .pre .3) (S .pre .2) (⊎-elim (λ x. inl (sym e ∙ x)) (λ x. inr (sym e ∙ x)) (c .before .before .before .before .before .match .keys1)))
+
+same-length-4 : tie.Need-same-length-4
+same-length-4 c = search needs
+
+returns-4 : tie.Need-returns-4
+returns-4 c = let S = c .before .before .before .before .before .before .before .before .before .before .before .before .before .before .before .before .before .before .before .before in
+    let marks = S .args .marks .now in
+    subst (Node-done (S .args .q .now) (S .args .j) marks)
+    (sym (c .before .before .store3 .ensures ∙ ap₂ (λ (n : List ℕ) (r : ℕ). set n r 1) (c .before .before .before .before .before .before .before .store2 .ensures ∙ ap (λ (l : ℕ). set marks l 1) (c .before .before .before .before .before .before .before .before .left2 .ensures)) (c .before .before .before .right .ensures)))
+    (both-entered (S .args .q .now) (S .args .j) marks (S .pre .0) (S .pre .3) (S .pre .2) (sym (c .before .before .before .before .before .before .before .before .before .before .before .operator .ensures) ∙ c .before .before .before .before .before .before .before .before .before .before .match .keys2))
+
+same-length-5 : tie.Need-same-length-5
+same-length-5 c = search needs
+
+returns-5 : tie.Need-returns-5
+returns-5 c = let n = c .match .rest in
+    let e = c .before .operator .ensures in
+    (grown-none _ _ (c .before .before .before .before .before .before .before .before .before .before .args .marks .now), λ _. entered-none (λ o. n .0 .1 (⊎-elim (λ x. inl (e ∙ x)) (λ x. inr (e ∙ x)) o)) (λ o. n .1 (e ∙ o)))
+
+pub enter-spec : {M : Type 1} → statement M
+enter-spec =
+    tie.close
+    (tie.spec
+    byte-requires
+    same-length
+    returns
+    depth-at-requires
+    same-length-2
+    returns-2
+    operator-requires
+    left-requires
+    cast-store
+    store-requires
+    left-requires-2
+    cast-store-2
+    store-requires-2
+    right-requires
+    cast-store-3
+    store-requires-3
+    same-length-3
+    returns-3
+    same-length-4
+    returns-4
+    same-length-5
+    returns-5)

@@ -1,0 +1,134 @@
+-- Each operator marks what it reads; a pair that is not marked passes nothing on.
+use Prim.Native.Nat.{ℕ, _+_, _*_, _/_, _%_, _<_}
+use native.Mathlib.Omega.{arith}
+use mathlib.Core.Path.{_≡_, sym, ap, ap₂, subst, _∙_}
+use mathlib.Core.Logic.{inl, inr, ⊎-elim}
+use mathlib.Core.List.{List}
+use lib.ListN.{set}
+use borrow.Author.Needs.{needs}
+use Rattle.models.specs.Layout.{state-count, entries, outcome-of}
+use Rattle.tables.specs.Need.{Marked, Grown}
+use Rattle.tables.proofs.Marks.{Pair-done, grown-none, given-readable, given-question, left-marked, both-marked, next-marked, none-marked}
+use Rattle.tables.proofs.pass_on.Statement.{statement}
+use Rattle.tables.proofs.pass_on.Tie as tie
+
+byte-requires : tie.Need-byte-requires
+byte-requires c κs = search needs
+
+same-length : tie.Need-same-length
+same-length c = search needs
+
+returns : tie.Need-returns
+returns c = (grown-none _ _ (c .before .before .before .before .before .before .args .need .now), λ e. absurd (c .if1 .taken (c .before .byte .ensures ∙ e)))
+
+cast-j : tie.Need-cast-j
+cast-j c = omega (arith, (given-question (c .before .before .before .before .before .before .pre .0 .0)) .few-nodes)
+
+cast-s : tie.Need-cast-s
+cast-s c = search needs
+
+operator-requires : tie.Need-operator-requires
+operator-requires c κs = search needs
+
+left-requires : tie.Need-left-requires
+left-requires c κs = search needs
+
+mark-requires : tie.Need-mark-requires
+mark-requires c κs = search needs
+
+left-requires-2 : tie.Need-left-requires-2
+left-requires-2 c κs = search needs
+
+mark-requires-2 : tie.Need-mark-requires-2
+mark-requires-2 c κs = search needs
+
+right-requires : tie.Need-right-requires
+right-requires c κs = search needs
+
+mark-requires-3 : tie.Need-mark-requires-3
+mark-requires-3 c κs = search needs
+
+left-requires-3 : tie.Need-left-requires-3
+left-requires-3 c κs = search needs
+
+mark-next-requires : tie.Need-mark-next-requires
+mark-next-requires c κs = let P = c .before .before .before .before .before .before .before .before .before .before .pre .0 in
+    let A = given-question (P .0) in
+    let b = A .in-range (c .before .before .before .before .before .before .before .before .before .before .args .k / 32) (omega arith) .of-next (sym (c .before .before .before .operator .ensures) ∙ c .before .before .match .keys3) in
+    ((given-readable (P .0), P .0 .used-right, P .1), (omega (arith, b, A .few-nodes, c .left3 .ensures), omega arith))
+
+same-length-2 : tie.Need-same-length-2
+same-length-2 c = search needs
+
+returns-2 : tie.Need-returns-2
+returns-2 c = let S = c .before .before .before .before .before .before .before .before .before .before .before .before .before in
+    let need = S .args .need .now in
+    let k = S .args .k in
+    let e = c .before .before .before .before .before .before .operator .ensures in
+    subst (Pair-done (S .args .m .now) (S .args .q .now) need k) (sym (c .before .before .mark .ensures ∙ ap (λ (l : ℕ). set need (32 * l + k % 32) 1) (c .before .before .before .left .ensures)))
+    (left-marked (S .pre .0 .0) need k (S .pre .0 .1) (S .pre .0 .2) (S .pre .1 (sym (c .before .before .before .before .before .before .before .before .byte .ensures) ∙ c .before .before .before .before .before .before .before .if1 .left))
+    (⊎-elim (λ x. inl (sym e ∙ x)) (λ x. inr (sym e ∙ x)) (c .before .before .before .before .before .match .keys1)))
+
+same-length-3 : tie.Need-same-length-3
+same-length-3 c = search needs
+
+returns-3 : tie.Need-returns-3
+returns-3 c = let S = c .before .before .before .before .before .before .before .before .before .before .before .before .before .before .before .before .before .before in
+    let need = S .args .need .now in
+    let k = S .args .k in
+    subst (Pair-done (S .args .m .now) (S .args .q .now) need k)
+    (sym (c .before .before .mark3 .ensures
+    ∙ ap₂ (λ (n : List ℕ) (r : ℕ). set n (32 * r + k % 32) 1) (c .before .before .before .before .before .before .before .mark2 .ensures ∙ ap (λ (l : ℕ). set need (32 * l + k % 32) 1) (c .before .before .before .before .before .before .before .before .left2 .ensures)) (c .before .before .before .right .ensures)))
+    (both-marked (S .pre .0 .0) need k (S .pre .0 .1) (S .pre .0 .2) (S .pre .1 (sym (c .before .before .before .before .before .before .before .before .before .before .before .before .before .byte .ensures) ∙ c .before .before .before .before .before .before .before .before .before .before .before .before .if1 .left))
+    (sym (c .before .before .before .before .before .before .before .before .before .before .before .operator .ensures) ∙ c .before .before .before .before .before .before .before .before .before .before .match .keys2))
+
+same-length-4 : tie.Need-same-length-4
+same-length-4 c = search needs
+
+returns-4 : tie.Need-returns-4
+returns-4 c = let S = c .before .before .before .before .before .before .before .before .before .before .before .before .before in
+    let m = S .args .m .now in
+    let need = S .args .need .now in
+    let k = S .args .k in
+    let n = c .before .before .mark-next in
+    let w = subst (λ (l : ℕ). Grown (state-count m) (32 * l + 32) need (n .last .1 .1 .0) × ((a i : ℕ) → i < entries m (k % 32) a → Marked (n .last .1 .1 .0) l ((outcome-of m (k % 32) a i) .target)))
+        (c .before .before .before .left3 .ensures) (n .ensures) in
+    next-marked (S .pre .0 .0) need k (S .pre .0 .1) (S .pre .0 .2) (S .pre .1 (sym (c .before .before .before .before .before .before .before .before .byte .ensures) ∙ c .before .before .before .before .before .before .before .if1 .left))
+    (sym (c .before .before .before .before .before .before .operator .ensures) ∙ c .before .before .before .before .before .match .keys3) (w .0) (w .1)
+
+same-length-5 : tie.Need-same-length-5
+same-length-5 c = search needs
+
+returns-5 : tie.Need-returns-5
+returns-5 c = let S = c .before .before .before .before .before .before .before .before in
+    let n = c .match .rest in
+    let e = c .before .operator .ensures in
+    none-marked (S .pre .0 .0) (S .args .need .now) (S .args .k) (S .pre .0 .1) (S .pre .0 .2) (S .pre .1 (sym (c .before .before .before .byte .ensures) ∙ c .before .before .if1 .left))
+    (λ o. n .0 .0 .1 (⊎-elim (λ x. inl (e ∙ x)) (λ x. inr (e ∙ x)) o)) (λ o. n .0 .1 (e ∙ o)) (λ o. n .1 (e ∙ o))
+
+pub pass-on-spec : {M : Type 1} → statement M
+pass-on-spec =
+    tie.close
+    (tie.spec
+    byte-requires
+    same-length
+    returns
+    cast-j
+    cast-s
+    operator-requires
+    left-requires
+    mark-requires
+    left-requires-2
+    mark-requires-2
+    right-requires
+    mark-requires-3
+    left-requires-3
+    mark-next-requires
+    same-length-2
+    returns-2
+    same-length-3
+    returns-3
+    same-length-4
+    returns-4
+    same-length-5
+    returns-5)

@@ -1,0 +1,174 @@
+// What is made ready before anything is judged: which nodes matter in which states, and the nodes of a condition in the order in which
+// their values are made.
+ghost use mathlib.Core.Path.{_≡_};
+ghost use Prim.Native.Nat.{_+_, _*_, _/_, _%_, ℕ, _<_, _≤_};
+ghost use lib.ListN.{getD, set, length, take};
+ghost use Rattle.logic.specs.Formula.{depth};
+ghost use Rattle.models.specs.Layout.{state-count, outcome-of};
+ghost use Rattle.models.specs.Layout as layout;
+ghost use Rattle.models.specs.Readable.{Readable};
+ghost use Rattle.models.specs.Used.{Used};
+ghost use Rattle.questions.specs.Layout.{formulas-of};
+ghost use Rattle.questions.specs.Layout as question;
+ghost use Rattle.questions.specs.Tables.{table};
+ghost use Rattle.evaluation.specs.Reached.{Cone, root-of};
+ghost use Rattle.tables.specs.Need.{Given, Marked, Passed-on, Grown, Needs};
+ghost use Rattle.tables.specs.Chosen.{Ordered, Entered, Chosen, Listed};
+use blocks::byte;
+use blocks::wide;
+use evaluation::depth_at;
+use evaluation::store;
+use models::target;
+use questions::left;
+use questions::node_count;
+use questions::operator;
+use questions::right;
+use questions::start;
+
+// ---- what the verdict can turn on
+
+// Where a node and a state stand in a table.
+pub fn place(j: u8, s: u8) -> usize
+    ensures { λ r. ⌜ r ≡ 32 * j + s ⌝ }
+{
+    32 * j as usize + s as usize
+}
+
+fn mark(need: &mut [u8], j: u8, s: u8)
+    ensures { λ _. ⌜ now (need .exit) ≡ set (now (need .entry)) (32 * j + s) 1 ⌝ }
+{
+    store(need, place(j, s), 1);
+}
+
+// Marks the child of "next" in the target of outcome k % 4 of action k / 4, if that is used.
+fn mark_outcome(m: &[u8], used: &[u8; 264], need: &mut [u8], child: u8, s: u8, k: usize)
+    requires { ⌜ Readable (now m) × Used (now m) (now used) × (length (now need) ≡ 1280) ⌝ }
+    requires { ⌜ (child < 40) × (s < 32) × (k < 32) ⌝ }
+    ensures { λ _. ⌜ Grown (state-count (now (m .entry))) (32 * child + 32) (now (need .entry)) (now (need .exit)) × (k % 4 < layout.entries (now (m .entry)) s (k / 4) → Marked (now (need .exit)) child (outcome-of (now (m .entry)) s (k / 4) (k % 4) .target)) ⌝ }
+{
+    let a = k / 4;
+    let i = k % 4;
+    if i < wide(used, 8 * s as usize + a) {
+        mark(need, child, target(m, s as usize, a, i) as u8);
+    }
+}
+
+// Marks the child of "next" wherever a step from s can lead.
+fn mark_next(m: &[u8], used: &[u8; 264], need: &mut [u8], child: u8, s: u8)
+    requires { ⌜ Readable (now m) × Used (now m) (now used) × (length (now need) ≡ 1280) ⌝ }
+    requires { ⌜ (child < 40) × (s < 32) ⌝ }
+    ensures { λ _. ⌜ Grown (state-count (now (m .entry))) (32 * child + 32) (now (need .entry)) (now (need .exit)) × ((a i : ℕ) → i < layout.entries (now (m .entry)) s a → Marked (now (need .exit)) child (outcome-of (now (m .entry)) s a i .target)) ⌝ }
+{
+    let mut k: usize = 0;
+    while k < 32 {
+        mark_outcome(m, used, need, child, s, k);
+        k += 1;
+    }
+}
+
+// Marks what the pair at a place of the table turns on, if it is marked.
+fn pass_on(m: &[u8], q: &[u8], used: &[u8; 264], need: &mut [u8], k: usize)
+    requires { ⌜ Given (now m) (now q) (now used) × (length (now need) ≡ 1280) × (k < 32 * question.node-count (now q)) ⌝ }
+    requires { ⌜ (getD (now need) k 0 ≡ 1 → k % 32 < state-count (now m)) ⌝ }
+    ensures { λ _. ⌜ Grown (state-count (now (m .entry))) (32 * (k / 32)) (now (need .entry)) (now (need .exit)) × (getD (now (need .entry)) k 0 ≡ 1 → Passed-on (now (m .entry)) (now (q .entry)) (now (need .exit)) (k / 32) (k % 32)) ⌝ }
+{
+    if byte(need, k) != 1 {
+        return;
+    }
+    let j = (k / 32) as u8;
+    let s = (k % 32) as u8;
+    let op = operator(q, j);
+    match op {
+        3 | 8 => mark(need, left(q, j), s),
+        4 => {
+            mark(need, left(q, j), s);
+            mark(need, right(q, j), s);
+        }
+        6 => mark_next(m, used, need, left(q, j), s),
+        _ => {}
+    }
+}
+
+// Marks from the root in the start state downwards: children have smaller numbers.
+pub fn needed(m: &[u8], q: &[u8], used: &[u8; 264]) -> [u8; 1280]
+    requires { ⌜ Given (now m) (now q) (now used) ⌝ }
+    ensures { λ r. ⌜ Needs (now (m .entry)) (now (q .entry)) r ⌝ }
+{
+    let mut need = [0u8; 1280];
+    let root = node_count(q) - 1;
+    let first = place(root, start(q));
+    need[first] = 1;
+    let mut k = place(root, 0) + 32;
+    while k > 0 {
+        k -= 1;
+        pass_on(m, q, used, &mut need, k);
+    }
+    need
+}
+
+// ---- the nodes of a condition
+
+// Marks the children of node j, if it is marked and no state formula.
+fn enter(q: &[u8], depths: &[u32], marks: &mut [u8], j: u8)
+    requires { ⌜ Ordered (now q) × (now depths ≡ table depth (formulas-of (now q))) × (length (now marks) ≡ 40) × (j < question.node-count (now q)) ⌝ }
+    ensures { λ _. ⌜ Grown 32 j (now (marks .entry)) (now (marks .exit)) × (getD (now (marks .entry)) j 0 ≡ 1 → Entered (now (q .entry)) (now (marks .exit)) j) ⌝ }
+{
+    if byte(marks, j as usize) != 1 {
+        return;
+    }
+    if depth_at(depths, j) == 0 {
+        return;
+    }
+    let op = operator(q, j);
+    match op {
+        3 | 6 => store(marks, left(q, j) as usize, 1),
+        4 => {
+            store(marks, left(q, j) as usize, 1);
+            store(marks, right(q, j) as usize, 1);
+        }
+        _ => {}
+    }
+}
+
+// Marks from the condition c downwards.
+fn chosen(q: &[u8], depths: &[u32], c: u8) -> [u8; 40]
+    requires { ⌜ Ordered (now q) × (now depths ≡ table depth (formulas-of (now q))) × (c < question.node-count (now q)) ⌝ }
+    ensures { λ r. ⌜ Chosen (now (q .entry)) c r ⌝ }
+{
+    let mut marks = [0u8; 40];
+    let top = c as usize;
+    marks[top] = 1;
+    let mut j = c + 1;
+    while j > 0 {
+        j -= 1;
+        enter(q, depths, &mut marks, j);
+    }
+    marks
+}
+
+// Lists node i after the first n places, if it is marked; gives the number of places listed.
+fn list_node(marks: &[u8; 40], out: &mut [u8], i: u8, n: usize) -> usize
+    requires { ⌜ Listed (now marks) i n (now out) × (i < 40) × (length (now out) ≡ 40) ⌝ }
+    ensures { λ r. ⌜ Listed (now (marks .entry)) (i + 1) r (now (out .exit)) ⌝ }
+{
+    if byte(marks, i as usize) == 1 {
+        store(out, n, i);
+        return n + 1;
+    }
+    n
+}
+
+// The nodes of the condition c, children before parents; gives their number.
+pub fn cone(q: &[u8], depths: &[u32], c: u8, out: &mut [u8]) -> usize
+    requires { ⌜ Ordered (now q) × (now depths ≡ table depth (formulas-of (now q))) × (c < question.node-count (now q)) × (length (now out) ≡ 40) ⌝ }
+    ensures { λ r. ⌜ (r ≤ 40) × Cone (now (q .entry)) (take r (now (out .exit))) × (root-of (take r (now (out .exit))) ≡ c) ⌝ }
+{
+    let marks = chosen(q, depths, c);
+    let mut n: usize = 0;
+    let mut i: u8 = 0;
+    while i < c {
+        n = list_node(&marks, out, i, n);
+        i += 1;
+    }
+    list_node(&marks, out, c, n)
+}
