@@ -1,24 +1,23 @@
 -- What a search's result decides. The search for "less" or "greater" goes as deep as the condition looks; the plan that it finds, gone on
 -- with first enabled actions, is the shown plan or none is. The search for "equal" finds the first place of the totals of all plans that
 -- has the one number that meets the bound, if there is such a number.
-use Prim.Native.Nat.{ℕ, zero, suc, _+_, _*_, _-_, _^_, _/_, _%_, _≤_, _<_, min}
+use Prim.Native.Nat.{ℕ, zero, suc, _+_, _*_, _-_, _^_, _/_, _%_, _≤_, _<_}
 use native.Mathlib.Omega.{arith}
-use native.Mathlib.Decide.{decLt}
 use native.Mathlib.Nat.{le-refl, le-antisymm, le-of-eq, eq-of-mul-eq-mul-left, mul-mod-right, div-add-mod, min-eq-right}
 use mathlib.Core.Path.{_≡_, refl, sym, ap, ap₂, subst, _∙_}
-use mathlib.Core.Bool.{Bool, true, false, not, cond, _&&_, _||_, false≢true}
+use mathlib.Core.Bool.{Bool, true, false, not, cond, _&&_, _||_}
 use mathlib.Core.List.{List, [], _∷_, map}
 use mathlib.Core.Option.{none, some}
 use lib.Dec.{eqb, leb, ltb}
 use lib.IntN.{pos}
-use lib.ListN.{getD, length, length-map, List·getD-map, List·getD-eq-default}
+use lib.ListN.{getD, length, length-map, List·getD-map}
 use borrow.Author.Tests.{eq-eqb, ne-eqb, eqb-true, leb-true, le-leb, ltb-true, ltb-false}
 use Rattle.logic.specs.Lists.{every}
 use Rattle.logic.specs.Checked.{refusal, guard}
-use Rattle.logic.specs.Model.{Model, Step}
+use Rattle.logic.specs.Model.{Model}
 use Rattle.logic.specs.Quantity.{naturals, reversed, Relation, less, equal, greater, related, weights, order}
 use Rattle.logic.specs.Plan.{Plan, plans, paths, choices}
-use Rattle.logic.specs.Formula.{Formula, never, prop, neg, both, does, next, gain, plan, Node, sat, W, meets, depth, relation, nonnegative}
+use Rattle.logic.specs.Formula.{Formula, plan, Node, sat, W, meets, depth, relation, nonnegative}
 use Rattle.logic.specs.Total.{total, value-of}
 use Rattle.logic.specs.Recursion.{greatest, best-plan}
 use Rattle.logic.specs.Extension.{first-plan, extended}
@@ -43,7 +42,7 @@ use Rattle.models.proofs.Laws.{at-least}
 use Rattle.questions.specs.Layout.{node-count, node-of, formulas-of}
 use Rattle.questions.proofs.Laws.{by-operator}
 use Rattle.questions.proofs.Accepted as questions
-use Rattle.limits.specs.Totals.{Totals, fits}
+use Rattle.limits.specs.Totals.{fits}
 use Rattle.limits.specs.Totals as totals
 use Rattle.limits.proofs.Nodes.{nodes-all}
 use Rattle.evaluation.specs.Reached.{formula}
@@ -204,7 +203,7 @@ module _ (M : Model) (φ : Formula) (n s p q : ℕ) where
       record {
         weighs = λ h. total-at r h ∙ here h;
         found = λ h. equal-shown M φ n s p q (first-plan M n s) r (subst (λ k. r < k) (sym (plan-count M n s)) h)
-          (same _ ∙ eq-eqb _ x (total-at r h ∙ here h)) (λ j i. other j (omega arith) i);
+            (same _ ∙ eq-eqb _ x (total-at r h ∙ here h)) (λ j i. other j (omega arith) i);
         missed = λ h. equal-none M φ n s p q (first-plan M n s) (λ j i. let l = subst (λ k. j < k) (plan-count M n s) i in other j l (omega arith));
       }
     where

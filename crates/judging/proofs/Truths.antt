@@ -1,19 +1,17 @@
 -- The truth of a state formula in a state is that of its operator on its children's, which stand in the table before it; what a needed pair
 -- turns on is needed and stands before it too.
-use Prim.Native.Nat.{ℕ, zero, suc, _+_, _*_, _-_, _/_, _%_, _^_, _≤_, _<_}
+use Prim.Native.Nat.{ℕ, _+_, _*_, _/_, _%_, _^_, _≤_, _<_}
 use native.Mathlib.Omega.{arith}
-use native.Mathlib.Decide.{ℕ-discrete}
 use native.Mathlib.Nat.{le-max-left, le-max-right}
 use borrow.Author.Count.{below-more}
-use mathlib.Core.Path.{_≡_, refl, sym, ap, ap₂, subst, _∙_}
-use mathlib.Core.Bool.{Bool}
+use mathlib.Core.Path.{_≡_, refl, sym, ap, ap₂, _∙_}
 use mathlib.Core.List.{List, []}
 use lib.Bits.{bitAnd}
 use lib.Dec.{eqb}
 use lib.ListN.{getD, length, set}
 use lib.Seq.{getD-set-same, getD-set-other}
 use Rattle.logic.specs.Model.{prop-in}
-use Rattle.logic.specs.Formula.{Formula, never, prop, neg, both, does, next, gain, plan, sat, depth}
+use Rattle.logic.specs.Formula.{Formula, sat, depth}
 use Rattle.logic.specs.Total.{one-if, value-of}
 use Rattle.blocks.specs.Bytes.{Bytes}
 use Rattle.models.specs.Layout.{state-count, action-count, prop-count, state-mask, model-of}
@@ -122,11 +120,11 @@ module _ {m q : Bytes} {used : List ℕ} (given : Given m q used) where
     right-told c s g h l e =
         record {
           right = λ j t r d.
-            let w = reached-marked given needs e l r in
-            let b = reached-before h r in
-            let z = given-readable given .states in
-            let u : t < state-count m = w .1 in
-            at-pair j t (omega arith) (omega arith) (w .0) d;
+              let w = reached-marked given needs e l r in
+              let b = reached-before h r in
+              let z = given-readable given .states in
+              let u : t < state-count m = w .1 in
+              at-pair j t (omega arith) (omega arith) (w .0) d;
         }
       where
         at-pair : (j t : ℕ) → 32 * j + t < k → t < 32 → Marked need j t → depth (formula q j) ≡ 0
@@ -159,6 +157,8 @@ pub right-more : {m q need truth : List ℕ} {k : ℕ} (v : ℕ) → Right m q n
     → (getD need k 0 ≡ 1 → depth (formula q (k / 32)) ≡ 0 → v ≡ value-of (model-of m) (formula q (k / 32)) (k % 32) [])
     → Right m q need (set truth k v) (k + 1)
 right-more {m} {q} {need} {truth} {k} v p z f =
-    record { at = below-more (λ x. getD need x 0 ≡ 1 → depth (formula q (x / 32)) ≡ 0 → getD (set truth k v) x 0 ≡ value-of (model-of m) (formula q (x / 32)) (x % 32) []) k
-      (λ x h e d. getD-set-other truth k x v 0 (omega arith) ∙ p .at x h e d)
-      (λ e d. getD-set-same truth k v 0 z ∙ f e d) }
+    record {
+      at = below-more (λ x. getD need x 0 ≡ 1 → depth (formula q (x / 32)) ≡ 0 → getD (set truth k v) x 0 ≡ value-of (model-of m) (formula q (x / 32)) (x % 32) []) k
+          (λ x h e d. getD-set-other truth k x v 0 (omega arith) ∙ p .at x h e d)
+          (λ e d. getD-set-same truth k v 0 z ∙ f e d);
+    }

@@ -1,7 +1,7 @@
 -- The truth of state formulas: a table, 32 places a node, 1 where the node is true in a state.
 use Prim.Native.Nat.{ℕ, _+_, _*_, _/_, _%_, _<_}
 use mathlib.Core.Path.{_≡_}
-use mathlib.Core.List.{List, []}
+use mathlib.Core.List.{[]}
 use lib.ListN.{getD}
 use Rattle.logic.specs.Formula.{depth}
 use Rattle.logic.specs.Total.{value-of}

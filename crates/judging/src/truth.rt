@@ -77,7 +77,18 @@ fn truth_if(
     if byte(need, k) != 1 {
         return 0;
     }
-    truth_at(m, q, used, counts, depths, truth, lists, scratch, (k / 32) as u8, (k % 32) as u8)
+    truth_at(
+        m,
+        q,
+        used,
+        counts,
+        depths,
+        truth,
+        lists,
+        scratch,
+        (k / 32) as u8,
+        (k % 32) as u8,
+    )
 }
 
 // The truth of all nodes before the root, where it is needed.

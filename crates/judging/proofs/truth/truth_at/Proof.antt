@@ -9,7 +9,6 @@ use borrow.Author.Needs.{needs}
 use Rattle.logic.specs.Model.{prop-in}
 use Rattle.logic.specs.Total.{one-if}
 use Rattle.models.specs.Layout.{model-of}
-use Rattle.questions.specs.Layout.{node-of}
 use Rattle.tables.proofs.Marks.{given-question}
 use Rattle.judging.proofs.Truths.{props-few, truth-prop, truth-not, truth-and, truth-none}
 use Rattle.judging.proofs.truth.truth_at.Statement.{statement}

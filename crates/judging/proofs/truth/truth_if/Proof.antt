@@ -1,5 +1,4 @@
 -- All that a needed pair turns on is needed and stands before it.
-use Prim.Native.Nat.{_/_}
 use native.Mathlib.Omega.{arith}
 use mathlib.Core.Path.{sym, _∙_}
 use borrow.Author.Needs.{needs}

@@ -6,7 +6,7 @@ use lib.ListN.{length, length-set, length-replicate}
 use borrow.Author.Needs.{needs}
 use Rattle.questions.specs.Layout.{node-count}
 use Rattle.judging.specs.Truth.{Right}
-use Rattle.tables.proofs.Marks.{blank, given-question}
+use Rattle.tables.proofs.Marks.{given-question}
 use Rattle.judging.proofs.Truths.{right-none, right-more}
 use Rattle.judging.proofs.truth.truth_table.Statement.{statement}
 use Rattle.judging.proofs.truth.truth_table.Tie as tie
