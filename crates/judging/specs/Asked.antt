@@ -24,5 +24,5 @@ pub record Asked (m q : Bytes) (used counts depths : List ℕ) : Type 0 where
 
 -- The scratch of the searches is long enough: for a list of the totals of all plans, and for the choices of three plans. What is left in it
 -- is never promised.
-abbrev pub Roomy : List ℕ → List ℕ → Type 0
-Roomy lists scratch = (65818 ≤ length lists) × (4095 ≤ length scratch)
+abbrev pub Scratch : List ℕ → List ℕ → Type 0
+Scratch lists scratch = (65818 ≤ length lists) × (4095 ≤ length scratch)

@@ -6,7 +6,7 @@ ghost use Rattle.logic.specs.Formula.{sat};
 ghost use Rattle.models.specs.Layout.{state-count, model-of};
 ghost use Rattle.questions.specs.Layout.{node-count, node-of};
 ghost use Rattle.evaluation.specs.Reached.{formula};
-ghost use Rattle.judging.specs.Asked.{Asked, Roomy};
+ghost use Rattle.judging.specs.Asked.{Asked, Scratch};
 ghost use Rattle.judging.specs.Truth.{Told};
 
 // Whether the "plan" node j is true in s.
@@ -24,7 +24,7 @@ pub fn plan_true(
 ) -> bool
     requires { ⌜ Asked (now m) (now q) (now used) (now counts) (now depths) × (j < node-count (now q)) × (s < state-count (now m)) ⌝ }
     requires { ⌜ (node-of (now q) j .operator ≡ 8) × Told (now m) (now q) (now truth) (node-of (now q) j .left) s ⌝ }
-    requires { ⌜ Roomy (now lists) (now scratch) ⌝ }
+    requires { ⌜ Scratch (now lists) (now scratch) ⌝ }
     ensures { λ r. ⌜ r ≡ sat (model-of (now (m .entry))) (formula (now (q .entry)) j) s [] ⌝ }
 {
     false

@@ -10,7 +10,7 @@ ghost use Rattle.models.specs.Layout.{state-count, model-of};
 ghost use Rattle.questions.specs.Layout as question;
 ghost use Rattle.evaluation.specs.Reached.{formula};
 ghost use Rattle.tables.specs.Need.{Needs};
-ghost use Rattle.judging.specs.Asked.{Asked, Roomy};
+ghost use Rattle.judging.specs.Asked.{Asked, Scratch};
 ghost use Rattle.judging.specs.Truth.{Supplied, Right};
 use crate::plans::plan_true;
 use blocks::byte;
@@ -44,7 +44,7 @@ fn truth_at(
     s: u8,
 ) -> u8
     requires { ⌜ Asked (now m) (now q) (now used) (now counts) (now depths) × (j < question.node-count (now q)) × (s < state-count (now m)) ⌝ }
-    requires { ⌜ Supplied (now m) (now q) (now truth) j s × Roomy (now lists) (now scratch) ⌝ }
+    requires { ⌜ Supplied (now m) (now q) (now truth) j s × Scratch (now lists) (now scratch) ⌝ }
     ensures { λ r. ⌜ (depth (formula (now (q .entry)) j) ≡ 0 → r ≡ value-of (model-of (now (m .entry))) (formula (now (q .entry)) j) s []) ⌝ }
 {
     let op = operator(q, j);
@@ -71,7 +71,7 @@ fn truth_if(
     k: usize,
 ) -> u8
     requires { ⌜ Asked (now m) (now q) (now used) (now counts) (now depths) × (k < 32 * question.node-count (now q)) ⌝ }
-    requires { ⌜ Needs (now m) (now q) (now need) × Right (now m) (now q) (now need) (now truth) k × Roomy (now lists) (now scratch) ⌝ }
+    requires { ⌜ Needs (now m) (now q) (now need) × Right (now m) (now q) (now need) (now truth) k × Scratch (now lists) (now scratch) ⌝ }
     ensures { λ r. ⌜ (getD (now (need .entry)) k 0 ≡ 1 → depth (formula (now (q .entry)) (k / 32)) ≡ 0 → r ≡ value-of (model-of (now (m .entry))) (formula (now (q .entry)) (k / 32)) (k % 32) []) ⌝ }
 {
     if byte(need, k) != 1 {
@@ -102,7 +102,7 @@ pub fn truth_table(
     lists: &mut [u64],
     scratch: &mut [u8],
 ) -> [u8; 1280]
-    requires { ⌜ Asked (now m) (now q) (now used) (now counts) (now depths) × Needs (now m) (now q) (now need) × Roomy (now lists) (now scratch) ⌝ }
+    requires { ⌜ Asked (now m) (now q) (now used) (now counts) (now depths) × Needs (now m) (now q) (now need) × Scratch (now lists) (now scratch) ⌝ }
     ensures { λ r. ⌜ Right (now (m .entry)) (now (q .entry)) (now (need .entry)) r (32 * (question.node-count (now (q .entry)) - 1)) ⌝ }
 {
     let end = place(node_count(q) - 1, 0);
