@@ -1,10 +1,10 @@
 -- The truth of a state formula in a state is that of its operator on its children's, which stand in the table before it; what a needed pair
 -- turns on is needed and stands before it too.
-use Prim.Native.Nat.{ℕ, _+_, _*_, _/_, _%_, _^_, _≤_, _<_}
+use Prim.Native.Nat.{ℕ, _+_, _*_, _-_, _/_, _%_, _^_, _≤_, _<_}
 use native.Mathlib.Omega.{arith}
 use native.Mathlib.Nat.{le-max-left, le-max-right}
 use borrow.Author.Count.{below-more}
-use mathlib.Core.Path.{_≡_, refl, sym, ap, ap₂, _∙_}
+use mathlib.Core.Path.{_≡_, refl, sym, ap, ap₂, subst, _∙_}
 use mathlib.Core.List.{List, []}
 use lib.Bits.{bitAnd}
 use lib.Dec.{eqb}
@@ -18,14 +18,14 @@ use Rattle.models.specs.Layout.{state-count, action-count, prop-count, state-ma
 use Rattle.models.proofs.Laws.{sizes}
 use Rattle.models.proofs.Passed.{passed-all}
 use Rattle.models.proofs.Held.{mask-held}
-use Rattle.questions.specs.Layout.{node-count, node-of}
+use Rattle.questions.specs.Layout.{start-of, node-count, node-of}
 use Rattle.questions.proofs.Laws.{by-operator}
 use Rattle.questions.proofs.Accepted as questions
 use Rattle.evaluation.specs.Reached.{formula, Reached, itself, under-not, and-left, and-right, under-next}
 use Rattle.evaluation.proofs.Meaning.{flipped, joined}
 use Rattle.tables.specs.Need.{Given, Marked, Needs}
 use Rattle.judging.specs.Truth.{Told, Supplied, Right}
-use Rattle.tables.proofs.Marks.{given-readable, given-question, reached-marked}
+use Rattle.tables.proofs.Marks.{given-readable, given-question, first-inside, reached-marked}
 
 pub prop-held : (m : Bytes) (s i : ℕ) → s < state-count m → eqb (state-mask m s / 2 ^ i % 2) 1 ≡ prop-in (model-of m) s i
 unfolding prop-in
@@ -134,21 +134,30 @@ module _ {m q : Bytes} {used : List ℕ} (given : Given m q used) where
             let y : (32 * j + t) % 32 ≡ t = omega arith in
             known .at (32 * j + t) a e (ap (λ i. depth (formula q i)) x ∙ d) ∙ ap₂ (λ i u. value-of (model-of m) (formula q i) u []) x y
 
-    -- All that a needed pair turns on is told before it.
-    pub supplied : k < 32 * node-count q → getD need k 0 ≡ 1 → Supplied m q truth (k / 32) (k % 32)
-    supplied h e =
-        let passed = needs .closed k e in
-        let range = given-question given .in-range (k / 32) (omega arith) in
-        let x = node-of q (k / 32) in
+    -- All that a needed pair turns on is told, where the nodes before it are.
+    pub supplied : (x : ℕ) → 32 * (x / 32) ≤ k → x < 32 * node-count q → getD need x 0 ≡ 1 → Supplied m q truth (x / 32) (x % 32)
+    supplied x before h e =
+        let passed = needs .closed x e in
+        let range = given-question given .in-range (x / 32) (omega arith) in
+        let y = node-of q (x / 32) in
         record {
-          under-not = λ o. child (x .left) (range .of-neg o) (passed .under-not o);
-          and-left = λ o. child (x .left) (range .of-both o .0) (passed .and-left o);
-          and-right = λ o. child (x .right) (range .of-both o .1) (passed .and-right o);
-          under-plan = λ o. child (x .left) ((range .of-plan o) .child) (passed .under-plan o);
+          under-not = λ o. child (y .left) (range .of-neg o) (passed .under-not o);
+          and-left = λ o. child (y .left) (range .of-both o .0) (passed .and-left o);
+          and-right = λ o. child (y .right) (range .of-both o .1) (passed .and-right o);
+          under-plan = λ o. child (y .left) ((range .of-plan o) .child) (passed .under-plan o);
         }
       where
-        child : (c : ℕ) → c < k / 32 → Marked need c (k % 32) → Told m q truth c (k % 32)
-        child c l f = right-told c (k % 32) (omega arith) (omega arith) (needs .inside k e .1) f
+        child : (c : ℕ) → c < x / 32 → Marked need c (x % 32) → Told m q truth c (x % 32)
+        child c l f = right-told c (x % 32) (omega arith) (omega arith) (needs .inside x e .1) f
+
+    -- The root in the start state.
+    pub root-supplied : 32 * (node-count q - 1) ≤ k → Supplied m q truth (node-count q - 1) (start-of q)
+    root-supplied l =
+        let f = first-inside given in
+        let a : (32 * (node-count q - 1) + start-of q) / 32 ≡ node-count q - 1 = omega arith in
+        let b : 32 * ((32 * (node-count q - 1) + start-of q) / 32) ≤ k = subst (λ z. 32 * z ≤ k) (sym a) l in
+        subst (λ z. Supplied m q truth z (start-of q)) a
+        (subst (Supplied m q truth ((32 * (node-count q - 1) + start-of q) / 32)) (f .2) (supplied (32 * (node-count q - 1) + start-of q) b (f .1) (needs .root)))
 
 pub right-none : (m q need truth : List ℕ) → Right m q need truth 0
 right-none m q need truth = record { at = λ x h. absurd (omega arith) }

@@ -24,7 +24,7 @@ truth-at-requires c κs = let S = c .before .before .before .before .before .bef
     let P = S .pre .0 in
     let N = S .pre .1 in
     let e = sym (c .before .before .before .byte .ensures) ∙ c .before .before .if1 .left in
-    ((P .0, omega arith, N .0 .inside (S .args .k) e .1), (supplied (P .0 .given) (N .0) (S .args .k) (N .1) (P .1) e, N .2))
+    ((P .0, omega arith, N .0 .inside (S .args .k) e .1), (supplied (P .0 .given) (N .0) (S .args .k) (N .1) (S .args .k) (omega arith) (P .1) e, N .2))
 
 same-length : tie.Need-same-length
 same-length c = search needs
