@@ -1,0 +1,28 @@
+-- What a judge is given: an accepted question for an accepted model, with the tables made for them.
+use Prim.Native.Nat.{ℕ, _≤_}
+use mathlib.Core.Path.{_≡_}
+use mathlib.Core.Bool.{true}
+use mathlib.Core.List.{List}
+use lib.ListN.{length}
+use Rattle.logic.specs.Checked.{refusal}
+use Rattle.logic.specs.Formula.{depth}
+use Rattle.logic.specs.Limits.{limits}
+use Rattle.blocks.specs.Bytes.{Bytes}
+use Rattle.models.specs.Layout.{model-of}
+use Rattle.questions.specs.Layout.{formulas-of}
+use Rattle.questions.specs.Tables.{table}
+use Rattle.limits.specs.Totals.{Totals}
+use Rattle.tables.specs.Need.{Given}
+
+-- What is judged: an accepted question for an accepted model, within the limits, with the tables of used outcomes, of the numbers of plans
+-- and of the depths.
+pub record Asked (m q : Bytes) (used counts depths : List ℕ) : Type 0 where
+  pub given : Given m q used
+  pub counted : Totals true (model-of m) counts
+  pub within : refusal (limits (model-of m) (formulas-of q)) ≡ 0
+  pub deep : depths ≡ table depth (formulas-of q)
+
+-- The scratch of the searches is long enough: for a list of the totals of all plans, and for the choices of three plans. What is left in it
+-- is never promised.
+abbrev pub Scratch : List ℕ → List ℕ → Type 0
+Scratch lists scratch = (65818 ≤ length lists) × (4095 ≤ length scratch)
