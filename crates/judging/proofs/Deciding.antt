@@ -20,7 +20,7 @@ use Rattle.logic.specs.Plan.{Plan, plans, paths, choices}
 use Rattle.logic.specs.Formula.{Formula, plan, Node, sat, W, meets, depth, relation, nonnegative}
 use Rattle.logic.specs.Total.{total, value-of}
 use Rattle.logic.specs.Recursion.{greatest, best-plan}
-use Rattle.logic.specs.Extension.{first-plan, extended}
+use Rattle.logic.specs.Extension.{first-plan}
 use Rattle.logic.specs.Verdict.{plan-goal, goal, shown, announced, verdict, yes, no, yes-plan, is-equal}
 use Rattle.logic.specs.Accepted.{Accepted}
 use Rattle.logic.specs.Limits.{plan-total, every-plan, limits}
@@ -49,6 +49,7 @@ use Rattle.evaluation.specs.Reached.{formula}
 use Rattle.tables.specs.Need.{Given}
 use Rattle.tables.proofs.Marks.{given-question}
 use Rattle.judging.specs.Asked.{Asked}
+use Rattle.judging.specs.Decided.{led-weight, led-plan, plan-at, First}
 
 -- ---- a goal's shown plan and its truth
 
@@ -102,13 +103,6 @@ extreme-numbered zero h g n = absurd (omega arith)
 extreme-numbered (suc zero) h g n = refl
 extreme-numbered (suc (suc zero)) h g n = absurd (n refl)
 extreme-numbered (suc (suc (suc k))) h g n = ap extreme (sym (ne-eqb (suc (suc (suc k))) 1 (λ e. omega arith)))
-
--- What a search of d steps finds, over n steps.
-abbrev pub led-weight : Model → Formula → (d n s : ℕ) → Bool → ℕ
-led-weight M φ d n s least = M .denominator ^ (n - d) * greatest (weights (order least)) M d s (value-of M φ s)
-
-abbrev pub led-plan : Model → Formula → (d n s : ℕ) → Bool → Plan n
-led-plan M φ d n s least = extended M d n s (best-plan (weights (order least)) M d s (value-of M φ s))
 
 module _ (M : Model) (accepted : Accepted M) (some-weight : 0 < M .denominator) (φ : Formula) (d n s : ℕ) (deep : depth φ ≤ d) (more : d ≤ n)
     (inside : s < length (M .states)) where
@@ -180,17 +174,7 @@ inside-same (x ∷ l) (suc i) d e h = inside-same l i d e (omega arith)
 abbrev pub all-totals : Model → Formula → (n s : ℕ) → List ℕ
 all-totals M φ n s = map (λ π. total naturals M n s π (value-of M φ s)) (plans M n s)
 
--- The plan at a place of that order.
-abbrev pub plan-at : Model → (n s : ℕ) → ℕ → Plan n
-plan-at M n s r = getD (plans M n s) r (first-plan M n s)
-
 module _ (M : Model) (φ : Formula) (n s p q : ℕ) where
-  -- The first plan of total x, which alone meets the bound, is at place r, and there is none where r is past the end.
-  pub record First (x r : ℕ) : Type 0 where
-    pub weighs : r < plan-total M n s → W M φ n s (plan-at M n s r) ≡ x
-    pub found : r < plan-total M n s → shown M s (plan-goal M s n φ equal p q) ≡ some (1 + r, plan-at M n s r)
-    pub missed : plan-total M n s ≤ r → shown M s (plan-goal M s n φ equal p q) ≡ none
-
   total-at : (i : ℕ) → i < plan-total M n s → W M φ n s (plan-at M n s i) ≡ getD (all-totals M φ n s) i 0
   total-at i h =
       W-total M φ n s (plan-at M n s i)
@@ -198,7 +182,7 @@ module _ (M : Model) (φ : Formula) (n s p q : ℕ) where
       ∙ inside-same (all-totals M φ n s) i _ 0 (subst (λ k. i < k) (sym (length-map (plans M n s) (λ π. total naturals M n s π (value-of M φ s)) ∙ plan-count M n s)) h)
 
   pub first-led : (x : ℕ) → ((w : ℕ) → meets naturals M n equal p q w ≡ eqb w x) → (r : ℕ)
-      → ((i : ℕ) → i < r → getD (all-totals M φ n s) i 0 ≡ x → ⊥) → (r < plan-total M n s → getD (all-totals M φ n s) r 0 ≡ x) → First x r
+      → ((i : ℕ) → i < r → getD (all-totals M φ n s) i 0 ≡ x → ⊥) → (r < plan-total M n s → getD (all-totals M φ n s) r 0 ≡ x) → First M φ n s p q x r
   first-led x same r before here =
       record {
         weighs = λ h. total-at r h ∙ here h;
@@ -211,7 +195,7 @@ module _ (M : Model) (φ : Formula) (n s p q : ℕ) where
       other j l i = same _ ∙ ne-eqb _ x (λ e. before j i (sym (total-at j l) ∙ e))
 
   -- Where no number meets the bound.
-  pub never-led : ((w : ℕ) → meets naturals M n equal p q w ≡ false) → (x : ℕ) → First x (plan-total M n s)
+  pub never-led : ((w : ℕ) → meets naturals M n equal p q w ≡ false) → (x : ℕ) → First M φ n s p q x (plan-total M n s)
   never-led g x =
       record {
         weighs = λ h. absurd (omega arith);
@@ -219,7 +203,7 @@ module _ (M : Model) (φ : Formula) (n s p q : ℕ) where
         missed = λ h. equal-none M φ n s p q (first-plan M n s) (λ j i. g _);
       }
 
-  module _ {x r : ℕ} (f : First x r) where
+  module _ {x r : ℕ} (f : First M φ n s p q x r) where
     pub first-truth : sat M (plan n φ equal p q) s [] ≡ ltb r (plan-total M n s)
     first-truth =
         by-shown M φ n s equal p q (ltb r (plan-total M n s))
