@@ -49,7 +49,8 @@ use Rattle.evaluation.specs.Reached.{formula}
 use Rattle.tables.specs.Need.{Given}
 use Rattle.tables.proofs.Marks.{given-question}
 use Rattle.judging.specs.Asked.{Asked}
-use Rattle.judging.specs.Decided.{led-weight, led-plan, plan-at, First}
+use Rattle.judging.specs.Decided.{led-weight, led-plan, plan-at, First, Led}
+use Rattle.judging.specs.declared.plans.Decision.{Decision}
 
 -- ---- a goal's shown plan and its truth
 
@@ -307,6 +308,14 @@ module _ {m q : Bytes} {used : List ℕ} (given : Given m q used) where
       led-no t =
           ap (verdict M s) here-extreme
           ∙ decides-no M child (node .n) s (extreme least) (nonnegative (node .p)) (node .q) node-led (extreme-counts-not least) t
+
+      pub led-met : {scratch : List ℕ} {d : Decision} → Led m q j s scratch d
+          → d .met ≡ meets naturals M (node .n) (extreme least) (nonnegative (node .p)) (node .q) weight
+      led-met p =
+          let c = plan-here j h o .range .compares in
+          p .bounds
+          ∙ ap₂ (λ r w. meets naturals M (node .n) r (nonnegative (node .p)) (node .q) w)
+          (extreme-numbered (node .right) (c .relation-from) (c .relation-to) e) (p .weighs)
 
     -- The node is "equal": the first place of the one total that meets the bound decides.
     module _ (e : node .right ≡ 2) {x r : ℕ} (f : First M child (node .n) s (nonnegative (node .p)) (node .q) x r) where

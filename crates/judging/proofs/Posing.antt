@@ -11,7 +11,7 @@ use lib.Dec.{eqb, ltb}
 use lib.ListN.{getD, length, take, length-map}
 use lib.Pow.{pow-add}
 use borrow.Author.Tests.{le-ltb}
-use Rattle.logic.specs.Formula.{depth, sat, meets, nonnegative}
+use Rattle.logic.specs.Formula.{depth, sat, nonnegative}
 use Rattle.logic.specs.Quantity.{naturals, weights, order}
 use Rattle.logic.specs.Plan.{plans, choices}
 use Rattle.logic.specs.Limits.{plan-total}
@@ -39,7 +39,7 @@ use Rattle.judging.specs.Asked.{Asked}
 use Rattle.judging.specs.Truth.{Told}
 use Rattle.judging.specs.declared.plans.Decision.{Decision}
 use Rattle.judging.specs.Decided.{condition, best, led-weight, Posed, Led, First, Placed, Decided}
-use Rattle.judging.proofs.Deciding.{Planned, plan-here, given-model, given-states, extreme-numbered, all-totals, first-led, never-led, led-truth, equal-truth}
+use Rattle.judging.proofs.Deciding.{Planned, plan-here, given-model, given-states, all-totals, first-led, never-led, led-truth, led-met, equal-truth}
 
 one-small : (t : Bool) → one-if t ≤ 1
 unfolding one-if
@@ -49,6 +49,14 @@ one-small false = omega arith
 pub posed-at : {m q : Bytes} {used counts depths truth : List ℕ} {j s : ℕ} → Asked m q used counts depths → j < node-count q → (node-of q j) .operator ≡ 8
     → s < state-count m → Told m q truth ((node-of q j) .left) s → Posed m q truth j s
 posed-at a h o l t = record { node = h; is-plan = o; state = l; told = t }
+
+-- The depth of a "plan" node's condition, by the table.
+pub depth-there : {m q : Bytes} {used counts depths : List ℕ} {j : ℕ} → Asked m q used counts depths → j < node-count q → (node-of q j) .operator ≡ 8
+    → {c d : ℕ} → c ≡ (node-of q j) .left → d ≡ getD depths c 0 → d ≡ depth (condition q j)
+depth-there {q = q} {depths = depths} {j} a h o e f =
+    let l : (node-of q j) .left < j = plan-here (a .given) j h o .range .child in
+    let n : node-count q ≤ 40 = given-question (a .given) .few-nodes in
+    f ∙ ap (λ i. getD depths i 0) e ∙ depth-in q depths (a .deep) ((node-of q j) .left) (omega arith)
 
 module _ {m q : Bytes} {used truth : List ℕ} {j s : ℕ} (given : Given m q used) (posed : Posed m q truth j s) where
   pub planned : Planned q j
@@ -127,7 +135,7 @@ module _ {m q : Bytes} {used truth : List ℕ} {j s : ℕ} (given : Given m q us
 
       pub found-led : {t : Bool} → t ≡ meets-at m q j (x * r .value)
           → Led m q j s after (record { met = t; weight = x * r .value; place = 0; count = r .count })
-      found-led e = record { weighs = found-weight; bounds = e; chosen = found-choices }
+      found-led e = record { weighs = found-weight; bounds = e; unplaced = refl; chosen = found-choices }
 
   -- ---- what a search for a total found
 
@@ -168,9 +176,5 @@ module _ {m q : Bytes} {used truth : List ℕ} {j s : ℕ} (given : Given m q us
       go : Dec ((node-of q j) .right ≡ 2) → r .met ≡ sat (model-of m) (formula q j) s []
       go (yes e) = let p = x .placed e in p .bounds ∙ sym (equal-truth given j s (posed .node) (posed .is-plan) e (p .first))
       go (no e) =
-          let p = x .led e in
-          let c = planned .range .compares in
-          p .bounds
-          ∙ ap₂ (λ k w. meets naturals (model-of m) ((node-of q j) .n) k (nonnegative ((node-of q j) .p)) ((node-of q j) .q) w)
-          (extreme-numbered ((node-of q j) .right) (c .relation-from) (c .relation-to) e) (p .weighs)
+          led-met given j s (posed .node) (posed .is-plan) e (posed .state) (x .led e)
           ∙ sym (led-truth given j s (posed .node) (posed .is-plan) e (posed .state))

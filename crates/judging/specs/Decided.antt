@@ -51,6 +51,7 @@ led-plan M φ d n s least = extended M d n s (best M φ d s least)
 pub record Led (m q : Bytes) (j s : ℕ) (scratch : List ℕ) (r : Decision) : Type 0 where
   pub weighs : r .weight ≡ led-weight (model-of m) (condition q j) (depth (condition q j)) ((node-of q j) .n) s (eqb ((node-of q j) .right) 1)
   pub bounds : r .met ≡ meets-at m q j (r .weight)
+  pub unplaced : r .place ≡ 0
   pub chosen : take (r .count) scratch
       ≡ choices (depth (condition q j)) (best (model-of m) (condition q j) (depth (condition q j)) s (eqb ((node-of q j) .right) 1))
 

@@ -31,7 +31,7 @@ fn holds(m: &[u8], s: u8, i: u8) -> bool
 }
 
 // The truth of node j in s, from that of its children; of a path formula, nothing is said.
-fn truth_at(
+pub fn truth_at(
     m: &[u8],
     q: &[u8],
     used: &[u8; 264],
