@@ -1,0 +1,1 @@
+// The one line that the program `verdict` prints, formed in a lent buffer.
