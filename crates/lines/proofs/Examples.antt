@@ -1,20 +1,17 @@
--- The lines of some inputs and roots are computed: each row of the table has the line as it is printed.
+-- The lines of some answers are computed: each row of the table has the line as it is printed.
 use Prim.Native.Nat.{ℕ}
 use Prim.Native.String.{String}
 use mathlib.Core.Path.{_≡_, refl}
 use mathlib.Core.List.{List, [], _∷_, map, flatMap}
 use Rattle.logic.specs.Lists.{all, any, find, keep, product, join, count-from}
-use Rattle.logic.specs.Model.{Model, no-action, true-of, mask, prop-in, enabled, outcomes}
-use Rattle.logic.specs.Quantity.{sum, less, equal, greater, related}
+use Rattle.logic.specs.Model.{no-action, true-of, mask, prop-in, enabled, outcomes}
+use Rattle.logic.specs.Quantity.{sum, less, equal, related}
 use Rattle.logic.specs.Plan.{plans, choices, paths, weight}
 use Rattle.logic.specs.Formula.{Formula, never, prop, neg, next, plan, nonnegative, sat, W, meets}
 use Rattle.logic.specs.Verdict.{leads, is-equal, goal, shown, verdict}
 use Rattle.logic.specs.TwoShelf.{two-shelf}
-use Rattle.blocks.specs.Bytes.{within}
-use Rattle.blocks.specs.Block.{whole-blocks, block-count}
-use Rattle.models.specs.Grounds.{read-model}
 use Rattle.lines.specs.Text.{text, decimal, decimal-in}
-use Rattle.lines.specs.Line.{refused-line, plain-line, no-plans-line, yes-plan-line, is-plan, verdict-line, judged-line, line-of, answer-line}
+use Rattle.lines.specs.Line.{refused-line, plain-line, no-plans-line, yes-plan-line, is-plan, verdict-line}
 
 pub record Row : Type 0 where
   pub line : List ℕ
@@ -40,10 +37,9 @@ table =
     ∷ row (asked (neg done)) "yes\n"
     ∷ row (asked never) "no\n"
     ∷ row (refused-line 24) "refused 24\n"
-    ∷ row (answer-line []) "refused 1\n"
     ∷ row (yes-plan-line 10_000_000_000 1_000_000_000_000 65536 (7 ∷ [])) "yes 10000000000/1000000000000 plans 65536 choices 7\n"
     ∷ []
 
 pub printed-lines : map (λ r. r .line) table ≡ map (λ r. text (r .printed)) table
-unfolding table text decimal decimal-in refused-line plain-line no-plans-line yes-plan-line is-plan verdict-line judged-line line-of answer-line nonnegative two-shelf all any find keep product join count-from flatMap no-action true-of mask prop-in enabled outcomes plans choices paths weight sum sat W meets related leads is-equal goal shown verdict within
+unfolding table text decimal decimal-in refused-line plain-line no-plans-line yes-plan-line is-plan verdict-line nonnegative two-shelf all any find keep product join count-from flatMap no-action true-of mask prop-in enabled outcomes plans choices paths weight sum sat W meets related leads is-equal goal shown verdict
 printed-lines = refl

@@ -6,7 +6,7 @@ use native.Mathlib.Omega.{arith}
 use mathlib.Core.Path.{_≡_, refl, sym, ap, ap₂, subst, _∙_}
 use mathlib.Core.List.{List, [], _∷_, _++_, flatMap, append-nil, append-assoc}
 use lib.ListN.{length, getD, take, drop, set, length-append, length-drop, take-append-drop, drop-of-length-le}
-use lib.Seq.{sets, length-sets, sets-eq, drop-drop, take-suc, take-all}
+use lib.Seq.{sets, length-sets, sets-eq, drop-drop, take-suc, take-all, take-at}
 use borrow.Rule.Slice.PartMut.{midOf, putMid}
 use Rattle.io.specs.Digits.{digits, Fewest}
 use Rattle.extension.specs.Choices.{splice}
@@ -60,6 +60,14 @@ put-part x out part at h e =
           ∙ ap (λ z. take at out ++ z) (append-nil (x ++ drop (length x) m) ∙ ap (λ z. x ++ z) (drop-drop (length x) at out));
       next = refl;
     }
+
+-- What is printed of a buffer that begins with a line.
+pub put-line : {x out out′ : List ℕ} {r : ℕ} → Put x out out′ 0 r → (r ≤ length out′) × (take r out′ ≡ x)
+unfolding splice
+put-line {x} {out} {out′} {r} p =
+    let n : r ≡ length x = omega (arith, p .next) in
+    let e : out′ ≡ x ++ drop (0 + length x) out = p .wrote in
+    (omega (arith, ap length e, length-append x (drop (0 + length x) out)), ap (take r) e ∙ take-at x (drop (0 + length x) out) r (sym n))
 
 -- ---- numbers and choices
 

@@ -49,6 +49,7 @@ fn number_line(out: &mut [u8], text: &[u8], n: u64) -> usize
     put_text(out, next, b"\n")
 }
 
+// A refusal's line. Every line leaves what stands behind it in the buffer.
 pub fn refused_line(out: &mut [u8], k: u32) -> usize
     requires { ⌜ 8192 ≤ length (now out) ⌝ }
     ensures { λ r. ⌜ Put (refused-line k) (now (out .entry)) (now (out .exit)) 0 r ⌝ }
@@ -56,6 +57,7 @@ pub fn refused_line(out: &mut [u8], k: u32) -> usize
     number_line(out, b"refused ", k as u64)
 }
 
+// The line of a root that is not "plan".
 pub fn plain_line(out: &mut [u8], yes: bool) -> usize
     requires { ⌜ 8192 ≤ length (now out) ⌝ }
     ensures { λ r. ⌜ Put (plain-line yes) (now (out .entry)) (now (out .exit)) 0 r ⌝ }
@@ -66,6 +68,7 @@ pub fn plain_line(out: &mut [u8], yes: bool) -> usize
     put_text(out, 0, b"no\n")
 }
 
+// The line of a no to a "plan" root.
 pub fn no_plans_line(out: &mut [u8], count: u32) -> usize
     requires { ⌜ 8192 ≤ length (now out) ⌝ }
     ensures { λ r. ⌜ Put (no-plans-line count) (now (out .entry)) (now (out .exit)) 0 r ⌝ }
@@ -73,14 +76,8 @@ pub fn no_plans_line(out: &mut [u8], count: u32) -> usize
     number_line(out, b"no plans ", count as u64)
 }
 
-// A plan has at most 1365 choices of at most 3 digits, so that the line is shorter than 8192 bytes.
-pub fn yes_plan_line(
-    out: &mut [u8],
-    weight: u64,
-    whole: u64,
-    count: u32,
-    choices: &[u8],
-) -> usize
+// The line of a yes with a plan: at most 1365 choices of at most 3 digits, so that it is shorter than 8192 bytes.
+pub fn yes_plan_line(out: &mut [u8], weight: u64, whole: u64, count: u32, choices: &[u8]) -> usize
     requires { ⌜ (8192 ≤ length (now out)) × (length (now choices) ≤ 1365) ⌝ }
     ensures { λ r. ⌜ Put (yes-plan-line weight whole count (now (choices .entry))) (now (out .entry)) (now (out .exit)) 0 r ⌝ }
 {

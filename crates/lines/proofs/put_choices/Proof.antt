@@ -1,3 +1,4 @@
+-- The loop has written the choices before i; each takes a space and at most 3 digits, since it is a byte. The measure is what is left of them.
 use Prim.Native.Nat.{_+_, _*_, _-_, _≤_, _<_}
 use native.Mathlib.Omega.{arith}
 use mathlib.Core.Path.{_≡_, refl, _∙_}
@@ -8,9 +9,6 @@ use Rattle.lines.specs.Text.{text}
 use Rattle.lines.proofs.Texts.{put-none, number-room, choices-put, choices-more, choices-all}
 use Rattle.lines.proofs.put_choices.Statement.{statement}
 use Rattle.lines.proofs.put_choices.Tie as tie
-use Rattle.lines.proofs.put_choices.Reads as reads
-use Rattle.lines.proofs.put_choices.Lts as lts
-use Rattle.lines.proofs.put_number.Reads as put-number-reads
 
 abbrev Inv-loop : tie.InvT-loop
 Inv-loop out₀ at choices next₀ i₀ t6 out next i = (i ≤ length choices) × (length out ≡ length out₀) × (next ≤ at + 4 * i) × choices-put choices out₀ out at next i
@@ -18,37 +16,29 @@ Inv-loop out₀ at choices next₀ i₀ t6 out next i = (i ≤ length choices) �
 abbrev μ-loop : tie.MeasureT-loop
 μ-loop out₀ at choices next₀ i₀ t6 out next i = length choices - i
 
--- src/lib.rt:35:5
 loop-holds : tie.Need-loop-holds Inv-loop μ-loop
 unfolding flatMap
 loop-holds c = let S = c .before .before in
     (omega arith, refl, omega arith, put-none (S .args .out .now) (S .args .at))
 
--- src/lib.rt:36:38
 slice-aggregate-put-number : tie.Need-slice-aggregate-put-number Inv-loop μ-loop
 slice-aggregate-put-number c = refl
 
--- src/lib.rt:36:44
 shared-slice-read-put-number : tie.Need-shared-slice-read-put-number Inv-loop μ-loop
 shared-slice-read-put-number c = omega arith
 
--- src/lib.rt:36:44
 cast-put-number : tie.Need-cast-put-number Inv-loop μ-loop
 cast-put-number c = omega (arith, c .shared-slice-known2 .given (c .before .before .before .before .loop .i))
 
--- src/lib.rt:36:9
 put-number-requires : tie.Need-put-number-requires Inv-loop μ-loop
 put-number-requires c κs = omega arith
 
--- src/lib.rt:37:9
 add-i : tie.Need-add-i Inv-loop μ-loop
 add-i c = omega arith
 
--- src/lib.rt:35:5
 loop-less : tie.Need-loop-less Inv-loop μ-loop
 loop-less c = omega arith
 
--- src/lib.rt:35:5
 loop-again : tie.Need-loop-again Inv-loop μ-loop
 unfolding text
 loop-again c = let S = c .before .before .before .before .before .before .before .before .before .before in
@@ -58,11 +48,9 @@ loop-again c = let S = c .before .before .before .before .before .before .before
     let room = number-room 2 (getD (S .args .choices .now) (L .i) 0) (32 ∷ []) (omega arith) (put .ensures .0) in
     (omega arith, put .kept .0 ∙ L .inv .1, omega arith, choices-more (S .args .choices .now) (L .i) (c .before .before .before .before .before .before .loop-test .taken) (omega arith) (L .inv .3) (put .ensures .0))
 
--- src/lib.rt:29:1
 same-length : tie.Need-same-length Inv-loop μ-loop
 same-length c = search needs
 
--- src/lib.rt:29:1
 returns : tie.Need-returns Inv-loop μ-loop
 returns c = let S = c .before .before .before .before in
     let L = c .before .loop in

@@ -1,43 +1,33 @@
+-- The text, and behind it the digits that `io::decimal` gives, of which there are at most 20.
 use Prim.Native.Nat.{_^_, _<_}
-use Rattle.lines.proofs.Decimal.{few-places, few-digits}
-use Rattle.lines.proofs.Texts.{put-put, decimal-put, number-room}
 use native.Mathlib.Omega.{arith}
 use borrow.Author.Needs.{needs}
+use Rattle.lines.proofs.Decimal.{few-places, few-digits}
+use Rattle.lines.proofs.Texts.{put-put, decimal-put, number-room}
 use Rattle.lines.proofs.put_number.Statement.{statement}
 use Rattle.lines.proofs.put_number.Tie as tie
-use Rattle.lines.proofs.put_number.Reads as reads
-use Rattle.lines.proofs.put_number.Lts as lts
-use Rattle.io.proofs.decimal.Reads as decimal-reads
-use Rattle.lines.proofs.put_text.Reads as put-text-reads
 
--- src/lib.rt:23:9
 decimal-requires : tie.Need-decimal-requires
 decimal-requires c κs = search needs
 
--- src/lib.rt:24:9
 put-text-requires : tie.Need-put-text-requires
 put-text-requires c κs = search needs
 
--- src/lib.rt:25:25
 array-share-prefix-digits : tie.Need-array-share-prefix-digits
 array-share-prefix-digits c = search needs
 
--- src/lib.rt:25:25
 slice-aggregate-put-text : tie.Need-slice-aggregate-put-text
 slice-aggregate-put-text c = search needs
 
--- src/lib.rt:25:5
 put-text-requires-2 : tie.Need-put-text-requires-2
 put-text-requires-2 c κs = let put = c .before .before .before .before .put-text in
     let dec = c .before .before .before .before .before .before .decimal in
     let few = few-places 19 (c .before .before .before .before .before .before .before .before .before .before .args .n) (dec .result) (omega arith) (dec .ensures .1 .0) in
     omega (arith, put .ensures .next, put .kept .0, dec .ensures .0 .1)
 
--- src/lib.rt:18:1
 same-length : tie.Need-same-length
 same-length c = search needs
 
--- src/lib.rt:18:1
 returns : tie.Need-returns
 returns c = let S = c .before .before .before .before .before .before .before .before .before .before .before .before .before in
     let first = c .before .before .before .before .before .before .before .put-text in

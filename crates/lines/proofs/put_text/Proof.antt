@@ -1,36 +1,27 @@
-use Rattle.lines.proofs.Texts.{put-part}
+-- The text is copied to the front of the part that begins at the place.
 use borrow.Author.Needs.{needs}
+use Rattle.lines.proofs.Texts.{put-part}
 use Rattle.lines.proofs.put_text.Statement.{statement}
 use Rattle.lines.proofs.put_text.Tie as tie
-use Rattle.lines.proofs.put_text.Reads as reads
-use Rattle.lines.proofs.put_text.Lts as lts
-use Rattle.sheets.proofs.writer.copy.Reads as copy-reads
 
--- src/lib.rt:13:26
 sub-copy : tie.Need-sub-copy
 sub-copy c = search needs
 
--- src/lib.rt:13:26
 part-copy-start : tie.Need-part-copy-start
 part-copy-start c = search needs
 
--- src/lib.rt:13:26
 part-copy-end : tie.Need-part-copy-end
 part-copy-end c = search needs
 
--- src/lib.rt:13:5
 copy-requires : tie.Need-copy-requires
 copy-requires c κs = search needs
 
--- src/lib.rt:14:5
 add-result : tie.Need-add-result
 add-result c = search needs
 
--- src/lib.rt:9:1
 same-length : tie.Need-same-length
 same-length c = search needs
 
--- src/lib.rt:9:1
 returns : tie.Need-returns
 returns c = let S = c .before .before .before .before .before .before in
     let copy = c .before .before .copy in

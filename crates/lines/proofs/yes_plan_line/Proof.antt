@@ -1,65 +1,48 @@
+-- Six writes, one behind the other; 1365 choices take at most 5460 bytes, so that all fit.
 use native.Mathlib.Omega.{arith}
+use borrow.Author.Needs.{needs}
 use Rattle.lines.specs.Text.{text}
 use Rattle.lines.specs.Line.{yes-plan-line}
 use Rattle.lines.proofs.Texts.{put-put}
-use borrow.Author.Needs.{needs}
 use Rattle.lines.proofs.yes_plan_line.Statement.{statement}
 use Rattle.lines.proofs.yes_plan_line.Tie as tie
-use Rattle.lines.proofs.yes_plan_line.Reads as reads
-use Rattle.lines.proofs.yes_plan_line.Lts as lts
-use Rattle.lines.proofs.put_choices.Reads as put-choices-reads
-use Rattle.lines.proofs.put_number.Reads as put-number-reads
-use Rattle.lines.proofs.put_text.Reads as put-text-reads
 
--- src/lib.rt:87:39
 slice-aggregate-put-number : tie.Need-slice-aggregate-put-number
 slice-aggregate-put-number c = search needs
 
--- src/lib.rt:87:9
 put-number-requires : tie.Need-put-number-requires
 put-number-requires c κs = search needs
 
--- src/lib.rt:88:34
 slice-aggregate-put-number-2 : tie.Need-slice-aggregate-put-number-2
 slice-aggregate-put-number-2 c = search needs
 
--- src/lib.rt:88:5
 put-number-requires-2 : tie.Need-put-number-requires-2
 put-number-requires-2 c κs = omega arith
 
--- src/lib.rt:89:34
 slice-aggregate-put-number-3 : tie.Need-slice-aggregate-put-number-3
 slice-aggregate-put-number-3 c = search needs
 
--- src/lib.rt:89:5
 put-number-requires-3 : tie.Need-put-number-requires-3
 put-number-requires-3 c κs = omega arith
 
--- src/lib.rt:90:32
 slice-aggregate-put-text : tie.Need-slice-aggregate-put-text
 slice-aggregate-put-text c = search needs
 
--- src/lib.rt:90:5
 put-text-requires : tie.Need-put-text-requires
 put-text-requires c κs = omega arith
 
--- src/lib.rt:91:5
 put-choices-requires : tie.Need-put-choices-requires
 put-choices-requires c κs = omega arith
 
--- src/lib.rt:92:25
 slice-aggregate-put-text-2 : tie.Need-slice-aggregate-put-text-2
 slice-aggregate-put-text-2 c = search needs
 
--- src/lib.rt:92:5
 put-text-requires-2 : tie.Need-put-text-requires-2
 put-text-requires-2 c κs = omega arith
 
--- src/lib.rt:77:1
 same-length : tie.Need-same-length
 same-length c = search needs
 
--- src/lib.rt:77:1
 returns : tie.Need-returns
 unfolding yes-plan-line text
 returns c =
