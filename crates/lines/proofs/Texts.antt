@@ -1,5 +1,5 @@
 -- Texts in a buffer: what two writes put in, one behind the other, is what they put in together.
-use Prim.Native.Nat.{ℕ, suc, _+_, _*_, _-_, _^_, _≤_, _<_}
+use Prim.Native.Nat.{ℕ, suc, _+_, _-_, _^_, _≤_, _<_}
 use native.Mathlib.Nat.{add-zero}
 use native.Mathlib.Numerals.{add-one}
 use native.Mathlib.Omega.{arith}
@@ -10,7 +10,7 @@ use lib.Seq.{sets, length-sets, sets-eq, drop-drop, take-suc, take-all, take-at}
 use borrow.Rule.Slice.PartMut.{midOf, putMid}
 use Rattle.io.specs.Digits.{digits, Fewest}
 use Rattle.extension.specs.Choices.{splice}
-use Rattle.lines.specs.Text.{text, decimal, numbered, Put}
+use Rattle.lines.specs.Text.{decimal, numbered, Put}
 use Rattle.lines.proofs.Decimal.{decimal-is, few-digits}
 
 -- ---- splices, as stores one after the other
@@ -71,7 +71,7 @@ put-line {x} {out} {out′} {r} p =
 
 -- ---- numbers and choices
 
--- A number below 10 to the j takes at most j digits.
+-- A number below 10 to the j + 1 takes at most j + 1 digits.
 pub number-room : (j n : ℕ) (x : List ℕ) {out out′ : List ℕ} {at at′ : ℕ} → n < 10 ^ suc j → Put (x ++ decimal n) out out′ at at′ → at′ ≤ at + (length x + suc j)
 number-room j n x h p = omega (arith, p .next, length-append x (decimal n), few-digits j n h)
 
