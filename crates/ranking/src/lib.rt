@@ -4,7 +4,7 @@ ghost use Prim.Native.Nat.{_+_, _*_, _<_, _≤_};
 ghost use mathlib.Core.Bool.{true, cond};
 ghost use mathlib.Core.List.{flatMap};
 ghost use lib.Dec.{ltb};
-ghost use lib.ListN.{length};
+ghost use lib.ListN.{getD, length};
 ghost use Rattle.logic.specs.Checked.{refusal};
 ghost use Rattle.logic.specs.Model.{outcomes};
 ghost use Rattle.logic.specs.Plan as plan;
@@ -31,22 +31,37 @@ fn number(x: u8) -> usize
     x as usize
 }
 
+// How many outcomes an action has in a state; 0 if it is not enabled.
+fn count(used: &[u8; 264], s: usize, a: u8) -> usize
+    requires { ⌜ (s < 32) × (a < 8) ⌝ }
+    ensures { λ r. ⌜ r ≡ getD (now (used .entry)) (8 * s + a) 0 ⌝ }
+{
+    number(used[8 * s + number(a)])
+}
+
+// How many plans of n steps there are from s.
+fn total(counts: &[u64; 224], n: usize, s: usize) -> u64
+    requires { ⌜ (n ≤ 6) × (s < 32) ⌝ }
+    ensures { λ r. ⌜ r ≡ getD (now (counts .entry)) (32 * n + s) 0 ⌝ }
+{
+    counts[32 * n + s]
+}
+
 // In how many ways a choice can be gone on with for n steps; 0 if it is not enabled.
 fn ways(m: &[u8], used: &[u8; 264], counts: &[u64; 224], s: usize, a: u8, n: usize) -> u64
     requires { ⌜ (refusal (read-model (now m)) ≡ 0) × Used (now m) (now used) × Totals true (model-of (now m)) (now counts) ⌝ }
     requires { ⌜ (s < state-count (now m)) × (a < 8) × (n < 6) × (plan-total (model-of (now m)) (n + 1) s ≤ 65536) ⌝ }
     ensures { λ r. ⌜ (r ≡ cond (ltb 0 (entries (now (m .entry)) s a)) (spec.ways (model-of (now (m .entry))) n s a) 0) × (r ≤ 65536) ⌝ }
 {
-    let x = number(a);
-    let count = number(used[8 * s + x]);
-    if count == 0 {
+    let c = count(used, s, a);
+    if c == 0 {
         return 0;
     }
     let mut size: u64 = 1;
     let mut j: usize = 0;
-    while j < count {
-        let t = target(m, s, x, j);
-        size = size * counts[32 * n + t];
+    while j < c {
+        let t = target(m, s, number(a), j);
+        size = size * total(counts, n, t);
         j += 1;
     }
     size
@@ -91,15 +106,15 @@ fn nth_below(m: &[u8], used: &[u8; 264], counts: &[u64; 224], choices: &mut [u8]
     requires { ⌜ (s < state-count (now m)) × (n < 6) × (b .action < 8) × (b .size ≡ spec.ways (model-of (now m)) n s (b .action)) × (b .size ≤ 65536) × (b .place < b .size) × (at + 4 * room n ≤ length (now choices)) ⌝ }
     ensures { λ r. ⌜ Wrote (flatMap (plan.choices n) (parts-at (below (model-of (now (m .entry))) n) (λ o. plan-at (model-of (now (m .entry))) n (o .target)) (outcomes (model-of (now (m .entry))) s (b .action)) (b .place))) (4 * room n) (now (choices .entry)) (now (choices .exit)) at r ⌝ }
 {
-    let a = number(b.action);
-    let count = number(used[8 * s + a]);
+    let a = b.action;
+    let c = count(used, s, a);
     let mut size = b.size;
     let mut rest = b.place;
     let mut next = at;
     let mut j: usize = 0;
-    while j < count {
-        let t = target(m, s, a, j);
-        size = size / counts[32 * n + t];
+    while j < c {
+        let t = target(m, s, number(a), j);
+        size = size / total(counts, n, t);
         next = nth_from(m, used, counts, choices, t, n, rest / size, next);
         rest = rest % size;
         j += 1;
