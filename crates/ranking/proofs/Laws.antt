@@ -167,7 +167,7 @@ module _ (b : Bytes) (e : refusal (read-model b) ≡ 0) {counts : List ℕ} (tot
 
 -- ---- the loop over the actions
 
-module _ (b : Bytes) (r : Readable b) (n s : ℕ) (k : s < state-count b) where
+module _ (b : Bytes) (n s : ℕ) where
   -- The enabled actions from a on.
   abbrev from : ℕ → List ℕ
   from a = keep (λ a. ltb 0 (entries b s a)) (count-from a (8 - a))
@@ -184,9 +184,9 @@ module _ (b : Bytes) (r : Readable b) (n s : ℕ) (k : s < state-count b) where
     pub block : block-of (ways (model-of b) n s) (from a) rest ≡ block-of (ways (model-of b) n s) (enabled (model-of b) s) i
     pub inside : rest < sum naturals (ways (model-of b) n s) (from a)
 
-  pub rest-start : (i : ℕ) → i < plan-total (model-of b) (n + 1) s → Rest i 0 i
+  pub rest-start : Readable b → s < state-count b → (i : ℕ) → i < plan-total (model-of b) (n + 1) s → Rest i 0 i
   unfolding plan-total
-  rest-start i h =
+  rest-start r k i h =
       let e = enabled-are b r s k in
       record {
         block = ap (λ l. block-of (ways (model-of b) n s) l i) (sym e);
