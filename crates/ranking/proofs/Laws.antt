@@ -296,7 +296,6 @@ module _ (b : Bytes) (n s a place : ℕ) (old : List ℕ) (at : ℕ) where
   -- Outcomes before j are done: with what is still to be written, the buffer is as it is to be.
   pub record Below (count j size rest : ℕ) (new : List ℕ) (next : ℕ) : Type 0 where
     pub entered : count ≡ entries b s a
-    pub upto : j ≤ count
     pub sized : size ≡ ways-left b s a n j
     pub inside : rest < size
     pub few : size ≤ 65536
@@ -309,7 +308,6 @@ module _ (b : Bytes) (n s a place : ℕ) (old : List ℕ) (at : ℕ) where
   below-start count size c e h f =
       record {
         entered = c;
-        upto = omega arith;
         sized = e ∙ sym (ways-all b s a n);
         inside = h;
         few = f;
@@ -319,11 +317,15 @@ module _ (b : Bytes) (n s a place : ℕ) (old : List ℕ) (at : ℕ) where
         kept = refl;
       }
 
+  pub below-turn : refusal (read-model b) ≡ 0 → {counts : List ℕ} → Totals true (model-of b) counts → n ≤ 6 → (count j size rest next : ℕ) (new : List ℕ)
+      → Below count j size rest new next → j < count → (x t : ℕ) → x ≡ a → t ≡ (outcome-of b s x j) .target → Turn b counts n s a j t
+  below-turn e totals h count j size rest next new here l x t q g =
+      turn b e totals n s a h x j t q g (omega (arith, here .entered)) (omega (arith, here .sized, here .inside)) (omega (arith, here .sized, here .few))
+
   module _ (counts : List ℕ) (count j size rest next t : ℕ) (new : List ℕ) (here : Below count j size rest new next) (l : j < count) (u : Turn b counts n s a j t) where
     -- The division is exact, and both parts of the place are in range.
-    pub divides : size / getD counts (32 * n + t) 0 ≡ ways-left b s a n (j + 1)
-    divides =
-        ap₂ (λ x y. x / y) (here .sized ∙ u .split) (u .counted) ∙ mul-div-right (ways-left b s a n (j + 1)) (u .some)
+    pub divides : (y : ℕ) → y ≡ getD counts (32 * n + t) 0 → size / y ≡ ways-left b s a n (j + 1)
+    divides y e = ap₂ (λ x y. x / y) (here .sized ∙ u .split) (e ∙ u .counted) ∙ mul-div-right (ways-left b s a n (j + 1)) (u .some)
 
     pub quotient : (v : ℕ) → v ≡ ways-left b s a n (j + 1) → rest / v < plan-total (model-of b) n t
     quotient v e =
@@ -347,8 +349,7 @@ module _ (b : Bytes) (n s a place : ℕ) (old : List ℕ) (at : ℕ) where
         let s = factors (plan-total (model-of b) n t) (ways-left b s a n (j + 1)) (sym (u .split)) (omega (arith, here .sized, here .inside)) in
         record {
           entered = here .entered;
-          upto = omega arith;
-          sized = e;
+            sized = e;
           inside = mod-lt rest (rw e (u .later));
           few = omega (arith, here .sized, here .few, s .3);
           write = ap₂ (λ l q. splice l q y) (w .wrote) (w .to) ∙ splice-splice new next x y (omega (arith, w .size)) ∙ ap (splice new next) (sym p) ∙ here .write;

@@ -1,4 +1,14 @@
-use Prim.Native.Nat.{ℕ, _<_}
+use Prim.Native.Nat.{ℕ, _+_, _-_, _/_, _≤_, _<_}
+use native.Mathlib.Omega.{arith}
+use mathlib.Core.Path.{_≡_, ap, _∙_}
+use lib.ListN.{length, length-set}
+use borrow.Author.Needs.{needs}
+use Rattle.models.specs.Layout.{model-of}
+use Rattle.models.proofs.Readable.{readable}
+use Rattle.models.proofs.Rows.{entries-few}
+use Rattle.limits.proofs.Laws.{used-at}
+use Rattle.extension.proofs.Laws.{room-step}
+use Rattle.ranking.proofs.Laws.{Below, below-start, below-more, below-end, divides, quotient, fits, below-turn, from-none, from-choice}
 use borrow.Fn.Kinds.{In}
 use borrow.Fn.PlainCycle.{Measures, is, falls, and}
 use Rattle.ranking.proofs.nth_below.Reads as nth-below
@@ -16,10 +26,10 @@ use Rattle.ranking.proofs.+nth_below+nth_from.{statement}
 use Rattle.ranking.proofs.+nth_below+nth_from.Tie.{close}
 
 abbrev μ-nth-below : Measures 4 nth-below-kinds.ps ℕ
-μ-nth-below κs a = ?
+μ-nth-below κs a = a .1 .1 .1 .1 .1 .1 .0 + a .1 .1 .1 .1 .1 .1 .0 + 1
 
 abbrev μ-nth-from : Measures 4 nth-from-kinds.ps ℕ
-μ-nth-from κs a = ?
+μ-nth-from κs a = a .1 .1 .1 .1 .1 .0 + a .1 .1 .1 .1 .1 .0
 
 abbrev nth-below-at : ℕ → In 4 nth-below-kinds.ps
 nth-below-at t = and 4 nth-below-kinds.ps (is 4 nth-below-kinds.ps μ-nth-below t) nth-below.Pre
@@ -36,12 +46,10 @@ nth-from-below t =
     and 4 nth-from-kinds.ps (falls 4 nth-from-kinds.ps _<_ μ-nth-from t) nth-from.Pre
 
 abbrev nth-below-Inv-loop : nth-below-lts.InvT-loop
-nth-below-Inv-loop m used counts choices₀ s n at a c size₀ rest₀ next₀ j₀ choices size rest next j =
-    ?
+nth-below-Inv-loop m used counts choices₀ s n at a c size₀ rest₀ next₀ j₀ choices size rest next j = (j ≤ c) × Below m n s a rest₀ choices₀ at c j size rest choices next
 
 abbrev nth-below-μ-loop : nth-below-lts.MeasureT-loop
-nth-below-μ-loop m used counts choices₀ s n at a c size₀ rest₀ next₀ j₀ choices size rest next j =
-    ?
+nth-below-μ-loop m used counts choices₀ s n at a c size₀ rest₀ next₀ j₀ choices size rest next j = c - j
 
 -- src/lib.rt:110:9
 nth-below-count-requires : (t : ℕ) → nth-below-lts.Need-count-requires (
@@ -56,7 +64,8 @@ nth-below-count-requires : (t : ℕ) → nth-below-lts.Need-count-requires (
   nth-from-below t,
   nth-from.Post,
 ) (nth-below-at t) nth-below.Post nth-below-Inv-loop nth-below-μ-loop
-nth-below-count-requires t c κs = ?
+nth-below-count-requires t c κs = let S = c .before .before in
+    omega (arith, readable (S .args .m .now) (S .pre .1 .0 .0) .states)
 
 -- src/lib.rt:115:5
 nth-below-loop-holds : (t : ℕ) → nth-below-lts.Need-loop-holds (
@@ -71,7 +80,8 @@ nth-below-loop-holds : (t : ℕ) → nth-below-lts.Need-loop-holds (
   nth-from-below t,
   nth-from.Post,
 ) (nth-below-at t) nth-below.Post nth-below-Inv-loop nth-below-μ-loop
-nth-below-loop-holds t c = ?
+nth-below-loop-holds t c = let S = c .before .before .before in
+    (omega arith, below-start (S .args .m .now) (S .args .n) (S .args .s) (S .args .b .action) (S .args .b .place) (S .args .choices .now) (S .args .at) (c .count .result) (S .args .b .size) (c .count .ensures ∙ used-at (S .args .m .now) (S .pre .1 .0 .1) (S .args .s) (S .args .b .action) (omega (arith, readable (S .args .m .now) (S .pre .1 .0 .0) .states)) (omega arith)) (S .pre .1 .1 .3) (S .pre .1 .1 .5) (S .pre .1 .1 .4))
 
 -- src/lib.rt:116:30
 nth-below-number-requires : (t : ℕ) → nth-below-lts.Need-number-requires (
@@ -86,7 +96,7 @@ nth-below-number-requires : (t : ℕ) → nth-below-lts.Need-number-requires (
   nth-from-below t,
   nth-from.Post,
 ) (nth-below-at t) nth-below.Post nth-below-Inv-loop nth-below-μ-loop
-nth-below-number-requires t c κs = ?
+nth-below-number-requires t c κs = search needs
 
 -- src/lib.rt:116:13
 nth-below-target-requires : (t : ℕ) → nth-below-lts.Need-target-requires (
@@ -101,7 +111,8 @@ nth-below-target-requires : (t : ℕ) → nth-below-lts.Need-target-requires (
   nth-from-below t,
   nth-from.Post,
 ) (nth-below-at t) nth-below.Post nth-below-Inv-loop nth-below-μ-loop
-nth-below-target-requires t c κs = ?
+nth-below-target-requires t c κs = let S = c .before .before .before .before .before .before in
+    omega (arith, readable (S .args .m .now) (S .pre .1 .0 .0) .states, (c .before .before .loop .inv .1) .entered, entries-few (S .args .m .now) (readable (S .args .m .now) (S .pre .1 .0 .0)) (S .args .s) (S .args .b .action))
 
 -- src/lib.rt:117:23
 nth-below-total-requires : (t : ℕ) → nth-below-lts.Need-total-requires (
@@ -116,7 +127,11 @@ nth-below-total-requires : (t : ℕ) → nth-below-lts.Need-total-requires (
   nth-from-below t,
   nth-from.Post,
 ) (nth-below-at t) nth-below.Post nth-below-Inv-loop nth-below-μ-loop
-nth-below-total-requires t c κs = ?
+nth-below-total-requires t c κs = let S = c .before .before .before .before .before .before .before in
+    let L = c .before .before .before .loop in
+    let t = c .target .result in
+    let u = below-turn (S .args .m .now) (S .args .n) (S .args .s) (S .args .b .action) (S .args .b .place) (S .args .choices .now) (S .args .at) (S .pre .1 .0 .0) (S .pre .1 .0 .2) (omega arith) (c .before .before .before .before .count .result) (L .j) (L .size) (L .rest) (L .next) (L .choices) (L .inv .1) (c .before .before .loop-test .taken) (c .before .number .result) t (c .before .number .ensures) (c .target .ensures .0) in
+    (omega arith, omega (arith, readable (S .args .m .now) (S .pre .1 .0 .0) .states, u .state))
 
 -- src/lib.rt:117:16
 nth-below-div-size : (t : ℕ) → nth-below-lts.Need-div-size (
@@ -131,7 +146,11 @@ nth-below-div-size : (t : ℕ) → nth-below-lts.Need-div-size (
   nth-from-below t,
   nth-from.Post,
 ) (nth-below-at t) nth-below.Post nth-below-Inv-loop nth-below-μ-loop
-nth-below-div-size t c = ?
+nth-below-div-size t c = let S = c .before .before .before .before .before .before .before .before in
+    let L = c .before .before .before .before .loop in
+    let t = c .before .target .result in
+    let u = below-turn (S .args .m .now) (S .args .n) (S .args .s) (S .args .b .action) (S .args .b .place) (S .args .choices .now) (S .args .at) (S .pre .1 .0 .0) (S .pre .1 .0 .2) (omega arith) (c .before .before .before .before .before .count .result) (L .j) (L .size) (L .rest) (L .next) (L .choices) (L .inv .1) (c .before .before .before .loop-test .taken) (c .before .before .number .result) t (c .before .before .number .ensures) (c .before .target .ensures .0) in
+    rw (c .total .ensures ∙ u .counted) (u .some)
 
 -- src/lib.rt:118:57
 nth-below-div-nth-from : (t : ℕ) → nth-below-lts.Need-div-nth-from (
@@ -146,7 +165,12 @@ nth-below-div-nth-from : (t : ℕ) → nth-below-lts.Need-div-nth-from (
   nth-from-below t,
   nth-from.Post,
 ) (nth-below-at t) nth-below.Post nth-below-Inv-loop nth-below-μ-loop
-nth-below-div-nth-from t c = ?
+nth-below-div-nth-from t c = let S = c .before .before .before .before .before .before .before .before .before in
+    let L = c .before .before .before .before .before .loop in
+    let t = c .before .before .target .result in
+    let u = below-turn (S .args .m .now) (S .args .n) (S .args .s) (S .args .b .action) (S .args .b .place) (S .args .choices .now) (S .args .at) (S .pre .1 .0 .0) (S .pre .1 .0 .2) (omega arith) (c .before .before .before .before .before .before .count .result) (L .j) (L .size) (L .rest) (L .next) (L .choices) (L .inv .1) (c .before .before .before .before .loop-test .taken) (c .before .before .before .number .result) t (c .before .before .before .number .ensures) (c .before .before .target .ensures .0) in
+    let v = divides (S .args .m .now) (S .args .n) (S .args .s) (S .args .b .action) (S .args .b .place) (S .args .choices .now) (S .args .at) (S .args .counts .now) (c .before .before .before .before .before .before .count .result) (L .j) (L .size) (L .rest) (L .next) t (L .choices) (L .inv .1) (c .before .before .before .before .loop-test .taken) u (c .before .total .result) (c .before .total .ensures) in
+    rw v (u .later)
 
 -- src/lib.rt:118:9
 nth-below-nth-from-requires : (t : ℕ) → nth-below-lts.Need-nth-from-requires (
@@ -161,7 +185,12 @@ nth-below-nth-from-requires : (t : ℕ) → nth-below-lts.Need-nth-from-requires
   nth-from-below t,
   nth-from.Post,
 ) (nth-below-at t) nth-below.Post nth-below-Inv-loop nth-below-μ-loop
-nth-below-nth-from-requires t c κs = ?
+nth-below-nth-from-requires t c κs = let S = c .before .before .before .before .before .before .before .before .before in
+    let L = c .before .before .before .before .before .loop in
+    let t = c .before .before .target .result in
+    let u = below-turn (S .args .m .now) (S .args .n) (S .args .s) (S .args .b .action) (S .args .b .place) (S .args .choices .now) (S .args .at) (S .pre .1 .0 .0) (S .pre .1 .0 .2) (omega arith) (c .before .before .before .before .before .before .count .result) (L .j) (L .size) (L .rest) (L .next) (L .choices) (L .inv .1) (c .before .before .before .before .loop-test .taken) (c .before .before .before .number .result) t (c .before .before .before .number .ensures) (c .before .before .target .ensures .0) in
+    let v = divides (S .args .m .now) (S .args .n) (S .args .s) (S .args .b .action) (S .args .b .place) (S .args .choices .now) (S .args .at) (S .args .counts .now) (c .before .before .before .before .before .before .count .result) (L .j) (L .size) (L .rest) (L .next) t (L .choices) (L .inv .1) (c .before .before .before .before .loop-test .taken) u (c .before .total .result) (c .before .total .ensures) in
+    (omega arith, (S .pre .1 .0, (u .state, omega arith, u .few, quotient (S .args .m .now) (S .args .n) (S .args .s) (S .args .b .action) (S .args .b .place) (S .args .choices .now) (S .args .at) (S .args .counts .now) (c .before .before .before .before .before .before .count .result) (L .j) (L .size) (L .rest) (L .next) t (L .choices) (L .inv .1) (c .before .before .before .before .loop-test .taken) u (L .size / c .before .total .result) v, fits (S .args .m .now) (S .args .n) (S .args .s) (S .args .b .action) (S .args .b .place) (S .args .choices .now) (S .args .at) (S .args .counts .now) (c .before .before .before .before .before .before .count .result) (L .j) (L .size) (L .rest) (L .next) t (L .choices) (L .inv .1) (c .before .before .before .before .loop-test .taken) u (readable (S .args .m .now) (S .pre .1 .0 .0)) (S .pre .1 .1 .6))))
 
 -- src/lib.rt:119:16
 nth-below-rem-rest : (t : ℕ) → nth-below-lts.Need-rem-rest (
@@ -176,7 +205,12 @@ nth-below-rem-rest : (t : ℕ) → nth-below-lts.Need-rem-rest (
   nth-from-below t,
   nth-from.Post,
 ) (nth-below-at t) nth-below.Post nth-below-Inv-loop nth-below-μ-loop
-nth-below-rem-rest t c = ?
+nth-below-rem-rest t c = let S = c .before .before .before .before .before .before .before .before .before .before .before .before in
+    let L = c .before .before .before .before .before .before .before .before .loop in
+    let t = c .before .before .before .before .before .target .result in
+    let u = below-turn (S .args .m .now) (S .args .n) (S .args .s) (S .args .b .action) (S .args .b .place) (S .args .choices .now) (S .args .at) (S .pre .1 .0 .0) (S .pre .1 .0 .2) (omega arith) (c .before .before .before .before .before .before .before .before .before .count .result) (L .j) (L .size) (L .rest) (L .next) (L .choices) (L .inv .1) (c .before .before .before .before .before .before .before .loop-test .taken) (c .before .before .before .before .before .before .number .result) t (c .before .before .before .before .before .before .number .ensures) (c .before .before .before .before .before .target .ensures .0) in
+    let v = divides (S .args .m .now) (S .args .n) (S .args .s) (S .args .b .action) (S .args .b .place) (S .args .choices .now) (S .args .at) (S .args .counts .now) (c .before .before .before .before .before .before .before .before .before .count .result) (L .j) (L .size) (L .rest) (L .next) t (L .choices) (L .inv .1) (c .before .before .before .before .before .before .before .loop-test .taken) u (c .before .before .before .before .total .result) (c .before .before .before .before .total .ensures) in
+    rw v (u .later)
 
 -- src/lib.rt:120:9
 nth-below-add-j : (t : ℕ) → nth-below-lts.Need-add-j (
@@ -191,7 +225,7 @@ nth-below-add-j : (t : ℕ) → nth-below-lts.Need-add-j (
   nth-from-below t,
   nth-from.Post,
 ) (nth-below-at t) nth-below.Post nth-below-Inv-loop nth-below-μ-loop
-nth-below-add-j t c = ?
+nth-below-add-j t c = search needs
 
 -- src/lib.rt:115:5
 nth-below-loop-less : (t : ℕ) → nth-below-lts.Need-loop-less (
@@ -206,7 +240,7 @@ nth-below-loop-less : (t : ℕ) → nth-below-lts.Need-loop-less (
   nth-from-below t,
   nth-from.Post,
 ) (nth-below-at t) nth-below.Post nth-below-Inv-loop nth-below-μ-loop
-nth-below-loop-less t c = ?
+nth-below-loop-less t c = search needs
 
 -- src/lib.rt:115:5
 nth-below-loop-again : (t : ℕ) → nth-below-lts.Need-loop-again (
@@ -221,7 +255,12 @@ nth-below-loop-again : (t : ℕ) → nth-below-lts.Need-loop-again (
   nth-from-below t,
   nth-from.Post,
 ) (nth-below-at t) nth-below.Post nth-below-Inv-loop nth-below-μ-loop
-nth-below-loop-again t c = ?
+nth-below-loop-again t c = let S = c .before .before .before .before .before .before .before .before .before .before .before .before in
+    let L = c .before .before .before .before .before .before .before .before .loop in
+    let t = c .before .before .before .before .before .target .result in
+    let u = below-turn (S .args .m .now) (S .args .n) (S .args .s) (S .args .b .action) (S .args .b .place) (S .args .choices .now) (S .args .at) (S .pre .1 .0 .0) (S .pre .1 .0 .2) (omega arith) (c .before .before .before .before .before .before .before .before .before .count .result) (L .j) (L .size) (L .rest) (L .next) (L .choices) (L .inv .1) (c .before .before .before .before .before .before .before .loop-test .taken) (c .before .before .before .before .before .before .number .result) t (c .before .before .before .before .before .before .number .ensures) (c .before .before .before .before .before .target .ensures .0) in
+    let v = divides (S .args .m .now) (S .args .n) (S .args .s) (S .args .b .action) (S .args .b .place) (S .args .choices .now) (S .args .at) (S .args .counts .now) (c .before .before .before .before .before .before .before .before .before .count .result) (L .j) (L .size) (L .rest) (L .next) t (L .choices) (L .inv .1) (c .before .before .before .before .before .before .before .loop-test .taken) u (c .before .before .before .before .total .result) (c .before .before .before .before .total .ensures) in
+    (omega arith, below-more (S .args .m .now) (S .args .n) (S .args .s) (S .args .b .action) (S .args .b .place) (S .args .choices .now) (S .args .at) (S .args .counts .now) (c .before .before .before .before .before .before .before .before .before .count .result) (L .j) (L .size) (L .rest) (L .next) t (L .choices) (L .inv .1) (c .before .before .before .before .before .before .before .loop-test .taken) u (L .size / c .before .before .before .before .total .result) (c .before .before .nth-from .result) (c .before .before .nth-from .last .1 .1 .1 .0) v (fits (S .args .m .now) (S .args .n) (S .args .s) (S .args .b .action) (S .args .b .place) (S .args .choices .now) (S .args .at) (S .args .counts .now) (c .before .before .before .before .before .before .before .before .before .count .result) (L .j) (L .size) (L .rest) (L .next) t (L .choices) (L .inv .1) (c .before .before .before .before .before .before .before .loop-test .taken) u (readable (S .args .m .now) (S .pre .1 .0 .0)) (S .pre .1 .1 .6)) (c .before .before .nth-from .ensures) (c .before .before .nth-from .kept .1 .1 .1 .0))
 
 -- src/lib.rt:104:1
 nth-below-same-length : (t : ℕ) → nth-below-lts.Need-same-length (
@@ -236,7 +275,7 @@ nth-below-same-length : (t : ℕ) → nth-below-lts.Need-same-length (
   nth-from-below t,
   nth-from.Post,
 ) (nth-below-at t) nth-below.Post nth-below-Inv-loop nth-below-μ-loop
-nth-below-same-length t c = ?
+nth-below-same-length t c = c .before .loop .inv .1 .kept
 
 -- src/lib.rt:104:1
 nth-below-returns : (t : ℕ) → nth-below-lts.Need-returns (
@@ -251,7 +290,9 @@ nth-below-returns : (t : ℕ) → nth-below-lts.Need-returns (
   nth-from-below t,
   nth-from.Post,
 ) (nth-below-at t) nth-below.Post nth-below-Inv-loop nth-below-μ-loop
-nth-below-returns t c = ?
+nth-below-returns t c = let S = c .before .before .before .before .before in
+    let L = c .before .loop in
+    below-end (S .args .m .now) (S .args .n) (S .args .s) (S .args .b .action) (S .args .b .place) (S .args .choices .now) (S .args .at) (c .before .before .count .result) (L .j) (L .size) (L .rest) (L .next) (L .choices) (readable (S .args .m .now) (S .pre .1 .0 .0)) (omega arith) (L .inv .1)
 
 -- src/lib.rt:96:9
 nth-from-returns : (t : ℕ) → nth-from-lts.Need-returns (
@@ -260,7 +301,8 @@ nth-from-returns : (t : ℕ) → nth-from-lts.Need-returns (
   nth-below-below t,
   nth-below.Post,
 ) (nth-from-at t) nth-from.Post
-nth-from-returns t c = ?
+nth-from-returns t c = let S = c .before .before .before in
+    from-none (model-of (S .args .m .now)) (S .args .n) (S .args .s) (S .args .i) (S .args .at) (S .args .choices .now) (c .if1 .taken)
 
 -- src/lib.rt:98:42
 nth-from-sub-block-of : (t : ℕ) → nth-from-lts.Need-sub-block-of (
@@ -269,7 +311,7 @@ nth-from-sub-block-of : (t : ℕ) → nth-from-lts.Need-sub-block-of (
   nth-below-below t,
   nth-below.Post,
 ) (nth-from-at t) nth-from.Post
-nth-from-sub-block-of t c = ?
+nth-from-sub-block-of t c = omega arith
 
 -- src/lib.rt:98:9
 nth-from-block-of-requires : (t : ℕ) → nth-from-lts.Need-block-of-requires (
@@ -278,7 +320,9 @@ nth-from-block-of-requires : (t : ℕ) → nth-from-lts.Need-block-of-requires (
   nth-below-below t,
   nth-below.Post,
 ) (nth-from-at t) nth-from.Post
-nth-from-block-of-requires t c κs = ?
+nth-from-block-of-requires t c κs = let S = c .before .before .before in
+    let e : S .args .n - 1 + 1 ≡ S .args .n = omega arith in
+    (S .pre .1 .0, (S .pre .1 .1 .0, omega arith, rw e (S .pre .1 .1 .2), rw e (S .pre .1 .1 .3)))
 
 -- src/lib.rt:99:5
 nth-from-slice-write-choices : (t : ℕ) → nth-from-lts.Need-slice-write-choices (
@@ -287,7 +331,9 @@ nth-from-slice-write-choices : (t : ℕ) → nth-from-lts.Need-slice-write-choic
   nth-below-below t,
   nth-below.Post,
 ) (nth-from-at t) nth-from.Post
-nth-from-slice-write-choices t c = ?
+nth-from-slice-write-choices t c = let S = c .before .before .before .before in
+    let room-of = room-step (S .args .n) (c .before .if1 .left) in
+    omega (arith, room-of)
 
 -- src/lib.rt:100:47
 nth-from-sub-nth-below : (t : ℕ) → nth-from-lts.Need-sub-nth-below (
@@ -296,7 +342,7 @@ nth-from-sub-nth-below : (t : ℕ) → nth-from-lts.Need-sub-nth-below (
   nth-below-below t,
   nth-below.Post,
 ) (nth-from-at t) nth-from.Post
-nth-from-sub-nth-below t c = ?
+nth-from-sub-nth-below t c = omega arith
 
 -- src/lib.rt:100:54
 nth-from-add-nth-below : (t : ℕ) → nth-from-lts.Need-add-nth-below (
@@ -305,7 +351,9 @@ nth-from-add-nth-below : (t : ℕ) → nth-from-lts.Need-add-nth-below (
   nth-below-below t,
   nth-below.Post,
 ) (nth-from-at t) nth-from.Post
-nth-from-add-nth-below t c = ?
+nth-from-add-nth-below t c = let S = c .before .before .before .before .before in
+    let room-of = room-step (S .args .n) (c .before .before .if1 .left) in
+    omega (arith, room-of)
 
 -- src/lib.rt:100:5
 nth-from-nth-below-requires : (t : ℕ) → nth-from-lts.Need-nth-below-requires (
@@ -314,7 +362,10 @@ nth-from-nth-below-requires : (t : ℕ) → nth-from-lts.Need-nth-below-requires
   nth-below-below t,
   nth-below.Post,
 ) (nth-from-at t) nth-from.Post
-nth-from-nth-below-requires t c κs = ?
+nth-from-nth-below-requires t c κs = let S = c .before .before .before .before .before in
+    let room-of = room-step (S .args .n) (c .before .before .if1 .left) in
+    let f = c .before .block-of .ensures in
+    (omega arith, (S .pre .1 .0, (S .pre .1 .1 .0, omega arith, f .action, f .sized, f .few, f .inside, simp length-set (omega (arith, room-of)))))
 
 -- src/lib.rt:90:1
 nth-from-same-length : (t : ℕ) → nth-from-lts.Need-same-length (
@@ -323,7 +374,8 @@ nth-from-same-length : (t : ℕ) → nth-from-lts.Need-same-length (
   nth-below-below t,
   nth-below.Post,
 ) (nth-from-at t) nth-from.Post
-nth-from-same-length t c = ?
+nth-from-same-length t c = let S = c .before .before .before .before .before .before .before .before in
+    c .before .before .nth-below .kept .1 .1 .1 .0 ∙ length-set (S .args .choices .now) (S .args .at) (c .before .before .before .before .block-of .result .action)
 
 -- src/lib.rt:90:1
 nth-from-returns-2 : (t : ℕ) → nth-from-lts.Need-returns-2 (
@@ -332,7 +384,11 @@ nth-from-returns-2 : (t : ℕ) → nth-from-lts.Need-returns-2 (
   nth-below-below t,
   nth-below.Post,
 ) (nth-from-at t) nth-from.Post
-nth-from-returns-2 t c = ?
+nth-from-returns-2 t c = let S = c .before .before .before .before .before .before .before .before in
+    let room-of = room-step (S .args .n) (c .before .before .before .before .before .if1 .left) in
+    let f = c .before .before .before .before .block-of in
+    let w = c .before .before .nth-below in
+    from-choice (model-of (S .args .m .now)) (S .args .n) (S .args .s) (S .args .i) (f .result .action) (f .result .size) (f .result .place) (S .args .at) (w .result) (S .args .choices .now) (w .last .1 .1 .1 .0) (c .before .before .before .before .before .if1 .left) (f .ensures) (omega (arith, room-of)) (w .ensures)
 
 pub +nth-below+nth-from-spec : {M : Type 1} → statement M
 +nth-below+nth-from-spec = close μ-nth-below μ-nth-from (λ t. nth-below-lts.spec (
