@@ -19,6 +19,7 @@ use Rattle.logic.specs.Model.{Model, Step, enabled, outcomes}
 use Rattle.logic.specs.Plan.{Plan, choices}
 use Rattle.logic.specs.Quantity.{naturals, sum}
 use Rattle.logic.specs.Limits.{multiply, plan-total}
+use Rattle.logic.specs.Extension.{first-plan}
 use Rattle.blocks.specs.Bytes.{Bytes}
 use Rattle.models.specs.Layout.{state-count, outcome-of, entries, model-of}
 use Rattle.models.specs.Grounds.{read-model}
@@ -31,8 +32,8 @@ use Rattle.limits.specs.Totals.{Totals, total, limit}
 use Rattle.limits.proofs.Laws.{outcome-inside}
 use Rattle.extension.specs.Choices.{splice, room, Ran}
 use Rattle.extension.proofs.Laws.{ran-none, ran-ran}
-use Rattle.ranking.specs.Places.{block-of, parts-at, below, ways, plan-at, Found, Wrote}
-use Rattle.ranking.proofs.Places.{positive}
+use Rattle.ranking.specs.Places.{listed, block-of, parts-at, below, ways, plan-at, Found, Wrote}
+use Rattle.ranking.proofs.Places.{positive, plan-at-is}
 
 -- ---- products
 
@@ -370,3 +371,13 @@ module _ (b : Bytes) (n s a place : ℕ) (old : List ℕ) (at : ℕ) where
         to = omega (arith, here .to, ap length none);
         size = omega (arith, here .to, ap length none, here .near, most);
       })
+
+-- ---- the whole
+
+-- What stands at the beginning of the buffer is the plan of the list.
+pub nth-listed : (m : Model) (n s i y x next : ℕ) (old new : List ℕ) → y ≡ n → x ≡ s → i < plan-total m n s → Wrote (choices y (plan-at m y x i)) (room y) old new 0 next
+    → (new ≡ splice old 0 (choices n (listed m n s i))) × (next ≡ length (choices n (listed m n s i)))
+nth-listed m n s i y x next old new e q h w =
+    let here : choices y (plan-at m y x i) ≡ choices n (listed m n s i) =
+        ap₂ (λ n s. choices n (plan-at m n s i)) e q ∙ ap (choices n) (sym (plan-at-is m n s i (first-plan m n s) h)) in
+    (w .wrote ∙ ap (splice old 0) here, omega (arith, w .to, ap length here))
