@@ -19,7 +19,7 @@ ghost use Rattle.ranking.specs.Places as spec;
 use models::target;
 
 // A choice, and which of the `size` ways to go on below it.
-pub struct Block {
+struct Block {
     action: u8,
     size: u64,
     place: u64,

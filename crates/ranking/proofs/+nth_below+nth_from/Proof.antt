@@ -1,23 +1,25 @@
+-- `nth_from` and `nth_below` meet their contracts, together: the steps left fall from the one to the other and back. The loop's invariant: with what is
+-- still to be written, the buffer is as it is to be (`Underway`).
 use Prim.Native.Nat.{ℕ, _+_, _-_, _/_, _≤_, _<_}
 use native.Mathlib.Omega.{arith}
-use mathlib.Core.Path.{_≡_, ap, _∙_}
-use lib.ListN.{length, length-set}
+use mathlib.Core.Path.{_≡_, _∙_}
+use lib.ListN.{length-set}
 use borrow.Author.Needs.{needs}
+use borrow.Fn.Kinds.{In}
+use borrow.Fn.PlainCycle.{Measures, is, falls, and}
 use Rattle.models.specs.Layout.{model-of}
 use Rattle.models.proofs.Readable.{readable}
 use Rattle.models.proofs.Rows.{entries-few}
+use Rattle.models.proofs.target.Reads as target-reads
 use Rattle.limits.proofs.Laws.{used-at}
 use Rattle.extension.proofs.Laws.{room-step}
-use Rattle.ranking.proofs.Laws.{Below, below-start, below-more, below-end, divides, quotient, fits, below-turn, from-none, from-choice}
-use borrow.Fn.Kinds.{In}
-use borrow.Fn.PlainCycle.{Measures, is, falls, and}
+use Rattle.ranking.proofs.Written.{Underway, below-start, below-more, below-end, divides, quotient, fits, below-turn, from-none, from-choice}
 use Rattle.ranking.proofs.nth_below.Reads as nth-below
 use Rattle.ranking.proofs.nth_below.Kinds as nth-below-kinds
 use Rattle.ranking.proofs.+nth_below+nth_from.Lts-nth_below as nth-below-lts
 use Rattle.ranking.proofs.nth_from.Reads as nth-from
 use Rattle.ranking.proofs.nth_from.Kinds as nth-from-kinds
 use Rattle.ranking.proofs.+nth_below+nth_from.Lts-nth_from as nth-from-lts
-use Rattle.models.proofs.target.Reads as target-reads
 use Rattle.ranking.proofs.block_of.Reads as block-of-reads
 use Rattle.ranking.proofs.count.Reads as count-reads
 use Rattle.ranking.proofs.number.Reads as number-reads
@@ -46,12 +48,11 @@ nth-from-below t =
     and 4 nth-from-kinds.ps (falls 4 nth-from-kinds.ps _<_ μ-nth-from t) nth-from.Pre
 
 abbrev nth-below-Inv-loop : nth-below-lts.InvT-loop
-nth-below-Inv-loop m used counts choices₀ s n at a c size₀ rest₀ next₀ j₀ choices size rest next j = (j ≤ c) × Below m n s a rest₀ choices₀ at c j size rest choices next
+nth-below-Inv-loop m used counts choices₀ s n at a c size₀ rest₀ next₀ j₀ choices size rest next j = (j ≤ c) × Underway m n s a rest₀ choices₀ at c j size rest choices next
 
 abbrev nth-below-μ-loop : nth-below-lts.MeasureT-loop
 nth-below-μ-loop m used counts choices₀ s n at a c size₀ rest₀ next₀ j₀ choices size rest next j = c - j
 
--- src/lib.rt:110:9
 nth-below-count-requires : (t : ℕ) → nth-below-lts.Need-count-requires (
   count-reads.Asked,
   count-reads.Learnt,
@@ -67,7 +68,6 @@ nth-below-count-requires : (t : ℕ) → nth-below-lts.Need-count-requires (
 nth-below-count-requires t c κs = let S = c .before .before in
     omega (arith, readable (S .args .m .now) (S .pre .1 .0 .0) .states)
 
--- src/lib.rt:115:5
 nth-below-loop-holds : (t : ℕ) → nth-below-lts.Need-loop-holds (
   count-reads.Asked,
   count-reads.Learnt,
@@ -83,7 +83,6 @@ nth-below-loop-holds : (t : ℕ) → nth-below-lts.Need-loop-holds (
 nth-below-loop-holds t c = let S = c .before .before .before in
     (omega arith, below-start (S .args .m .now) (S .args .n) (S .args .s) (S .args .b .action) (S .args .b .place) (S .args .choices .now) (S .args .at) (c .count .result) (S .args .b .size) (c .count .ensures ∙ used-at (S .args .m .now) (S .pre .1 .0 .1) (S .args .s) (S .args .b .action) (omega (arith, readable (S .args .m .now) (S .pre .1 .0 .0) .states)) (omega arith)) (S .pre .1 .1 .3) (S .pre .1 .1 .5) (S .pre .1 .1 .4))
 
--- src/lib.rt:116:30
 nth-below-number-requires : (t : ℕ) → nth-below-lts.Need-number-requires (
   count-reads.Asked,
   count-reads.Learnt,
@@ -98,7 +97,6 @@ nth-below-number-requires : (t : ℕ) → nth-below-lts.Need-number-requires (
 ) (nth-below-at t) nth-below.Post nth-below-Inv-loop nth-below-μ-loop
 nth-below-number-requires t c κs = search needs
 
--- src/lib.rt:116:13
 nth-below-target-requires : (t : ℕ) → nth-below-lts.Need-target-requires (
   count-reads.Asked,
   count-reads.Learnt,
@@ -114,7 +112,6 @@ nth-below-target-requires : (t : ℕ) → nth-below-lts.Need-target-requires (
 nth-below-target-requires t c κs = let S = c .before .before .before .before .before .before in
     omega (arith, readable (S .args .m .now) (S .pre .1 .0 .0) .states, (c .before .before .loop .inv .1) .entered, entries-few (S .args .m .now) (readable (S .args .m .now) (S .pre .1 .0 .0)) (S .args .s) (S .args .b .action))
 
--- src/lib.rt:117:23
 nth-below-total-requires : (t : ℕ) → nth-below-lts.Need-total-requires (
   count-reads.Asked,
   count-reads.Learnt,
@@ -133,7 +130,6 @@ nth-below-total-requires t c κs = let S = c .before .before .before .before .be
     let u = below-turn (S .args .m .now) (S .args .n) (S .args .s) (S .args .b .action) (S .args .b .place) (S .args .choices .now) (S .args .at) (S .pre .1 .0 .0) (S .pre .1 .0 .2) (omega arith) (c .before .before .before .before .count .result) (L .j) (L .size) (L .rest) (L .next) (L .choices) (L .inv .1) (c .before .before .loop-test .taken) (c .before .number .result) t (c .before .number .ensures) (c .target .ensures .0) in
     (omega arith, omega (arith, readable (S .args .m .now) (S .pre .1 .0 .0) .states, u .state))
 
--- src/lib.rt:117:16
 nth-below-div-size : (t : ℕ) → nth-below-lts.Need-div-size (
   count-reads.Asked,
   count-reads.Learnt,
@@ -152,7 +148,6 @@ nth-below-div-size t c = let S = c .before .before .before .before .before .befo
     let u = below-turn (S .args .m .now) (S .args .n) (S .args .s) (S .args .b .action) (S .args .b .place) (S .args .choices .now) (S .args .at) (S .pre .1 .0 .0) (S .pre .1 .0 .2) (omega arith) (c .before .before .before .before .before .count .result) (L .j) (L .size) (L .rest) (L .next) (L .choices) (L .inv .1) (c .before .before .before .loop-test .taken) (c .before .before .number .result) t (c .before .before .number .ensures) (c .before .target .ensures .0) in
     rw (c .total .ensures ∙ u .counted) (u .some)
 
--- src/lib.rt:118:57
 nth-below-div-nth-from : (t : ℕ) → nth-below-lts.Need-div-nth-from (
   count-reads.Asked,
   count-reads.Learnt,
@@ -172,7 +167,6 @@ nth-below-div-nth-from t c = let S = c .before .before .before .before .before .
     let v = divides (S .args .m .now) (S .args .n) (S .args .s) (S .args .b .action) (S .args .b .place) (S .args .choices .now) (S .args .at) (S .args .counts .now) (c .before .before .before .before .before .before .count .result) (L .j) (L .size) (L .rest) (L .next) t (L .choices) (L .inv .1) (c .before .before .before .before .loop-test .taken) u (c .before .total .result) (c .before .total .ensures) in
     rw v (u .later)
 
--- src/lib.rt:118:9
 nth-below-nth-from-requires : (t : ℕ) → nth-below-lts.Need-nth-from-requires (
   count-reads.Asked,
   count-reads.Learnt,
@@ -192,7 +186,6 @@ nth-below-nth-from-requires t c κs = let S = c .before .before .before .before 
     let v = divides (S .args .m .now) (S .args .n) (S .args .s) (S .args .b .action) (S .args .b .place) (S .args .choices .now) (S .args .at) (S .args .counts .now) (c .before .before .before .before .before .before .count .result) (L .j) (L .size) (L .rest) (L .next) t (L .choices) (L .inv .1) (c .before .before .before .before .loop-test .taken) u (c .before .total .result) (c .before .total .ensures) in
     (omega arith, (S .pre .1 .0, (u .state, omega arith, u .few, quotient (S .args .m .now) (S .args .n) (S .args .s) (S .args .b .action) (S .args .b .place) (S .args .choices .now) (S .args .at) (S .args .counts .now) (c .before .before .before .before .before .before .count .result) (L .j) (L .size) (L .rest) (L .next) t (L .choices) (L .inv .1) (c .before .before .before .before .loop-test .taken) u (L .size / c .before .total .result) v, fits (S .args .m .now) (S .args .n) (S .args .s) (S .args .b .action) (S .args .b .place) (S .args .choices .now) (S .args .at) (S .args .counts .now) (c .before .before .before .before .before .before .count .result) (L .j) (L .size) (L .rest) (L .next) t (L .choices) (L .inv .1) (c .before .before .before .before .loop-test .taken) u (readable (S .args .m .now) (S .pre .1 .0 .0)) (S .pre .1 .1 .6))))
 
--- src/lib.rt:119:16
 nth-below-rem-rest : (t : ℕ) → nth-below-lts.Need-rem-rest (
   count-reads.Asked,
   count-reads.Learnt,
@@ -212,7 +205,6 @@ nth-below-rem-rest t c = let S = c .before .before .before .before .before .befo
     let v = divides (S .args .m .now) (S .args .n) (S .args .s) (S .args .b .action) (S .args .b .place) (S .args .choices .now) (S .args .at) (S .args .counts .now) (c .before .before .before .before .before .before .before .before .before .count .result) (L .j) (L .size) (L .rest) (L .next) t (L .choices) (L .inv .1) (c .before .before .before .before .before .before .before .loop-test .taken) u (c .before .before .before .before .total .result) (c .before .before .before .before .total .ensures) in
     rw v (u .later)
 
--- src/lib.rt:120:9
 nth-below-add-j : (t : ℕ) → nth-below-lts.Need-add-j (
   count-reads.Asked,
   count-reads.Learnt,
@@ -227,7 +219,6 @@ nth-below-add-j : (t : ℕ) → nth-below-lts.Need-add-j (
 ) (nth-below-at t) nth-below.Post nth-below-Inv-loop nth-below-μ-loop
 nth-below-add-j t c = search needs
 
--- src/lib.rt:115:5
 nth-below-loop-less : (t : ℕ) → nth-below-lts.Need-loop-less (
   count-reads.Asked,
   count-reads.Learnt,
@@ -242,7 +233,6 @@ nth-below-loop-less : (t : ℕ) → nth-below-lts.Need-loop-less (
 ) (nth-below-at t) nth-below.Post nth-below-Inv-loop nth-below-μ-loop
 nth-below-loop-less t c = search needs
 
--- src/lib.rt:115:5
 nth-below-loop-again : (t : ℕ) → nth-below-lts.Need-loop-again (
   count-reads.Asked,
   count-reads.Learnt,
@@ -262,7 +252,6 @@ nth-below-loop-again t c = let S = c .before .before .before .before .before .be
     let v = divides (S .args .m .now) (S .args .n) (S .args .s) (S .args .b .action) (S .args .b .place) (S .args .choices .now) (S .args .at) (S .args .counts .now) (c .before .before .before .before .before .before .before .before .before .count .result) (L .j) (L .size) (L .rest) (L .next) t (L .choices) (L .inv .1) (c .before .before .before .before .before .before .before .loop-test .taken) u (c .before .before .before .before .total .result) (c .before .before .before .before .total .ensures) in
     (omega arith, below-more (S .args .m .now) (S .args .n) (S .args .s) (S .args .b .action) (S .args .b .place) (S .args .choices .now) (S .args .at) (S .args .counts .now) (c .before .before .before .before .before .before .before .before .before .count .result) (L .j) (L .size) (L .rest) (L .next) t (L .choices) (L .inv .1) (c .before .before .before .before .before .before .before .loop-test .taken) u (L .size / c .before .before .before .before .total .result) (c .before .before .nth-from .result) (c .before .before .nth-from .last .1 .1 .1 .0) v (fits (S .args .m .now) (S .args .n) (S .args .s) (S .args .b .action) (S .args .b .place) (S .args .choices .now) (S .args .at) (S .args .counts .now) (c .before .before .before .before .before .before .before .before .before .count .result) (L .j) (L .size) (L .rest) (L .next) t (L .choices) (L .inv .1) (c .before .before .before .before .before .before .before .loop-test .taken) u (readable (S .args .m .now) (S .pre .1 .0 .0)) (S .pre .1 .1 .6)) (c .before .before .nth-from .ensures) (c .before .before .nth-from .kept .1 .1 .1 .0))
 
--- src/lib.rt:104:1
 nth-below-same-length : (t : ℕ) → nth-below-lts.Need-same-length (
   count-reads.Asked,
   count-reads.Learnt,
@@ -277,7 +266,6 @@ nth-below-same-length : (t : ℕ) → nth-below-lts.Need-same-length (
 ) (nth-below-at t) nth-below.Post nth-below-Inv-loop nth-below-μ-loop
 nth-below-same-length t c = c .before .loop .inv .1 .kept
 
--- src/lib.rt:104:1
 nth-below-returns : (t : ℕ) → nth-below-lts.Need-returns (
   count-reads.Asked,
   count-reads.Learnt,
@@ -294,7 +282,6 @@ nth-below-returns t c = let S = c .before .before .before .before .before in
     let L = c .before .loop in
     below-end (S .args .m .now) (S .args .n) (S .args .s) (S .args .b .action) (S .args .b .place) (S .args .choices .now) (S .args .at) (c .before .before .count .result) (L .j) (L .size) (L .rest) (L .next) (L .choices) (readable (S .args .m .now) (S .pre .1 .0 .0)) (omega arith) (L .inv .1)
 
--- src/lib.rt:96:9
 nth-from-returns : (t : ℕ) → nth-from-lts.Need-returns (
   block-of-reads.Asked,
   block-of-reads.Learnt,
@@ -304,7 +291,6 @@ nth-from-returns : (t : ℕ) → nth-from-lts.Need-returns (
 nth-from-returns t c = let S = c .before .before .before in
     from-none (model-of (S .args .m .now)) (S .args .n) (S .args .s) (S .args .i) (S .args .at) (S .args .choices .now) (c .if1 .taken)
 
--- src/lib.rt:98:42
 nth-from-sub-block-of : (t : ℕ) → nth-from-lts.Need-sub-block-of (
   block-of-reads.Asked,
   block-of-reads.Learnt,
@@ -313,7 +299,6 @@ nth-from-sub-block-of : (t : ℕ) → nth-from-lts.Need-sub-block-of (
 ) (nth-from-at t) nth-from.Post
 nth-from-sub-block-of t c = omega arith
 
--- src/lib.rt:98:9
 nth-from-block-of-requires : (t : ℕ) → nth-from-lts.Need-block-of-requires (
   block-of-reads.Asked,
   block-of-reads.Learnt,
@@ -324,7 +309,6 @@ nth-from-block-of-requires t c κs = let S = c .before .before .before in
     let e : S .args .n - 1 + 1 ≡ S .args .n = omega arith in
     (S .pre .1 .0, (S .pre .1 .1 .0, omega arith, rw e (S .pre .1 .1 .2), rw e (S .pre .1 .1 .3)))
 
--- src/lib.rt:99:5
 nth-from-slice-write-choices : (t : ℕ) → nth-from-lts.Need-slice-write-choices (
   block-of-reads.Asked,
   block-of-reads.Learnt,
@@ -335,7 +319,6 @@ nth-from-slice-write-choices t c = let S = c .before .before .before .before in
     let room-of = room-step (S .args .n) (c .before .if1 .left) in
     omega (arith, room-of)
 
--- src/lib.rt:100:47
 nth-from-sub-nth-below : (t : ℕ) → nth-from-lts.Need-sub-nth-below (
   block-of-reads.Asked,
   block-of-reads.Learnt,
@@ -344,7 +327,6 @@ nth-from-sub-nth-below : (t : ℕ) → nth-from-lts.Need-sub-nth-below (
 ) (nth-from-at t) nth-from.Post
 nth-from-sub-nth-below t c = omega arith
 
--- src/lib.rt:100:54
 nth-from-add-nth-below : (t : ℕ) → nth-from-lts.Need-add-nth-below (
   block-of-reads.Asked,
   block-of-reads.Learnt,
@@ -355,7 +337,6 @@ nth-from-add-nth-below t c = let S = c .before .before .before .before .before i
     let room-of = room-step (S .args .n) (c .before .before .if1 .left) in
     omega (arith, room-of)
 
--- src/lib.rt:100:5
 nth-from-nth-below-requires : (t : ℕ) → nth-from-lts.Need-nth-below-requires (
   block-of-reads.Asked,
   block-of-reads.Learnt,
@@ -367,7 +348,6 @@ nth-from-nth-below-requires t c κs = let S = c .before .before .before .before 
     let f = c .before .block-of .ensures in
     (omega arith, (S .pre .1 .0, (S .pre .1 .1 .0, omega arith, f .action, f .sized, f .few, f .inside, simp length-set (omega (arith, room-of)))))
 
--- src/lib.rt:90:1
 nth-from-same-length : (t : ℕ) → nth-from-lts.Need-same-length (
   block-of-reads.Asked,
   block-of-reads.Learnt,
@@ -377,7 +357,6 @@ nth-from-same-length : (t : ℕ) → nth-from-lts.Need-same-length (
 nth-from-same-length t c = let S = c .before .before .before .before .before .before .before .before in
     c .before .before .nth-below .kept .1 .1 .1 .0 ∙ length-set (S .args .choices .now) (S .args .at) (c .before .before .before .before .block-of .result .action)
 
--- src/lib.rt:90:1
 nth-from-returns-2 : (t : ℕ) → nth-from-lts.Need-returns-2 (
   block-of-reads.Asked,
   block-of-reads.Learnt,

@@ -1,3 +1,5 @@
+-- `block_of` meets its contract. The loop's invariant: plan number i stands at `rest` in the blocks of the actions from a on (`Rest`), so one of them
+-- holds it. The measure is what is left of the 8 actions.
 use Prim.Native.Nat.{_-_, _≤_}
 use native.Mathlib.Omega.{arith}
 use borrow.Author.Needs.{needs}
@@ -5,9 +7,6 @@ use Rattle.models.proofs.Readable.{readable}
 use Rattle.ranking.proofs.Laws.{Rest, rest-start, rest-found, rest-passed, rest-none}
 use Rattle.ranking.proofs.block_of.Statement.{statement}
 use Rattle.ranking.proofs.block_of.Tie as tie
-use Rattle.ranking.proofs.block_of.Reads as reads
-use Rattle.ranking.proofs.block_of.Lts as lts
-use Rattle.ranking.proofs.ways.Reads as ways-reads
 
 abbrev Inv-loop : tie.InvT-loop
 Inv-loop m used counts s n i rest₀ a₀ rest a = (a ≤ 8) × Rest m n s i a rest
@@ -15,37 +14,30 @@ Inv-loop m used counts s n i rest₀ a₀ rest a = (a ≤ 8) × Rest m n s i a r
 abbrev μ-loop : tie.MeasureT-loop
 μ-loop m used counts s n i rest₀ a₀ rest a = 8 - a
 
--- src/lib.rt:78:5
 loop-holds : tie.Need-loop-holds Inv-loop μ-loop
 loop-holds c = let S = c .before in
     (omega arith, rest-start (S .args .m .now) (S .args .n) (S .args .s) (readable (S .args .m .now) (S .pre .0 .0)) (S .pre .1 .0) (S .args .i) (S .pre .1 .3))
 
--- src/lib.rt:79:13
 ways-requires : tie.Need-ways-requires Inv-loop μ-loop
 ways-requires c κs = let S = c .before .before .before in
     (S .pre .0, (S .pre .1 .0, omega arith, S .pre .1 .1, S .pre .1 .2))
 
--- src/lib.rt:81:13
 returns : tie.Need-returns Inv-loop μ-loop
 returns c = let S = c .before .before .before .before .before in
     let L = c .before .before .before .loop in
     rest-found (S .args .m .now) (S .args .n) (S .args .s) (S .args .i) (L .a) (L .rest) (c .before .ways .result) (L .inv .1) (omega arith) (c .before .ways .ensures .0) (c .if1 .taken) (c .before .ways .ensures .1)
 
--- src/lib.rt:84:9
 add-a : tie.Need-add-a Inv-loop μ-loop
 add-a c = search needs
 
--- src/lib.rt:78:5
 loop-less : tie.Need-loop-less Inv-loop μ-loop
 loop-less c = search needs
 
--- src/lib.rt:78:5
 loop-again : tie.Need-loop-again Inv-loop μ-loop
 loop-again c = let S = c .before .before .before .before .before in
     let L = c .before .before .before .loop in
     (omega arith, rest-passed (S .args .m .now) (S .args .n) (S .args .s) (S .args .i) (L .a) (L .rest) (c .before .ways .result) (L .inv .1) (omega arith) (c .before .ways .ensures .0) (omega arith))
 
--- src/lib.rt:71:1
 returns-2 : tie.Need-returns-2 Inv-loop μ-loop
 returns-2 c = let S = c .before .before .before in
     let L = c .before .loop in

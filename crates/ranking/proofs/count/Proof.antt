@@ -1,34 +1,26 @@
+-- `count` meets its contract: the table has 8 places for a state.
 use Prim.Native.Nat.{_+_, _*_}
 use mathlib.Core.Path.{ap, _∙_}
 use lib.ListN.{getD}
 use borrow.Author.Needs.{needs}
 use Rattle.ranking.proofs.count.Statement.{statement}
 use Rattle.ranking.proofs.count.Tie as tie
-use Rattle.ranking.proofs.count.Reads as reads
-use Rattle.ranking.proofs.count.Lts as lts
-use Rattle.ranking.proofs.number.Reads as number-reads
 
--- src/lib.rt:39:17
 mul-number : tie.Need-mul-number
 mul-number c = search needs
 
--- src/lib.rt:39:25
 number-requires : tie.Need-number-requires
 number-requires c κs = search needs
 
--- src/lib.rt:39:17
 add-number : tie.Need-add-number
 add-number c = search needs
 
--- src/lib.rt:39:12
 element-copy-out-number : tie.Need-element-copy-out-number
 element-copy-out-number c = search needs
 
--- src/lib.rt:39:5
 number-requires-2 : tie.Need-number-requires-2
 number-requires-2 c κs = search needs
 
--- src/lib.rt:35:1
 returns : tie.Need-returns
 returns c = c .number2 .ensures ∙ ap (λ x. getD (c .before .before .before .args .used .now) (8 * c .before .before .before .args .s + x) 0) (c .before .before .number .ensures)
 

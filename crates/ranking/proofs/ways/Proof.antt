@@ -1,5 +1,7 @@
-use native.Mathlib.Nat.{mul-le-mul}
+-- `ways` meets its contract. The loop's invariant: the product so far, times the ways below the outcomes that are left, is the ways of the choice; so
+-- each factor is at most 65,536 and nothing wraps. The measure is what is left of the outcomes.
 use Prim.Native.Nat.{_+_, _*_, _-_, _≤_, _<_}
+use native.Mathlib.Nat.{mul-le-mul}
 use native.Mathlib.Omega.{arith}
 use mathlib.Core.Path.{_≡_, ap, _∙_}
 use borrow.Author.Needs.{needs}
@@ -11,12 +13,6 @@ use Rattle.ranking.specs.Places.{ways}
 use Rattle.ranking.proofs.Laws.{ways-left, ways-most, count-start, count-here, count-turn, count-end}
 use Rattle.ranking.proofs.ways.Statement.{statement}
 use Rattle.ranking.proofs.ways.Tie as tie
-use Rattle.ranking.proofs.ways.Reads as reads
-use Rattle.ranking.proofs.ways.Lts as lts
-use Rattle.models.proofs.target.Reads as target-reads
-use Rattle.ranking.proofs.count.Reads as count-reads
-use Rattle.ranking.proofs.number.Reads as number-reads
-use Rattle.ranking.proofs.total.Reads as total-reads
 
 abbrev Inv-loop : tie.InvT-loop
 Inv-loop m used counts s a n c size₀ j₀ size j = (c ≡ entries m s a) × (j ≤ c) × (0 < c) × (size * ways-left m s a n j ≡ ways (model-of m) n s a)
@@ -24,38 +20,31 @@ Inv-loop m used counts s a n c size₀ j₀ size j = (c ≡ entries m s a) × (j
 abbrev μ-loop : tie.MeasureT-loop
 μ-loop m used counts s a n c size₀ j₀ size j = c - j
 
--- src/lib.rt:56:9
 count-requires : tie.Need-count-requires Inv-loop μ-loop
 count-requires c κs = let S = c .before in
     omega (arith, readable (S .args .m .now) (S .pre .0 .0) .states)
 
--- src/lib.rt:58:9
 returns : tie.Need-returns Inv-loop μ-loop
 returns c = let S = c .before .before .before in
     (not-enabled (S .args .m .now) (S .args .s) (S .args .a) _ (omega (arith, used-at (S .args .m .now) (S .pre .0 .1) (S .args .s) (S .args .a) (omega (arith, readable (S .args .m .now) (S .pre .0 .0) .states)) (omega arith), c .before .count .ensures)), omega arith)
 
--- src/lib.rt:62:5
 loop-holds : tie.Need-loop-holds Inv-loop μ-loop
 loop-holds c = let S = c .before .before .before in
     (c .before .count .ensures ∙ used-at (S .args .m .now) (S .pre .0 .1) (S .args .s) (S .args .a) (omega (arith, readable (S .args .m .now) (S .pre .0 .0) .states)) (omega arith), omega arith, omega arith, count-start (S .args .m .now) (S .args .s) (S .args .a) (S .args .n))
 
--- src/lib.rt:63:30
 number-requires : tie.Need-number-requires Inv-loop μ-loop
 number-requires c κs = search needs
 
--- src/lib.rt:63:13
 target-requires : tie.Need-target-requires Inv-loop μ-loop
 target-requires c κs = let S = c .before .before .before .before .before .before in
     omega (arith, readable (S .args .m .now) (S .pre .0 .0) .states, entries-few (S .args .m .now) (readable (S .args .m .now) (S .pre .0 .0)) (S .args .s) (S .args .a))
 
--- src/lib.rt:64:23
 total-requires : tie.Need-total-requires Inv-loop μ-loop
 total-requires c κs = let S = c .before .before .before .before .before .before .before in
     let L = c .before .before .before .loop in
     let w = count-here (S .args .m .now) (S .pre .0 .0) (S .pre .0 .2) (S .args .n) (S .args .s) (S .args .a) (omega arith) (c .before .number .result) (L .j) (c .target .result) (L .size) (S .pre .1 .0) (S .pre .1 .1) (S .pre .1 .3) (L .inv .3) (c .before .number .ensures) (c .target .ensures .0) (omega arith) in
     (omega arith, omega (arith, readable (S .args .m .now) (S .pre .0 .0) .states, w .1 .state))
 
--- src/lib.rt:64:16
 mul-size : tie.Need-mul-size Inv-loop μ-loop
 mul-size c = let S = c .before .before .before .before .before .before .before .before in
     let L = c .before .before .before .before .loop in
@@ -63,22 +52,18 @@ mul-size c = let S = c .before .before .before .before .before .before .before .
     let few : c .total .result ≤ 65536 = rw (c .total .ensures ∙ w .1 .counted) (w .1 .few) in
     omega (arith, mul-le-mul (w .0) few)
 
--- src/lib.rt:65:9
 add-j : tie.Need-add-j Inv-loop μ-loop
 add-j c = search needs
 
--- src/lib.rt:62:5
 loop-less : tie.Need-loop-less Inv-loop μ-loop
 loop-less c = search needs
 
--- src/lib.rt:62:5
 loop-again : tie.Need-loop-again Inv-loop μ-loop
 loop-again c = let S = c .before .before .before .before .before .before .before .before in
     let L = c .before .before .before .before .loop in
     let w = count-here (S .args .m .now) (S .pre .0 .0) (S .pre .0 .2) (S .args .n) (S .args .s) (S .args .a) (omega arith) (c .before .before .number .result) (L .j) (c .before .target .result) (L .size) (S .pre .1 .0) (S .pre .1 .1) (S .pre .1 .3) (L .inv .3) (c .before .before .number .ensures) (c .before .target .ensures .0) (omega arith) in
     (L .inv .0, omega arith, omega arith, ap (λ v. L .size * v * ways-left (S .args .m .now) (S .args .s) (S .args .a) (S .args .n) (L .j + 1)) (c .total .ensures) ∙ count-turn (S .args .m .now) (S .args .s) (S .args .a) (S .args .n) (S .args .counts .now) (L .j) (c .before .target .result) (L .size) (w .1) (L .inv .3))
 
--- src/lib.rt:51:1
 returns-2 : tie.Need-returns-2 Inv-loop μ-loop
 returns-2 c = let S = c .before .before .before .before .before in
     let L = c .before .loop in
