@@ -4,18 +4,18 @@ use Prim.Native.Nat.{ℕ, zero, suc, _+_, _*_, _-_, _≤_, _<_}
 use native.Mathlib.Omega.{arith}
 use native.Mathlib.Numerals.{add-one}
 use native.Mathlib.Nat.{not-suc-le-zero, one-mul, mul-one, mul-assoc, mul-comm, mul-pos, le-mul-of-pos-right, min-eq-right}
-use mathlib.Core.Path.{_≡_, refl, sym, ap, subst, _∙_}
+use mathlib.Core.Path.{_≡_, refl, sym, ap, ap₂, subst, _∙_}
 use mathlib.Core.Bool.{Bool, true, false, cond}
 use mathlib.Core.List.{List, [], _∷_, map, List·Memᴰ, List·Memᴰ·head, List·Memᴰ·tail}
 use lib.Dec.{ltb}
 use lib.ListN.{getD}
 use borrow.Author.Tests.{lt-ltb, le-ltb}
 use Rattle.logic.specs.Lists.{keep, count-from, tabulate}
-use Rattle.logic.proofs.Tests.{in-keep, counted-in}
 use Rattle.logic.specs.Checked.{refusal}
 use Rattle.logic.specs.Model.{Step, enabled, outcomes}
 use Rattle.logic.specs.Quantity.{naturals, sum}
 use Rattle.logic.specs.Limits.{multiply, plan-total}
+use Rattle.logic.proofs.Tests.{in-keep, counted-in}
 use Rattle.blocks.specs.Bytes.{Bytes}
 use Rattle.models.specs.Layout.{state-count, outcome-of, entries, model-of}
 use Rattle.models.specs.Grounds.{read-model}
@@ -61,7 +61,7 @@ module _ (b : Bytes) (e : refusal (read-model b) ≡ 0) where
       let w = accepted b (passed-all b e) .some-choice s (rw (states-held b) h) in
       rw (w .2) (omega (arith, ways-some n (plan-some n) s (w .0)))
 
-  pub some-ways : (n s a : ℕ) → 0 < ways (model-of b) n s a
+  some-ways : (n s a : ℕ) → 0 < ways (model-of b) n s a
   some-ways n s a = ways-some n (plan-some n) s a
 
   -- Below an enabled action there are at most as many ways as plans from the state.
@@ -128,7 +128,7 @@ module _ (b : Bytes) (e : refusal (read-model b) ≡ 0) {counts : List ℕ} (tot
       let t′ : t ≡ (outcome-of b s a j) .target = g ∙ ap (λ x. (outcome-of b s x j) .target) q in
       let k : t < state-count b = rw t′ (readable b e .inside s a l) in
       let split : ways-left b s a n j ≡ plan-total (model-of b) n t * ways-left b s a n (j + 1) =
-          ap (multiply (below (model-of b) n)) (left-step b s a j l) ∙ ap (λ t. plan-total (model-of b) n t * ways-left b s a n (j + 1)) (sym t′) in
+      ap (multiply (below (model-of b) n)) (left-step b s a j l) ∙ ap (λ t. plan-total (model-of b) n t * ways-left b s a n (j + 1)) (sym t′) in
       let w = factors (plan-total (model-of b) n t) (ways-left b s a n (j + 1)) (sym split) some in
       let m : plan-total (model-of b) n t ≤ 65536 = omega (arith, w .2) in
       record { target = t′; state = k; split = split; some = w .0; few = m; later = w .1; counted = exact t k m }
@@ -153,8 +153,8 @@ module _ (b : Bytes) (s a n : ℕ) where
 
 -- Every factor of the ways is in range, so that the count of outcome j is the table's.
 module _ (b : Bytes) (e : refusal (read-model b) ≡ 0) {counts : List ℕ} (totals : Totals true (model-of b) counts) (n s a : ℕ) (h : n ≤ 6) where
-  pub count-here : (x j t size : ℕ) → s < state-count b → a < 8 → plan-total (model-of b) (n + 1) s ≤ 65536 → size * ways-left b s a n j ≡ ways (model-of b) n s a
-      → x ≡ a → t ≡ (outcome-of b s x j) .target → j < entries b s a → (size ≤ 65536) × Turn b counts n s a j t
+  pub count-here : (x j t size : ℕ) → s < state-count b → a < 8 → plan-total (model-of b) (n + 1) s ≤ 65536
+      → size * ways-left b s a n j ≡ ways (model-of b) n s a → x ≡ a → t ≡ (outcome-of b s x j) .target → j < entries b s a → (size ≤ 65536) × Turn b counts n s a j t
   count-here x j t size k g f p q u l =
       let w = factors size (ways-left b s a n j) p (some-ways b e n s a) in
       let most = ways-most b e n s a k g (omega arith) in
@@ -162,76 +162,79 @@ module _ (b : Bytes) (e : refusal (read-model b) ≡ 0) {counts : List ℕ} (tot
 
 -- ---- the loop over the actions
 
+module _ (size : ℕ → ℕ) (a k : ℕ) (l : List ℕ) where
+  block-first : k < size a → block-of size (a ∷ l) k ≡ (a, k)
+  unfolding block-of
+  block-first h = ap (λ t. cond t (a, k) (block-of size l (k - size a))) (lt-ltb k (size a) h)
+
+  block-next : size a ≤ k → block-of size (a ∷ l) k ≡ block-of size l (k - size a)
+  unfolding block-of
+  block-next h = ap (λ t. cond t (a, k) (block-of size l (k - size a))) (le-ltb k (size a) h)
+
 module _ (b : Bytes) (n s : ℕ) where
-  -- The enabled actions from a on.
+  -- The enabled actions from a on, and the sizes of their blocks.
   abbrev from : ℕ → List ℕ
   from a = keep (λ a. ltb 0 (entries b s a)) (count-from a (8 - a))
 
-  from-step : (a : ℕ) → a < 8 → from a ≡ cond (ltb 0 (entries b s a)) (a ∷ from (a + 1)) (from (a + 1))
+  abbrev sizes : ℕ → ℕ
+  sizes a = ways (model-of b) n s a
+
+  from-step : (a : ℕ) (t : Bool) → a < 8 → ltb 0 (entries b s a) ≡ t → from a ≡ cond t (a ∷ from (a + 1)) (from (a + 1))
   unfolding keep count-from
-  from-step a h =
+  from-step a t h q =
       let e : 8 - a ≡ suc (8 - suc a) = omega arith in
       ap (λ i. keep (λ a. ltb 0 (entries b s a)) (count-from a i)) e
-      ∙ ap (λ i. cond (ltb 0 (entries b s a)) (a ∷ from i) (from i)) (sym (add-one a))
+      ∙ ap₂ (λ i t. cond t (a ∷ from i) (from i)) (sym (add-one a)) q
 
   -- Place i is the place `rest` in the blocks of the actions from a on.
   pub record Rest (i a rest : ℕ) : Type 0 where
-    pub block : block-of (ways (model-of b) n s) (from a) rest ≡ block-of (ways (model-of b) n s) (enabled (model-of b) s) i
-    pub inside : rest < sum naturals (ways (model-of b) n s) (from a)
+    pub block : block-of sizes (from a) rest ≡ block-of sizes (enabled (model-of b) s) i
+    pub inside : rest < sum naturals sizes (from a)
 
   pub rest-start : Readable b → s < state-count b → (i : ℕ) → i < plan-total (model-of b) (n + 1) s → Rest i 0 i
   unfolding plan-total
   rest-start r k i h =
       let e = enabled-are b r s k in
-      record {
-        block = ap (λ l. block-of (ways (model-of b) n s) l i) (sym e);
-        inside = subst (λ l. i < sum naturals (ways (model-of b) n s) l) e (rw (add-one n) at h);
-      }
+      record { block = ap (λ l. block-of sizes l i) (sym e); inside = subst (λ l. i < sum naturals sizes l) e (rw (add-one n) at h) }
 
-  module _ (i a rest v : ℕ) (here : Rest i a rest) (l : a < 8) (e : v ≡ cond (ltb 0 (entries b s a)) (ways (model-of b) n s a) 0) where
+  module _ (i a rest v : ℕ) (here : Rest i a rest) (l : a < 8) (e : v ≡ cond (ltb 0 (entries b s a)) (sizes a) 0) where
     pub rest-found : rest < v → v ≤ 65536 → Found (model-of b) n s i a v rest
-    unfolding block-of
     rest-found h f = go (ltb 0 (entries b s a)) refl
       where
         go : (t : Bool) → ltb 0 (entries b s a) ≡ t → Found (model-of b) n s i a v rest
         go true q =
-            let w : v ≡ ways (model-of b) n s a = e ∙ ap (λ t. cond t (ways (model-of b) n s a) 0) q in
+            let w : v ≡ sizes a = e ∙ ap (λ t. cond t (sizes a) 0) q in
             record {
-              block = sym (ap (λ l. block-of (ways (model-of b) n s) l rest) (from-step a l ∙ ap (λ t. cond t (a ∷ from (a + 1)) (from (a + 1))) q)
-                  ∙ ap (λ t. cond t (a, rest) (block-of (ways (model-of b) n s) (from (a + 1)) (rest - ways (model-of b) n s a))) (lt-ltb rest (ways (model-of b) n s a) (omega arith)))
-                  ∙ here .block;
+              block = sym (block-first sizes a rest (from (a + 1)) (omega arith)) ∙ ap (λ l. block-of sizes l rest) (sym (from-step a true l q)) ∙ here .block;
               sized = w;
               inside = h;
               few = f;
               action = l;
             }
-        go false q = absurd (let z : v ≡ 0 = e ∙ ap (λ t. cond t (ways (model-of b) n s a) 0) q in omega arith)
+        go false q = absurd (let z : v ≡ 0 = e ∙ ap (λ t. cond t (sizes a) 0) q in omega arith)
 
     pub rest-passed : v ≤ rest → Rest i (a + 1) (rest - v)
-    unfolding block-of sum
+    unfolding sum
     rest-passed h = go (ltb 0 (entries b s a)) refl
       where
         go : (t : Bool) → ltb 0 (entries b s a) ≡ t → Rest i (a + 1) (rest - v)
         go true q =
-            let w : v ≡ ways (model-of b) n s a = e ∙ ap (λ t. cond t (ways (model-of b) n s a) 0) q in
-            let f : from a ≡ a ∷ from (a + 1) = from-step a l ∙ ap (λ t. cond t (a ∷ from (a + 1)) (from (a + 1))) q in
-            let g : rest < ways (model-of b) n s a + sum naturals (ways (model-of b) n s) (from (a + 1)) = subst (λ l. rest < sum naturals (ways (model-of b) n s) l) f (here .inside) in
+            let w : v ≡ sizes a = e ∙ ap (λ t. cond t (sizes a) 0) q in
+            let f : from a ≡ a ∷ from (a + 1) = from-step a true l q in
+            let g : rest < sizes a + sum naturals sizes (from (a + 1)) = subst (λ l. rest < sum naturals sizes l) f (here .inside) in
             record {
-              block = ap (λ v. block-of (ways (model-of b) n s) (from (a + 1)) (rest - v)) w
-                  ∙ sym (ap (λ l. block-of (ways (model-of b) n s) l rest) f
-                  ∙ ap (λ t. cond t (a, rest) (block-of (ways (model-of b) n s) (from (a + 1)) (rest - ways (model-of b) n s a))) (le-ltb rest (ways (model-of b) n s a) (omega arith)))
+              block = ap (λ v. block-of sizes (from (a + 1)) (rest - v)) w
+                  ∙ sym (block-next sizes a rest (from (a + 1)) (omega arith))
+                  ∙ ap (λ l. block-of sizes l rest) (sym f)
                   ∙ here .block;
               inside = omega arith;
             }
         go false q =
-            let z : rest - v ≡ rest = omega (arith, e ∙ ap (λ t. cond t (ways (model-of b) n s a) 0) q) in
-            let f : from a ≡ from (a + 1) = from-step a l ∙ ap (λ t. cond t (a ∷ from (a + 1)) (from (a + 1))) q in
+            let z : rest - v ≡ rest = omega (arith, e ∙ ap (λ t. cond t (sizes a) 0) q) in
+            let f : from a ≡ from (a + 1) = from-step a false l q in
             subst (λ x. Rest i (a + 1) x) (sym z)
-            (record {
-              block = ap (λ l. block-of (ways (model-of b) n s) l rest) (sym f) ∙ here .block;
-              inside = subst (λ l. rest < sum naturals (ways (model-of b) n s) l) f (here .inside);
-            })
+            (record { block = ap (λ l. block-of sizes l rest) (sym f) ∙ here .block; inside = subst (λ l. rest < sum naturals sizes l) f (here .inside) })
 
   pub rest-none : (i a rest : ℕ) → Rest i a rest → a ≡ 8 → ⊥
   unfolding keep count-from sum
-  rest-none i a rest here e = not-suc-le-zero (subst (λ a. rest < sum naturals (ways (model-of b) n s) (from a)) e (here .inside))
+  rest-none i a rest here e = not-suc-le-zero (subst (λ a. rest < sum naturals sizes (from a)) e (here .inside))

@@ -1,6 +1,6 @@
 -- The plan at a place by division stands there in the list of plans: the block of each choice is as long as its ways to go on, and in a product
 -- of lists the place of the first element is the quotient by the length of the product of the others, theirs the remainder.
-use Prim.Native.Nat.{ℕ, zero, suc, _+_, _*_, _-_, _/_, _%_, _<_, _≤_}
+use Prim.Native.Nat.{ℕ, zero, suc, _*_, _-_, _/_, _%_, _<_, _≤_}
 use native.Mathlib.Omega.{arith}
 use native.Mathlib.Nat.{not-suc-le-zero, le-of-suc-le-suc, div-eq-of-lt, mod-eq-of-lt, div-eq-sub-div, mod-eq-sub-mod, mod-lt, div-lt-iff-lt-mul, zero-mul, suc-mul, mul-zero}
 use native.Mathlib.Numerals.{add-one}
@@ -55,14 +55,19 @@ module _ {B : Type 0} (size : ℕ → ℕ) (block : ℕ → List B) (d : B) (len
       At : ℕ × ℕ → Type 0
       At x = Held (block a ++ flatMap block l) k x
 
-      go : (k - size a < sum naturals size l → Held (flatMap block l) (k - size a) (block-of size l (k - size a))) → Dec (k < size a) → At (cond (ltb k (size a)) (a, k) (block-of size l (k - size a)))
+      go : (k - size a < sum naturals size l → Held (flatMap block l) (k - size a) (block-of size l (k - size a)))
+          → Dec (k < size a) → At (cond (ltb k (size a)) (a, k) (block-of size l (k - size a)))
       go r (yes i) =
           subst (λ t. At (cond t (a, k) (block-of size l (k - size a)))) (sym (lt-ltb k (size a) i))
           (List·getD-append (block a) (flatMap block l) d k (subst (λ z. k < z) (sym (lengths a)) i), i)
       go r (no i) =
           let w = r (omega arith) in
-          subst (λ t. At (cond t (a, k) (block-of size l (k - size a)))) (sym (le-ltb k (size a) (omega arith)))
-          (getD-past (block a) (flatMap block l) k d (subst (λ z. z ≤ k) (sym (lengths a)) (omega arith)) ∙ ap (λ z. getD (flatMap block l) (k - z) d) (lengths a) ∙ w .0, w .1)
+          subst (λ t. At (cond t (a, k) (block-of size l (k - size a)))) (sym (le-ltb k (size a) (omega arith))) (
+            getD-past (block a) (flatMap block l) k d (subst (λ z. z ≤ k) (sym (lengths a)) (omega arith))
+                ∙ ap (λ z. getD (flatMap block l) (k - z) d) (lengths a)
+                ∙ w .0,
+            w .1,
+          )
 
 -- ---- products
 
@@ -76,6 +81,7 @@ module _ {B : Type 0} (P : List (List B)) (d : List B) (e : B) where
     where
       row : List (List B)
       row = map (λ r. b ∷ r) P
+
       rows : List (List B)
       rows = flatMap (λ b. map (λ r. b ∷ r) P) l
 
@@ -128,8 +134,10 @@ module _ (m : Model) where
   plan-at-is zero s (suc k) d h = absurd (not-suc-le-zero (le-of-suc-le-suc h))
   plan-at-is (suc n) s k d h =
       let g : Step → List (Plan n) = λ o. plans m n (o .target) in
-      let count : (a : ℕ) → length (product (map g (outcomes m s a))) ≡ ways m n s a = λ a. length-product g (below m n) (λ o. plan-count m n (o .target)) (outcomes m s a) in
-      let w = blocks-at {B = Plan (suc n)} (ways m n s) (block m n s) d (λ a. length-map (product (map g (outcomes m s a))) (λ qs. (a, qs)) ∙ count a) (enabled m s) k h in
+      let count : (a : ℕ) → length (product (map g (outcomes m s a))) ≡ ways m n s a =
+      λ a. length-product g (below m n) (λ o. plan-count m n (o .target)) (outcomes m s a) in
+      let sized : (a : ℕ) → length (block m n s a) ≡ ways m n s a = λ a. length-map (product (map g (outcomes m s a))) (λ qs. (a, qs)) ∙ count a in
+      let w = blocks-at {B = Plan (suc n)} (ways m n s) (block m n s) d sized (enabled m s) k h in
       let x : ℕ × ℕ = block-of (ways m n s) (enabled m s) k in
       let P : List (List (Plan n)) = product (map g (outcomes m s (x .0))) in
       w .0

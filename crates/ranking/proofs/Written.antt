@@ -34,9 +34,9 @@ splice-none l p = ran-none [] [] 0 p l refl .wrote
 splice-splice : (l : List ℕ) (p : ℕ) (x y : List ℕ) → p + length x ≤ length l → splice (splice l p x) (p + length x) y ≡ splice l p (x ++ y)
 splice-splice l p x y h =
     let once : (l : List ℕ) (p : ℕ) (x : List ℕ) → Ran (x, []) (length x) [] 0 0 l (splice l p x) p (p + length x) =
-        λ l p x. record { wrote = refl; next = refl; left = refl; near = omega arith; size = omega arith } in
-    ran-ran [] (x, []) (y, []) (x ++ y, []) (length x) (length y) 0 0 0 p (p + length x) (p + length x + length y) l (splice l p x) (splice (splice l p x) (p + length x) y) h
-    (once l p x) (once (splice l p x) (p + length x) y) refl .wrote
+    λ l p x. record { wrote = refl; next = refl; left = refl; near = omega arith; size = omega arith } in
+    ran-ran [] (x, []) (y, []) (x ++ y, []) (length x) (length y) 0 0 0 p (p + length x) (p + length x + length y) l (splice l p x)
+    (splice (splice l p x) (p + length x) y) h (once l p x) (once (splice l p x) (p + length x) y) refl .wrote
 
 splice-set : (l : List ℕ) (p a : ℕ) → p < length l → set l p a ≡ splice l p (a ∷ [])
 unfolding splice
@@ -55,7 +55,8 @@ module _ (m : Model) where
   from-none (suc n) s i at l e = absurd (omega arith)
 
   choice-wrote : (n s i a size place at next : ℕ) (old new : List ℕ) → Found m n s i a size place → at < length old
-      → Wrote (chosen n (outcomes m s a) place) (4 * room n) (set old at a) new (at + 1) next → Wrote (choices (suc n) (plan-at m (suc n) s i)) (room (suc n)) old new at next
+      → Wrote (chosen n (outcomes m s a) place) (4 * room n) (set old at a) new (at + 1) next
+      → Wrote (choices (suc n) (plan-at m (suc n) s i)) (room (suc n)) old new at next
   unfolding choices plan-at room
   choice-wrote n s i a size place at next old new f h w =
       let x : List ℕ = chosen n (outcomes m s a) place in
@@ -68,7 +69,8 @@ module _ (m : Model) where
 
   -- A choice, and what stands below its outcomes.
   pub from-choice : (n s i a size place at next : ℕ) (old new : List ℕ) → (n ≡ 0 → ⊥) → Found m (n - 1) s i a size place → at < length old
-      → Wrote (chosen (n - 1) (outcomes m s a) place) (4 * room (n - 1)) (set old at a) new (at + 1) next → Wrote (choices n (plan-at m n s i)) (room n) old new at next
+      → Wrote (chosen (n - 1) (outcomes m s a) place) (4 * room (n - 1)) (set old at a) new (at + 1) next
+      → Wrote (choices n (plan-at m n s i)) (room n) old new at next
   from-choice n s i a size place at next old new z f h w =
       let e : suc (n - 1) ≡ n = omega arith in
       subst (λ n. Wrote (choices n (plan-at m n s i)) (room n) old new at next) e (choice-wrote (n - 1) s i a size place at next old new f h w)
@@ -109,17 +111,19 @@ module _ (b : Bytes) (n s a place : ℕ) (old : List ℕ) (at : ℕ) where
   below-turn e totals h count j size rest next new here l x t q g =
       turn b e totals n s a h x j t q g (omega (arith, here .entered)) (omega (arith, here .sized, here .inside)) (omega (arith, here .sized, here .few))
 
-  module _ (counts : List ℕ) (count j size rest next t : ℕ) (new : List ℕ) (here : Underway count j size rest new next) (l : j < count) (u : Turn b counts n s a j t) where
+  module _ (counts : List ℕ) (count j size rest next t : ℕ) (new : List ℕ) (here : Underway count j size rest new next) (l : j < count)
+      (u : Turn b counts n s a j t) where
     -- The division is exact, and both parts of the place are in range.
     pub divides : (y : ℕ) → y ≡ getD counts (32 * n + t) 0 → size / y ≡ ways-left b s a n (j + 1)
     divides y e = ap₂ (λ x y. x / y) (here .sized ∙ u .split) (e ∙ u .counted) ∙ mul-div-right (ways-left b s a n (j + 1)) (u .some)
 
     pub quotient : (v : ℕ) → v ≡ ways-left b s a n (j + 1) → rest / v < plan-total (model-of b) n t
-    quotient v e =
-        rw e (div-lt-iff-lt-mul (u .later) .1 (rw (here .sized ∙ u .split) at (here .inside)))
+    quotient v e = rw e (div-lt-iff-lt-mul (u .later) .1 (rw (here .sized ∙ u .split) at (here .inside)))
 
     pub fits : Readable b → at + 4 * room n ≤ length old → next + room n ≤ length new
-    fits r h = omega (arith, here .near, here .kept, here .entered, suc-mul j (room n), mul-le-mul-right {m = suc j} {n = 4} (room n) (omega (arith, here .entered, entries-few b r s a)))
+    fits r h =
+        let most : suc j * room n ≤ 4 * room n = mul-le-mul-right (room n) (omega (arith, here .entered, entries-few b r s a)) in
+        omega (arith, here .near, here .kept, suc-mul j (room n), most)
 
     write-step : (v : ℕ) → v ≡ ways-left b s a n (j + 1) → to-write j rest ≡ choices n (plan-at (model-of b) n t (rest / v)) ++ to-write (j + 1) (rest % v)
     unfolding flatMap parts-at
@@ -128,17 +132,18 @@ module _ (b : Bytes) (n s a place : ℕ) (old : List ℕ) (at : ℕ) where
         ∙ ap₂ (λ t v. choices n (plan-at (model-of b) n t (rest / v)) ++ to-write (j + 1) (rest % v)) (sym (u .target)) (sym e)
 
     pub below-more : (v next′ : ℕ) (new′ : List ℕ) → v ≡ ways-left b s a n (j + 1) → next + room n ≤ length new
-        → Wrote (choices n (plan-at (model-of b) n t (rest / v))) (room n) new new′ next next′ → length new′ ≡ length new → Underway count (j + 1) v (rest % v) new′ next′
+        → Wrote (choices n (plan-at (model-of b) n t (rest / v))) (room n) new new′ next next′ → length new′ ≡ length new
+        → Underway count (j + 1) v (rest % v) new′ next′
     below-more v next′ new′ e h w k =
         let x : List ℕ = choices n (plan-at (model-of b) n t (rest / v)) in
         let y : List ℕ = to-write (j + 1) (rest % v) in
         let p : to-write j rest ≡ x ++ y = write-step v e in
-        let s = factors (plan-total (model-of b) n t) (ways-left b s a n (j + 1)) (sym (u .split)) (omega (arith, here .sized, here .inside)) in
+        let f = factors (plan-total (model-of b) n t) (ways-left b s a n (j + 1)) (sym (u .split)) (omega (arith, here .sized, here .inside)) in
         record {
           entered = here .entered;
-            sized = e;
+          sized = e;
           inside = mod-lt rest (rw e (u .later));
-          few = omega (arith, here .sized, here .few, s .3);
+          few = omega (arith, here .sized, here .few, f .3);
           write = ap₂ (λ l q. splice l q y) (w .wrote) (w .to) ∙ splice-splice new next x y (omega (arith, w .size)) ∙ ap (splice new next) (sym p) ∙ here .write;
           to = omega (arith, w .to, here .to, ap length p, length-append x y);
           near = rw (add-one j) (omega (arith, here .near, w .to, w .size, suc-mul j (room n)));
@@ -161,9 +166,10 @@ module _ (b : Bytes) (n s a place : ℕ) (old : List ℕ) (at : ℕ) where
 -- ---- the whole
 
 -- What stands at the beginning of the buffer is the plan of the list.
-pub nth-listed : (m : Model) (n s i y x next : ℕ) (old new : List ℕ) → y ≡ n → x ≡ s → i < plan-total m n s → Wrote (choices y (plan-at m y x i)) (room y) old new 0 next
+pub nth-listed : (m : Model) (n s i y x next : ℕ) (old new : List ℕ) → y ≡ n → x ≡ s → i < plan-total m n s
+    → Wrote (choices y (plan-at m y x i)) (room y) old new 0 next
     → (new ≡ splice old 0 (choices n (listed m n s i))) × (next ≡ length (choices n (listed m n s i)))
 nth-listed m n s i y x next old new e q h w =
     let here : choices y (plan-at m y x i) ≡ choices n (listed m n s i) =
-        ap₂ (λ n s. choices n (plan-at m n s i)) e q ∙ ap (choices n) (sym (plan-at-is m n s i (first-plan m n s) h)) in
+    ap₂ (λ n s. choices n (plan-at m n s i)) e q ∙ ap (choices n) (sym (plan-at-is m n s i (first-plan m n s) h)) in
     (w .wrote ∙ ap (splice old 0) here, omega (arith, w .to, ap length here))

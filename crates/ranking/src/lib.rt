@@ -78,16 +78,34 @@ fn block_of(m: &[u8], used: &[u8; 264], counts: &[u64; 224], s: usize, n: usize,
     while a < 8 {
         let size = ways(m, used, counts, s, a, n);
         if rest < size {
-            return Block { action: a, size: size, place: rest };
+            return Block {
+                action: a,
+                size: size,
+                place: rest,
+            };
         }
         rest -= size;
         a += 1;
     }
-    Block { action: 0, size: 1, place: 0 }
+    // Not reached: there are more than i plans.
+    Block {
+        action: 0,
+        size: 1,
+        place: 0,
+    }
 }
 
 // Writes the choices of plan number i of n steps from s; gives the next place.
-fn nth_from(m: &[u8], used: &[u8; 264], counts: &[u64; 224], choices: &mut [u8], s: usize, n: usize, i: u64, at: usize) -> usize
+fn nth_from(
+    m: &[u8],
+    used: &[u8; 264],
+    counts: &[u64; 224],
+    choices: &mut [u8],
+    s: usize,
+    n: usize,
+    i: u64,
+    at: usize,
+) -> usize
     requires { ⌜ (refusal (read-model (now m)) ≡ 0) × Used (now m) (now used) × Totals true (model-of (now m)) (now counts) ⌝ }
     requires { ⌜ (s < state-count (now m)) × (n ≤ 6) × (plan-total (model-of (now m)) n s ≤ 65536) × (i < plan-total (model-of (now m)) n s) × (at + room n ≤ length (now choices)) ⌝ }
     ensures { λ r. ⌜ Wrote (plan.choices n (plan-at (model-of (now (m .entry))) n s i)) (room n) (now (choices .entry)) (now (choices .exit)) at r ⌝ }
@@ -101,7 +119,16 @@ fn nth_from(m: &[u8], used: &[u8; 264], counts: &[u64; 224], choices: &mut [u8],
 }
 
 // Writes the choices of n steps below each outcome: what is left of the place is divided by the ways of the outcomes after it.
-fn nth_below(m: &[u8], used: &[u8; 264], counts: &[u64; 224], choices: &mut [u8], s: usize, b: Block, n: usize, at: usize) -> usize
+fn nth_below(
+    m: &[u8],
+    used: &[u8; 264],
+    counts: &[u64; 224],
+    choices: &mut [u8],
+    s: usize,
+    b: Block,
+    n: usize,
+    at: usize,
+) -> usize
     requires { ⌜ (refusal (read-model (now m)) ≡ 0) × Used (now m) (now used) × Totals true (model-of (now m)) (now counts) ⌝ }
     requires { ⌜ (s < state-count (now m)) × (n < 6) × (b .action < 8) × (b .size ≡ spec.ways (model-of (now m)) n s (b .action)) × (b .size ≤ 65536) × (b .place < b .size) × (at + 4 * room n ≤ length (now choices)) ⌝ }
     ensures { λ r. ⌜ Wrote (flatMap (plan.choices n) (parts-at (below (model-of (now (m .entry))) n) (λ o. plan-at (model-of (now (m .entry))) n (o .target)) (outcomes (model-of (now (m .entry))) s (b .action)) (b .place))) (4 * room n) (now (choices .entry)) (now (choices .exit)) at r ⌝ }
@@ -123,7 +150,15 @@ fn nth_below(m: &[u8], used: &[u8; 264], counts: &[u64; 224], choices: &mut [u8]
 }
 
 // Writes the choices of plan number i, from 0, of all n-step plans from s in dictionary order; gives their number.
-pub fn nth(m: &[u8], used: &[u8; 264], counts: &[u64; 224], choices: &mut [u8], s: u8, n: u8, i: u64) -> usize
+pub fn nth(
+    m: &[u8],
+    used: &[u8; 264],
+    counts: &[u64; 224],
+    choices: &mut [u8],
+    s: u8,
+    n: u8,
+    i: u64,
+) -> usize
     requires { ⌜ (refusal (read-model (now m)) ≡ 0) × Used (now m) (now used) × Totals true (model-of (now m)) (now counts) ⌝ }
     requires { ⌜ (s < state-count (now m)) × (n ≤ 6) × (plan-total (model-of (now m)) n s ≤ 65536) × (i < plan-total (model-of (now m)) n s) × (1365 ≤ length (now choices)) ⌝ }
     ensures { λ r. ⌜ (now (choices .exit) ≡ splice (now (choices .entry)) 0 (plan.choices n (listed (model-of (now (m .entry))) n s i))) × (r ≡ length (plan.choices n (listed (model-of (now (m .entry))) n s i))) ⌝ }

@@ -18,7 +18,7 @@ number-requires-2 c κs = search needs
 nth-from-requires : tie.Need-nth-from-requires
 nth-from-requires c κs = let S = c .before .before .before .before .before in
     let e : plan-total (model-of (S .args .m .now)) (c .number2 .result) (c .before .number .result) ≡ plan-total (model-of (S .args .m .now)) (S .args .n) (S .args .s) =
-        ap₂ (plan-total (model-of (S .args .m .now))) (c .number2 .ensures) (c .before .number .ensures) in
+    ap₂ (plan-total (model-of (S .args .m .now))) (c .number2 .ensures) (c .before .number .ensures) in
     let most = room-most (c .number2 .result) (omega arith) in
     (S .pre .0, (omega arith, omega arith, omega (arith, e), omega (arith, e), omega (arith, most)))
 
