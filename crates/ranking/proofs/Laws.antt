@@ -205,7 +205,9 @@ module _ (b : Bytes) (n s : ℕ) where
         go true q =
             let w : v ≡ sizes a = e ∙ ap (λ t. cond t (sizes a) 0) q in
             record {
-              block = sym (block-first sizes a rest (from (a + 1)) (omega arith)) ∙ ap (λ l. block-of sizes l rest) (sym (from-step a true l q)) ∙ here .block;
+              block = sym (block-first sizes a rest (from (a + 1)) (omega arith))
+                  ∙ ap (λ l. block-of sizes l rest) (sym (from-step a true l q))
+                  ∙ here .block;
               sized = w;
               inside = h;
               few = f;

@@ -93,7 +93,8 @@ module _ (b : Bytes) (n s a place : ℕ) (old : List ℕ) (at : ℕ) where
     pub near : next ≤ at + j * room n
     pub kept : length new ≡ length old
 
-  pub below-start : (count size : ℕ) → count ≡ entries b s a → size ≡ ways (model-of b) n s a → place < size → size ≤ 65536 → Underway count 0 size place old at
+  pub below-start : (count size : ℕ) → count ≡ entries b s a → size ≡ ways (model-of b) n s a → place < size → size ≤ 65536
+      → Underway count 0 size place old at
   below-start count size c e h f =
       record {
         entered = c;
