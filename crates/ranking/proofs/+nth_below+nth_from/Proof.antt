@@ -80,8 +80,13 @@ nth-below-loop-holds : (t : ℕ) → nth-below-lts.Need-loop-holds (
   nth-from-below t,
   nth-from.Post,
 ) (nth-below-at t) nth-below.Post nth-below-Inv-loop nth-below-μ-loop
-nth-below-loop-holds t c = let S = c .before .before .before in
-    (omega arith, below-start (S .args .m .now) (S .args .n) (S .args .s) (S .args .b .action) (S .args .b .place) (S .args .choices .now) (S .args .at) (c .count .result) (S .args .b .size) (c .count .ensures ∙ used-at (S .args .m .now) (S .pre .1 .0 .1) (S .args .s) (S .args .b .action) (omega (arith, readable (S .args .m .now) (S .pre .1 .0 .0) .states)) (omega arith)) (S .pre .1 .1 .3) (S .pre .1 .1 .5) (S .pre .1 .1 .4))
+nth-below-loop-holds t c = let S = c .before .before .before in (
+  omega arith,
+  below-start (S .args .m .now) (S .args .n) (S .args .s) (S .args .b .action) (S .args .b .place) (S .args .choices .now)
+      (S .args .at) (c .count .result) (S .args .b .size) (c .count .ensures ∙ used-at (S .args .m .now) (S .pre .1 .0 .1) (S .args .s)
+      (S .args .b .action) (omega (arith, readable (S .args .m .now) (S .pre .1 .0 .0) .states)) (omega arith)) (S .pre .1 .1 .3) (S .pre .1 .1 .5)
+      (S .pre .1 .1 .4),
+)
 
 nth-below-number-requires : (t : ℕ) → nth-below-lts.Need-number-requires (
   count-reads.Asked,
@@ -110,7 +115,13 @@ nth-below-target-requires : (t : ℕ) → nth-below-lts.Need-target-requires (
   nth-from.Post,
 ) (nth-below-at t) nth-below.Post nth-below-Inv-loop nth-below-μ-loop
 nth-below-target-requires t c κs = let S = c .before .before .before .before .before .before in
-    omega (arith, readable (S .args .m .now) (S .pre .1 .0 .0) .states, (c .before .before .loop .inv .1) .entered, entries-few (S .args .m .now) (readable (S .args .m .now) (S .pre .1 .0 .0)) (S .args .s) (S .args .b .action))
+    omega (
+      arith,
+      readable (S .args .m .now) (S .pre .1 .0 .0) .states,
+      (c .before .before .loop .inv .1) .entered,
+      entries-few (S .args .m .now)
+          (readable (S .args .m .now) (S .pre .1 .0 .0)) (S .args .s) (S .args .b .action),
+    )
 
 nth-below-total-requires : (t : ℕ) → nth-below-lts.Need-total-requires (
   count-reads.Asked,
@@ -127,7 +138,10 @@ nth-below-total-requires : (t : ℕ) → nth-below-lts.Need-total-requires (
 nth-below-total-requires t c κs = let S = c .before .before .before .before .before .before .before in
     let L = c .before .before .before .loop in
     let t = c .target .result in
-    let u = below-turn (S .args .m .now) (S .args .n) (S .args .s) (S .args .b .action) (S .args .b .place) (S .args .choices .now) (S .args .at) (S .pre .1 .0 .0) (S .pre .1 .0 .2) (omega arith) (c .before .before .before .before .count .result) (L .j) (L .size) (L .rest) (L .next) (L .choices) (L .inv .1) (c .before .before .loop-test .taken) (c .before .number .result) t (c .before .number .ensures) (c .target .ensures .0) in
+    let u = below-turn (S .args .m .now) (S .args .n) (S .args .s) (S .args .b .action) (S .args .b .place) (S .args .choices .now) (S .args .at)
+    (S .pre .1 .0 .0) (S .pre .1 .0 .2) (omega arith) (c .before .before .before .before .count .result) (L .j) (L .size) (L .rest) (L .next)
+    (L .choices) (L .inv .1) (c .before .before .loop-test .taken) (c .before .number .result) t (c .before .number .ensures)
+    (c .target .ensures .0) in
     (omega arith, omega (arith, readable (S .args .m .now) (S .pre .1 .0 .0) .states, u .state))
 
 nth-below-div-size : (t : ℕ) → nth-below-lts.Need-div-size (
@@ -145,7 +159,10 @@ nth-below-div-size : (t : ℕ) → nth-below-lts.Need-div-size (
 nth-below-div-size t c = let S = c .before .before .before .before .before .before .before .before in
     let L = c .before .before .before .before .loop in
     let t = c .before .target .result in
-    let u = below-turn (S .args .m .now) (S .args .n) (S .args .s) (S .args .b .action) (S .args .b .place) (S .args .choices .now) (S .args .at) (S .pre .1 .0 .0) (S .pre .1 .0 .2) (omega arith) (c .before .before .before .before .before .count .result) (L .j) (L .size) (L .rest) (L .next) (L .choices) (L .inv .1) (c .before .before .before .loop-test .taken) (c .before .before .number .result) t (c .before .before .number .ensures) (c .before .target .ensures .0) in
+    let u = below-turn (S .args .m .now) (S .args .n) (S .args .s) (S .args .b .action) (S .args .b .place) (S .args .choices .now) (S .args .at)
+    (S .pre .1 .0 .0) (S .pre .1 .0 .2) (omega arith) (c .before .before .before .before .before .count .result) (L .j) (L .size) (L .rest)
+    (L .next) (L .choices) (L .inv .1) (c .before .before .before .loop-test .taken) (c .before .before .number .result) t
+    (c .before .before .number .ensures) (c .before .target .ensures .0) in
     rw (c .total .ensures ∙ u .counted) (u .some)
 
 nth-below-div-nth-from : (t : ℕ) → nth-below-lts.Need-div-nth-from (
@@ -163,8 +180,13 @@ nth-below-div-nth-from : (t : ℕ) → nth-below-lts.Need-div-nth-from (
 nth-below-div-nth-from t c = let S = c .before .before .before .before .before .before .before .before .before in
     let L = c .before .before .before .before .before .loop in
     let t = c .before .before .target .result in
-    let u = below-turn (S .args .m .now) (S .args .n) (S .args .s) (S .args .b .action) (S .args .b .place) (S .args .choices .now) (S .args .at) (S .pre .1 .0 .0) (S .pre .1 .0 .2) (omega arith) (c .before .before .before .before .before .before .count .result) (L .j) (L .size) (L .rest) (L .next) (L .choices) (L .inv .1) (c .before .before .before .before .loop-test .taken) (c .before .before .before .number .result) t (c .before .before .before .number .ensures) (c .before .before .target .ensures .0) in
-    let v = divides (S .args .m .now) (S .args .n) (S .args .s) (S .args .b .action) (S .args .b .place) (S .args .choices .now) (S .args .at) (S .args .counts .now) (c .before .before .before .before .before .before .count .result) (L .j) (L .size) (L .rest) (L .next) t (L .choices) (L .inv .1) (c .before .before .before .before .loop-test .taken) u (c .before .total .result) (c .before .total .ensures) in
+    let u = below-turn (S .args .m .now) (S .args .n) (S .args .s) (S .args .b .action) (S .args .b .place) (S .args .choices .now) (S .args .at)
+    (S .pre .1 .0 .0) (S .pre .1 .0 .2) (omega arith) (c .before .before .before .before .before .before .count .result) (L .j) (L .size)
+    (L .rest) (L .next) (L .choices) (L .inv .1) (c .before .before .before .before .loop-test .taken)
+    (c .before .before .before .number .result) t (c .before .before .before .number .ensures) (c .before .before .target .ensures .0) in
+    let v = divides (S .args .m .now) (S .args .n) (S .args .s) (S .args .b .action) (S .args .b .place) (S .args .choices .now) (S .args .at)
+    (S .args .counts .now) (c .before .before .before .before .before .before .count .result) (L .j) (L .size) (L .rest) (L .next) t (L .choices)
+    (L .inv .1) (c .before .before .before .before .loop-test .taken) u (c .before .total .result) (c .before .total .ensures) in
     rw v (u .later)
 
 nth-below-nth-from-requires : (t : ℕ) → nth-below-lts.Need-nth-from-requires (
@@ -182,8 +204,13 @@ nth-below-nth-from-requires : (t : ℕ) → nth-below-lts.Need-nth-from-requires
 nth-below-nth-from-requires t c κs = let S = c .before .before .before .before .before .before .before .before .before in
     let L = c .before .before .before .before .before .loop in
     let t = c .before .before .target .result in
-    let u = below-turn (S .args .m .now) (S .args .n) (S .args .s) (S .args .b .action) (S .args .b .place) (S .args .choices .now) (S .args .at) (S .pre .1 .0 .0) (S .pre .1 .0 .2) (omega arith) (c .before .before .before .before .before .before .count .result) (L .j) (L .size) (L .rest) (L .next) (L .choices) (L .inv .1) (c .before .before .before .before .loop-test .taken) (c .before .before .before .number .result) t (c .before .before .before .number .ensures) (c .before .before .target .ensures .0) in
-    let v = divides (S .args .m .now) (S .args .n) (S .args .s) (S .args .b .action) (S .args .b .place) (S .args .choices .now) (S .args .at) (S .args .counts .now) (c .before .before .before .before .before .before .count .result) (L .j) (L .size) (L .rest) (L .next) t (L .choices) (L .inv .1) (c .before .before .before .before .loop-test .taken) u (c .before .total .result) (c .before .total .ensures) in
+    let u = below-turn (S .args .m .now) (S .args .n) (S .args .s) (S .args .b .action) (S .args .b .place) (S .args .choices .now) (S .args .at)
+    (S .pre .1 .0 .0) (S .pre .1 .0 .2) (omega arith) (c .before .before .before .before .before .before .count .result) (L .j) (L .size)
+    (L .rest) (L .next) (L .choices) (L .inv .1) (c .before .before .before .before .loop-test .taken)
+    (c .before .before .before .number .result) t (c .before .before .before .number .ensures) (c .before .before .target .ensures .0) in
+    let v = divides (S .args .m .now) (S .args .n) (S .args .s) (S .args .b .action) (S .args .b .place) (S .args .choices .now) (S .args .at)
+    (S .args .counts .now) (c .before .before .before .before .before .before .count .result) (L .j) (L .size) (L .rest) (L .next) t (L .choices)
+    (L .inv .1) (c .before .before .before .before .loop-test .taken) u (c .before .total .result) (c .before .total .ensures) in
     (omega arith, (S .pre .1 .0, (u .state, omega arith, u .few, quotient (S .args .m .now) (S .args .n) (S .args .s) (S .args .b .action) (S .args .b .place) (S .args .choices .now) (S .args .at) (S .args .counts .now) (c .before .before .before .before .before .before .count .result) (L .j) (L .size) (L .rest) (L .next) t (L .choices) (L .inv .1) (c .before .before .before .before .loop-test .taken) u (L .size / c .before .total .result) v, fits (S .args .m .now) (S .args .n) (S .args .s) (S .args .b .action) (S .args .b .place) (S .args .choices .now) (S .args .at) (S .args .counts .now) (c .before .before .before .before .before .before .count .result) (L .j) (L .size) (L .rest) (L .next) t (L .choices) (L .inv .1) (c .before .before .before .before .loop-test .taken) u (readable (S .args .m .now) (S .pre .1 .0 .0)) (S .pre .1 .1 .6))))
 
 nth-below-rem-rest : (t : ℕ) → nth-below-lts.Need-rem-rest (
@@ -201,8 +228,15 @@ nth-below-rem-rest : (t : ℕ) → nth-below-lts.Need-rem-rest (
 nth-below-rem-rest t c = let S = c .before .before .before .before .before .before .before .before .before .before .before .before in
     let L = c .before .before .before .before .before .before .before .before .loop in
     let t = c .before .before .before .before .before .target .result in
-    let u = below-turn (S .args .m .now) (S .args .n) (S .args .s) (S .args .b .action) (S .args .b .place) (S .args .choices .now) (S .args .at) (S .pre .1 .0 .0) (S .pre .1 .0 .2) (omega arith) (c .before .before .before .before .before .before .before .before .before .count .result) (L .j) (L .size) (L .rest) (L .next) (L .choices) (L .inv .1) (c .before .before .before .before .before .before .before .loop-test .taken) (c .before .before .before .before .before .before .number .result) t (c .before .before .before .before .before .before .number .ensures) (c .before .before .before .before .before .target .ensures .0) in
-    let v = divides (S .args .m .now) (S .args .n) (S .args .s) (S .args .b .action) (S .args .b .place) (S .args .choices .now) (S .args .at) (S .args .counts .now) (c .before .before .before .before .before .before .before .before .before .count .result) (L .j) (L .size) (L .rest) (L .next) t (L .choices) (L .inv .1) (c .before .before .before .before .before .before .before .loop-test .taken) u (c .before .before .before .before .total .result) (c .before .before .before .before .total .ensures) in
+    let u = below-turn (S .args .m .now) (S .args .n) (S .args .s) (S .args .b .action) (S .args .b .place) (S .args .choices .now) (S .args .at)
+    (S .pre .1 .0 .0) (S .pre .1 .0 .2) (omega arith) (c .before .before .before .before .before .before .before .before .before .count .result)
+    (L .j) (L .size) (L .rest) (L .next) (L .choices) (L .inv .1) (c .before .before .before .before .before .before .before .loop-test .taken)
+    (c .before .before .before .before .before .before .number .result) t (c .before .before .before .before .before .before .number .ensures)
+    (c .before .before .before .before .before .target .ensures .0) in
+    let v = divides (S .args .m .now) (S .args .n) (S .args .s) (S .args .b .action) (S .args .b .place) (S .args .choices .now) (S .args .at)
+    (S .args .counts .now) (c .before .before .before .before .before .before .before .before .before .count .result) (L .j) (L .size) (L .rest)
+    (L .next) t (L .choices) (L .inv .1) (c .before .before .before .before .before .before .before .loop-test .taken) u
+    (c .before .before .before .before .total .result) (c .before .before .before .before .total .ensures) in
     rw v (u .later)
 
 nth-below-add-j : (t : ℕ) → nth-below-lts.Need-add-j (
@@ -248,9 +282,27 @@ nth-below-loop-again : (t : ℕ) → nth-below-lts.Need-loop-again (
 nth-below-loop-again t c = let S = c .before .before .before .before .before .before .before .before .before .before .before .before in
     let L = c .before .before .before .before .before .before .before .before .loop in
     let t = c .before .before .before .before .before .target .result in
-    let u = below-turn (S .args .m .now) (S .args .n) (S .args .s) (S .args .b .action) (S .args .b .place) (S .args .choices .now) (S .args .at) (S .pre .1 .0 .0) (S .pre .1 .0 .2) (omega arith) (c .before .before .before .before .before .before .before .before .before .count .result) (L .j) (L .size) (L .rest) (L .next) (L .choices) (L .inv .1) (c .before .before .before .before .before .before .before .loop-test .taken) (c .before .before .before .before .before .before .number .result) t (c .before .before .before .before .before .before .number .ensures) (c .before .before .before .before .before .target .ensures .0) in
-    let v = divides (S .args .m .now) (S .args .n) (S .args .s) (S .args .b .action) (S .args .b .place) (S .args .choices .now) (S .args .at) (S .args .counts .now) (c .before .before .before .before .before .before .before .before .before .count .result) (L .j) (L .size) (L .rest) (L .next) t (L .choices) (L .inv .1) (c .before .before .before .before .before .before .before .loop-test .taken) u (c .before .before .before .before .total .result) (c .before .before .before .before .total .ensures) in
-    (omega arith, below-more (S .args .m .now) (S .args .n) (S .args .s) (S .args .b .action) (S .args .b .place) (S .args .choices .now) (S .args .at) (S .args .counts .now) (c .before .before .before .before .before .before .before .before .before .count .result) (L .j) (L .size) (L .rest) (L .next) t (L .choices) (L .inv .1) (c .before .before .before .before .before .before .before .loop-test .taken) u (L .size / c .before .before .before .before .total .result) (c .before .before .nth-from .result) (c .before .before .nth-from .last .1 .1 .1 .0) v (fits (S .args .m .now) (S .args .n) (S .args .s) (S .args .b .action) (S .args .b .place) (S .args .choices .now) (S .args .at) (S .args .counts .now) (c .before .before .before .before .before .before .before .before .before .count .result) (L .j) (L .size) (L .rest) (L .next) t (L .choices) (L .inv .1) (c .before .before .before .before .before .before .before .loop-test .taken) u (readable (S .args .m .now) (S .pre .1 .0 .0)) (S .pre .1 .1 .6)) (c .before .before .nth-from .ensures) (c .before .before .nth-from .kept .1 .1 .1 .0))
+    let u = below-turn (S .args .m .now) (S .args .n) (S .args .s) (S .args .b .action) (S .args .b .place) (S .args .choices .now) (S .args .at)
+    (S .pre .1 .0 .0) (S .pre .1 .0 .2) (omega arith) (c .before .before .before .before .before .before .before .before .before .count .result)
+    (L .j) (L .size) (L .rest) (L .next) (L .choices) (L .inv .1) (c .before .before .before .before .before .before .before .loop-test .taken)
+    (c .before .before .before .before .before .before .number .result) t (c .before .before .before .before .before .before .number .ensures)
+    (c .before .before .before .before .before .target .ensures .0) in
+    let v = divides (S .args .m .now) (S .args .n) (S .args .s) (S .args .b .action) (S .args .b .place) (S .args .choices .now) (S .args .at)
+    (S .args .counts .now) (c .before .before .before .before .before .before .before .before .before .count .result) (L .j) (L .size) (L .rest)
+    (L .next) t (L .choices) (L .inv .1) (c .before .before .before .before .before .before .before .loop-test .taken) u
+    (c .before .before .before .before .total .result) (c .before .before .before .before .total .ensures) in (
+      omega arith,
+      below-more (S .args .m .now) (S .args .n) (S .args .s) (S .args .b .action) (S .args .b .place) (S .args .choices .now)
+          (S .args .at) (S .args .counts .now) (c .before .before .before .before .before .before .before .before .before .count .result) (L .j)
+          (L .size) (L .rest) (L .next) t (L .choices) (L .inv .1) (c .before .before .before .before .before .before .before .loop-test .taken) u
+          (L .size / c .before .before .before .before .total .result) (c .before .before .nth-from .result)
+          (c .before .before .nth-from .last .1 .1 .1 .0) v (fits (S .args .m .now) (S .args .n) (S .args .s) (S .args .b .action) (S .args .b .place)
+          (S .args .choices .now) (S .args .at) (S .args .counts .now)
+          (c .before .before .before .before .before .before .before .before .before .count .result) (L .j) (L .size) (L .rest) (L .next) t
+          (L .choices) (L .inv .1) (c .before .before .before .before .before .before .before .loop-test .taken) u
+          (readable (S .args .m .now) (S .pre .1 .0 .0)) (S .pre .1 .1 .6)) (c .before .before .nth-from .ensures)
+          (c .before .before .nth-from .kept .1 .1 .1 .0),
+    )
 
 nth-below-same-length : (t : ℕ) → nth-below-lts.Need-same-length (
   count-reads.Asked,
@@ -280,7 +332,9 @@ nth-below-returns : (t : ℕ) → nth-below-lts.Need-returns (
 ) (nth-below-at t) nth-below.Post nth-below-Inv-loop nth-below-μ-loop
 nth-below-returns t c = let S = c .before .before .before .before .before in
     let L = c .before .loop in
-    below-end (S .args .m .now) (S .args .n) (S .args .s) (S .args .b .action) (S .args .b .place) (S .args .choices .now) (S .args .at) (c .before .before .count .result) (L .j) (L .size) (L .rest) (L .next) (L .choices) (readable (S .args .m .now) (S .pre .1 .0 .0)) (omega arith) (L .inv .1)
+    below-end (S .args .m .now) (S .args .n) (S .args .s) (S .args .b .action) (S .args .b .place) (S .args .choices .now) (S .args .at)
+    (c .before .before .count .result) (L .j) (L .size) (L .rest) (L .next) (L .choices) (readable (S .args .m .now) (S .pre .1 .0 .0))
+    (omega arith) (L .inv .1)
 
 nth-from-returns : (t : ℕ) → nth-from-lts.Need-returns (
   block-of-reads.Asked,
@@ -355,7 +409,8 @@ nth-from-same-length : (t : ℕ) → nth-from-lts.Need-same-length (
   nth-below.Post,
 ) (nth-from-at t) nth-from.Post
 nth-from-same-length t c = let S = c .before .before .before .before .before .before .before .before in
-    c .before .before .nth-below .kept .1 .1 .1 .0 ∙ length-set (S .args .choices .now) (S .args .at) (c .before .before .before .before .block-of .result .action)
+    c .before .before .nth-below .kept .1 .1 .1 .0 ∙ length-set (S .args .choices .now) (S .args .at)
+    (c .before .before .before .before .block-of .result .action)
 
 nth-from-returns-2 : (t : ℕ) → nth-from-lts.Need-returns-2 (
   block-of-reads.Asked,
@@ -367,7 +422,9 @@ nth-from-returns-2 t c = let S = c .before .before .before .before .before .befo
     let room-of = room-step (S .args .n) (c .before .before .before .before .before .if1 .left) in
     let f = c .before .before .before .before .block-of in
     let w = c .before .before .nth-below in
-    from-choice (model-of (S .args .m .now)) (S .args .n) (S .args .s) (S .args .i) (f .result .action) (f .result .size) (f .result .place) (S .args .at) (w .result) (S .args .choices .now) (w .last .1 .1 .1 .0) (c .before .before .before .before .before .if1 .left) (f .ensures) (omega (arith, room-of)) (w .ensures)
+    from-choice (model-of (S .args .m .now)) (S .args .n) (S .args .s) (S .args .i) (f .result .action) (f .result .size) (f .result .place)
+    (S .args .at) (w .result) (S .args .choices .now) (w .last .1 .1 .1 .0) (c .before .before .before .before .before .if1 .left) (f .ensures)
+    (omega (arith, room-of)) (w .ensures)
 
 pub +nth-below+nth-from-spec : {M : Type 1} → statement M
 +nth-below+nth-from-spec = close μ-nth-below μ-nth-from (λ t. nth-below-lts.spec (

@@ -15,8 +15,11 @@ abbrev μ-loop : tie.MeasureT-loop
 μ-loop m used counts s n i rest₀ a₀ rest a = 8 - a
 
 loop-holds : tie.Need-loop-holds Inv-loop μ-loop
-loop-holds c = let S = c .before in
-    (omega arith, rest-start (S .args .m .now) (S .args .n) (S .args .s) (readable (S .args .m .now) (S .pre .0 .0)) (S .pre .1 .0) (S .args .i) (S .pre .1 .3))
+loop-holds c = let S = c .before in (
+  omega arith,
+  rest-start (S .args .m .now) (S .args .n) (S .args .s) (readable (S .args .m .now) (S .pre .0 .0)) (S .pre .1 .0) (S .args .i)
+      (S .pre .1 .3),
+)
 
 ways-requires : tie.Need-ways-requires Inv-loop μ-loop
 ways-requires c κs = let S = c .before .before .before in
@@ -25,7 +28,8 @@ ways-requires c κs = let S = c .before .before .before in
 returns : tie.Need-returns Inv-loop μ-loop
 returns c = let S = c .before .before .before .before .before in
     let L = c .before .before .before .loop in
-    rest-found (S .args .m .now) (S .args .n) (S .args .s) (S .args .i) (L .a) (L .rest) (c .before .ways .result) (L .inv .1) (omega arith) (c .before .ways .ensures .0) (c .if1 .taken) (c .before .ways .ensures .1)
+    rest-found (S .args .m .now) (S .args .n) (S .args .s) (S .args .i) (L .a) (L .rest) (c .before .ways .result) (L .inv .1) (omega arith)
+    (c .before .ways .ensures .0) (c .if1 .taken) (c .before .ways .ensures .1)
 
 add-a : tie.Need-add-a Inv-loop μ-loop
 add-a c = search needs
@@ -35,8 +39,11 @@ loop-less c = search needs
 
 loop-again : tie.Need-loop-again Inv-loop μ-loop
 loop-again c = let S = c .before .before .before .before .before in
-    let L = c .before .before .before .loop in
-    (omega arith, rest-passed (S .args .m .now) (S .args .n) (S .args .s) (S .args .i) (L .a) (L .rest) (c .before .ways .result) (L .inv .1) (omega arith) (c .before .ways .ensures .0) (omega arith))
+    let L = c .before .before .before .loop in (
+      omega arith,
+      rest-passed (S .args .m .now) (S .args .n) (S .args .s) (S .args .i) (L .a) (L .rest) (c .before .ways .result) (L .inv .1)
+          (omega arith) (c .before .ways .ensures .0) (omega arith),
+    )
 
 returns-2 : tie.Need-returns-2 Inv-loop μ-loop
 returns-2 c = let S = c .before .before .before in

@@ -22,7 +22,8 @@ number-requires-2 : tie.Need-number-requires-2
 number-requires-2 c κs = search needs
 
 returns : tie.Need-returns
-returns c = c .number2 .ensures ∙ ap (λ x. getD (c .before .before .before .args .used .now) (8 * c .before .before .before .args .s + x) 0) (c .before .before .number .ensures)
+returns c = c .number2 .ensures ∙ ap (λ x. getD (c .before .before .before .args .used .now) (8 * c .before .before .before .args .s + x) 0)
+    (c .before .before .number .ensures)
 
 pub count-spec : {M : Type 1} → statement M
 count-spec =
