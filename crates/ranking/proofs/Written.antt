@@ -107,54 +107,10 @@ module _ (b : Bytes) (n s a place : ℕ) (old : List ℕ) (at : ℕ) where
         kept = refl;
       }
 
-  pub below-turn : refusal (read-model b) ≡ 0 → {counts : List ℕ} → Totals true (model-of b) counts → n ≤ 6 → (count j size rest next : ℕ) (new : List ℕ)
-      → Underway count j size rest new next → j < count → (x t : ℕ) → x ≡ a → t ≡ (outcome-of b s x j) .target → Turn b counts n s a j t
-  below-turn e totals h count j size rest next new here l x t q g =
-      turn b e totals n s a h x j t q g (omega (arith, here .entered)) (omega (arith, here .sized, here .inside)) (omega (arith, here .sized, here .few))
-
-  module _ (counts : List ℕ) (count j size rest next t : ℕ) (new : List ℕ) (here : Underway count j size rest new next) (l : j < count)
-      (u : Turn b counts n s a j t) where
-    -- The division is exact, and both parts of the place are in range.
-    pub divides : (y : ℕ) → y ≡ getD counts (32 * n + t) 0 → size / y ≡ ways-left b s a n (j + 1)
-    divides y e = ap₂ (λ x y. x / y) (here .sized ∙ u .split) (e ∙ u .counted) ∙ mul-div-right (ways-left b s a n (j + 1)) (u .some)
-
-    pub quotient : (v : ℕ) → v ≡ ways-left b s a n (j + 1) → rest / v < plan-total (model-of b) n t
-    quotient v e = rw e (div-lt-iff-lt-mul (u .later) .1 (rw (here .sized ∙ u .split) at (here .inside)))
-
-    pub fits : Readable b → at + 4 * room n ≤ length old → next + room n ≤ length new
-    fits r h =
-        let most : suc j * room n ≤ 4 * room n = mul-le-mul-right (room n) (omega (arith, here .entered, entries-few b r s a)) in
-        omega (arith, here .near, here .kept, suc-mul j (room n), most)
-
-    write-step : (v : ℕ) → v ≡ ways-left b s a n (j + 1) → to-write j rest ≡ choices n (plan-at (model-of b) n t (rest / v)) ++ to-write (j + 1) (rest % v)
-    unfolding flatMap parts-at
-    write-step v e =
-        ap (λ l. chosen (model-of b) n l rest) (left-step b s a j (rw (here .entered) at l))
-        ∙ ap₂ (λ t v. choices n (plan-at (model-of b) n t (rest / v)) ++ to-write (j + 1) (rest % v)) (sym (u .target)) (sym e)
-
-    pub below-more : (v next′ : ℕ) (new′ : List ℕ) → v ≡ ways-left b s a n (j + 1) → next + room n ≤ length new
-        → Wrote (choices n (plan-at (model-of b) n t (rest / v))) (room n) new new′ next next′ → length new′ ≡ length new
-        → Underway count (j + 1) v (rest % v) new′ next′
-    below-more v next′ new′ e h w k =
-        let x : List ℕ = choices n (plan-at (model-of b) n t (rest / v)) in
-        let y : List ℕ = to-write (j + 1) (rest % v) in
-        let p : to-write j rest ≡ x ++ y = write-step v e in
-        let f = factors (plan-total (model-of b) n t) (ways-left b s a n (j + 1)) (sym (u .split)) (omega (arith, here .sized, here .inside)) in
-        record {
-          entered = here .entered;
-          sized = e;
-          inside = mod-lt rest (rw e (u .later));
-          few = omega (arith, here .sized, here .few, f .3);
-          write = ap₂ (λ l q. splice l q y) (w .wrote) (w .to) ∙ splice-splice new next x y (omega (arith, w .size)) ∙ ap (splice new next) (sym p) ∙ here .write;
-          to = omega (arith, w .to, here .to, ap length p, length-append x y);
-          near = rw (add-one j) (omega (arith, here .near, w .to, w .size, suc-mul j (room n)));
-          kept = k ∙ here .kept;
-        }
-
-  pub below-end : (count j size rest next : ℕ) (new : List ℕ) → Readable b → j ≡ count → Underway count j size rest new next
+  pub below-end : {count j size rest next : ℕ} {new : List ℕ} → Readable b → j ≡ count → Underway count j size rest new next
       → Wrote (chosen (model-of b) n (outcomes (model-of b) s a) place) (4 * room n) old new at next
   unfolding flatMap parts-at
-  below-end count j size rest next new r e here =
+  below-end {count} {j} {size} {rest} {next} {new} r e here =
       let none : to-write j rest ≡ [] = ap (λ l. chosen (model-of b) n l rest) (left-end b s a j (e ∙ here .entered)) in
       let most : j * room n ≤ 4 * room n = mul-le-mul-right (room n) (omega (arith, here .entered, entries-few b r s a)) in
       subst (λ l. Wrote (chosen (model-of b) n l place) (4 * room n) old new at next) (left-all b s a)
@@ -163,6 +119,56 @@ module _ (b : Bytes) (n s a place : ℕ) (old : List ℕ) (at : ℕ) where
         to = omega (arith, here .to, ap length none);
         size = omega (arith, here .to, ap length none, here .near, most);
       })
+
+-- A turn of the loop, for an outcome that leads to t.
+module _ {b : Bytes} {n s a place : ℕ} {old : List ℕ} {at count j size rest next : ℕ} {new : List ℕ}
+    (here : Underway b n s a place old at count j size rest new next) (l : j < count) where
+  pub below-turn : refusal (read-model b) ≡ 0 → {counts : List ℕ} → Totals true (model-of b) counts → n ≤ 6
+      → {x t : ℕ} → x ≡ a → t ≡ (outcome-of b s x j) .target → Turn b counts n s a j t
+  below-turn e totals h {x} {t} q g =
+      turn b e totals n s a h x j t q g (omega (arith, here .entered)) (omega (arith, here .sized, here .inside)) (omega (arith, here .sized, here .few))
+
+  pub fits : Readable b → at + 4 * room n ≤ length old → next + room n ≤ length new
+  fits r h =
+      let most : suc j * room n ≤ 4 * room n = mul-le-mul-right (room n) (omega (arith, here .entered, entries-few b r s a)) in
+      omega (arith, here .near, here .kept, suc-mul j (room n), most)
+
+  module _ {counts : List ℕ} {t : ℕ} (u : Turn b counts n s a j t) where
+    -- The division is exact, and both parts of the place are in range.
+    pub divides : {y : ℕ} → y ≡ getD counts (32 * n + t) 0 → size / y ≡ ways-left b s a n (j + 1)
+    divides e = ap₂ (λ x y. x / y) (here .sized ∙ u .split) (e ∙ u .counted) ∙ mul-div-right (ways-left b s a n (j + 1)) (u .some)
+
+    module _ {v : ℕ} (e : v ≡ ways-left b s a n (j + 1)) where
+      pub quotient : rest / v < plan-total (model-of b) n t
+      quotient = rw e (div-lt-iff-lt-mul (u .later) .1 (rw (here .sized ∙ u .split) at (here .inside)))
+
+      write-step : to-write b n s a place old at j rest
+          ≡ choices n (plan-at (model-of b) n t (rest / v)) ++ to-write b n s a place old at (j + 1) (rest % v)
+      unfolding flatMap parts-at
+      write-step =
+          ap (λ l. chosen (model-of b) n l rest) (left-step b s a j (rw (here .entered) at l))
+          ∙ ap₂ (λ t v. choices n (plan-at (model-of b) n t (rest / v)) ++ to-write b n s a place old at (j + 1) (rest % v)) (sym (u .target)) (sym e)
+
+      pub below-more : {next′ : ℕ} {new′ : List ℕ} → next + room n ≤ length new
+          → Wrote (choices n (plan-at (model-of b) n t (rest / v))) (room n) new new′ next next′ → length new′ ≡ length new
+          → Underway b n s a place old at count (j + 1) v (rest % v) new′ next′
+      below-more h w k =
+          let x : List ℕ = choices n (plan-at (model-of b) n t (rest / v)) in
+          let y : List ℕ = to-write b n s a place old at (j + 1) (rest % v) in
+          let f = factors (plan-total (model-of b) n t) (ways-left b s a n (j + 1)) (sym (u .split)) (omega (arith, here .sized, here .inside)) in
+          record {
+            entered = here .entered;
+            sized = e;
+            inside = mod-lt rest (rw e (u .later));
+            few = omega (arith, here .sized, here .few, f .3);
+            write = ap₂ (λ l q. splice l q y) (w .wrote) (w .to)
+                ∙ splice-splice new next x y (omega (arith, w .size))
+                ∙ ap (splice new next) (sym write-step)
+                ∙ here .write;
+            to = omega (arith, w .to, here .to, ap length write-step, length-append x y);
+            near = rw (add-one j) (omega (arith, here .near, w .to, w .size, suc-mul j (room n)));
+            kept = k ∙ here .kept;
+          }
 
 -- ---- the whole
 

@@ -137,11 +137,8 @@ nth-below-total-requires : (t : ℕ) → nth-below-lts.Need-total-requires (
 ) (nth-below-at t) nth-below.Post nth-below-Inv-loop nth-below-μ-loop
 nth-below-total-requires t c κs = let S = c .before .before .before .before .before .before .before in
     let L = c .before .before .before .loop in
-    let t = c .target .result in
-    let u = below-turn (S .args .m .now) (S .args .n) (S .args .s) (S .args .b .action) (S .args .b .place) (S .args .choices .now) (S .args .at)
-    (S .pre .1 .0 .0) (S .pre .1 .0 .2) (omega arith) (c .before .before .before .before .count .result) (L .j) (L .size) (L .rest) (L .next)
-    (L .choices) (L .inv .1) (c .before .before .loop-test .taken) (c .before .number .result) t (c .before .number .ensures)
-    (c .target .ensures .0) in
+    let l = c .before .before .loop-test .taken in
+    let u = below-turn (L .inv .1) l (S .pre .1 .0 .0) (S .pre .1 .0 .2) (omega arith) (c .before .number .ensures) (c .target .ensures .0) in
     (omega arith, omega (arith, readable (S .args .m .now) (S .pre .1 .0 .0) .states, u .state))
 
 nth-below-div-size : (t : ℕ) → nth-below-lts.Need-div-size (
@@ -158,11 +155,8 @@ nth-below-div-size : (t : ℕ) → nth-below-lts.Need-div-size (
 ) (nth-below-at t) nth-below.Post nth-below-Inv-loop nth-below-μ-loop
 nth-below-div-size t c = let S = c .before .before .before .before .before .before .before .before in
     let L = c .before .before .before .before .loop in
-    let t = c .before .target .result in
-    let u = below-turn (S .args .m .now) (S .args .n) (S .args .s) (S .args .b .action) (S .args .b .place) (S .args .choices .now) (S .args .at)
-    (S .pre .1 .0 .0) (S .pre .1 .0 .2) (omega arith) (c .before .before .before .before .before .count .result) (L .j) (L .size) (L .rest)
-    (L .next) (L .choices) (L .inv .1) (c .before .before .before .loop-test .taken) (c .before .before .number .result) t
-    (c .before .before .number .ensures) (c .before .target .ensures .0) in
+    let l = c .before .before .before .loop-test .taken in
+    let u = below-turn (L .inv .1) l (S .pre .1 .0 .0) (S .pre .1 .0 .2) (omega arith) (c .before .before .number .ensures) (c .before .target .ensures .0) in
     rw (c .total .ensures ∙ u .counted) (u .some)
 
 nth-below-div-nth-from : (t : ℕ) → nth-below-lts.Need-div-nth-from (
@@ -179,14 +173,9 @@ nth-below-div-nth-from : (t : ℕ) → nth-below-lts.Need-div-nth-from (
 ) (nth-below-at t) nth-below.Post nth-below-Inv-loop nth-below-μ-loop
 nth-below-div-nth-from t c = let S = c .before .before .before .before .before .before .before .before .before in
     let L = c .before .before .before .before .before .loop in
-    let t = c .before .before .target .result in
-    let u = below-turn (S .args .m .now) (S .args .n) (S .args .s) (S .args .b .action) (S .args .b .place) (S .args .choices .now) (S .args .at)
-    (S .pre .1 .0 .0) (S .pre .1 .0 .2) (omega arith) (c .before .before .before .before .before .before .count .result) (L .j) (L .size)
-    (L .rest) (L .next) (L .choices) (L .inv .1) (c .before .before .before .before .loop-test .taken)
-    (c .before .before .before .number .result) t (c .before .before .before .number .ensures) (c .before .before .target .ensures .0) in
-    let v = divides (S .args .m .now) (S .args .n) (S .args .s) (S .args .b .action) (S .args .b .place) (S .args .choices .now) (S .args .at)
-    (S .args .counts .now) (c .before .before .before .before .before .before .count .result) (L .j) (L .size) (L .rest) (L .next) t (L .choices)
-    (L .inv .1) (c .before .before .before .before .loop-test .taken) u (c .before .total .result) (c .before .total .ensures) in
+    let l = c .before .before .before .before .loop-test .taken in
+    let u = below-turn (L .inv .1) l (S .pre .1 .0 .0) (S .pre .1 .0 .2) (omega arith) (c .before .before .before .number .ensures) (c .before .before .target .ensures .0) in
+    let v = divides (L .inv .1) l u (c .before .total .ensures) in
     rw v (u .later)
 
 nth-below-nth-from-requires : (t : ℕ) → nth-below-lts.Need-nth-from-requires (
@@ -203,15 +192,11 @@ nth-below-nth-from-requires : (t : ℕ) → nth-below-lts.Need-nth-from-requires
 ) (nth-below-at t) nth-below.Post nth-below-Inv-loop nth-below-μ-loop
 nth-below-nth-from-requires t c κs = let S = c .before .before .before .before .before .before .before .before .before in
     let L = c .before .before .before .before .before .loop in
-    let t = c .before .before .target .result in
-    let u = below-turn (S .args .m .now) (S .args .n) (S .args .s) (S .args .b .action) (S .args .b .place) (S .args .choices .now) (S .args .at)
-    (S .pre .1 .0 .0) (S .pre .1 .0 .2) (omega arith) (c .before .before .before .before .before .before .count .result) (L .j) (L .size)
-    (L .rest) (L .next) (L .choices) (L .inv .1) (c .before .before .before .before .loop-test .taken)
-    (c .before .before .before .number .result) t (c .before .before .before .number .ensures) (c .before .before .target .ensures .0) in
-    let v = divides (S .args .m .now) (S .args .n) (S .args .s) (S .args .b .action) (S .args .b .place) (S .args .choices .now) (S .args .at)
-    (S .args .counts .now) (c .before .before .before .before .before .before .count .result) (L .j) (L .size) (L .rest) (L .next) t (L .choices)
-    (L .inv .1) (c .before .before .before .before .loop-test .taken) u (c .before .total .result) (c .before .total .ensures) in
-    (omega arith, (S .pre .1 .0, (u .state, omega arith, u .few, quotient (S .args .m .now) (S .args .n) (S .args .s) (S .args .b .action) (S .args .b .place) (S .args .choices .now) (S .args .at) (S .args .counts .now) (c .before .before .before .before .before .before .count .result) (L .j) (L .size) (L .rest) (L .next) t (L .choices) (L .inv .1) (c .before .before .before .before .loop-test .taken) u (L .size / c .before .total .result) v, fits (S .args .m .now) (S .args .n) (S .args .s) (S .args .b .action) (S .args .b .place) (S .args .choices .now) (S .args .at) (S .args .counts .now) (c .before .before .before .before .before .before .count .result) (L .j) (L .size) (L .rest) (L .next) t (L .choices) (L .inv .1) (c .before .before .before .before .loop-test .taken) u (readable (S .args .m .now) (S .pre .1 .0 .0)) (S .pre .1 .1 .6))))
+    let l = c .before .before .before .before .loop-test .taken in
+    let u = below-turn (L .inv .1) l (S .pre .1 .0 .0) (S .pre .1 .0 .2) (omega arith) (c .before .before .before .number .ensures) (c .before .before .target .ensures .0) in
+    let v = divides (L .inv .1) l u (c .before .total .ensures) in
+    let f = fits (L .inv .1) l (readable (S .args .m .now) (S .pre .1 .0 .0)) (S .pre .1 .1 .6) in
+    (omega arith, (S .pre .1 .0, (u .state, omega arith, u .few, quotient (L .inv .1) l u v, f)))
 
 nth-below-rem-rest : (t : ℕ) → nth-below-lts.Need-rem-rest (
   count-reads.Asked,
@@ -227,16 +212,9 @@ nth-below-rem-rest : (t : ℕ) → nth-below-lts.Need-rem-rest (
 ) (nth-below-at t) nth-below.Post nth-below-Inv-loop nth-below-μ-loop
 nth-below-rem-rest t c = let S = c .before .before .before .before .before .before .before .before .before .before .before .before in
     let L = c .before .before .before .before .before .before .before .before .loop in
-    let t = c .before .before .before .before .before .target .result in
-    let u = below-turn (S .args .m .now) (S .args .n) (S .args .s) (S .args .b .action) (S .args .b .place) (S .args .choices .now) (S .args .at)
-    (S .pre .1 .0 .0) (S .pre .1 .0 .2) (omega arith) (c .before .before .before .before .before .before .before .before .before .count .result)
-    (L .j) (L .size) (L .rest) (L .next) (L .choices) (L .inv .1) (c .before .before .before .before .before .before .before .loop-test .taken)
-    (c .before .before .before .before .before .before .number .result) t (c .before .before .before .before .before .before .number .ensures)
-    (c .before .before .before .before .before .target .ensures .0) in
-    let v = divides (S .args .m .now) (S .args .n) (S .args .s) (S .args .b .action) (S .args .b .place) (S .args .choices .now) (S .args .at)
-    (S .args .counts .now) (c .before .before .before .before .before .before .before .before .before .count .result) (L .j) (L .size) (L .rest)
-    (L .next) t (L .choices) (L .inv .1) (c .before .before .before .before .before .before .before .loop-test .taken) u
-    (c .before .before .before .before .total .result) (c .before .before .before .before .total .ensures) in
+    let l = c .before .before .before .before .before .before .before .loop-test .taken in
+    let u = below-turn (L .inv .1) l (S .pre .1 .0 .0) (S .pre .1 .0 .2) (omega arith) (c .before .before .before .before .before .before .number .ensures) (c .before .before .before .before .before .target .ensures .0) in
+    let v = divides (L .inv .1) l u (c .before .before .before .before .total .ensures) in
     rw v (u .later)
 
 nth-below-add-j : (t : ℕ) → nth-below-lts.Need-add-j (
@@ -281,28 +259,12 @@ nth-below-loop-again : (t : ℕ) → nth-below-lts.Need-loop-again (
 ) (nth-below-at t) nth-below.Post nth-below-Inv-loop nth-below-μ-loop
 nth-below-loop-again t c = let S = c .before .before .before .before .before .before .before .before .before .before .before .before in
     let L = c .before .before .before .before .before .before .before .before .loop in
-    let t = c .before .before .before .before .before .target .result in
-    let u = below-turn (S .args .m .now) (S .args .n) (S .args .s) (S .args .b .action) (S .args .b .place) (S .args .choices .now) (S .args .at)
-    (S .pre .1 .0 .0) (S .pre .1 .0 .2) (omega arith) (c .before .before .before .before .before .before .before .before .before .count .result)
-    (L .j) (L .size) (L .rest) (L .next) (L .choices) (L .inv .1) (c .before .before .before .before .before .before .before .loop-test .taken)
-    (c .before .before .before .before .before .before .number .result) t (c .before .before .before .before .before .before .number .ensures)
-    (c .before .before .before .before .before .target .ensures .0) in
-    let v = divides (S .args .m .now) (S .args .n) (S .args .s) (S .args .b .action) (S .args .b .place) (S .args .choices .now) (S .args .at)
-    (S .args .counts .now) (c .before .before .before .before .before .before .before .before .before .count .result) (L .j) (L .size) (L .rest)
-    (L .next) t (L .choices) (L .inv .1) (c .before .before .before .before .before .before .before .loop-test .taken) u
-    (c .before .before .before .before .total .result) (c .before .before .before .before .total .ensures) in (
-      omega arith,
-      below-more (S .args .m .now) (S .args .n) (S .args .s) (S .args .b .action) (S .args .b .place) (S .args .choices .now)
-          (S .args .at) (S .args .counts .now) (c .before .before .before .before .before .before .before .before .before .count .result) (L .j)
-          (L .size) (L .rest) (L .next) t (L .choices) (L .inv .1) (c .before .before .before .before .before .before .before .loop-test .taken) u
-          (L .size / c .before .before .before .before .total .result) (c .before .before .nth-from .result)
-          (c .before .before .nth-from .last .1 .1 .1 .0) v (fits (S .args .m .now) (S .args .n) (S .args .s) (S .args .b .action) (S .args .b .place)
-          (S .args .choices .now) (S .args .at) (S .args .counts .now)
-          (c .before .before .before .before .before .before .before .before .before .count .result) (L .j) (L .size) (L .rest) (L .next) t
-          (L .choices) (L .inv .1) (c .before .before .before .before .before .before .before .loop-test .taken) u
-          (readable (S .args .m .now) (S .pre .1 .0 .0)) (S .pre .1 .1 .6)) (c .before .before .nth-from .ensures)
-          (c .before .before .nth-from .kept .1 .1 .1 .0),
-    )
+    let l = c .before .before .before .before .before .before .before .loop-test .taken in
+    let u = below-turn (L .inv .1) l (S .pre .1 .0 .0) (S .pre .1 .0 .2) (omega arith) (c .before .before .before .before .before .before .number .ensures) (c .before .before .before .before .before .target .ensures .0) in
+    let v = divides (L .inv .1) l u (c .before .before .before .before .total .ensures) in
+    let f = fits (L .inv .1) l (readable (S .args .m .now) (S .pre .1 .0 .0)) (S .pre .1 .1 .6) in
+    let w = c .before .before .nth-from in
+    (omega arith, below-more (L .inv .1) l u v f (w .ensures) (w .kept .1 .1 .1 .0))
 
 nth-below-same-length : (t : ℕ) → nth-below-lts.Need-same-length (
   count-reads.Asked,
@@ -332,9 +294,7 @@ nth-below-returns : (t : ℕ) → nth-below-lts.Need-returns (
 ) (nth-below-at t) nth-below.Post nth-below-Inv-loop nth-below-μ-loop
 nth-below-returns t c = let S = c .before .before .before .before .before in
     let L = c .before .loop in
-    below-end (S .args .m .now) (S .args .n) (S .args .s) (S .args .b .action) (S .args .b .place) (S .args .choices .now) (S .args .at)
-    (c .before .before .count .result) (L .j) (L .size) (L .rest) (L .next) (L .choices) (readable (S .args .m .now) (S .pre .1 .0 .0))
-    (omega arith) (L .inv .1)
+    below-end (S .args .m .now) (S .args .n) (S .args .s) (S .args .b .action) (S .args .b .place) (S .args .choices .now) (S .args .at) (readable (S .args .m .now) (S .pre .1 .0 .0)) (omega arith) (L .inv .1)
 
 nth-from-returns : (t : ℕ) → nth-from-lts.Need-returns (
   block-of-reads.Asked,
