@@ -139,9 +139,9 @@ module _ (b : Bytes) (s a n : ℕ) where
   pub count-start : 1 * ways-left b s a n 0 ≡ ways (model-of b) n s a
   count-start = one-mul (ways-left b s a n 0) ∙ ways-all b s a n
 
-  pub count-turn : (counts : List ℕ) (j t size : ℕ) → Turn b counts n s a j t → size * ways-left b s a n j ≡ ways (model-of b) n s a
+  pub count-turn : {counts : List ℕ} {j t : ℕ} (size : ℕ) → Turn b counts n s a j t → size * ways-left b s a n j ≡ ways (model-of b) n s a
       → (size * getD counts (32 * n + t) 0) * ways-left b s a n (j + 1) ≡ ways (model-of b) n s a
-  count-turn counts j t size u h =
+  count-turn {j = j} {t} size u h =
       let z : ℕ = ways-left b s a n (j + 1) in
       ap (λ v. (size * v) * z) (u .counted)
       ∙ mul-assoc size (plan-total (model-of b) n t) z
@@ -153,9 +153,10 @@ module _ (b : Bytes) (s a n : ℕ) where
 
 -- Every factor of the ways is in range, so that the count of outcome j is the table's.
 module _ (b : Bytes) (e : refusal (read-model b) ≡ 0) {counts : List ℕ} (totals : Totals true (model-of b) counts) (n s a : ℕ) (h : n ≤ 6) where
-  pub count-here : (x j t size : ℕ) → s < state-count b → a < 8 → plan-total (model-of b) (n + 1) s ≤ 65536
-      → size * ways-left b s a n j ≡ ways (model-of b) n s a → x ≡ a → t ≡ (outcome-of b s x j) .target → j < entries b s a → (size ≤ 65536) × Turn b counts n s a j t
-  count-here x j t size k g f p q u l =
+  pub count-here : {x j t size : ℕ} → s < state-count b → a < 8 → plan-total (model-of b) (n + 1) s ≤ 65536
+      → size * ways-left b s a n j ≡ ways (model-of b) n s a → x ≡ a → t ≡ (outcome-of b s x j) .target → j < entries b s a
+      → (size ≤ 65536) × Turn b counts n s a j t
+  count-here {x} {j} {t} {size} k g f p q u l =
       let w = factors size (ways-left b s a n j) p (some-ways b e n s a) in
       let most = ways-most b e n s a k g (omega arith) in
       (omega (arith, w .2, most), turn b e totals n s a h x j t q u l (w .1) (omega (arith, w .3, most)))
@@ -197,7 +198,7 @@ module _ (b : Bytes) (n s : ℕ) where
       let e = enabled-are b r s k in
       record { block = ap (λ l. block-of sizes l i) (sym e); inside = subst (λ l. i < sum naturals sizes l) e (rw (add-one n) at h) }
 
-  module _ (i a rest v : ℕ) (here : Rest i a rest) (l : a < 8) (e : v ≡ cond (ltb 0 (entries b s a)) (sizes a) 0) where
+  module _ {i a rest v : ℕ} (here : Rest i a rest) (l : a < 8) (e : v ≡ cond (ltb 0 (entries b s a)) (sizes a) 0) where
     pub rest-found : rest < v → v ≤ 65536 → Found (model-of b) n s i a v rest
     rest-found h f = go (ltb 0 (entries b s a)) refl
       where
@@ -237,6 +238,6 @@ module _ (b : Bytes) (n s : ℕ) where
             subst (λ x. Rest i (a + 1) x) (sym z)
             (record { block = ap (λ l. block-of sizes l rest) (sym f) ∙ here .block; inside = subst (λ l. rest < sum naturals sizes l) f (here .inside) })
 
-  pub rest-none : (i a rest : ℕ) → Rest i a rest → a ≡ 8 → ⊥
+  pub rest-none : {i a rest : ℕ} → Rest i a rest → a ≡ 8 → ⊥
   unfolding keep count-from sum
-  rest-none i a rest here e = not-suc-le-zero (subst (λ a. rest < sum naturals sizes (from a)) e (here .inside))
+  rest-none {rest = rest} here e = not-suc-le-zero (subst (λ a. rest < sum naturals sizes (from a)) e (here .inside))

@@ -68,10 +68,10 @@ module _ (m : Model) where
       })
 
   -- A choice, and what stands below its outcomes.
-  pub from-choice : (n s i a size place at next : ℕ) (old new : List ℕ) → (n ≡ 0 → ⊥) → Found m (n - 1) s i a size place → at < length old
+  pub from-choice : {n s i a size place at next : ℕ} {old new : List ℕ} → (n ≡ 0 → ⊥) → Found m (n - 1) s i a size place → at < length old
       → Wrote (chosen (n - 1) (outcomes m s a) place) (4 * room (n - 1)) (set old at a) new (at + 1) next
       → Wrote (choices n (plan-at m n s i)) (room n) old new at next
-  from-choice n s i a size place at next old new z f h w =
+  from-choice {n} {s} {i} {a} {size} {place} {at} {next} {old} {new} z f h w =
       let e : suc (n - 1) ≡ n = omega arith in
       subst (λ n. Wrote (choices n (plan-at m n s i)) (room n) old new at next) e (choice-wrote (n - 1) s i a size place at next old new f h w)
 

@@ -1,6 +1,6 @@
 -- `nth_from` and `nth_below` meet their contracts, together: the steps left fall from the one to the other and back. The loop's invariant: with what is
 -- still to be written, the buffer is as it is to be (`Underway`).
-use Prim.Native.Nat.{ℕ, _+_, _-_, _/_, _≤_, _<_}
+use Prim.Native.Nat.{ℕ, _+_, _-_, _≤_, _<_}
 use native.Mathlib.Omega.{arith}
 use mathlib.Core.Path.{_≡_, _∙_}
 use lib.ListN.{length-set}
@@ -80,13 +80,13 @@ nth-below-loop-holds : (t : ℕ) → nth-below-lts.Need-loop-holds (
   nth-from-below t,
   nth-from.Post,
 ) (nth-below-at t) nth-below.Post nth-below-Inv-loop nth-below-μ-loop
-nth-below-loop-holds t c = let S = c .before .before .before in (
-  omega arith,
-  below-start (S .args .m .now) (S .args .n) (S .args .s) (S .args .b .action) (S .args .b .place) (S .args .choices .now)
-      (S .args .at) (c .count .result) (S .args .b .size) (c .count .ensures ∙ used-at (S .args .m .now) (S .pre .1 .0 .1) (S .args .s)
-      (S .args .b .action) (omega (arith, readable (S .args .m .now) (S .pre .1 .0 .0) .states)) (omega arith)) (S .pre .1 .1 .3) (S .pre .1 .1 .5)
-      (S .pre .1 .1 .4),
-)
+nth-below-loop-holds t c = let S = c .before .before .before in
+    let e = used-at (S .args .m .now) (S .pre .1 .0 .1) (S .args .s) (S .args .b .action) (omega (arith, readable (S .args .m .now) (S .pre .1 .0 .0) .states)) (omega arith) in
+    let p = S .pre .1 .1 in (
+      omega arith,
+      below-start (S .args .m .now) (S .args .n) (S .args .s) (S .args .b .action) (S .args .b .place) (S .args .choices .now) (S .args .at)
+          (c .count .result) (S .args .b .size) (c .count .ensures ∙ e) (p .3) (p .5) (p .4),
+    )
 
 nth-below-number-requires : (t : ℕ) → nth-below-lts.Need-number-requires (
   count-reads.Asked,
@@ -115,13 +115,8 @@ nth-below-target-requires : (t : ℕ) → nth-below-lts.Need-target-requires (
   nth-from.Post,
 ) (nth-below-at t) nth-below.Post nth-below-Inv-loop nth-below-μ-loop
 nth-below-target-requires t c κs = let S = c .before .before .before .before .before .before in
-    omega (
-      arith,
-      readable (S .args .m .now) (S .pre .1 .0 .0) .states,
-      (c .before .before .loop .inv .1) .entered,
-      entries-few (S .args .m .now)
-          (readable (S .args .m .now) (S .pre .1 .0 .0)) (S .args .s) (S .args .b .action),
-    )
+    let r = readable (S .args .m .now) (S .pre .1 .0 .0) in
+    omega (arith, r .states, (c .before .before .loop .inv .1) .entered, entries-few (S .args .m .now) r (S .args .s) (S .args .b .action))
 
 nth-below-total-requires : (t : ℕ) → nth-below-lts.Need-total-requires (
   count-reads.Asked,
@@ -294,7 +289,8 @@ nth-below-returns : (t : ℕ) → nth-below-lts.Need-returns (
 ) (nth-below-at t) nth-below.Post nth-below-Inv-loop nth-below-μ-loop
 nth-below-returns t c = let S = c .before .before .before .before .before in
     let L = c .before .loop in
-    below-end (S .args .m .now) (S .args .n) (S .args .s) (S .args .b .action) (S .args .b .place) (S .args .choices .now) (S .args .at) (readable (S .args .m .now) (S .pre .1 .0 .0)) (omega arith) (L .inv .1)
+    below-end (S .args .m .now) (S .args .n) (S .args .s) (S .args .b .action) (S .args .b .place) (S .args .choices .now) (S .args .at)
+    (readable (S .args .m .now) (S .pre .1 .0 .0)) (omega arith) (L .inv .1)
 
 nth-from-returns : (t : ℕ) → nth-from-lts.Need-returns (
   block-of-reads.Asked,
@@ -380,11 +376,8 @@ nth-from-returns-2 : (t : ℕ) → nth-from-lts.Need-returns-2 (
 ) (nth-from-at t) nth-from.Post
 nth-from-returns-2 t c = let S = c .before .before .before .before .before .before .before .before in
     let room-of = room-step (S .args .n) (c .before .before .before .before .before .if1 .left) in
-    let f = c .before .before .before .before .block-of in
     let w = c .before .before .nth-below in
-    from-choice (model-of (S .args .m .now)) (S .args .n) (S .args .s) (S .args .i) (f .result .action) (f .result .size) (f .result .place)
-    (S .args .at) (w .result) (S .args .choices .now) (w .last .1 .1 .1 .0) (c .before .before .before .before .before .if1 .left) (f .ensures)
-    (omega (arith, room-of)) (w .ensures)
+    from-choice (model-of (S .args .m .now)) (c .before .before .before .before .before .if1 .left) (c .before .before .before .before .block-of .ensures) (omega (arith, room-of)) (w .ensures)
 
 pub +nth-below+nth-from-spec : {M : Type 1} → statement M
 +nth-below+nth-from-spec = close μ-nth-below μ-nth-from (λ t. nth-below-lts.spec (

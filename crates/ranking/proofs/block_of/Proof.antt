@@ -28,8 +28,8 @@ ways-requires c κs = let S = c .before .before .before in
 returns : tie.Need-returns Inv-loop μ-loop
 returns c = let S = c .before .before .before .before .before in
     let L = c .before .before .before .loop in
-    rest-found (S .args .m .now) (S .args .n) (S .args .s) (S .args .i) (L .a) (L .rest) (c .before .ways .result) (L .inv .1) (omega arith)
-    (c .before .ways .ensures .0) (c .if1 .taken) (c .before .ways .ensures .1)
+    let w = c .before .ways .ensures in
+    rest-found (S .args .m .now) (S .args .n) (S .args .s) (L .inv .1) (omega arith) (w .0) (c .if1 .taken) (w .1)
 
 add-a : tie.Need-add-a Inv-loop μ-loop
 add-a c = search needs
@@ -39,16 +39,13 @@ loop-less c = search needs
 
 loop-again : tie.Need-loop-again Inv-loop μ-loop
 loop-again c = let S = c .before .before .before .before .before in
-    let L = c .before .before .before .loop in (
-      omega arith,
-      rest-passed (S .args .m .now) (S .args .n) (S .args .s) (S .args .i) (L .a) (L .rest) (c .before .ways .result) (L .inv .1)
-          (omega arith) (c .before .ways .ensures .0) (omega arith),
-    )
+    let L = c .before .before .before .loop in
+    (omega arith, rest-passed (S .args .m .now) (S .args .n) (S .args .s) (L .inv .1) (omega arith) (c .before .ways .ensures .0) (omega arith))
 
 returns-2 : tie.Need-returns-2 Inv-loop μ-loop
 returns-2 c = let S = c .before .before .before in
     let L = c .before .loop in
-    absurd (rest-none (S .args .m .now) (S .args .n) (S .args .s) (S .args .i) (L .a) (L .rest) (L .inv .1) (omega arith))
+    absurd (rest-none (S .args .m .now) (S .args .n) (S .args .s) (L .inv .1) (omega arith))
 
 pub block-of-spec : {M : Type 1} → statement M
 block-of-spec =

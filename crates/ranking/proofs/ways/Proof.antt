@@ -25,48 +25,35 @@ count-requires c κs = let S = c .before in
     omega (arith, readable (S .args .m .now) (S .pre .0 .0) .states)
 
 returns : tie.Need-returns Inv-loop μ-loop
-returns c = let S = c .before .before .before in (
-  not-enabled (S .args .m .now) (S .args .s) (S .args .a) _
-      (omega (arith, used-at (S .args .m .now) (S .pre .0 .1) (S .args .s) (S .args .a) (omega (arith, readable (S .args .m .now) (S .pre .0 .0) .states)) (omega arith), c .before .count .ensures)),
-  omega arith,
-)
+returns c = let S = c .before .before .before in
+    let e = used-at (S .args .m .now) (S .pre .0 .1) (S .args .s) (S .args .a) (omega (arith, readable (S .args .m .now) (S .pre .0 .0) .states)) (omega arith) in
+    (not-enabled (S .args .m .now) (S .args .s) (S .args .a) _ (omega (arith, e, c .before .count .ensures)), omega arith)
 
 loop-holds : tie.Need-loop-holds Inv-loop μ-loop
-loop-holds c = let S = c .before .before .before in (
-  c .before .count .ensures ∙ used-at (S .args .m .now) (S .pre .0 .1) (S .args .s) (S .args .a)
-      (omega (arith, readable (S .args .m .now) (S .pre .0 .0) .states)) (omega arith),
-  omega arith,
-  omega arith,
-  count-start (S .args .m .now)
-      (S .args .s) (S .args .a) (S .args .n),
-)
+loop-holds c = let S = c .before .before .before in
+    let e = used-at (S .args .m .now) (S .pre .0 .1) (S .args .s) (S .args .a) (omega (arith, readable (S .args .m .now) (S .pre .0 .0) .states)) (omega arith) in
+    (c .before .count .ensures ∙ e, omega arith, omega arith, count-start (S .args .m .now) (S .args .s) (S .args .a) (S .args .n))
 
 number-requires : tie.Need-number-requires Inv-loop μ-loop
 number-requires c κs = search needs
 
 target-requires : tie.Need-target-requires Inv-loop μ-loop
 target-requires c κs = let S = c .before .before .before .before .before .before in
-    omega (
-      arith,
-      readable (S .args .m .now) (S .pre .0 .0) .states,
-      entries-few (S .args .m .now) (readable (S .args .m .now) (S .pre .0 .0))
-          (S .args .s) (S .args .a),
-    )
+    let r = readable (S .args .m .now) (S .pre .0 .0) in
+    omega (arith, r .states, entries-few (S .args .m .now) r (S .args .s) (S .args .a))
 
 total-requires : tie.Need-total-requires Inv-loop μ-loop
 total-requires c κs = let S = c .before .before .before .before .before .before .before in
     let L = c .before .before .before .loop in
-    let w = count-here (S .args .m .now) (S .pre .0 .0) (S .pre .0 .2) (S .args .n) (S .args .s) (S .args .a) (omega arith)
-    (c .before .number .result) (L .j) (c .target .result) (L .size) (S .pre .1 .0) (S .pre .1 .1) (S .pre .1 .3) (L .inv .3)
-    (c .before .number .ensures) (c .target .ensures .0) (omega arith) in
+    let w = count-here (S .args .m .now) (S .pre .0 .0) (S .pre .0 .2) (S .args .n) (S .args .s) (S .args .a) (omega arith) (S .pre .1 .0) (S .pre .1 .1)
+    (S .pre .1 .3) (L .inv .3) (c .before .number .ensures) (c .target .ensures .0) (omega arith) in
     (omega arith, omega (arith, readable (S .args .m .now) (S .pre .0 .0) .states, w .1 .state))
 
 mul-size : tie.Need-mul-size Inv-loop μ-loop
 mul-size c = let S = c .before .before .before .before .before .before .before .before in
     let L = c .before .before .before .before .loop in
-    let w = count-here (S .args .m .now) (S .pre .0 .0) (S .pre .0 .2) (S .args .n) (S .args .s) (S .args .a) (omega arith)
-    (c .before .before .number .result) (L .j) (c .before .target .result) (L .size) (S .pre .1 .0) (S .pre .1 .1) (S .pre .1 .3) (L .inv .3)
-    (c .before .before .number .ensures) (c .before .target .ensures .0) (omega arith) in
+    let w = count-here (S .args .m .now) (S .pre .0 .0) (S .pre .0 .2) (S .args .n) (S .args .s) (S .args .a) (omega arith) (S .pre .1 .0) (S .pre .1 .1)
+    (S .pre .1 .3) (L .inv .3) (c .before .before .number .ensures) (c .before .target .ensures .0) (omega arith) in
     let few : c .total .result ≤ 65536 = rw (c .total .ensures ∙ w .1 .counted) (w .1 .few) in
     omega (arith, mul-le-mul (w .0) few)
 
@@ -79,25 +66,18 @@ loop-less c = search needs
 loop-again : tie.Need-loop-again Inv-loop μ-loop
 loop-again c = let S = c .before .before .before .before .before .before .before .before in
     let L = c .before .before .before .before .loop in
-    let w = count-here (S .args .m .now) (S .pre .0 .0) (S .pre .0 .2) (S .args .n) (S .args .s) (S .args .a) (omega arith)
-    (c .before .before .number .result) (L .j) (c .before .target .result) (L .size) (S .pre .1 .0) (S .pre .1 .1) (S .pre .1 .3) (L .inv .3)
-    (c .before .before .number .ensures) (c .before .target .ensures .0) (omega arith) in (
-      L .inv .0,
-      omega arith,
-      omega arith,
-      ap (λ v. L .size * v * ways-left (S .args .m .now) (S .args .s) (S .args .a) (S .args .n) (L .j + 1))
-          (c .total .ensures) ∙ count-turn (S .args .m .now) (S .args .s) (S .args .a) (S .args .n) (S .args .counts .now) (L .j)
-          (c .before .target .result) (L .size) (w .1) (L .inv .3),
-    )
+    let w = count-here (S .args .m .now) (S .pre .0 .0) (S .pre .0 .2) (S .args .n) (S .args .s) (S .args .a) (omega arith) (S .pre .1 .0) (S .pre .1 .1)
+    (S .pre .1 .3) (L .inv .3) (c .before .before .number .ensures) (c .before .target .ensures .0) (omega arith) in
+    let e = count-turn (S .args .m .now) (S .args .s) (S .args .a) (S .args .n) (L .size) (w .1) (L .inv .3) in
+    let z = ways-left (S .args .m .now) (S .args .s) (S .args .a) (S .args .n) (L .j + 1) in
+    (L .inv .0, omega arith, omega arith, ap (λ v. L .size * v * z) (c .total .ensures) ∙ e)
 
 returns-2 : tie.Need-returns-2 Inv-loop μ-loop
 returns-2 c = let S = c .before .before .before .before .before in
     let L = c .before .loop in
-    let e = count-end (S .args .m .now) (S .args .s) (S .args .a) (S .args .n) (L .j) (L .size) (omega arith) (L .inv .3) in (
-      e ∙ is-enabled (S .args .m .now) (S .args .s) (S .args .a) _ (λ z. omega arith),
-      omega
-          (arith, e, ways-most (S .args .m .now) (S .pre .0 .0) (S .args .n) (S .args .s) (S .args .a) (S .pre .1 .0) (S .pre .1 .1) (omega arith)),
-    )
+    let e = count-end (S .args .m .now) (S .args .s) (S .args .a) (S .args .n) (L .j) (L .size) (omega arith) (L .inv .3) in
+    let most = ways-most (S .args .m .now) (S .pre .0 .0) (S .args .n) (S .args .s) (S .args .a) (S .pre .1 .0) (S .pre .1 .1) (omega arith) in
+    (e ∙ is-enabled (S .args .m .now) (S .args .s) (S .args .a) _ (λ z. omega arith), omega (arith, e, most))
 
 pub ways-spec : {M : Type 1} → statement M
 ways-spec =
