@@ -1,0 +1,411 @@
+use Prim.Native.Nat.{ℕ, _<_}
+use borrow.Fn.Kinds.{In}
+use borrow.Fn.PlainCycle.{Measures, is, falls, and}
+use Rattle.weighing.proofs.weigh_below.Reads as weigh-below
+use Rattle.weighing.proofs.weigh_below.Kinds as weigh-below-kinds
+use Rattle.weighing.proofs.+weigh_below+weigh_from.Lts-weigh_below as weigh-below-lts
+use Rattle.weighing.proofs.weigh_from.Reads as weigh-from
+use Rattle.weighing.proofs.weigh_from.Kinds as weigh-from-kinds
+use Rattle.weighing.proofs.+weigh_below+weigh_from.Lts-weigh_from as weigh-from-lts
+use Rattle.blocks.proofs.byte.Reads as byte-reads
+use Rattle.evaluation.proofs.step.Reads as step-reads
+use Rattle.weighing.proofs.after.Reads as after-reads
+use Rattle.weighing.proofs.count.Reads as count-reads
+use Rattle.weighing.proofs.leaf.Reads as leaf-reads
+use Rattle.weighing.proofs.plus.Reads as plus-reads
+use Rattle.weighing.proofs.+weigh_below+weigh_from.{statement}
+use Rattle.weighing.proofs.+weigh_below+weigh_from.Tie.{close}
+
+abbrev μ-weigh-below : Measures 10 weigh-below-kinds.ps ℕ
+μ-weigh-below κs a = ?
+
+abbrev μ-weigh-from : Measures 10 weigh-from-kinds.ps ℕ
+μ-weigh-from κs a = ?
+
+abbrev weigh-below-at : ℕ → In 10 weigh-below-kinds.ps
+weigh-below-at t =
+    and 10 weigh-below-kinds.ps (is 10 weigh-below-kinds.ps μ-weigh-below t) weigh-below.Pre
+
+abbrev weigh-below-below : ℕ → In 10 weigh-below-kinds.ps
+weigh-below-below t =
+    and 10 weigh-below-kinds.ps (falls 10 weigh-below-kinds.ps _<_ μ-weigh-below t) weigh-below.Pre
+
+abbrev weigh-from-at : ℕ → In 10 weigh-from-kinds.ps
+weigh-from-at t =
+    and 10 weigh-from-kinds.ps (is 10 weigh-from-kinds.ps μ-weigh-from t) weigh-from.Pre
+
+abbrev weigh-from-below : ℕ → In 10 weigh-from-kinds.ps
+weigh-from-below t =
+    and 10 weigh-from-kinds.ps (falls 10 weigh-from-kinds.ps _<_ μ-weigh-from t) weigh-from.Pre
+
+abbrev weigh-below-Inv-loop : weigh-below-lts.InvT-loop
+weigh-below-Inv-loop m used q depths truth cone choices trail₀ gains₀ v₀ start h s k a at c sum₀ next₀ o₀ trail gains v sum next o =
+    ?
+
+abbrev weigh-below-μ-loop : weigh-below-lts.MeasureT-loop
+weigh-below-μ-loop m used q depths truth cone choices trail₀ gains₀ v₀ start h s k a at c sum₀ next₀ o₀ trail gains v sum next o =
+    ?
+
+-- src/lib.rt:123:9
+weigh-below-count-requires : (t : ℕ) → weigh-below-lts.Need-count-requires (
+  count-reads.Asked,
+  count-reads.Learnt,
+  step-reads.Asked,
+  step-reads.Learnt,
+  weigh-from-below t,
+  weigh-from.Post,
+  plus-reads.Asked,
+  plus-reads.Learnt,
+) (weigh-below-at t) weigh-below.Post weigh-below-Inv-loop weigh-below-μ-loop
+weigh-below-count-requires t c κs = ?
+
+-- src/lib.rt:127:5
+weigh-below-loop-holds : (t : ℕ) → weigh-below-lts.Need-loop-holds (
+  count-reads.Asked,
+  count-reads.Learnt,
+  step-reads.Asked,
+  step-reads.Learnt,
+  weigh-from-below t,
+  weigh-from.Post,
+  plus-reads.Asked,
+  plus-reads.Learnt,
+) (weigh-below-at t) weigh-below.Post weigh-below-Inv-loop weigh-below-μ-loop
+weigh-below-loop-holds t c = ?
+
+-- src/lib.rt:128:13
+weigh-below-step-requires : (t : ℕ) → weigh-below-lts.Need-step-requires (
+  count-reads.Asked,
+  count-reads.Learnt,
+  step-reads.Asked,
+  step-reads.Learnt,
+  weigh-from-below t,
+  weigh-from.Post,
+  plus-reads.Asked,
+  plus-reads.Learnt,
+) (weigh-below-at t) weigh-below.Post weigh-below-Inv-loop weigh-below-μ-loop
+weigh-below-step-requires t c κs = ?
+
+-- src/lib.rt:129:94
+weigh-below-add-weigh-from : (t : ℕ) → weigh-below-lts.Need-add-weigh-from (
+  count-reads.Asked,
+  count-reads.Learnt,
+  step-reads.Asked,
+  step-reads.Learnt,
+  weigh-from-below t,
+  weigh-from.Post,
+  plus-reads.Asked,
+  plus-reads.Learnt,
+) (weigh-below-at t) weigh-below.Post weigh-below-Inv-loop weigh-below-μ-loop
+weigh-below-add-weigh-from t c = ?
+
+-- src/lib.rt:129:13
+weigh-below-weigh-from-requires : (t : ℕ) → weigh-below-lts.Need-weigh-from-requires (
+  count-reads.Asked,
+  count-reads.Learnt,
+  step-reads.Asked,
+  step-reads.Learnt,
+  weigh-from-below t,
+  weigh-from.Post,
+  plus-reads.Asked,
+  plus-reads.Learnt,
+) (weigh-below-at t) weigh-below.Post weigh-below-Inv-loop weigh-below-μ-loop
+weigh-below-weigh-from-requires t c κs = ?
+
+-- src/lib.rt:130:9
+weigh-below-plus-requires : (t : ℕ) → weigh-below-lts.Need-plus-requires (
+  count-reads.Asked,
+  count-reads.Learnt,
+  step-reads.Asked,
+  step-reads.Learnt,
+  weigh-from-below t,
+  weigh-from.Post,
+  plus-reads.Asked,
+  plus-reads.Learnt,
+) (weigh-below-at t) weigh-below.Post weigh-below-Inv-loop weigh-below-μ-loop
+weigh-below-plus-requires t c κs = ?
+
+-- src/lib.rt:132:9
+weigh-below-add-o : (t : ℕ) → weigh-below-lts.Need-add-o (
+  count-reads.Asked,
+  count-reads.Learnt,
+  step-reads.Asked,
+  step-reads.Learnt,
+  weigh-from-below t,
+  weigh-from.Post,
+  plus-reads.Asked,
+  plus-reads.Learnt,
+) (weigh-below-at t) weigh-below.Post weigh-below-Inv-loop weigh-below-μ-loop
+weigh-below-add-o t c = ?
+
+-- src/lib.rt:127:5
+weigh-below-loop-less : (t : ℕ) → weigh-below-lts.Need-loop-less (
+  count-reads.Asked,
+  count-reads.Learnt,
+  step-reads.Asked,
+  step-reads.Learnt,
+  weigh-from-below t,
+  weigh-from.Post,
+  plus-reads.Asked,
+  plus-reads.Learnt,
+) (weigh-below-at t) weigh-below.Post weigh-below-Inv-loop weigh-below-μ-loop
+weigh-below-loop-less t c = ?
+
+-- src/lib.rt:127:5
+weigh-below-loop-again : (t : ℕ) → weigh-below-lts.Need-loop-again (
+  count-reads.Asked,
+  count-reads.Learnt,
+  step-reads.Asked,
+  step-reads.Learnt,
+  weigh-from-below t,
+  weigh-from.Post,
+  plus-reads.Asked,
+  plus-reads.Learnt,
+) (weigh-below-at t) weigh-below.Post weigh-below-Inv-loop weigh-below-μ-loop
+weigh-below-loop-again t c = ?
+
+-- src/lib.rt:101:1
+weigh-below-same-length : (t : ℕ) → weigh-below-lts.Need-same-length (
+  count-reads.Asked,
+  count-reads.Learnt,
+  step-reads.Asked,
+  step-reads.Learnt,
+  weigh-from-below t,
+  weigh-from.Post,
+  plus-reads.Asked,
+  plus-reads.Learnt,
+) (weigh-below-at t) weigh-below.Post weigh-below-Inv-loop weigh-below-μ-loop
+weigh-below-same-length t c = ?
+
+-- src/lib.rt:101:1
+weigh-below-same-length-2 : (t : ℕ) → weigh-below-lts.Need-same-length-2 (
+  count-reads.Asked,
+  count-reads.Learnt,
+  step-reads.Asked,
+  step-reads.Learnt,
+  weigh-from-below t,
+  weigh-from.Post,
+  plus-reads.Asked,
+  plus-reads.Learnt,
+) (weigh-below-at t) weigh-below.Post weigh-below-Inv-loop weigh-below-μ-loop
+weigh-below-same-length-2 t c = ?
+
+-- src/lib.rt:101:1
+weigh-below-same-length-3 : (t : ℕ) → weigh-below-lts.Need-same-length-3 (
+  count-reads.Asked,
+  count-reads.Learnt,
+  step-reads.Asked,
+  step-reads.Learnt,
+  weigh-from-below t,
+  weigh-from.Post,
+  plus-reads.Asked,
+  plus-reads.Learnt,
+) (weigh-below-at t) weigh-below.Post weigh-below-Inv-loop weigh-below-μ-loop
+weigh-below-same-length-3 t c = ?
+
+-- src/lib.rt:101:1
+weigh-below-returns : (t : ℕ) → weigh-below-lts.Need-returns (
+  count-reads.Asked,
+  count-reads.Learnt,
+  step-reads.Asked,
+  step-reads.Learnt,
+  weigh-from-below t,
+  weigh-from.Post,
+  plus-reads.Asked,
+  plus-reads.Learnt,
+) (weigh-below-at t) weigh-below.Post weigh-below-Inv-loop weigh-below-μ-loop
+weigh-below-returns t c = ?
+
+-- src/lib.rt:91:20
+weigh-from-leaf-requires : (t : ℕ) → weigh-from-lts.Need-leaf-requires (
+  leaf-reads.Asked,
+  leaf-reads.Learnt,
+  byte-reads.Asked,
+  byte-reads.Learnt,
+  after-reads.Asked,
+  after-reads.Learnt,
+  weigh-below-below t,
+  weigh-below.Post,
+) (weigh-from-at t) weigh-from.Post
+weigh-from-leaf-requires t c κs = ?
+
+-- src/lib.rt:90:9
+weigh-from-same-length : (t : ℕ) → weigh-from-lts.Need-same-length (
+  leaf-reads.Asked,
+  leaf-reads.Learnt,
+  byte-reads.Asked,
+  byte-reads.Learnt,
+  after-reads.Asked,
+  after-reads.Learnt,
+  weigh-below-below t,
+  weigh-below.Post,
+) (weigh-from-at t) weigh-from.Post
+weigh-from-same-length t c = ?
+
+-- src/lib.rt:90:9
+weigh-from-returns : (t : ℕ) → weigh-from-lts.Need-returns (
+  leaf-reads.Asked,
+  leaf-reads.Learnt,
+  byte-reads.Asked,
+  byte-reads.Learnt,
+  after-reads.Asked,
+  after-reads.Learnt,
+  weigh-below-below t,
+  weigh-below.Post,
+) (weigh-from-at t) weigh-from.Post
+weigh-from-returns t c = ?
+
+-- src/lib.rt:95:9
+weigh-from-byte-requires : (t : ℕ) → weigh-from-lts.Need-byte-requires (
+  leaf-reads.Asked,
+  leaf-reads.Learnt,
+  byte-reads.Asked,
+  byte-reads.Learnt,
+  after-reads.Asked,
+  after-reads.Learnt,
+  weigh-below-below t,
+  weigh-below.Post,
+) (weigh-from-at t) weigh-from.Post
+weigh-from-byte-requires t c κs = ?
+
+-- src/lib.rt:96:9
+weigh-from-after-requires : (t : ℕ) → weigh-from-lts.Need-after-requires (
+  leaf-reads.Asked,
+  leaf-reads.Learnt,
+  byte-reads.Asked,
+  byte-reads.Learnt,
+  after-reads.Asked,
+  after-reads.Learnt,
+  weigh-below-below t,
+  weigh-below.Post,
+) (weigh-from-at t) weigh-from.Post
+weigh-from-after-requires t c κs = ?
+
+-- src/lib.rt:97:89
+weigh-from-sub-weigh-below : (t : ℕ) → weigh-from-lts.Need-sub-weigh-below (
+  leaf-reads.Asked,
+  leaf-reads.Learnt,
+  byte-reads.Asked,
+  byte-reads.Learnt,
+  after-reads.Asked,
+  after-reads.Learnt,
+  weigh-below-below t,
+  weigh-below.Post,
+) (weigh-from-at t) weigh-from.Post
+weigh-from-sub-weigh-below t c = ?
+
+-- src/lib.rt:97:5
+weigh-from-weigh-below-requires : (t : ℕ) → weigh-from-lts.Need-weigh-below-requires (
+  leaf-reads.Asked,
+  leaf-reads.Learnt,
+  byte-reads.Asked,
+  byte-reads.Learnt,
+  after-reads.Asked,
+  after-reads.Learnt,
+  weigh-below-below t,
+  weigh-below.Post,
+) (weigh-from-at t) weigh-from.Post
+weigh-from-weigh-below-requires t c κs = ?
+
+-- src/lib.rt:68:1
+weigh-from-same-length-2 : (t : ℕ) → weigh-from-lts.Need-same-length-2 (
+  leaf-reads.Asked,
+  leaf-reads.Learnt,
+  byte-reads.Asked,
+  byte-reads.Learnt,
+  after-reads.Asked,
+  after-reads.Learnt,
+  weigh-below-below t,
+  weigh-below.Post,
+) (weigh-from-at t) weigh-from.Post
+weigh-from-same-length-2 t c = ?
+
+-- src/lib.rt:68:1
+weigh-from-same-length-3 : (t : ℕ) → weigh-from-lts.Need-same-length-3 (
+  leaf-reads.Asked,
+  leaf-reads.Learnt,
+  byte-reads.Asked,
+  byte-reads.Learnt,
+  after-reads.Asked,
+  after-reads.Learnt,
+  weigh-below-below t,
+  weigh-below.Post,
+) (weigh-from-at t) weigh-from.Post
+weigh-from-same-length-3 t c = ?
+
+-- src/lib.rt:68:1
+weigh-from-same-length-4 : (t : ℕ) → weigh-from-lts.Need-same-length-4 (
+  leaf-reads.Asked,
+  leaf-reads.Learnt,
+  byte-reads.Asked,
+  byte-reads.Learnt,
+  after-reads.Asked,
+  after-reads.Learnt,
+  weigh-below-below t,
+  weigh-below.Post,
+) (weigh-from-at t) weigh-from.Post
+weigh-from-same-length-4 t c = ?
+
+-- src/lib.rt:68:1
+weigh-from-returns-2 : (t : ℕ) → weigh-from-lts.Need-returns-2 (
+  leaf-reads.Asked,
+  leaf-reads.Learnt,
+  byte-reads.Asked,
+  byte-reads.Learnt,
+  after-reads.Asked,
+  after-reads.Learnt,
+  weigh-below-below t,
+  weigh-below.Post,
+) (weigh-from-at t) weigh-from.Post
+weigh-from-returns-2 t c = ?
+
+pub +weigh-below+weigh-from-spec : {M : Type 1} → statement M
++weigh-below+weigh-from-spec = close μ-weigh-below μ-weigh-from (λ t. weigh-below-lts.spec (
+  count-reads.Asked,
+  count-reads.Learnt,
+  step-reads.Asked,
+  step-reads.Learnt,
+  weigh-from-below t,
+  weigh-from.Post,
+  plus-reads.Asked,
+  plus-reads.Learnt,
+)
+    (weigh-below-at t)
+    weigh-below.Post
+    weigh-below-Inv-loop
+    weigh-below-μ-loop
+    (weigh-below-count-requires t)
+    (weigh-below-loop-holds t)
+    (weigh-below-step-requires t)
+    (weigh-below-add-weigh-from t)
+    (weigh-below-weigh-from-requires t)
+    (weigh-below-plus-requires t)
+    (weigh-below-add-o t)
+    (weigh-below-loop-less t)
+    (weigh-below-loop-again t)
+    (weigh-below-same-length t)
+    (weigh-below-same-length-2 t)
+    (weigh-below-same-length-3 t)
+    (weigh-below-returns t))
+    λ t. weigh-from-lts.spec (
+      leaf-reads.Asked,
+      leaf-reads.Learnt,
+      byte-reads.Asked,
+      byte-reads.Learnt,
+      after-reads.Asked,
+      after-reads.Learnt,
+      weigh-below-below t,
+      weigh-below.Post,
+    )
+    (weigh-from-at t)
+    weigh-from.Post
+    (weigh-from-leaf-requires t)
+    (weigh-from-same-length t)
+    (weigh-from-returns t)
+    (weigh-from-byte-requires t)
+    (weigh-from-after-requires t)
+    (weigh-from-sub-weigh-below t)
+    (weigh-from-weigh-below-requires t)
+    (weigh-from-same-length-2 t)
+    (weigh-from-same-length-3 t)
+    (weigh-from-same-length-4 t)
+    (weigh-from-returns-2 t)
