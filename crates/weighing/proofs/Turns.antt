@@ -234,3 +234,13 @@ module _ {m q : Bytes} {start : ℕ} {depths truth cone : List ℕ} (ready : Rea
                 kept = sym (take-take h (h + 1) trail″ (omega arith)) ∙ ap (take h) (C .kept ∙ longer) ∙ take-at T (b ∷ []) h (trail-length here);
                 knows = knows-shorter m q start cone T b gains″ v″ K;
               }
+
+pub roomy-same : {trail₀ trail : List ℕ} {gains₀ gains : List ℤ} {v₀ v : List ℕ} → Roomy trail₀ gains₀ v₀
+    → length trail ≡ length trail₀ → length gains ≡ length gains₀ → length v ≡ length v₀ → Roomy trail gains v
+roomy-same R a b c = record { steps = omega (arith, R .steps); sums = omega (arith, R .sums); places = omega (arith, R .places) }
+
+pub here-again : {m q : Bytes} {start : ℕ} {cone trail : List ℕ} {gains : List ℤ} {v : List ℕ} {h s k : ℕ} → (k ≡ 0 → ⊥)
+    → Here m q start cone trail gains v h s k → Here m q start cone trail gains v h s (k - 1 + 1)
+here-again {m} {q} {start} {cone} {trail} {gains} {v} {h} {s} {k} n here =
+    let e : k ≡ k - 1 + 1 = omega (arith, n) in
+    subst (Here m q start cone trail gains v h s) e here

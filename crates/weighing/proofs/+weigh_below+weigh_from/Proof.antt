@@ -1,4 +1,13 @@
-use Prim.Native.Nat.{ℕ, _<_}
+-- `weigh_from` and `weigh_below` meet their contracts, together: the steps left fall from the one to the other and back. A sum is made of the sums
+-- below the outcomes of the choice; the loop's invariant is the sum below the first o of them (`runs`).
+use native.Mathlib.Omega.{arith}
+use mathlib.Core.Path.{_≡_, refl, _∙_}
+use lib.ListN.{length, take, drop}
+use borrow.Author.Needs.{needs}
+use Rattle.models.specs.Layout.{entries}
+use Rattle.weighing.specs.Places.{Here, Ran}
+use Rattle.weighing.proofs.Turns.{runs, roomy-same, state-few, count-here, weigh-done, weigh-choice, runs-none, runs-all, offered, known-here, here-next, runs-fit, runs-more, here-again}
+use Prim.Native.Nat.{ℕ, _+_, _-_, _≤_, _<_}
 use borrow.Fn.Kinds.{In}
 use borrow.Fn.PlainCycle.{Measures, is, falls, and}
 use Rattle.weighing.proofs.weigh_below.Reads as weigh-below
@@ -17,10 +26,10 @@ use Rattle.weighing.proofs.+weigh_below+weigh_from.{statement}
 use Rattle.weighing.proofs.+weigh_below+weigh_from.Tie.{close}
 
 abbrev μ-weigh-below : Measures 10 weigh-below-kinds.ps ℕ
-μ-weigh-below κs a = ?
+μ-weigh-below κs a = a .1 .1 .1 .1 .1 .1 .1 .1 .1 .1 .1 .1 .1 .0 + a .1 .1 .1 .1 .1 .1 .1 .1 .1 .1 .1 .1 .1 .0 + 1
 
 abbrev μ-weigh-from : Measures 10 weigh-from-kinds.ps ℕ
-μ-weigh-from κs a = ?
+μ-weigh-from κs a = a .1 .1 .1 .1 .1 .1 .1 .1 .1 .1 .1 .1 .1 .0 + a .1 .1 .1 .1 .1 .1 .1 .1 .1 .1 .1 .1 .1 .0
 
 abbrev weigh-below-at : ℕ → In 10 weigh-below-kinds.ps
 weigh-below-at t =
@@ -40,11 +49,11 @@ weigh-from-below t =
 
 abbrev weigh-below-Inv-loop : weigh-below-lts.InvT-loop
 weigh-below-Inv-loop m used q depths truth cone choices trail₀ gains₀ v₀ start h s k a at c sum₀ next₀ o₀ trail gains v sum next o =
-    ?
+    (c ≡ entries m s a) × (o ≤ c) × Ran (runs m q start cone (take h trail₀) k s a o (drop at choices)) m q start cone h trail₀ trail gains v choices sum next
+    × (length trail ≡ length trail₀) × (length gains ≡ length gains₀) × (length v ≡ length v₀)
 
 abbrev weigh-below-μ-loop : weigh-below-lts.MeasureT-loop
-weigh-below-μ-loop m used q depths truth cone choices trail₀ gains₀ v₀ start h s k a at c sum₀ next₀ o₀ trail gains v sum next o =
-    ?
+weigh-below-μ-loop m used q depths truth cone choices trail₀ gains₀ v₀ start h s k a at c sum₀ next₀ o₀ trail gains v sum next o = c - o
 
 -- src/lib.rt:123:9
 weigh-below-count-requires : (t : ℕ) → weigh-below-lts.Need-count-requires (
@@ -57,7 +66,8 @@ weigh-below-count-requires : (t : ℕ) → weigh-below-lts.Need-count-requires (
   plus-reads.Asked,
   plus-reads.Learnt,
 ) (weigh-below-at t) weigh-below.Post weigh-below-Inv-loop weigh-below-μ-loop
-weigh-below-count-requires t c κs = ?
+weigh-below-count-requires t c κs = let S = c .before .before .before .before .before .before .before .before in
+    state-few (S .pre .1 .0 .0) (S .pre .1 .1 .0)
 
 -- src/lib.rt:127:5
 weigh-below-loop-holds : (t : ℕ) → weigh-below-lts.Need-loop-holds (
@@ -70,7 +80,8 @@ weigh-below-loop-holds : (t : ℕ) → weigh-below-lts.Need-loop-holds (
   plus-reads.Asked,
   plus-reads.Learnt,
 ) (weigh-below-at t) weigh-below.Post weigh-below-Inv-loop weigh-below-μ-loop
-weigh-below-loop-holds t c = ?
+weigh-below-loop-holds t c = let S = c .before .before .before .before .before .before .before .before .before in
+    (c .count .ensures ∙ count-here (S .pre .1 .0 .0) (S .pre .1 .1 .0) (S .pre .1 .0 .1) (S .args .a), omega arith, runs-none (S .pre .1 .0 .0) (S .args .k) (S .pre .1 .1 .0) (S .args .choices .now) (S .args .at) (S .args .a) (S .pre .1 .1 .1), refl, refl, refl)
 
 -- src/lib.rt:128:13
 weigh-below-step-requires : (t : ℕ) → weigh-below-lts.Need-step-requires (
@@ -83,7 +94,10 @@ weigh-below-step-requires : (t : ℕ) → weigh-below-lts.Need-step-requires (
   plus-reads.Asked,
   plus-reads.Learnt,
 ) (weigh-below-at t) weigh-below.Post weigh-below-Inv-loop weigh-below-μ-loop
-weigh-below-step-requires t c κs = ?
+weigh-below-step-requires t c κs = let S = c .before .before .before .before .before .before .before .before .before .before .before .before .before .before in
+    let L = c .before .before .before .before .loop in
+    let R = L .inv .2 in
+    ((S .pre .1 .0 .0), (roomy-same ((S .pre .1 .1 .0) .roomy) (L .inv .3) (L .inv .4) (L .inv .5), (offered (S .pre .1 .0 .0) (S .args .k) (S .pre .1 .1 .0) (S .args .choices .now) (S .args .at) (S .args .a) (L .o) (L .inv .0) (c .before .before .before .loop-test .taken) R, known-here (S .pre .1 .0 .0) (S .args .k) (S .pre .1 .1 .0) (S .args .choices .now) (S .args .at) (S .args .a) (L .o) (L .inv .0) (c .before .before .before .loop-test .taken) R)))
 
 -- src/lib.rt:129:94
 weigh-below-add-weigh-from : (t : ℕ) → weigh-below-lts.Need-add-weigh-from (
@@ -96,7 +110,8 @@ weigh-below-add-weigh-from : (t : ℕ) → weigh-below-lts.Need-add-weigh-from (
   plus-reads.Asked,
   plus-reads.Learnt,
 ) (weigh-below-at t) weigh-below.Post weigh-below-Inv-loop weigh-below-μ-loop
-weigh-below-add-weigh-from t c = ?
+weigh-below-add-weigh-from t c = let S = c .before .before .before .before .before .before .before .before .before .before .before .before .before .before .before .before .before .before .before .before .before .before .before in
+    omega (arith, (S .pre .1 .1 .0) .steps)
 
 -- src/lib.rt:129:13
 weigh-below-weigh-from-requires : (t : ℕ) → weigh-below-lts.Need-weigh-from-requires (
@@ -109,7 +124,11 @@ weigh-below-weigh-from-requires : (t : ℕ) → weigh-below-lts.Need-weigh-from-
   plus-reads.Asked,
   plus-reads.Learnt,
 ) (weigh-below-at t) weigh-below.Post weigh-below-Inv-loop weigh-below-μ-loop
-weigh-below-weigh-from-requires t c κs = ?
+weigh-below-weigh-from-requires t c κs = let S = c .before .before .before .before .before .before .before .before .before .before .before .before .before .before .before .before .before .before .before .before .before .before .before in
+    let L = c .before .before .before .before .before .before .before .before .before .before .before .before .before .loop in
+    let St = c .before .before .before .before .before .before .before .before .step in
+    (omega arith, (((S .pre .1 .0 .0), (S .pre .1 .0 .1)), (here-next (S .pre .1 .0 .0) (S .args .k) (S .pre .1 .1 .0) (S .args .choices .now) (S .args .at) (S .args .a) (L .o) (L .inv .0) (c .before .before .before .before .before .before .before .before .before .before .before .before .loop-test .taken) (L .inv .2) (St .ensures)
+    (roomy-same ((S .pre .1 .1 .0) .roomy) (St .kept .1 .1 .1 .1 .1 .0 ∙ L .inv .3) (St .kept .1 .1 .1 .1 .1 .1 .0 ∙ L .inv .4) (St .kept .1 .1 .1 .1 .1 .1 .1 .0 ∙ L .inv .5)), L .inv .2 .inside)))
 
 -- src/lib.rt:130:9
 weigh-below-plus-requires : (t : ℕ) → weigh-below-lts.Need-plus-requires (
@@ -122,7 +141,9 @@ weigh-below-plus-requires : (t : ℕ) → weigh-below-lts.Need-plus-requires (
   plus-reads.Asked,
   plus-reads.Learnt,
 ) (weigh-below-at t) weigh-below.Post weigh-below-Inv-loop weigh-below-μ-loop
-weigh-below-plus-requires t c κs = ?
+weigh-below-plus-requires t c κs = let S = c .before .before .before .before .before .before .before .before .before .before .before .before .before .before .before .before .before .before .before .before .before .before .before .before .before .before .before .before .before in
+    let L = c .before .before .before .before .before .before .before .before .before .before .before .before .before .before .before .before .before .before .before .loop in
+    runs-fit (S .pre .1 .0 .0) (S .args .k) (S .pre .1 .1 .0) (S .args .choices .now) (S .args .at) (S .args .a) (L .o) (L .inv .0) (c .before .before .before .before .before .before .before .before .before .before .before .before .before .before .before .before .before .before .loop-test .taken) (L .inv .2) (c .before .before .before .before .before .before .before .before .before .before .before .before .before .before .step .ensures) (c .before .before .before .before .before .weigh-from .ensures)
 
 -- src/lib.rt:132:9
 weigh-below-add-o : (t : ℕ) → weigh-below-lts.Need-add-o (
@@ -135,7 +156,7 @@ weigh-below-add-o : (t : ℕ) → weigh-below-lts.Need-add-o (
   plus-reads.Asked,
   plus-reads.Learnt,
 ) (weigh-below-at t) weigh-below.Post weigh-below-Inv-loop weigh-below-μ-loop
-weigh-below-add-o t c = ?
+weigh-below-add-o t c = search needs
 
 -- src/lib.rt:127:5
 weigh-below-loop-less : (t : ℕ) → weigh-below-lts.Need-loop-less (
@@ -148,7 +169,7 @@ weigh-below-loop-less : (t : ℕ) → weigh-below-lts.Need-loop-less (
   plus-reads.Asked,
   plus-reads.Learnt,
 ) (weigh-below-at t) weigh-below.Post weigh-below-Inv-loop weigh-below-μ-loop
-weigh-below-loop-less t c = ?
+weigh-below-loop-less t c = search needs
 
 -- src/lib.rt:127:5
 weigh-below-loop-again : (t : ℕ) → weigh-below-lts.Need-loop-again (
@@ -161,7 +182,12 @@ weigh-below-loop-again : (t : ℕ) → weigh-below-lts.Need-loop-again (
   plus-reads.Asked,
   plus-reads.Learnt,
 ) (weigh-below-at t) weigh-below.Post weigh-below-Inv-loop weigh-below-μ-loop
-weigh-below-loop-again t c = ?
+weigh-below-loop-again t c = let S = c .before .before .before .before .before .before .before .before .before .before .before .before .before .before .before .before .before .before .before .before .before .before .before .before .before .before .before .before .before .before in
+    let L = c .before .before .before .before .before .before .before .before .before .before .before .before .before .before .before .before .before .before .before .before .loop in
+    let St = c .before .before .before .before .before .before .before .before .before .before .before .before .before .before .before .step in
+    let C = c .before .before .before .before .before .before .weigh-from in
+    (L .inv .0, omega (arith, c .before .before .before .before .before .before .before .before .before .before .before .before .before .before .before .before .before .before .before .loop-test .taken), runs-more (S .pre .1 .0 .0) (S .args .k) (S .pre .1 .1 .0) (S .args .choices .now) (S .args .at) (S .args .a) (L .o) (L .inv .0) (c .before .before .before .before .before .before .before .before .before .before .before .before .before .before .before .before .before .before .before .loop-test .taken) (L .inv .2) (St .ensures) (C .ensures) (c .plus .ensures),
+    C .kept .1 .1 .1 .1 .1 .1 .1 .0 ∙ St .kept .1 .1 .1 .1 .1 .0 ∙ L .inv .3, C .kept .1 .1 .1 .1 .1 .1 .1 .1 .0 ∙ St .kept .1 .1 .1 .1 .1 .1 .0 ∙ L .inv .4, C .kept .1 .1 .1 .1 .1 .1 .1 .1 .1 .0 ∙ St .kept .1 .1 .1 .1 .1 .1 .1 .0 ∙ L .inv .5)
 
 -- src/lib.rt:101:1
 weigh-below-same-length : (t : ℕ) → weigh-below-lts.Need-same-length (
@@ -174,7 +200,7 @@ weigh-below-same-length : (t : ℕ) → weigh-below-lts.Need-same-length (
   plus-reads.Asked,
   plus-reads.Learnt,
 ) (weigh-below-at t) weigh-below.Post weigh-below-Inv-loop weigh-below-μ-loop
-weigh-below-same-length t c = ?
+weigh-below-same-length t c = search needs
 
 -- src/lib.rt:101:1
 weigh-below-same-length-2 : (t : ℕ) → weigh-below-lts.Need-same-length-2 (
@@ -187,7 +213,7 @@ weigh-below-same-length-2 : (t : ℕ) → weigh-below-lts.Need-same-length-2 (
   plus-reads.Asked,
   plus-reads.Learnt,
 ) (weigh-below-at t) weigh-below.Post weigh-below-Inv-loop weigh-below-μ-loop
-weigh-below-same-length-2 t c = ?
+weigh-below-same-length-2 t c = search needs
 
 -- src/lib.rt:101:1
 weigh-below-same-length-3 : (t : ℕ) → weigh-below-lts.Need-same-length-3 (
@@ -200,7 +226,7 @@ weigh-below-same-length-3 : (t : ℕ) → weigh-below-lts.Need-same-length-3 (
   plus-reads.Asked,
   plus-reads.Learnt,
 ) (weigh-below-at t) weigh-below.Post weigh-below-Inv-loop weigh-below-μ-loop
-weigh-below-same-length-3 t c = ?
+weigh-below-same-length-3 t c = search needs
 
 -- src/lib.rt:101:1
 weigh-below-returns : (t : ℕ) → weigh-below-lts.Need-returns (
@@ -213,7 +239,9 @@ weigh-below-returns : (t : ℕ) → weigh-below-lts.Need-returns (
   plus-reads.Asked,
   plus-reads.Learnt,
 ) (weigh-below-at t) weigh-below.Post weigh-below-Inv-loop weigh-below-μ-loop
-weigh-below-returns t c = ?
+weigh-below-returns t c = let S = c .before .before .before .before .before .before .before .before .before .before .before in
+    let L = c .before .loop in
+    runs-all (S .pre .1 .0 .0) (S .args .k) (S .pre .1 .1 .0) (S .args .choices .now) (S .args .at) (S .args .a) (c .before .before .count .result) (L .o) (L .inv .0) (omega arith) (L .inv .2)
 
 -- src/lib.rt:91:20
 weigh-from-leaf-requires : (t : ℕ) → weigh-from-lts.Need-leaf-requires (
@@ -226,7 +254,8 @@ weigh-from-leaf-requires : (t : ℕ) → weigh-from-lts.Need-leaf-requires (
   weigh-below-below t,
   weigh-below.Post,
 ) (weigh-from-at t) weigh-from.Post
-weigh-from-leaf-requires t c κs = ?
+weigh-from-leaf-requires t c κs = let S = c .before .before .before .before .before .before .before .before .before .before in
+    (S .pre .1 .0 .0) .ordered .some
 
 -- src/lib.rt:90:9
 weigh-from-same-length : (t : ℕ) → weigh-from-lts.Need-same-length (
@@ -239,7 +268,7 @@ weigh-from-same-length : (t : ℕ) → weigh-from-lts.Need-same-length (
   weigh-below-below t,
   weigh-below.Post,
 ) (weigh-from-at t) weigh-from.Post
-weigh-from-same-length t c = ?
+weigh-from-same-length t c = search needs
 
 -- src/lib.rt:90:9
 weigh-from-returns : (t : ℕ) → weigh-from-lts.Need-returns (
@@ -252,7 +281,8 @@ weigh-from-returns : (t : ℕ) → weigh-from-lts.Need-returns (
   weigh-below-below t,
   weigh-below.Post,
 ) (weigh-from-at t) weigh-from.Post
-weigh-from-returns t c = ?
+weigh-from-returns t c = let S = c .before .before .before .before .before .before .before .before .before .before .before in
+    weigh-done (S .pre .1 .0 .0) (S .pre .1 .1 .0) (S .args .choices .now) (S .args .at) (c .leaf .result) (c .before .before .if1 .taken) (S .pre .1 .1 .1) (c .leaf .ensures)
 
 -- src/lib.rt:95:9
 weigh-from-byte-requires : (t : ℕ) → weigh-from-lts.Need-byte-requires (
@@ -265,7 +295,7 @@ weigh-from-byte-requires : (t : ℕ) → weigh-from-lts.Need-byte-requires (
   weigh-below-below t,
   weigh-below.Post,
 ) (weigh-from-at t) weigh-from.Post
-weigh-from-byte-requires t c κs = ?
+weigh-from-byte-requires t c κs = search needs
 
 -- src/lib.rt:96:9
 weigh-from-after-requires : (t : ℕ) → weigh-from-lts.Need-after-requires (
@@ -278,7 +308,8 @@ weigh-from-after-requires : (t : ℕ) → weigh-from-lts.Need-after-requires (
   weigh-below-below t,
   weigh-below.Post,
 ) (weigh-from-at t) weigh-from.Post
-weigh-from-after-requires t c κs = ?
+weigh-from-after-requires t c κs = let S = c .before .before .before .before .before .before .before .before .before .before in
+    S .pre .1 .1 .1
 
 -- src/lib.rt:97:89
 weigh-from-sub-weigh-below : (t : ℕ) → weigh-from-lts.Need-sub-weigh-below (
@@ -291,7 +322,7 @@ weigh-from-sub-weigh-below : (t : ℕ) → weigh-from-lts.Need-sub-weigh-below (
   weigh-below-below t,
   weigh-below.Post,
 ) (weigh-from-at t) weigh-from.Post
-weigh-from-sub-weigh-below t c = ?
+weigh-from-sub-weigh-below t c = search needs
 
 -- src/lib.rt:97:5
 weigh-from-weigh-below-requires : (t : ℕ) → weigh-from-lts.Need-weigh-below-requires (
@@ -304,7 +335,8 @@ weigh-from-weigh-below-requires : (t : ℕ) → weigh-from-lts.Need-weigh-below-
   weigh-below-below t,
   weigh-below.Post,
 ) (weigh-from-at t) weigh-from.Post
-weigh-from-weigh-below-requires t c κs = ?
+weigh-from-weigh-below-requires t c κs = let S = c .before .before .before .before .before .before .before .before .before .before .before .before .before .before in
+    (omega (arith, c .before .before .before .before .before .if1 .left), (((S .pre .1 .0 .0), (S .pre .1 .0 .1)), (here-again (c .before .before .before .before .before .if1 .left) (S .pre .1 .1 .0), c .before .before .before .after .ensures .0)))
 
 -- src/lib.rt:68:1
 weigh-from-same-length-2 : (t : ℕ) → weigh-from-lts.Need-same-length-2 (
@@ -317,7 +349,7 @@ weigh-from-same-length-2 : (t : ℕ) → weigh-from-lts.Need-same-length-2 (
   weigh-below-below t,
   weigh-below.Post,
 ) (weigh-from-at t) weigh-from.Post
-weigh-from-same-length-2 t c = ?
+weigh-from-same-length-2 t c = search needs
 
 -- src/lib.rt:68:1
 weigh-from-same-length-3 : (t : ℕ) → weigh-from-lts.Need-same-length-3 (
@@ -330,7 +362,7 @@ weigh-from-same-length-3 : (t : ℕ) → weigh-from-lts.Need-same-length-3 (
   weigh-below-below t,
   weigh-below.Post,
 ) (weigh-from-at t) weigh-from.Post
-weigh-from-same-length-3 t c = ?
+weigh-from-same-length-3 t c = search needs
 
 -- src/lib.rt:68:1
 weigh-from-same-length-4 : (t : ℕ) → weigh-from-lts.Need-same-length-4 (
@@ -343,7 +375,7 @@ weigh-from-same-length-4 : (t : ℕ) → weigh-from-lts.Need-same-length-4 (
   weigh-below-below t,
   weigh-below.Post,
 ) (weigh-from-at t) weigh-from.Post
-weigh-from-same-length-4 t c = ?
+weigh-from-same-length-4 t c = search needs
 
 -- src/lib.rt:68:1
 weigh-from-returns-2 : (t : ℕ) → weigh-from-lts.Need-returns-2 (
@@ -356,7 +388,8 @@ weigh-from-returns-2 : (t : ℕ) → weigh-from-lts.Need-returns-2 (
   weigh-below-below t,
   weigh-below.Post,
 ) (weigh-from-at t) weigh-from.Post
-weigh-from-returns-2 t c = ?
+weigh-from-returns-2 t c = let S = c .before .before .before .before .before .before .before .before .before .before .before .before .before .before .before .before .before .before .before .before in
+    weigh-choice (S .pre .1 .0 .0) (S .pre .1 .1 .0) (S .args .choices .now) (S .args .at) (c .before .before .before .before .before .before .before .before .before .before .byte .result) (c .before .before .before .before .before .before .before .before .before .after .result) (c .before .before .before .before .before .before .before .before .before .before .before .if1 .left) (c .before .before .before .before .before .before .before .before .before .before .byte .ensures) (c .before .before .before .before .before .before .before .before .before .after .ensures .1) (c .before .before .before .before .before .weigh-below .ensures)
 
 pub +weigh-below+weigh-from-spec : {M : Type 1} → statement M
 +weigh-below+weigh-from-spec = close μ-weigh-below μ-weigh-from (λ t. weigh-below-lts.spec (
