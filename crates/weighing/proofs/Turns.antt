@@ -9,13 +9,16 @@ use mathlib.Core.Path.{_≡_, refl, sym, ap, ap₂, subst, _∙_, fun-ext}
 use mathlib.Core.Bool.{cond}
 use mathlib.Core.List.{List, [], _∷_, _++_, append-assoc, append-nil}
 use lib.Dec.{ltb}
-use lib.IntN.{ℤ}
+use lib.IntN.{ℤ, pos}
 use lib.ListN.{length, getD, take, drop, drop-of-length-le}
 use lib.Seq.{length-take-le, take-take, take-at, getD-drop, drop-drop}
 use borrow.Author.Tests.{lt-ltb, le-ltb}
 use Rattle.logic.specs.Lists.{tabulate, count-from}
 use Rattle.logic.specs.Model.{Model, Step, outcomes}
-use Rattle.logic.specs.Formula.{depth}
+use Rattle.logic.specs.Checked.{ok}
+use Rattle.logic.specs.Plan.{Plan}
+use Rattle.logic.specs.Choices.{plan-of}
+use Rattle.logic.specs.Formula.{depth, W}
 use Rattle.logic.specs.Total.{value-of}
 use Rattle.logic.proofs.Tests.{tabulate-more}
 use Rattle.blocks.specs.Bytes.{Bytes}
@@ -27,14 +30,15 @@ use Rattle.models.proofs.Readable.{readable}
 use Rattle.models.proofs.Rows.{outcomes-are, entries-few}
 use Rattle.evaluation.specs.Path.{step-of, steps-of, state-after}
 use Rattle.evaluation.specs.Reached.{formula, root-of, Ready}
-use Rattle.evaluation.specs.Learnt.{known}
+use Rattle.evaluation.specs.Learnt.{known, learnt}
 use Rattle.evaluation.specs.Known.{Knows, Roomy, Offered, Stepped}
 use Rattle.evaluation.proofs.Trails.{fair, state-inside, state-append, steps-append}
 use Rattle.evaluation.proofs.Knowing.{knows-shorter}
-use Rattle.evaluation.proofs.Stepping.{leaf-value}
+use Rattle.evaluation.proofs.Stepping.{leaf-value, begun}
+use Rattle.evaluation.proofs.Values.{learnt-length}
 use Rattle.weighing.specs.Sums.{Run, each, weigh, count-in}
 use Rattle.weighing.specs.Places.{onward, Here, Ran}
-use Rattle.weighing.proofs.Plans.{value-small}
+use Rattle.weighing.proofs.Plans.{value-small, plan-weighed}
 use Rattle.weighing.proofs.Fits.{each-more, outcomes-small, weigh-small, power-small}
 
 -- ---- the choice at a place
@@ -244,3 +248,23 @@ pub here-again : {m q : Bytes} {start : ℕ} {cone trail : List ℕ} {gains : Li
 here-again {m} {q} {start} {cone} {trail} {gains} {v} {h} {s} {k} n here =
     let e : k ≡ k - 1 + 1 = omega (arith, n) in
     subst (Here m q start cone trail gains v h s) e here
+
+-- At the start, before any step.
+pub here-begun : {m q : Bytes} {start : ℕ} {depths truth cone : List ℕ} → Ready m q start depths truth cone → (trail : List ℕ) (gains : List ℤ) (v : List ℕ)
+    → Roomy trail gains v → getD gains 0 (pos 0) ≡ pos 0 → {v′ : List ℕ} → v′ ≡ learnt q depths truth trail gains 0 start cone v
+    → {n : ℕ} → depth (formula q (root-of cone)) ≤ n → n ≤ 6 → Here m q start cone trail gains v′ 0 start n
+unfolding state-after
+here-begun {m} {q} {start} {depths} {truth} {cone} ready trail gains v room g {v′} e d l =
+    record {
+      steps = omega arith;
+      deep = omega arith;
+      state = refl;
+      roomy = roomy-same room refl refl (ap length e ∙ learnt-length q depths truth trail gains 0 start cone v);
+      knows = begun ready trail gains v v′ g (room .places) e;
+    }
+
+pub all-weighed : {m q : Bytes} {start : ℕ} {cone : List ℕ} (n : ℕ) (trail : List ℕ) {trail′ : List ℕ} {gains′ : List ℤ} {v′ choices : List ℕ} {x next : ℕ}
+    → Ran (weigh (model-of m) n start (onward m q start cone (take 0 trail)) (drop 0 choices)) m q start cone 0 trail trail′ gains′ v′ choices x next
+    → (π : Plan n) → plan-of (model-of m) n start choices ≡ ok π → x ≡ W (model-of m) (formula q (root-of cone)) n start π
+unfolding steps-of
+all-weighed {m} {q} {start} {cone} n trail {choices = choices} R π e = R .sum ∙ plan-weighed (model-of m) (formula q (root-of cone)) n start choices π e
