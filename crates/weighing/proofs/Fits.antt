@@ -1,8 +1,8 @@
 -- Sums over choices, plan or not, stay far below 2 to the 64: a state's action has at most 4 outcomes, each of weight at most 100.
 use Prim.Native.Nat.{ℕ, zero, suc, _+_, _*_, _^_, _≤_, _<_}
 use native.Mathlib.Omega.{arith}
-use native.Mathlib.Nat.{add-zero, add-assoc, le-trans, mul-le-mul, mul-le-mul-right, suc-mul, pow-zero, pow-suc, pow-le-pow-right}
-use mathlib.Core.Path.{_≡_, refl, sym, ap, _∙_}
+use native.Mathlib.Nat.{add-assoc, mul-le-mul, mul-le-mul-right, suc-mul, pow-zero, pow-suc, pow-le-pow-right}
+use mathlib.Core.Path.{_≡_, sym, ap, _∙_}
 use mathlib.Core.List.{List, [], _∷_, _++_}
 use lib.ListN.{getD, drop}
 use Rattle.logic.specs.Lists.{tabulate, count-from}

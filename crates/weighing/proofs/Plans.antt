@@ -9,7 +9,7 @@ use mathlib.Core.List.{List, [], _∷_, List·Memᴰ}
 use lib.Dec.{eqb}
 use lib.ListN.{length}
 use Rattle.logic.specs.Lists.{any, is-empty}
-use Rattle.logic.specs.Checked.{Checked, ok, refusal}
+use Rattle.logic.specs.Checked.{Checked, ok, refused, _>>=_, _>>_, guard, refusal}
 use Rattle.logic.specs.Model.{Model, Step, enabled, outcomes}
 use Rattle.logic.specs.Quantity.{naturals, sum}
 use Rattle.logic.specs.Plan.{Plan, plans, paths, weight}
@@ -64,6 +64,40 @@ module _ (M : Model) where
       let u = bind-ok (read-plan M n s cs) _ e in
       let v = guard-ok 10 (is-empty (u .0 .1)) _ (u .2) in
       ap (λ (x : Run). x .0) (weigh-read n s (value-of M φ s) cs (u .0) (u .1)) ∙ sym (W-total M φ n s (u .0 .0)) ∙ ap (W M φ n s) (ok-same (v .1))
+
+-- ---- choices that are not refused spell a plan
+
+There : {A : Type 0} → Checked A → Type 0
+There {A} c = refusal c ≡ 0 → (a : A) × (c ≡ ok a)
+
+bind-there : {A B : Type 0} (c : Checked A) (f : A → Checked B) → There c → ((a : A) → There (f a)) → There (c >>= f)
+unfolding There
+bind-there (ok a) f h g e = g a e
+bind-there (refused k) f h g e = absurd (not-ok (h e .1))
+
+guard-there : {A : Type 0} (k : ℕ) (t : Bool) (c : Checked A) → There c → There (guard (suc k) t >> c)
+unfolding There
+guard-there k true c h e = h e
+guard-there k false c h e = absurd (omega arith)
+
+each-there : {P : Type 0} (read : Step → List ℕ → Checked (P × List ℕ)) → ((o : Step) (cs : List ℕ) → There (read o cs)) → (os : List Step) (cs : List ℕ) → There (read-each read os cs)
+unfolding There read-each
+each-there read h [] cs e = (([], cs), refl)
+each-there read h (o ∷ os) cs e =
+    bind-there (read o cs) _ (h o cs) (λ y. bind-there (read-each read os (y .1)) _ (each-there read h os (y .1)) (λ ys _. ((y .0 ∷ ys .0, ys .1), refl))) e
+
+read-there : (M : Model) (n s : ℕ) (cs : List ℕ) → There (read-plan M n s cs)
+unfolding There read-plan
+read-there M zero s cs e = ((tt, cs), refl)
+read-there M (suc n) s [] e = absurd (omega arith)
+read-there M (suc n) s (a ∷ cs) e =
+    guard-there 9 (any (eqb a) (enabled M s)) _
+    (bind-there (read-each (λ o. read-plan M n (o .target)) (outcomes M s a) cs) _ (each-there (λ o. read-plan M n (o .target)) (λ o ds. read-there M n (o .target) ds) (outcomes M s a) cs)
+    (λ qs _. (((a, qs .0), qs .1), refl))) e
+
+pub plan-there : (M : Model) (n s : ℕ) (cs : List ℕ) → refusal (plan-of M n s cs) ≡ 0 → (π : Plan n) × (plan-of M n s cs ≡ ok π)
+unfolding There plan-of
+plan-there M n s cs = bind-there (read-plan M n s cs) _ (read-there M n s cs) (λ x. guard-there 9 (is-empty (x .1)) (ok (x .0)) (λ _. (x .0, refl)))
 
 -- ---- how much a plan weighs
 

@@ -4,7 +4,7 @@ use Prim.Native.Nat.{ℕ, zero, suc, _+_, _*_, _-_, _/_, _%_, _^_, _≤_, _<_}
 use native.Mathlib.Omega.{arith}
 use native.Mathlib.Numerals.{add-one}
 use native.Mathlib.Decide.{decLt}
-use native.Mathlib.Nat.{le-trans, mul-le-mul, mul-le-mul-right, add-le-add}
+use native.Mathlib.Nat.{mul-le-mul, mul-le-mul-right}
 use mathlib.Core.Path.{_≡_, refl, sym, ap, ap₂, subst, _∙_, fun-ext}
 use mathlib.Core.Bool.{cond}
 use mathlib.Core.List.{List, [], _∷_, _++_, append-assoc, append-nil}
@@ -22,7 +22,7 @@ use Rattle.logic.specs.Formula.{depth, W}
 use Rattle.logic.specs.Total.{value-of}
 use Rattle.logic.proofs.Tests.{tabulate-more}
 use Rattle.blocks.specs.Bytes.{Bytes}
-use Rattle.models.specs.Layout.{state-count, action-count, outcome-of, entries, model-of}
+use Rattle.models.specs.Layout.{state-count, outcome-of, entries, model-of}
 use Rattle.models.specs.Readable.{Readable}
 use Rattle.models.specs.Used.{Used}
 use Rattle.models.proofs.Laws.{entries-past-actions}

@@ -5,7 +5,7 @@ use mathlib.Core.Path.{_≡_, refl, _∙_}
 use lib.ListN.{length, take, drop}
 use borrow.Author.Needs.{needs}
 use Rattle.models.specs.Layout.{entries}
-use Rattle.weighing.specs.Places.{Here, Ran}
+use Rattle.weighing.specs.Places.{Ran}
 use Rattle.weighing.proofs.Turns.{runs, roomy-same, state-few, count-here, weigh-done, weigh-choice, runs-none, runs-all, offered, known-here, here-next, runs-fit, runs-more, here-again}
 use Prim.Native.Nat.{ℕ, _+_, _-_, _≤_, _<_}
 use borrow.Fn.Kinds.{In}
@@ -55,7 +55,6 @@ weigh-below-Inv-loop m used q depths truth cone choices trail₀ gains₀ v₀ s
 abbrev weigh-below-μ-loop : weigh-below-lts.MeasureT-loop
 weigh-below-μ-loop m used q depths truth cone choices trail₀ gains₀ v₀ start h s k a at c sum₀ next₀ o₀ trail gains v sum next o = c - o
 
--- src/lib.rt:123:9
 weigh-below-count-requires : (t : ℕ) → weigh-below-lts.Need-count-requires (
   count-reads.Asked,
   count-reads.Learnt,
@@ -69,7 +68,6 @@ weigh-below-count-requires : (t : ℕ) → weigh-below-lts.Need-count-requires (
 weigh-below-count-requires t c κs = let S = c .before .before .before .before .before .before .before .before in
     state-few (S .pre .1 .0 .0) (S .pre .1 .1 .0)
 
--- src/lib.rt:127:5
 weigh-below-loop-holds : (t : ℕ) → weigh-below-lts.Need-loop-holds (
   count-reads.Asked,
   count-reads.Learnt,
@@ -83,7 +81,6 @@ weigh-below-loop-holds : (t : ℕ) → weigh-below-lts.Need-loop-holds (
 weigh-below-loop-holds t c = let S = c .before .before .before .before .before .before .before .before .before in
     (c .count .ensures ∙ count-here (S .pre .1 .0 .0) (S .pre .1 .1 .0) (S .pre .1 .0 .1) (S .args .a), omega arith, runs-none (S .pre .1 .0 .0) (S .args .k) (S .pre .1 .1 .0) (S .args .choices .now) (S .args .at) (S .args .a) (S .pre .1 .1 .1), refl, refl, refl)
 
--- src/lib.rt:128:13
 weigh-below-step-requires : (t : ℕ) → weigh-below-lts.Need-step-requires (
   count-reads.Asked,
   count-reads.Learnt,
@@ -99,7 +96,6 @@ weigh-below-step-requires t c κs = let S = c .before .before .before .before .b
     let R = L .inv .2 in
     ((S .pre .1 .0 .0), (roomy-same ((S .pre .1 .1 .0) .roomy) (L .inv .3) (L .inv .4) (L .inv .5), (offered (S .pre .1 .0 .0) (S .args .k) (S .pre .1 .1 .0) (S .args .choices .now) (S .args .at) (S .args .a) (L .o) (L .inv .0) (c .before .before .before .loop-test .taken) R, known-here (S .pre .1 .0 .0) (S .args .k) (S .pre .1 .1 .0) (S .args .choices .now) (S .args .at) (S .args .a) (L .o) (L .inv .0) (c .before .before .before .loop-test .taken) R)))
 
--- src/lib.rt:129:94
 weigh-below-add-weigh-from : (t : ℕ) → weigh-below-lts.Need-add-weigh-from (
   count-reads.Asked,
   count-reads.Learnt,
@@ -113,7 +109,6 @@ weigh-below-add-weigh-from : (t : ℕ) → weigh-below-lts.Need-add-weigh-from (
 weigh-below-add-weigh-from t c = let S = c .before .before .before .before .before .before .before .before .before .before .before .before .before .before .before .before .before .before .before .before .before .before .before in
     omega (arith, (S .pre .1 .1 .0) .steps)
 
--- src/lib.rt:129:13
 weigh-below-weigh-from-requires : (t : ℕ) → weigh-below-lts.Need-weigh-from-requires (
   count-reads.Asked,
   count-reads.Learnt,
@@ -130,7 +125,6 @@ weigh-below-weigh-from-requires t c κs = let S = c .before .before .before .bef
     (omega arith, (((S .pre .1 .0 .0), (S .pre .1 .0 .1)), (here-next (S .pre .1 .0 .0) (S .args .k) (S .pre .1 .1 .0) (S .args .choices .now) (S .args .at) (S .args .a) (L .o) (L .inv .0) (c .before .before .before .before .before .before .before .before .before .before .before .before .loop-test .taken) (L .inv .2) (St .ensures)
     (roomy-same ((S .pre .1 .1 .0) .roomy) (St .kept .1 .1 .1 .1 .1 .0 ∙ L .inv .3) (St .kept .1 .1 .1 .1 .1 .1 .0 ∙ L .inv .4) (St .kept .1 .1 .1 .1 .1 .1 .1 .0 ∙ L .inv .5)), L .inv .2 .inside)))
 
--- src/lib.rt:130:9
 weigh-below-plus-requires : (t : ℕ) → weigh-below-lts.Need-plus-requires (
   count-reads.Asked,
   count-reads.Learnt,
@@ -145,7 +139,6 @@ weigh-below-plus-requires t c κs = let S = c .before .before .before .before .b
     let L = c .before .before .before .before .before .before .before .before .before .before .before .before .before .before .before .before .before .before .before .loop in
     runs-fit (S .pre .1 .0 .0) (S .args .k) (S .pre .1 .1 .0) (S .args .choices .now) (S .args .at) (S .args .a) (L .o) (L .inv .0) (c .before .before .before .before .before .before .before .before .before .before .before .before .before .before .before .before .before .before .loop-test .taken) (L .inv .2) (c .before .before .before .before .before .before .before .before .before .before .before .before .before .before .step .ensures) (c .before .before .before .before .before .weigh-from .ensures)
 
--- src/lib.rt:132:9
 weigh-below-add-o : (t : ℕ) → weigh-below-lts.Need-add-o (
   count-reads.Asked,
   count-reads.Learnt,
@@ -158,7 +151,6 @@ weigh-below-add-o : (t : ℕ) → weigh-below-lts.Need-add-o (
 ) (weigh-below-at t) weigh-below.Post weigh-below-Inv-loop weigh-below-μ-loop
 weigh-below-add-o t c = search needs
 
--- src/lib.rt:127:5
 weigh-below-loop-less : (t : ℕ) → weigh-below-lts.Need-loop-less (
   count-reads.Asked,
   count-reads.Learnt,
@@ -171,7 +163,6 @@ weigh-below-loop-less : (t : ℕ) → weigh-below-lts.Need-loop-less (
 ) (weigh-below-at t) weigh-below.Post weigh-below-Inv-loop weigh-below-μ-loop
 weigh-below-loop-less t c = search needs
 
--- src/lib.rt:127:5
 weigh-below-loop-again : (t : ℕ) → weigh-below-lts.Need-loop-again (
   count-reads.Asked,
   count-reads.Learnt,
@@ -189,7 +180,6 @@ weigh-below-loop-again t c = let S = c .before .before .before .before .before .
     (L .inv .0, omega (arith, c .before .before .before .before .before .before .before .before .before .before .before .before .before .before .before .before .before .before .before .loop-test .taken), runs-more (S .pre .1 .0 .0) (S .args .k) (S .pre .1 .1 .0) (S .args .choices .now) (S .args .at) (S .args .a) (L .o) (L .inv .0) (c .before .before .before .before .before .before .before .before .before .before .before .before .before .before .before .before .before .before .before .loop-test .taken) (L .inv .2) (St .ensures) (C .ensures) (c .plus .ensures),
     C .kept .1 .1 .1 .1 .1 .1 .1 .0 ∙ St .kept .1 .1 .1 .1 .1 .0 ∙ L .inv .3, C .kept .1 .1 .1 .1 .1 .1 .1 .1 .0 ∙ St .kept .1 .1 .1 .1 .1 .1 .0 ∙ L .inv .4, C .kept .1 .1 .1 .1 .1 .1 .1 .1 .1 .0 ∙ St .kept .1 .1 .1 .1 .1 .1 .1 .0 ∙ L .inv .5)
 
--- src/lib.rt:101:1
 weigh-below-same-length : (t : ℕ) → weigh-below-lts.Need-same-length (
   count-reads.Asked,
   count-reads.Learnt,
@@ -202,7 +192,6 @@ weigh-below-same-length : (t : ℕ) → weigh-below-lts.Need-same-length (
 ) (weigh-below-at t) weigh-below.Post weigh-below-Inv-loop weigh-below-μ-loop
 weigh-below-same-length t c = search needs
 
--- src/lib.rt:101:1
 weigh-below-same-length-2 : (t : ℕ) → weigh-below-lts.Need-same-length-2 (
   count-reads.Asked,
   count-reads.Learnt,
@@ -215,7 +204,6 @@ weigh-below-same-length-2 : (t : ℕ) → weigh-below-lts.Need-same-length-2 (
 ) (weigh-below-at t) weigh-below.Post weigh-below-Inv-loop weigh-below-μ-loop
 weigh-below-same-length-2 t c = search needs
 
--- src/lib.rt:101:1
 weigh-below-same-length-3 : (t : ℕ) → weigh-below-lts.Need-same-length-3 (
   count-reads.Asked,
   count-reads.Learnt,
@@ -228,7 +216,6 @@ weigh-below-same-length-3 : (t : ℕ) → weigh-below-lts.Need-same-length-3 (
 ) (weigh-below-at t) weigh-below.Post weigh-below-Inv-loop weigh-below-μ-loop
 weigh-below-same-length-3 t c = search needs
 
--- src/lib.rt:101:1
 weigh-below-returns : (t : ℕ) → weigh-below-lts.Need-returns (
   count-reads.Asked,
   count-reads.Learnt,
@@ -243,7 +230,6 @@ weigh-below-returns t c = let S = c .before .before .before .before .before .bef
     let L = c .before .loop in
     runs-all (S .pre .1 .0 .0) (S .args .k) (S .pre .1 .1 .0) (S .args .choices .now) (S .args .at) (S .args .a) (c .before .before .count .result) (L .o) (L .inv .0) (omega arith) (L .inv .2)
 
--- src/lib.rt:91:20
 weigh-from-leaf-requires : (t : ℕ) → weigh-from-lts.Need-leaf-requires (
   leaf-reads.Asked,
   leaf-reads.Learnt,
@@ -257,7 +243,6 @@ weigh-from-leaf-requires : (t : ℕ) → weigh-from-lts.Need-leaf-requires (
 weigh-from-leaf-requires t c κs = let S = c .before .before .before .before .before .before .before .before .before .before in
     (S .pre .1 .0 .0) .ordered .some
 
--- src/lib.rt:90:9
 weigh-from-same-length : (t : ℕ) → weigh-from-lts.Need-same-length (
   leaf-reads.Asked,
   leaf-reads.Learnt,
@@ -270,7 +255,6 @@ weigh-from-same-length : (t : ℕ) → weigh-from-lts.Need-same-length (
 ) (weigh-from-at t) weigh-from.Post
 weigh-from-same-length t c = search needs
 
--- src/lib.rt:90:9
 weigh-from-returns : (t : ℕ) → weigh-from-lts.Need-returns (
   leaf-reads.Asked,
   leaf-reads.Learnt,
@@ -284,7 +268,6 @@ weigh-from-returns : (t : ℕ) → weigh-from-lts.Need-returns (
 weigh-from-returns t c = let S = c .before .before .before .before .before .before .before .before .before .before .before in
     weigh-done (S .pre .1 .0 .0) (S .pre .1 .1 .0) (S .args .choices .now) (S .args .at) (c .leaf .result) (c .before .before .if1 .taken) (S .pre .1 .1 .1) (c .leaf .ensures)
 
--- src/lib.rt:95:9
 weigh-from-byte-requires : (t : ℕ) → weigh-from-lts.Need-byte-requires (
   leaf-reads.Asked,
   leaf-reads.Learnt,
@@ -297,7 +280,6 @@ weigh-from-byte-requires : (t : ℕ) → weigh-from-lts.Need-byte-requires (
 ) (weigh-from-at t) weigh-from.Post
 weigh-from-byte-requires t c κs = search needs
 
--- src/lib.rt:96:9
 weigh-from-after-requires : (t : ℕ) → weigh-from-lts.Need-after-requires (
   leaf-reads.Asked,
   leaf-reads.Learnt,
@@ -311,7 +293,6 @@ weigh-from-after-requires : (t : ℕ) → weigh-from-lts.Need-after-requires (
 weigh-from-after-requires t c κs = let S = c .before .before .before .before .before .before .before .before .before .before in
     S .pre .1 .1 .1
 
--- src/lib.rt:97:89
 weigh-from-sub-weigh-below : (t : ℕ) → weigh-from-lts.Need-sub-weigh-below (
   leaf-reads.Asked,
   leaf-reads.Learnt,
@@ -324,7 +305,6 @@ weigh-from-sub-weigh-below : (t : ℕ) → weigh-from-lts.Need-sub-weigh-below (
 ) (weigh-from-at t) weigh-from.Post
 weigh-from-sub-weigh-below t c = search needs
 
--- src/lib.rt:97:5
 weigh-from-weigh-below-requires : (t : ℕ) → weigh-from-lts.Need-weigh-below-requires (
   leaf-reads.Asked,
   leaf-reads.Learnt,
@@ -338,7 +318,6 @@ weigh-from-weigh-below-requires : (t : ℕ) → weigh-from-lts.Need-weigh-below-
 weigh-from-weigh-below-requires t c κs = let S = c .before .before .before .before .before .before .before .before .before .before .before .before .before .before in
     (omega (arith, c .before .before .before .before .before .if1 .left), (((S .pre .1 .0 .0), (S .pre .1 .0 .1)), (here-again (c .before .before .before .before .before .if1 .left) (S .pre .1 .1 .0), c .before .before .before .after .ensures .0)))
 
--- src/lib.rt:68:1
 weigh-from-same-length-2 : (t : ℕ) → weigh-from-lts.Need-same-length-2 (
   leaf-reads.Asked,
   leaf-reads.Learnt,
@@ -351,7 +330,6 @@ weigh-from-same-length-2 : (t : ℕ) → weigh-from-lts.Need-same-length-2 (
 ) (weigh-from-at t) weigh-from.Post
 weigh-from-same-length-2 t c = search needs
 
--- src/lib.rt:68:1
 weigh-from-same-length-3 : (t : ℕ) → weigh-from-lts.Need-same-length-3 (
   leaf-reads.Asked,
   leaf-reads.Learnt,
@@ -364,7 +342,6 @@ weigh-from-same-length-3 : (t : ℕ) → weigh-from-lts.Need-same-length-3 (
 ) (weigh-from-at t) weigh-from.Post
 weigh-from-same-length-3 t c = search needs
 
--- src/lib.rt:68:1
 weigh-from-same-length-4 : (t : ℕ) → weigh-from-lts.Need-same-length-4 (
   leaf-reads.Asked,
   leaf-reads.Learnt,
@@ -377,7 +354,6 @@ weigh-from-same-length-4 : (t : ℕ) → weigh-from-lts.Need-same-length-4 (
 ) (weigh-from-at t) weigh-from.Post
 weigh-from-same-length-4 t c = search needs
 
--- src/lib.rt:68:1
 weigh-from-returns-2 : (t : ℕ) → weigh-from-lts.Need-returns-2 (
   leaf-reads.Asked,
   leaf-reads.Learnt,

@@ -3,27 +3,20 @@ use Rattle.weighing.proofs.Turns.{count-some, count-none}
 use borrow.Author.Needs.{needs}
 use Rattle.weighing.proofs.count.Statement.{statement}
 use Rattle.weighing.proofs.count.Tie as tie
-use Rattle.weighing.proofs.count.Reads as reads
-use Rattle.weighing.proofs.count.Lts as lts
 
--- src/lib.rt:34:21
 mul-result : tie.Need-mul-result
 mul-result c = search needs
 
--- src/lib.rt:34:21
 add-result : tie.Need-add-result
 add-result c = search needs
 
--- src/lib.rt:34:16
 element-copy-out-result : tie.Need-element-copy-out-result
 element-copy-out-result c = search needs
 
--- src/lib.rt:34:9
 returns : tie.Need-returns
 returns c = let S = c .before .before in
     count-some (S .args .used .now) (S .args .s) (S .args .a) (c .before .if1 .taken)
 
--- src/lib.rt:29:1
 returns-2 : tie.Need-returns-2
 returns-2 c = let S = c .before in
     count-none (S .args .used .now) (S .args .s) (S .args .a) (c .if1 .left)

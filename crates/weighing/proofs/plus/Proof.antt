@@ -6,27 +6,20 @@ use Rattle.models.specs.Layout.{outcome-of}
 use borrow.Author.Needs.{needs}
 use Rattle.weighing.proofs.plus.Statement.{statement}
 use Rattle.weighing.proofs.plus.Tie as tie
-use Rattle.weighing.proofs.plus.Reads as reads
-use Rattle.weighing.proofs.plus.Lts as lts
-use Rattle.models.proofs.weight.Reads as weight-reads
 
--- src/lib.rt:64:11
 weight-requires : tie.Need-weight-requires
 weight-requires c κs = search needs
 
--- src/lib.rt:64:11
 mul-result : tie.Need-mul-result
 mul-result c = let S = c .before .before in
     let e : c .weight .result * S .args .x ≡ (outcome-of (S .args .m .now) (S .args .s) (S .args .a) (S .args .o)) .weight * S .args .x = ap (λ w. w * S .args .x) (c .weight .ensures .0) in
     record { fits = omega (arith, S .pre) }
 
--- src/lib.rt:64:5
 add-result : tie.Need-add-result
 add-result c = let S = c .before .before in
     let e : c .weight .result * S .args .x ≡ (outcome-of (S .args .m .now) (S .args .s) (S .args .a) (S .args .o)) .weight * S .args .x = ap (λ w. w * S .args .x) (c .weight .ensures .0) in
     record { fits = omega (arith, S .pre) }
 
--- src/lib.rt:60:1
 returns : tie.Need-returns
 returns c = let S = c .before .before in
     ap (λ w. S .args .sum + w * S .args .x) (c .weight .ensures .0)
