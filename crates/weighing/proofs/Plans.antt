@@ -44,6 +44,14 @@ module _ {P : Type 0} (f : Step → List ℕ → Run) (read : Step → List ℕ 
       ∙ ap (λ (y : Run). (o .weight * t o (u .0 .0) + y .0, y .1)) (each-read h os (u .0 .1) (v .0) (v .1)))
 
 module _ (M : Model) where
+  -- A choice, with what was read below its outcomes.
+  weigh-choice : (n s : ℕ) (f : List Step → ℕ) (a : ℕ) (cs : List ℕ) (qs : List (Plan n)) (rest : List ℕ)
+      → each (λ o. weigh M n (o .target) (λ r. f (o ∷ r))) (outcomes M s a) cs
+      ≡ (sum-pairs naturals (λ o q. o .weight * total naturals M n (o .target) q (λ r. f (o ∷ r))) (outcomes M s a) qs, rest)
+      → weigh M (suc n) s f (a ∷ cs) ≡ (total naturals M (suc n) s (a, qs) f, rest)
+  unfolding weigh
+  weigh-choice n s f a cs qs rest e = e ∙ ap (λ t. (t, rest)) (sym (total-step naturals naturals-additive M n s (a, qs) f))
+
   pub weigh-read : (n s : ℕ) (f : List Step → ℕ) (cs : List ℕ) (x : Plan n × List ℕ) → read-plan M n s cs ≡ ok x
       → weigh M n s f cs ≡ (total naturals M n s (x .0) f, x .1)
   unfolding weigh read-plan
@@ -55,8 +63,7 @@ module _ (M : Model) where
       let v = bind-ok (read-each (λ o. read-plan M n (o .target)) (outcomes M s a) cs) _ (u .1) in
       let w = each-read (λ o. weigh M n (o .target) (λ r. f (o ∷ r))) (λ o. read-plan M n (o .target)) (λ o q. total naturals M n (o .target) q (λ r. f (o ∷ r)))
       (λ o ds y q. weigh-read n (o .target) (λ r. f (o ∷ r)) ds y q) (outcomes M s a) cs (v .0) (v .1) in
-      subst (λ z. weigh M (suc n) s f (a ∷ cs) ≡ (total naturals M (suc n) s (z .0) f, z .1)) (ok-same (v .2))
-      (w ∙ ap (λ t. (t, v .0 .1)) (sym (total-step naturals naturals-additive M n s (a, v .0 .0) f)))
+      subst (λ z. weigh M (suc n) s f (a ∷ cs) ≡ (total naturals M (suc n) s (z .0) f, z .1)) (ok-same (v .2)) (weigh-choice n s f a cs (v .0 .0) (v .0 .1) w)
 
   pub plan-weighed : (φ : Formula) (n s : ℕ) (cs : List ℕ) (π : Plan n) → plan-of M n s cs ≡ ok π → weigh M n s (value-of M φ s) cs .0 ≡ W M φ n s π
   unfolding plan-of

@@ -239,6 +239,9 @@ module _ {m q : Bytes} {start : ℕ} {depths truth cone : List ℕ} (ready : Rea
                 knows = knows-shorter m q start cone T b gains″ v″ K;
               }
 
+pub length-on : {A : Type 0} (x y z : List A) → length x ≡ length y → length y ≡ length z → length x ≡ length z
+length-on x y z e f = e ∙ f
+
 pub roomy-same : {trail₀ trail : List ℕ} {gains₀ gains : List ℤ} {v₀ v : List ℕ} → Roomy trail₀ gains₀ v₀
     → length trail ≡ length trail₀ → length gains ≡ length gains₀ → length v ≡ length v₀ → Roomy trail gains v
 roomy-same R a b c = record { steps = omega (arith, R .steps); sums = omega (arith, R .sums); places = omega (arith, R .places) }

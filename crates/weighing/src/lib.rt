@@ -94,7 +94,24 @@ fn weigh_from(
     }
     let a = byte(choices, at);
     let next = after(choices, at);
-    weigh_below(m, used, q, depths, truth, cone, choices, trail, gains, v, start, h, s, k - 1, a, next)
+    weigh_below(
+        m,
+        used,
+        q,
+        depths,
+        truth,
+        cone,
+        choices,
+        trail,
+        gains,
+        v,
+        start,
+        h,
+        s,
+        k - 1,
+        a,
+        next,
+    )
 }
 
 // Sums over the paths that begin with an outcome of the action a and go on for k steps.
@@ -125,8 +142,38 @@ fn weigh_below(
     let mut next = at;
     let mut o: u8 = 0;
     while o < c {
-        let t = step(m, q, depths, truth, cone, trail, gains, v, start, h, s, a, o);
-        let r = weigh_from(m, used, q, depths, truth, cone, choices, trail, gains, v, start, h + 1, t, k, next);
+        let t = step(
+            m,
+            q,
+            depths,
+            truth,
+            cone,
+            trail,
+            gains,
+            v,
+            start,
+            h,
+            s,
+            a,
+            o,
+        );
+        let r = weigh_from(
+            m,
+            used,
+            q,
+            depths,
+            truth,
+            cone,
+            choices,
+            trail,
+            gains,
+            v,
+            start,
+            h + 1,
+            t,
+            k,
+            next,
+        );
         sum = plus(m, s, a, o, sum, r.value);
         next = r.next;
         o += 1;
@@ -157,6 +204,22 @@ pub fn plan_weight(
     let mut gains = [0i32; 7];
     let mut v = [0u8; 280];
     learn(q, depths, truth, &trail, &gains, cone, &mut v, 0, start);
-    let r = weigh_from(m, used, q, depths, truth, cone, choices, &mut trail, &mut gains, &mut v, start, 0, start, n, 0);
+    let r = weigh_from(
+        m,
+        used,
+        q,
+        depths,
+        truth,
+        cone,
+        choices,
+        &mut trail,
+        &mut gains,
+        &mut v,
+        start,
+        0,
+        start,
+        n,
+        0,
+    );
     r.value
 }

@@ -2,11 +2,13 @@
 -- below the outcomes of the choice; the loop's invariant is the sum below the first o of them (`runs`).
 use native.Mathlib.Omega.{arith}
 use mathlib.Core.Path.{_≡_, refl, _∙_}
+use mathlib.Core.List.{List}
+use lib.IntN.{ℤ}
 use lib.ListN.{length, take, drop}
 use borrow.Author.Needs.{needs}
 use Rattle.models.specs.Layout.{entries}
 use Rattle.weighing.specs.Places.{Ran}
-use Rattle.weighing.proofs.Turns.{runs, roomy-same, state-few, count-here, weigh-done, weigh-choice, runs-none, runs-all, offered, known-here, here-next, runs-fit, runs-more, here-again}
+use Rattle.weighing.proofs.Turns.{runs, length-on, roomy-same, state-few, count-here, weigh-done, weigh-choice, runs-none, runs-all, offered, known-here, here-next, runs-fit, runs-more, here-again}
 use Prim.Native.Nat.{ℕ, _+_, _-_, _≤_, _<_}
 use borrow.Fn.Kinds.{In}
 use borrow.Fn.PlainCycle.{Measures, is, falls, and}
@@ -93,8 +95,7 @@ weigh-below-step-requires : (t : ℕ) → weigh-below-lts.Need-step-requires (
 ) (weigh-below-at t) weigh-below.Post weigh-below-Inv-loop weigh-below-μ-loop
 weigh-below-step-requires t c κs = let S = c .before .before .before .before .before .before .before .before .before .before .before .before .before .before in
     let L = c .before .before .before .before .loop in
-    let R = L .inv .2 in
-    ((S .pre .1 .0 .0), (roomy-same ((S .pre .1 .1 .0) .roomy) (L .inv .3) (L .inv .4) (L .inv .5), (offered (S .pre .1 .0 .0) (S .args .k) (S .pre .1 .1 .0) (S .args .choices .now) (S .args .at) (S .args .a) (L .o) (L .inv .0) (c .before .before .before .loop-test .taken) R, known-here (S .pre .1 .0 .0) (S .args .k) (S .pre .1 .1 .0) (S .args .choices .now) (S .args .at) (S .args .a) (L .o) (L .inv .0) (c .before .before .before .loop-test .taken) R)))
+    ((S .pre .1 .0 .0), (roomy-same {trail₀ = S .args .trail .now} {trail = L .trail} {gains₀ = S .args .gains .now} {gains = L .gains} {v₀ = S .args .v .now} {v = L .v} ((S .pre .1 .1 .0) .roomy) (L .inv .3) (L .inv .4) (L .inv .5), (offered (S .pre .1 .0 .0) (S .args .k) (S .pre .1 .1 .0) (S .args .choices .now) (S .args .at) (S .args .a) (L .o) (L .inv .0) (c .before .before .before .loop-test .taken) (L .inv .2), known-here (S .pre .1 .0 .0) (S .args .k) (S .pre .1 .1 .0) (S .args .choices .now) (S .args .at) (S .args .a) (L .o) (L .inv .0) (c .before .before .before .loop-test .taken) (L .inv .2))))
 
 weigh-below-add-weigh-from : (t : ℕ) → weigh-below-lts.Need-add-weigh-from (
   count-reads.Asked,
@@ -122,8 +123,19 @@ weigh-below-weigh-from-requires : (t : ℕ) → weigh-below-lts.Need-weigh-from-
 weigh-below-weigh-from-requires t c κs = let S = c .before .before .before .before .before .before .before .before .before .before .before .before .before .before .before .before .before .before .before .before .before .before .before in
     let L = c .before .before .before .before .before .before .before .before .before .before .before .before .before .loop in
     let St = c .before .before .before .before .before .before .before .before .step in
-    (omega arith, (((S .pre .1 .0 .0), (S .pre .1 .0 .1)), (here-next (S .pre .1 .0 .0) (S .args .k) (S .pre .1 .1 .0) (S .args .choices .now) (S .args .at) (S .args .a) (L .o) (L .inv .0) (c .before .before .before .before .before .before .before .before .before .before .before .before .loop-test .taken) (L .inv .2) (St .ensures)
-    (roomy-same ((S .pre .1 .1 .0) .roomy) (St .kept .1 .1 .1 .1 .1 .0 ∙ L .inv .3) (St .kept .1 .1 .1 .1 .1 .1 .0 ∙ L .inv .4) (St .kept .1 .1 .1 .1 .1 .1 .1 .0 ∙ L .inv .5)), L .inv .2 .inside)))
+    let t1 : List ℕ = St .last .1 .1 .1 .1 .1 .0 in
+    let g1 : List ℤ = St .last .1 .1 .1 .1 .1 .1 .0 in
+    let v1 : List ℕ = St .last .1 .1 .1 .1 .1 .1 .1 .0 in (
+      omega arith,
+      (
+        ((S .pre .1 .0 .0), (S .pre .1 .0 .1)),
+        (
+          here-next (S .pre .1 .0 .0) (S .args .k) (S .pre .1 .1 .0) (S .args .choices .now) (S .args .at) (S .args .a) (L .o) (L .inv .0) (c .before .before .before .before .before .before .before .before .before .before .before .before .loop-test .taken) (L .inv .2) {trail′ = t1} {gains′ = g1} {v′ = v1} (St .ensures)
+              (roomy-same {trail₀ = S .args .trail .now} {trail = t1} {gains₀ = S .args .gains .now} {gains = g1} {v₀ = S .args .v .now} {v = v1} ((S .pre .1 .1 .0) .roomy) (length-on t1 (L .trail) (S .args .trail .now) (St .kept .1 .1 .1 .1 .1 .0) (L .inv .3)) (length-on g1 (L .gains) (S .args .gains .now) (St .kept .1 .1 .1 .1 .1 .1 .0) (L .inv .4)) (length-on v1 (L .v) (S .args .v .now) (St .kept .1 .1 .1 .1 .1 .1 .1 .0) (L .inv .5))),
+          L .inv .2 .inside,
+        ),
+      ),
+    )
 
 weigh-below-plus-requires : (t : ℕ) → weigh-below-lts.Need-plus-requires (
   count-reads.Asked,
@@ -137,7 +149,15 @@ weigh-below-plus-requires : (t : ℕ) → weigh-below-lts.Need-plus-requires (
 ) (weigh-below-at t) weigh-below.Post weigh-below-Inv-loop weigh-below-μ-loop
 weigh-below-plus-requires t c κs = let S = c .before .before .before .before .before .before .before .before .before .before .before .before .before .before .before .before .before .before .before .before .before .before .before .before .before .before .before .before .before in
     let L = c .before .before .before .before .before .before .before .before .before .before .before .before .before .before .before .before .before .before .before .loop in
-    runs-fit (S .pre .1 .0 .0) (S .args .k) (S .pre .1 .1 .0) (S .args .choices .now) (S .args .at) (S .args .a) (L .o) (L .inv .0) (c .before .before .before .before .before .before .before .before .before .before .before .before .before .before .before .before .before .before .loop-test .taken) (L .inv .2) (c .before .before .before .before .before .before .before .before .before .before .before .before .before .before .step .ensures) (c .before .before .before .before .before .weigh-from .ensures)
+    let St = c .before .before .before .before .before .before .before .before .before .before .before .before .before .before .step in
+    let C = c .before .before .before .before .before .weigh-from in
+    let t1 : List ℕ = St .last .1 .1 .1 .1 .1 .0 in
+    let g1 : List ℤ = St .last .1 .1 .1 .1 .1 .1 .0 in
+    let v1 : List ℕ = St .last .1 .1 .1 .1 .1 .1 .1 .0 in
+    let t2 : List ℕ = C .last .1 .1 .1 .1 .1 .1 .1 .0 in
+    let g2 : List ℤ = C .last .1 .1 .1 .1 .1 .1 .1 .1 .0 in
+    let v2 : List ℕ = C .last .1 .1 .1 .1 .1 .1 .1 .1 .1 .0 in
+    runs-fit (S .pre .1 .0 .0) (S .args .k) (S .pre .1 .1 .0) (S .args .choices .now) (S .args .at) (S .args .a) (L .o) (L .inv .0) (c .before .before .before .before .before .before .before .before .before .before .before .before .before .before .before .before .before .before .loop-test .taken) (L .inv .2) {trail′ = t1} {gains′ = g1} {v′ = v1} (St .ensures) {trail″ = t2} {gains″ = g2} {v″ = v2} (C .ensures)
 
 weigh-below-add-o : (t : ℕ) → weigh-below-lts.Need-add-o (
   count-reads.Asked,
@@ -177,8 +197,19 @@ weigh-below-loop-again t c = let S = c .before .before .before .before .before .
     let L = c .before .before .before .before .before .before .before .before .before .before .before .before .before .before .before .before .before .before .before .before .loop in
     let St = c .before .before .before .before .before .before .before .before .before .before .before .before .before .before .before .step in
     let C = c .before .before .before .before .before .before .weigh-from in
-    (L .inv .0, omega (arith, c .before .before .before .before .before .before .before .before .before .before .before .before .before .before .before .before .before .before .before .loop-test .taken), runs-more (S .pre .1 .0 .0) (S .args .k) (S .pre .1 .1 .0) (S .args .choices .now) (S .args .at) (S .args .a) (L .o) (L .inv .0) (c .before .before .before .before .before .before .before .before .before .before .before .before .before .before .before .before .before .before .before .loop-test .taken) (L .inv .2) (St .ensures) (C .ensures) (c .plus .ensures),
-    C .kept .1 .1 .1 .1 .1 .1 .1 .0 ∙ St .kept .1 .1 .1 .1 .1 .0 ∙ L .inv .3, C .kept .1 .1 .1 .1 .1 .1 .1 .1 .0 ∙ St .kept .1 .1 .1 .1 .1 .1 .0 ∙ L .inv .4, C .kept .1 .1 .1 .1 .1 .1 .1 .1 .1 .0 ∙ St .kept .1 .1 .1 .1 .1 .1 .1 .0 ∙ L .inv .5)
+    let t1 : List ℕ = St .last .1 .1 .1 .1 .1 .0 in
+    let g1 : List ℤ = St .last .1 .1 .1 .1 .1 .1 .0 in
+    let v1 : List ℕ = St .last .1 .1 .1 .1 .1 .1 .1 .0 in
+    let t2 : List ℕ = C .last .1 .1 .1 .1 .1 .1 .1 .0 in
+    let g2 : List ℤ = C .last .1 .1 .1 .1 .1 .1 .1 .1 .0 in
+    let v2 : List ℕ = C .last .1 .1 .1 .1 .1 .1 .1 .1 .1 .0 in (
+      L .inv .0,
+      omega (arith, c .before .before .before .before .before .before .before .before .before .before .before .before .before .before .before .before .before .before .before .loop-test .taken),
+      runs-more (S .pre .1 .0 .0) (S .args .k) (S .pre .1 .1 .0) (S .args .choices .now) (S .args .at) (S .args .a) (L .o) (L .inv .0) (c .before .before .before .before .before .before .before .before .before .before .before .before .before .before .before .before .before .before .before .loop-test .taken) (L .inv .2) {trail′ = t1} {gains′ = g1} {v′ = v1} (St .ensures) {trail″ = t2} {gains″ = g2} {v″ = v2} (C .ensures) (c .plus .ensures),
+      length-on t2 t1 (S .args .trail .now) (C .kept .1 .1 .1 .1 .1 .1 .1 .0) (length-on t1 (L .trail) (S .args .trail .now) (St .kept .1 .1 .1 .1 .1 .0) (L .inv .3)),
+      length-on g2 g1 (S .args .gains .now) (C .kept .1 .1 .1 .1 .1 .1 .1 .1 .0) (length-on g1 (L .gains) (S .args .gains .now) (St .kept .1 .1 .1 .1 .1 .1 .0) (L .inv .4)),
+      length-on v2 v1 (S .args .v .now) (C .kept .1 .1 .1 .1 .1 .1 .1 .1 .1 .0) (length-on v1 (L .v) (S .args .v .now) (St .kept .1 .1 .1 .1 .1 .1 .1 .0) (L .inv .5)),
+    )
 
 weigh-below-same-length : (t : ℕ) → weigh-below-lts.Need-same-length (
   count-reads.Asked,
@@ -365,7 +396,11 @@ weigh-from-returns-2 : (t : ℕ) → weigh-from-lts.Need-returns-2 (
   weigh-below.Post,
 ) (weigh-from-at t) weigh-from.Post
 weigh-from-returns-2 t c = let S = c .before .before .before .before .before .before .before .before .before .before .before .before .before .before .before .before .before .before .before .before in
-    weigh-choice (S .pre .1 .0 .0) (S .pre .1 .1 .0) (S .args .choices .now) (S .args .at) (c .before .before .before .before .before .before .before .before .before .before .byte .result) (c .before .before .before .before .before .before .before .before .before .after .result) (c .before .before .before .before .before .before .before .before .before .before .before .if1 .left) (c .before .before .before .before .before .before .before .before .before .before .byte .ensures) (c .before .before .before .before .before .before .before .before .before .after .ensures .1) (c .before .before .before .before .before .weigh-below .ensures)
+    let C = c .before .before .before .before .before .weigh-below in
+    let t2 : List ℕ = C .last .1 .1 .1 .1 .1 .1 .1 .0 in
+    let g2 : List ℤ = C .last .1 .1 .1 .1 .1 .1 .1 .1 .0 in
+    let v2 : List ℕ = C .last .1 .1 .1 .1 .1 .1 .1 .1 .1 .0 in
+    weigh-choice (S .pre .1 .0 .0) (S .pre .1 .1 .0) {trail′ = t2} {gains′ = g2} {v′ = v2} (S .args .choices .now) (S .args .at) (c .before .before .before .before .before .before .before .before .before .before .byte .result) (c .before .before .before .before .before .before .before .before .before .after .result) (c .before .before .before .before .before .before .before .before .before .before .before .if1 .left) (c .before .before .before .before .before .before .before .before .before .before .byte .ensures) (c .before .before .before .before .before .before .before .before .before .after .ensures .1) (C .ensures)
 
 pub +weigh-below+weigh-from-spec : {M : Type 1} → statement M
 +weigh-below+weigh-from-spec = close μ-weigh-below μ-weigh-from (λ t. weigh-below-lts.spec (

@@ -40,7 +40,9 @@ weigh-from-requires c κs = let S = c .before .before .before .before .before .b
 
 returns : tie.Need-returns
 returns c = let S = c .before .before .before .before .before .before .before .before .before .before .before .before .before .before .before .before .before .before in
-    all-weighed {m = S .args .m .now} {q = S .args .q .now} {start = S .args .start} {cone = S .args .cone .now} (S .args .n) (replicate 6 0) (c .before .before .before .weigh-from .ensures)
+    let C = c .before .before .before .weigh-from in
+    all-weighed {m = S .args .m .now} {q = S .args .q .now} {start = S .args .start} {cone = S .args .cone .now} (S .args .n) (replicate 6 0)
+    {trail′ = C .last .1 .1 .1 .1 .1 .1 .1 .0} {gains′ = C .last .1 .1 .1 .1 .1 .1 .1 .1 .0} {v′ = C .last .1 .1 .1 .1 .1 .1 .1 .1 .1 .0} {choices = S .args .choices .now} (C .ensures)
 
 pub plan-weight-spec : {M : Type 1} → statement M
 plan-weight-spec =
