@@ -94,8 +94,20 @@ weigh-below-step-requires : (t : ℕ) → weigh-below-lts.Need-step-requires (
   plus-reads.Learnt,
 ) (weigh-below-at t) weigh-below.Post weigh-below-Inv-loop weigh-below-μ-loop
 weigh-below-step-requires t c κs = let S = c .before .before .before .before .before .before .before .before .before .before .before .before .before .before in
+    let ready = S .pre .1 .0 .0 in
+    let here = S .pre .1 .1 .0 in
     let L = c .before .before .before .before .loop in
-    ((S .pre .1 .0 .0), (roomy-same {trail₀ = S .args .trail .now} {trail = L .trail} {gains₀ = S .args .gains .now} {gains = L .gains} {v₀ = S .args .v .now} {v = L .v} ((S .pre .1 .1 .0) .roomy) (L .inv .3) (L .inv .4) (L .inv .5), (offered (S .pre .1 .0 .0) (S .args .k) (S .pre .1 .1 .0) (S .args .choices .now) (S .args .at) (S .args .a) (L .o) (L .inv .0) (c .before .before .before .loop-test .taken) (L .inv .2), known-here (S .pre .1 .0 .0) (S .args .k) (S .pre .1 .1 .0) (S .args .choices .now) (S .args .at) (S .args .a) (L .o) (L .inv .0) (c .before .before .before .loop-test .taken) (L .inv .2))))
+    let more = c .before .before .before .loop-test .taken in (
+      ready,
+      (
+        roomy-same {trail₀ = S .args .trail .now} {trail = L .trail} {gains₀ = S .args .gains .now} {gains = L .gains} {v₀ = S .args .v .now} {v = L .v}
+            (here .roomy) (L .inv .3) (L .inv .4) (L .inv .5),
+        (
+          offered ready (S .args .k) here (S .args .choices .now) (S .args .at) (S .args .a) (L .o) (L .inv .0) more (L .inv .2),
+          known-here ready (S .args .k) here (S .args .choices .now) (S .args .at) (S .args .a) (L .o) (L .inv .0) more (L .inv .2),
+        ),
+      ),
+    )
 
 weigh-below-add-weigh-from : (t : ℕ) → weigh-below-lts.Need-add-weigh-from (
   count-reads.Asked,
@@ -121,17 +133,25 @@ weigh-below-weigh-from-requires : (t : ℕ) → weigh-below-lts.Need-weigh-from-
   plus-reads.Learnt,
 ) (weigh-below-at t) weigh-below.Post weigh-below-Inv-loop weigh-below-μ-loop
 weigh-below-weigh-from-requires t c κs = let S = c .before .before .before .before .before .before .before .before .before .before .before .before .before .before .before .before .before .before .before .before .before .before .before in
+    let ready = S .pre .1 .0 .0 in
+    let here = S .pre .1 .1 .0 in
     let L = c .before .before .before .before .before .before .before .before .before .before .before .before .before .loop in
+    let more = c .before .before .before .before .before .before .before .before .before .before .before .before .loop-test .taken in
     let St = c .before .before .before .before .before .before .before .before .step in
     let t1 : List ℕ = St .last .1 .1 .1 .1 .1 .0 in
     let g1 : List ℤ = St .last .1 .1 .1 .1 .1 .1 .0 in
     let v1 : List ℕ = St .last .1 .1 .1 .1 .1 .1 .1 .0 in (
       omega arith,
       (
-        ((S .pre .1 .0 .0), (S .pre .1 .0 .1)),
+        (ready, (S .pre .1 .0 .1)),
         (
-          here-next (S .pre .1 .0 .0) (S .args .k) (S .pre .1 .1 .0) (S .args .choices .now) (S .args .at) (S .args .a) (L .o) (L .inv .0) (c .before .before .before .before .before .before .before .before .before .before .before .before .loop-test .taken) (L .inv .2) {trail′ = t1} {gains′ = g1} {v′ = v1} (St .ensures)
-              (roomy-same {trail₀ = S .args .trail .now} {trail = t1} {gains₀ = S .args .gains .now} {gains = g1} {v₀ = S .args .v .now} {v = v1} ((S .pre .1 .1 .0) .roomy) (length-on t1 (L .trail) (S .args .trail .now) (St .kept .1 .1 .1 .1 .1 .0) (L .inv .3)) (length-on g1 (L .gains) (S .args .gains .now) (St .kept .1 .1 .1 .1 .1 .1 .0) (L .inv .4)) (length-on v1 (L .v) (S .args .v .now) (St .kept .1 .1 .1 .1 .1 .1 .1 .0) (L .inv .5))),
+          here-next ready (S .args .k) here (S .args .choices .now) (S .args .at) (S .args .a) (L .o) (L .inv .0) more (L .inv .2)
+              {trail′ = t1} {gains′ = g1} {v′ = v1} (St .ensures)
+              (roomy-same {trail₀ = S .args .trail .now} {trail = t1} {gains₀ = S .args .gains .now} {gains = g1} {v₀ = S .args .v .now} {v = v1}
+              (here .roomy)
+              (length-on t1 (L .trail) (S .args .trail .now) (St .kept .1 .1 .1 .1 .1 .0) (L .inv .3))
+              (length-on g1 (L .gains) (S .args .gains .now) (St .kept .1 .1 .1 .1 .1 .1 .0) (L .inv .4))
+              (length-on v1 (L .v) (S .args .v .now) (St .kept .1 .1 .1 .1 .1 .1 .1 .0) (L .inv .5))),
           L .inv .2 .inside,
         ),
       ),
@@ -148,7 +168,10 @@ weigh-below-plus-requires : (t : ℕ) → weigh-below-lts.Need-plus-requires (
   plus-reads.Learnt,
 ) (weigh-below-at t) weigh-below.Post weigh-below-Inv-loop weigh-below-μ-loop
 weigh-below-plus-requires t c κs = let S = c .before .before .before .before .before .before .before .before .before .before .before .before .before .before .before .before .before .before .before .before .before .before .before .before .before .before .before .before .before in
+    let ready = S .pre .1 .0 .0 in
+    let here = S .pre .1 .1 .0 in
     let L = c .before .before .before .before .before .before .before .before .before .before .before .before .before .before .before .before .before .before .before .loop in
+    let more = c .before .before .before .before .before .before .before .before .before .before .before .before .before .before .before .before .before .before .loop-test .taken in
     let St = c .before .before .before .before .before .before .before .before .before .before .before .before .before .before .step in
     let C = c .before .before .before .before .before .weigh-from in
     let t1 : List ℕ = St .last .1 .1 .1 .1 .1 .0 in
@@ -157,7 +180,9 @@ weigh-below-plus-requires t c κs = let S = c .before .before .before .before .b
     let t2 : List ℕ = C .last .1 .1 .1 .1 .1 .1 .1 .0 in
     let g2 : List ℤ = C .last .1 .1 .1 .1 .1 .1 .1 .1 .0 in
     let v2 : List ℕ = C .last .1 .1 .1 .1 .1 .1 .1 .1 .1 .0 in
-    runs-fit (S .pre .1 .0 .0) (S .args .k) (S .pre .1 .1 .0) (S .args .choices .now) (S .args .at) (S .args .a) (L .o) (L .inv .0) (c .before .before .before .before .before .before .before .before .before .before .before .before .before .before .before .before .before .before .loop-test .taken) (L .inv .2) {trail′ = t1} {gains′ = g1} {v′ = v1} (St .ensures) {trail″ = t2} {gains″ = g2} {v″ = v2} (C .ensures)
+    runs-fit ready (S .args .k) here (S .args .choices .now) (S .args .at) (S .args .a) (L .o) (L .inv .0) more (L .inv .2)
+    {trail′ = t1} {gains′ = g1} {v′ = v1} (St .ensures)
+    {trail″ = t2} {gains″ = g2} {v″ = v2} (C .ensures)
 
 weigh-below-add-o : (t : ℕ) → weigh-below-lts.Need-add-o (
   count-reads.Asked,
@@ -194,7 +219,10 @@ weigh-below-loop-again : (t : ℕ) → weigh-below-lts.Need-loop-again (
   plus-reads.Learnt,
 ) (weigh-below-at t) weigh-below.Post weigh-below-Inv-loop weigh-below-μ-loop
 weigh-below-loop-again t c = let S = c .before .before .before .before .before .before .before .before .before .before .before .before .before .before .before .before .before .before .before .before .before .before .before .before .before .before .before .before .before .before in
+    let ready = S .pre .1 .0 .0 in
+    let here = S .pre .1 .1 .0 in
     let L = c .before .before .before .before .before .before .before .before .before .before .before .before .before .before .before .before .before .before .before .before .loop in
+    let more = c .before .before .before .before .before .before .before .before .before .before .before .before .before .before .before .before .before .before .before .loop-test .taken in
     let St = c .before .before .before .before .before .before .before .before .before .before .before .before .before .before .before .step in
     let C = c .before .before .before .before .before .before .weigh-from in
     let t1 : List ℕ = St .last .1 .1 .1 .1 .1 .0 in
@@ -204,8 +232,10 @@ weigh-below-loop-again t c = let S = c .before .before .before .before .before .
     let g2 : List ℤ = C .last .1 .1 .1 .1 .1 .1 .1 .1 .0 in
     let v2 : List ℕ = C .last .1 .1 .1 .1 .1 .1 .1 .1 .1 .0 in (
       L .inv .0,
-      omega (arith, c .before .before .before .before .before .before .before .before .before .before .before .before .before .before .before .before .before .before .before .loop-test .taken),
-      runs-more (S .pre .1 .0 .0) (S .args .k) (S .pre .1 .1 .0) (S .args .choices .now) (S .args .at) (S .args .a) (L .o) (L .inv .0) (c .before .before .before .before .before .before .before .before .before .before .before .before .before .before .before .before .before .before .before .loop-test .taken) (L .inv .2) {trail′ = t1} {gains′ = g1} {v′ = v1} (St .ensures) {trail″ = t2} {gains″ = g2} {v″ = v2} (C .ensures) (c .plus .ensures),
+      omega (arith, more),
+      runs-more ready (S .args .k) here (S .args .choices .now) (S .args .at) (S .args .a) (L .o) (L .inv .0) more (L .inv .2)
+          {trail′ = t1} {gains′ = g1} {v′ = v1} (St .ensures)
+          {trail″ = t2} {gains″ = g2} {v″ = v2} (C .ensures) (c .plus .ensures),
       length-on t2 t1 (S .args .trail .now) (C .kept .1 .1 .1 .1 .1 .1 .1 .0) (length-on t1 (L .trail) (S .args .trail .now) (St .kept .1 .1 .1 .1 .1 .0) (L .inv .3)),
       length-on g2 g1 (S .args .gains .now) (C .kept .1 .1 .1 .1 .1 .1 .1 .1 .0) (length-on g1 (L .gains) (S .args .gains .now) (St .kept .1 .1 .1 .1 .1 .1 .0) (L .inv .4)),
       length-on v2 v1 (S .args .v .now) (C .kept .1 .1 .1 .1 .1 .1 .1 .1 .1 .0) (length-on v1 (L .v) (S .args .v .now) (St .kept .1 .1 .1 .1 .1 .1 .1 .0) (L .inv .5)),
@@ -396,11 +426,16 @@ weigh-from-returns-2 : (t : ℕ) → weigh-from-lts.Need-returns-2 (
   weigh-below.Post,
 ) (weigh-from-at t) weigh-from.Post
 weigh-from-returns-2 t c = let S = c .before .before .before .before .before .before .before .before .before .before .before .before .before .before .before .before .before .before .before .before in
+    let ready = S .pre .1 .0 .0 in
+    let here = S .pre .1 .1 .0 in
+    let a = c .before .before .before .before .before .before .before .before .before .before .byte in
+    let n = c .before .before .before .before .before .before .before .before .before .after in
     let C = c .before .before .before .before .before .weigh-below in
     let t2 : List ℕ = C .last .1 .1 .1 .1 .1 .1 .1 .0 in
     let g2 : List ℤ = C .last .1 .1 .1 .1 .1 .1 .1 .1 .0 in
     let v2 : List ℕ = C .last .1 .1 .1 .1 .1 .1 .1 .1 .1 .0 in
-    weigh-choice (S .pre .1 .0 .0) (S .pre .1 .1 .0) {trail′ = t2} {gains′ = g2} {v′ = v2} (S .args .choices .now) (S .args .at) (c .before .before .before .before .before .before .before .before .before .before .byte .result) (c .before .before .before .before .before .before .before .before .before .after .result) (c .before .before .before .before .before .before .before .before .before .before .before .if1 .left) (c .before .before .before .before .before .before .before .before .before .before .byte .ensures) (c .before .before .before .before .before .before .before .before .before .after .ensures .1) (C .ensures)
+    weigh-choice ready here {trail′ = t2} {gains′ = g2} {v′ = v2} (S .args .choices .now) (S .args .at)
+    (a .result) (n .result) (c .before .before .before .before .before .before .before .before .before .before .before .if1 .left) (a .ensures) (n .ensures .1) (C .ensures)
 
 pub +weigh-below+weigh-from-spec : {M : Type 1} → statement M
 +weigh-below+weigh-from-spec = close μ-weigh-below μ-weigh-from (λ t. weigh-below-lts.spec (
