@@ -113,6 +113,9 @@ module _ {m q : Bytes} {start d : ℕ} {depths truth cone used table : List ℕ}
         unfolding P
         action-room = subst (λ n. Room n (P a) (at + len) (length buf)) (sym (add-one j)) (subst (Room (suc j) (P a) (at + len)) (sym (L .whole ∙ in-buf)) (room-part room len within-all))
 
+        pub action-few : (T : List ℕ) {r : ℕ} → r ≡ length (chosen m q start cone s j T a) → len + r ≤ 65536
+        action-few T e = omega (arith, chosen-length T a, within-all, room .few)
+
         pub action-here : Here m q start d cone trail gains v h s (j + 1)
         action-here = subst (Here m q start d cone trail gains v h s) (step ∙ sym (add-one j)) (L .here)
 

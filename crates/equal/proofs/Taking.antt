@@ -149,6 +149,9 @@ module _ {m q : Bytes} {start d : ℕ} {depths truth cone used table : List ℕ}
       let p : D ^ k ≤ 100 ^ 5 = power-le D k 5 (rw (denominator-held m) (denominator-small m (G .ready .model-accepted))) (omega arith) in
       omega (arith, mul-le-mul (fair m (G .ready .model-accepted) s a i state u .light) p)
 
+  pub count-right : (i : ℕ) → i < entries m s a → t i ≤ 65536 → {x y : ℕ} → x ≡ getD table (32 * k + y) 0 → y ≡ (outcome-of m s a i) .target → x ≡ t i
+  count-right i u h e f = e ∙ ap (λ y. getD table (32 * k + y) 0) f ∙ ways-served i u h
+
   -- The lists of some of the outcomes, combined.
   pub span-count : (T : List ℕ) (lo n : ℕ) → length (combined (F T) (count-from lo n)) ≡ multiply t (count-from lo n)
   span-count T lo n = combined-length (F T) t (lists-length T) (count-from lo n)
@@ -163,6 +166,13 @@ module _ {m q : Bytes} {start d : ℕ} {depths truth cone used table : List ℕ}
 
   pub action-small : (i : ℕ) → i < entries m s a → a < 8
   action-small i u = omega (arith, fair m (G .ready .model-accepted) s a i state u .action, is-sized m (G .ready .model-accepted) .actions)
+
+  pub uses-right : {x : ℕ} → a < 8 → x ≡ getD used (8 * s + a) 0 → x ≡ entries m s a
+  uses-right h e =
+      let l : s < 32 = state-small G state in
+      let y : (8 * s + a) / 8 ≡ s = omega arith in
+      let z : (8 * s + a) % 8 ≡ a = omega arith in
+      e ∙ G .uses .count (8 * s + a) (omega arith) ∙ ap₂ (entries m) y z
 
   pub outcomes-few : (i : ℕ) → i < entries m s a → entries m s a ≤ 4
   outcomes-few i u =
@@ -284,8 +294,8 @@ module _ {m q : Bytes} {start d : ℕ} {depths truth cone used table : List ℕ}
           subst (λ l. Written l m q start cone h at trail₀ trail gains v buf₀ buf len) e (S .written)
 
       module _ (o : ℕ) (B : Beside lo hi c o) where
-        outcome : o < entries m s a
-        outcome = omega (arith, S .all, beside-inside (S .some) (S .most) B)
+        pub span-outcome : o < entries m s a
+        span-outcome = omega (arith, S .all, beside-inside (S .some) (S .most) B)
 
         wide-len : len * t o ≡ multiply t (count-from (min lo o) (max hi (o + 1) - min lo o))
         wide-len = ap (λ n. n * t o) span-len ∙ wider-times (S .some) (S .most) B t
@@ -300,7 +310,7 @@ module _ {m q : Bytes} {start d : ℕ} {depths truth cone used table : List ℕ}
               some = long-some;
               few = le-trans wide-within (room .few);
               small = λ x i. span-small (take h trail₀) lo (hi - lo) span (omega (arith, span, outcomes-few lo some-outcome)) x (subst (List·Memᴰ x) at-span i);
-              room = subst (Room k (t o) (at + len * t o)) (sym (S .whole ∙ in-buf)) (room-next room (S .longest o (rw (S .all) outcome)) (le-refl len) long-some wide-within);
+              room = subst (Room k (t o) (at + len * t o)) (sym (S .whole ∙ in-buf)) (room-next room (S .longest o (rw (S .all) span-outcome)) (le-refl len) long-some wide-within);
             }
 
         pub span-wider : {trail₁ : List ℕ} {gains₁ : List ℤ} {v₁ buf₁ : List ℕ} {r lo₁ hi₁ : ℕ}
@@ -325,7 +335,7 @@ module _ {m q : Bytes} {start d : ℕ} {depths truth cone used table : List ℕ}
               all = S .all;
               some = rw (el, eh) (wider-some (S .some) (S .most) B);
               most = rw eh (wider-most (S .some) (S .most) B);
-              longest = λ i l. rw n (le-trans (S .longest i l) (le-mul-of-pos-right len (ways-some o outcome)));
+              longest = λ i l. rw n (le-trans (S .longest i l) (le-mul-of-pos-right len (ways-some o span-outcome)));
               here = still (S .here) W e₁ e₂ e₃;
               written = V₂;
               trails = e₁ ∙ S .trails;
