@@ -11,3 +11,5 @@ pub mod Accepting
 pub mod Writing
 pub mod Taking
 pub mod Passing
+pub mod Searching
+pub mod Serving

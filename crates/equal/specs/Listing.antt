@@ -70,3 +70,9 @@ pub record Grows (buf : List ℕ) (at len n k : ℕ) : Type 0 where
   pub few : len * n ≤ 65536
   pub small : (x : ℕ) → List·Memᴰ x (part buf at len) → x ≤ 4 * 100 ^ 6
   pub room : Room k n (at + len * n) (length buf)
+
+-- r is the first place of x in the list; where there is none, the list's length.
+pub record First (l : List ℕ) (x r : ℕ) : Type 0 where
+  pub few : r ≤ length l
+  pub none-before : (j : ℕ) → j < r → (getD l j 0 ≡ x → ⊥)
+  pub there : r < length l → getD l r 0 ≡ x
