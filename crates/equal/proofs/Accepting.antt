@@ -1,26 +1,25 @@
 -- What an accepted model gives to the lists: every state has a plan, and its numbers are small.
-use Prim.Native.Nat.{ℕ, zero, suc, _+_, _*_, _^_, _≤_, _<_}
-use native.Mathlib.Nat.{mul-pos, mul-le-mul, le-trans}
+use Prim.Native.Nat.{ℕ, zero, suc, _*_, _^_, _≤_, _<_}
+use native.Mathlib.Nat.{mul-pos, mul-le-mul}
 use native.Mathlib.Omega.{arith}
 use mathlib.Core.Path.{_≡_, refl, sym, ap, subst, _∙_}
-use mathlib.Core.Bool.{Bool, true, false, _&&_}
-use mathlib.Core.List.{List, [], _∷_, map, List·Memᴰ, List·Memᴰ·head, List·Memᴰ·tail}
+use mathlib.Core.Bool.{_&&_}
+use mathlib.Core.List.{List, [], _∷_, List·Memᴰ, List·Memᴰ·head, List·Memᴰ·tail}
 use lib.ListN.{length}
-use lib.Dec.{eqb, leb}
+use lib.Dec.{leb}
 use borrow.Author.Tests.{leb-true}
 use Rattle.logic.specs.Lists.{count-from, tabulate}
-use Rattle.logic.specs.Model.{Model, Step, enabled, outcomes}
+use Rattle.logic.specs.Model.{Model, Step, outcomes}
 use Rattle.logic.specs.Quantity.{naturals, sum}
 use Rattle.logic.specs.Limits.{multiply, plan-total}
 use Rattle.logic.specs.Checked.{refusal}
 use Rattle.logic.specs.Accepted.{Accepted, Executable}
 use Rattle.logic.proofs.Tests.{and-both}
 use Rattle.blocks.specs.Bytes.{Bytes, within}
-use Rattle.blocks.specs.Block.{block-count}
 use Rattle.models.specs.Layout.{state-count, action-count, prop-count, denominator-of, outcome-of, entries, model-of}
 use Rattle.models.specs.Grounds.{sizes-right, read-model}
 use Rattle.models.specs.Used.{Sized}
-use Rattle.models.proofs.Passed.{Passed, passed-all, passed-sized}
+use Rattle.models.proofs.Passed.{passed-all, passed-sized}
 use Rattle.models.proofs.Held.{accepted, states-held}
 use Rattle.models.proofs.Rows.{outcomes-are}
 use Rattle.bounds.proofs.Powers.{power-le}

@@ -1,10 +1,10 @@
 -- The lists of a state's enabled actions, one after the other, are the list of the state.
-use Prim.Native.Nat.{ℕ, zero, suc, _+_, _*_, _-_, _≤_, _<_}
+use Prim.Native.Nat.{ℕ, suc, _+_, _*_, _≤_, _<_}
 use native.Mathlib.Numerals.{add-one}
 use native.Mathlib.Omega.{arith}
-use mathlib.Core.Path.{_≡_, refl, sym, ap, ap₂, subst, _∙_}
-use mathlib.Core.Bool.{Bool, true, false}
-use mathlib.Core.List.{List, [], _∷_, _++_, flatMap}
+use mathlib.Core.Path.{_≡_, refl, sym, ap, subst, _∙_}
+use mathlib.Core.Bool.{Bool, true}
+use mathlib.Core.List.{List, _∷_, _++_, flatMap}
 use lib.IntN.{ℤ}
 use lib.Dec.{ltb}
 use lib.ListN.{length, take, length-map}
@@ -15,7 +15,7 @@ use Rattle.logic.specs.Quantity.{naturals, sum}
 use Rattle.logic.specs.Limits.{multiply, plan-total}
 use Rattle.logic.proofs.Sums.{naturals-additive, sum-ext, length-flatMap}
 use Rattle.blocks.specs.Bytes.{Bytes}
-use Rattle.models.specs.Layout.{state-count, action-count, model-of, entries}
+use Rattle.models.specs.Layout.{action-count, model-of, entries}
 use Rattle.models.proofs.Passed.{passed-all}
 use Rattle.models.proofs.Held.{enabled-entries}
 use Rattle.equal.specs.Totals.{totals, combined, weighed}

@@ -1,15 +1,15 @@
 -- The lists of an action's outcomes, combined one after the other in place: what a turn asks, and what it leaves.
 use Prim.Native.Nat.{ℕ, zero, suc, _+_, _*_, _-_, _^_, _/_, _%_, _≤_, _<_, min, max}
-use native.Mathlib.Nat.{le-refl, le-trans, le-mul-of-pos-right, mul-le-mul, mul-comm, pow-suc}
+use native.Mathlib.Nat.{le-refl, le-trans, le-mul-of-pos-right, mul-le-mul}
 use native.Mathlib.Numerals.{add-one}
 use native.Mathlib.Omega.{arith}
-use mathlib.Core.Path.{_≡_, refl, sym, ap, ap₂, subst, _∙_, fun-ext}
+use mathlib.Core.Path.{_≡_, refl, sym, ap, ap₂, subst, _∙_}
 use mathlib.Core.Bool.{Bool, true, false, cond}
 use mathlib.Core.Logic.{inl}
 use mathlib.Core.List.{List, [], _∷_, _++_, map, List·Memᴰ}
 use lib.IntN.{ℤ}
 use lib.Dec.{ltb}
-use lib.ListN.{length, take, drop, getD, length-map, take-append-drop}
+use lib.ListN.{length, take, getD, length-map, take-append-drop}
 use lib.Seq.{take-take}
 use Rattle.logic.specs.Lists.{count-from}
 use Rattle.logic.specs.Model.{Step, outcomes, true-of}
@@ -17,23 +17,22 @@ use Rattle.logic.specs.Limits.{multiply, plan-total}
 use Rattle.logic.proofs.Tests.{counted-range}
 use Rattle.logic.proofs.Members.{in-map}
 use Rattle.blocks.specs.Bytes.{Bytes}
-use Rattle.models.specs.Layout.{state-count, action-count, pre-of, state-mask, post-count, model-of, entries, outcome-of}
-use Rattle.models.specs.Used.{Sized}
+use Rattle.models.specs.Layout.{state-count, pre-of, state-mask, post-count, model-of, entries, outcome-of}
 use Rattle.models.proofs.Laws.{entries-inside}
 use Rattle.models.proofs.Held.{states-held, denominator-held}
 use Rattle.evaluation.proofs.Trails.{fair}
+use Rattle.bounds.proofs.Powers.{power-le}
 use Rattle.equal.specs.Totals.{totals, part, splice, joined, combined, weighed}
 use Rattle.equal.specs.Spread.{Shifts, Joins}
 use Rattle.equal.specs.Room.{Room}
 use Rattle.equal.specs.Listing.{onward, Given, Here, Written, Longest, Grows}
-use Rattle.bounds.proofs.Powers.{power-le}
 use Rattle.equal.proofs.Splice.{part-length, part-drop}
 use Rattle.equal.proofs.Totals.{totals-length}
 use Rattle.equal.proofs.Grid.{combined-length, combined-one}
 use Rattle.equal.proofs.Spans.{multiply-within, multiply-one}
 use Rattle.equal.proofs.Bounds.{Up-to, up-times, up-totals, up-combined}
 use Rattle.equal.proofs.Rooms.{room-first, room-next}
-use Rattle.equal.proofs.Combine.{Holds, held-before, held-part, held-written, first-held, joined-length, join-held, joins, Beside, beside-inside, wider-some, wider-most, wider-combined, wider-times}
+use Rattle.equal.proofs.Combine.{Holds, held-before, held-part, first-held, joined-length, join-held, joins, Beside, beside-inside, wider-some, wider-most, wider-combined, wider-times}
 use Rattle.equal.proofs.Accepting.{is-accepted, is-sized, some-plan, denominator-small, multiply-outcomes, combined-outcomes}
 use Rattle.equal.proofs.Writing.{rebased, still, onward-small, reached, state-small}
 

@@ -1,16 +1,15 @@
 -- Lists written while a path is followed: one after the other, where the condition is decided, and below an outcome.
-use Prim.Native.Nat.{ℕ, zero, suc, _+_, _*_, _^_, _/_, _%_, _≤_, _<_}
-use native.Mathlib.Nat.{le-refl, add-zero, add-assoc}
-use native.Mathlib.Numerals.{add-one}
+use Prim.Native.Nat.{ℕ, _+_, _*_, _^_, _/_, _%_, _≤_, _<_}
+use native.Mathlib.Nat.{add-zero}
 use native.Mathlib.Omega.{arith}
 use mathlib.Core.Path.{_≡_, refl, sym, ap, ap₂, subst, _∙_, fun-ext}
 use mathlib.Core.Bool.{Bool, true, false}
 use mathlib.Core.List.{List, [], _∷_, _++_, append-assoc, append-nil}
 use lib.IntN.{ℤ}
-use lib.ListN.{length, take, getD, replicate, length-append, length-replicate}
-use lib.Seq.{take-take, take-append-le, take-at, take-all, length-take-le}
-use Rattle.logic.specs.Model.{Model, Step}
-use Rattle.logic.specs.Formula.{Formula, depth}
+use lib.ListN.{length, take, getD, replicate, length-append}
+use lib.Seq.{take-take, take-append-le, take-at, length-take-le}
+use Rattle.logic.specs.Model.{Step}
+use Rattle.logic.specs.Formula.{Formula}
 use Rattle.logic.specs.Total.{one-if, value-of}
 use Rattle.logic.specs.Limits.{plan-total}
 use Rattle.logic.proofs.Depth.{sat-same}
@@ -20,13 +19,13 @@ use Rattle.models.proofs.Held.{states-held, denominator-held}
 use Rattle.evaluation.specs.Path.{step-of, steps-of, state-after}
 use Rattle.evaluation.specs.Reached.{formula, root-of}
 use Rattle.evaluation.specs.Learnt.{known}
-use Rattle.evaluation.specs.Known.{Knows, Roomy, Offered, Stepped}
+use Rattle.evaluation.specs.Known.{Knows, Offered, Stepped}
 use Rattle.evaluation.proofs.Trails.{steps-length, steps-append, state-append, fair}
 use Rattle.evaluation.proofs.Knowing.{knows-shorter}
 use Rattle.evaluation.proofs.Stepping.{leaf-value, outcome-small}
 use Rattle.equal.specs.Totals.{totals, splice}
 use Rattle.equal.specs.Room.{Room}
-use Rattle.equal.specs.Listing.{onward, Counts, Given, Here, Written, Decides}
+use Rattle.equal.specs.Listing.{onward, Given, Here, Written, Decides}
 use Rattle.equal.proofs.Splice.{take-written}
 use Rattle.equal.proofs.Totals.{totals-length}
 use Rattle.equal.proofs.Bounds.{totals-alike}

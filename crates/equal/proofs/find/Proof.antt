@@ -1,13 +1,12 @@
+-- `find`: none of the numbers passed is x.
 use Prim.Native.Nat.{ℕ, _-_, _≤_, _<_}
 use native.Mathlib.Omega.{arith}
-use mathlib.Core.Path.{_≡_, sym, subst}
+use mathlib.Core.Path.{_≡_, subst}
 use lib.ListN.{getD}
 use borrow.Author.Needs.{needs}
 use Rattle.equal.proofs.Searching.{absent-more, first-found, first-nowhere}
 use Rattle.equal.proofs.find.Statement.{statement}
 use Rattle.equal.proofs.find.Tie as tie
-use Rattle.equal.proofs.find.Reads as reads
-use Rattle.equal.proofs.find.Lts as lts
 
 abbrev Inv-loop : tie.InvT-loop
 Inv-loop buf len x i₀ i = (i ≤ len) × ((j : ℕ) → j < i → (getD buf j 0 ≡ x → ⊥))
@@ -15,37 +14,29 @@ Inv-loop buf len x i₀ i = (i ≤ len) × ((j : ℕ) → j < i → (getD buf j 
 abbrev μ-loop : tie.MeasureT-loop
 μ-loop buf len x i₀ i = len - i
 
--- src/lib.rt:21:5
 loop-holds : tie.Need-loop-holds Inv-loop μ-loop
 loop-holds c = (omega arith, λ j l. absurd (omega arith))
 
--- src/lib.rt:22:12
 mul-if1 : tie.Need-mul-if1 Inv-loop μ-loop
 mul-if1 c = search needs
 
--- src/lib.rt:22:12
 shared-slice-read-if1 : tie.Need-shared-slice-read-if1 Inv-loop μ-loop
 shared-slice-read-if1 c = search needs
 
--- src/lib.rt:23:13
 returns : tie.Need-returns Inv-loop μ-loop
 returns c = let S = c .before .before .before .before in
     first-found (S .args .buf .now) (S .args .len) (S .args .x) (S .pre) (c .before .before .before .loop .i) (c .before .before .loop-test .taken) (c .before .before .before .loop .inv .1) (c .if1 .taken)
 
--- src/lib.rt:25:9
 add-i : tie.Need-add-i Inv-loop μ-loop
 add-i c = search needs
 
--- src/lib.rt:21:5
 loop-less : tie.Need-loop-less Inv-loop μ-loop
 loop-less c = search needs
 
--- src/lib.rt:21:5
 loop-again : tie.Need-loop-again Inv-loop μ-loop
 loop-again c = let S = c .before .before .before .before in
     (omega arith, absent-more (S .args .buf .now) (S .args .len) (S .args .x) (S .pre) (c .before .before .before .loop .i) (c .before .before .before .loop .inv .1) (c .if1 .left))
 
--- src/lib.rt:16:1
 returns-2 : tie.Need-returns-2 Inv-loop μ-loop
 returns-2 c = let S = c .before .before in
     let e : c .before .loop .i ≡ S .args .len = omega arith in

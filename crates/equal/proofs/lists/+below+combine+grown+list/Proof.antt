@@ -1,28 +1,28 @@
-
-
+-- `list`, `combine`, `grown` and `below` meet their contracts, together: the steps left fall round the cycle. The lists of a state's actions are
+-- written one after the other (`Listed`), those of an action's outcomes are combined from the longest one on (`Spanned`).
+use Prim.Native.Nat.{ℕ, _+_, _*_, _-_, _<_}
+use native.Mathlib.Omega.{arith}
+use mathlib.Core.Path.{_≡_, refl, sym, ap, subst, _∙_}
+use mathlib.Core.Logic.{⊎-elim}
+use lib.ListN.{length, take}
+use borrow.Author.Needs.{needs}
+use borrow.Fn.Kinds.{In}
+use borrow.Fn.PlainCycle.{Measures, is, falls, and}
 use Rattle.logic.specs.Model.{outcomes}
 use Rattle.logic.specs.Limits.{plan-total}
+use Rattle.blocks.proofs.byte.Reads as byte-reads
+use Rattle.models.specs.Layout.{action-count, model-of, entries}
+use Rattle.models.proofs.target.Reads as target-reads
+use Rattle.models.proofs.weight.Reads as weight-reads
+use Rattle.evaluation.proofs.step.Reads as step-reads
 use Rattle.equal.specs.Room.{Room}
 use Rattle.equal.specs.Totals.{combined, weighed}
 use Rattle.equal.specs.Listing.{onward}
 use Rattle.equal.proofs.Combine.{beside-inside, wider-less}
 use Rattle.equal.proofs.Accepting.{is-sized}
-use Rattle.equal.proofs.Taking.{uses-right, count-right, span-outcome}
-use Rattle.equal.proofs.Passing.{action-few}
-use Prim.Native.Nat.{ℕ, _+_, _*_, _-_, _≤_, _<_}
-use native.Mathlib.Omega.{arith}
-use native.Mathlib.Nat.{le-refl}
-use mathlib.Core.Path.{_≡_, refl, sym, ap, subst, _∙_}
-use mathlib.Core.Logic.{⊎-elim}
-use lib.ListN.{length, take, getD}
-use borrow.Author.Needs.{needs}
-use Rattle.models.specs.Layout.{action-count, model-of, entries, outcome-of}
-use Rattle.equal.specs.Listing.{Given, Here, Written}
-use Rattle.equal.proofs.Writing.{state-small, reached, offered, below-here, below-written, decides, decided-written, still, rebased}
-use Rattle.equal.proofs.Taking.{Spanned, ways, lists, ways-some, ways-served, action-small, outcomes-few, first-room, first-shifts, first-before, first-spanned, span-end, span-grows, span-wider, grown-joins, grown-written}
-use Rattle.equal.proofs.Passing.{Listed, listed-none, passed-over, action-room, action-here, action-listed, listed-all}
-use borrow.Fn.Kinds.{In}
-use borrow.Fn.PlainCycle.{Measures, is, falls, and}
+use Rattle.equal.proofs.Taking.{uses-right, count-right, span-outcome, Spanned, ways, action-small, outcomes-few, first-room, first-shifts, first-before, first-spanned, span-end, span-grows, span-wider, grown-joins, grown-written}
+use Rattle.equal.proofs.Passing.{action-few, Listed, listed-none, passed-over, action-room, action-here, action-listed, listed-all}
+use Rattle.equal.proofs.Writing.{state-small, reached, offered, below-here, below-written, decides, decided-written, rebased}
 use Rattle.equal.proofs.lists.below.Reads as below
 use Rattle.equal.proofs.lists.below.Kinds as below-kinds
 use Rattle.equal.proofs.lists.+below+combine+grown+list.Lts-below as below-lts
@@ -35,7 +35,6 @@ use Rattle.equal.proofs.lists.+below+combine+grown+list.Lts-grown as gr
 use Rattle.equal.proofs.lists.list.Reads as list
 use Rattle.equal.proofs.lists.list.Kinds as list-kinds
 use Rattle.equal.proofs.lists.+below+combine+grown+list.Lts-list as list-lts
-use Rattle.blocks.proofs.byte.Reads as byte-reads
 use Rattle.equal.proofs.lists.beside.Reads as beside-reads
 use Rattle.equal.proofs.lists.count.Reads as count-reads
 use Rattle.equal.proofs.lists.decided.Reads as decided-reads
@@ -45,9 +44,6 @@ use Rattle.equal.proofs.lists.most.Reads as most-reads
 use Rattle.equal.proofs.lists.uses.Reads as uses-reads
 use Rattle.equal.proofs.spread.join.Reads as join-reads
 use Rattle.equal.proofs.spread.shift.Reads as shift-reads
-use Rattle.evaluation.proofs.step.Reads as step-reads
-use Rattle.models.proofs.target.Reads as target-reads
-use Rattle.models.proofs.weight.Reads as weight-reads
 use Rattle.equal.proofs.lists.+below+combine+grown+list.{statement}
 use Rattle.equal.proofs.lists.+below+combine+grown+list.Tie.{close}
 
@@ -87,7 +83,6 @@ list-at t = and 11 list-kinds.ps (is 11 list-kinds.ps μ-list t) list.Pre
 abbrev list-below : ℕ → In 11 list-kinds.ps
 list-below t = and 11 list-kinds.ps (falls 11 list-kinds.ps _<_ μ-list t) list.Pre
 
--- src/lists.rt:157:9
 below-step-requires : (t : ℕ) → below-lts.Need-step-requires (
   step-reads.Asked,
   step-reads.Learnt,
@@ -100,7 +95,6 @@ below-step-requires t c κs = let S = c .before .before .before .before .before 
     let u = S .pre .1 .1 .0 .1 in
     (G .ready, (H .roomy, (offered G (S .args .a) (S .args .o) (S .args .k) H u, H .knows)))
 
--- src/lists.rt:158:82
 below-add-list : (t : ℕ) → below-lts.Need-add-list (
   step-reads.Asked,
   step-reads.Learnt,
@@ -113,7 +107,6 @@ below-add-list t c = let S = c .before .before .before .before .before .before .
     let u = S .pre .1 .1 .0 .1 in
     omega (arith, H .steps)
 
--- src/lists.rt:158:5
 below-list-requires : (t : ℕ) → below-lts.Need-list-requires (
   step-reads.Asked,
   step-reads.Learnt,
@@ -127,7 +120,6 @@ below-list-requires t c κs = let S = c .before .before .before .before .before 
     let x = c .before .before .before .before .before .before .before .before .before .step in
     (omega arith, (G, (below-here G (S .args .a) (S .args .o) (S .args .k) H u (x .ensures) (x .kept .1 .1 .1 .1 .1 .0) (x .kept .1 .1 .1 .1 .1 .1 .0) (x .kept .1 .1 .1 .1 .1 .1 .1 .0), subst (λ z. Room (S .args .k) (plan-total (model-of (S .args .m .now)) (S .args .k) z) (S .args .at) (length (S .args .buf .now))) (sym (x .ensures .state)) (S .pre .1 .1 .1))))
 
--- src/lists.rt:151:1
 below-same-length : (t : ℕ) → below-lts.Need-same-length (
   step-reads.Asked,
   step-reads.Learnt,
@@ -136,7 +128,6 @@ below-same-length : (t : ℕ) → below-lts.Need-same-length (
 ) (below-at t) below.Post
 below-same-length t c = c .before .before .before .before .before .before .before .list .kept .1 .1 .1 .1 .1 .1 .1 .0 ∙ c .before .before .before .before .before .before .before .before .before .before .before .before .before .before .before .before .before .step .kept .1 .1 .1 .1 .1 .0
 
--- src/lists.rt:151:1
 below-same-length-2 : (t : ℕ) → below-lts.Need-same-length-2 (
   step-reads.Asked,
   step-reads.Learnt,
@@ -145,7 +136,6 @@ below-same-length-2 : (t : ℕ) → below-lts.Need-same-length-2 (
 ) (below-at t) below.Post
 below-same-length-2 t c = c .before .before .before .before .before .before .before .list .kept .1 .1 .1 .1 .1 .1 .1 .1 .0 ∙ c .before .before .before .before .before .before .before .before .before .before .before .before .before .before .before .before .before .step .kept .1 .1 .1 .1 .1 .1 .0
 
--- src/lists.rt:151:1
 below-same-length-3 : (t : ℕ) → below-lts.Need-same-length-3 (
   step-reads.Asked,
   step-reads.Learnt,
@@ -154,7 +144,6 @@ below-same-length-3 : (t : ℕ) → below-lts.Need-same-length-3 (
 ) (below-at t) below.Post
 below-same-length-3 t c = c .before .before .before .before .before .before .before .list .kept .1 .1 .1 .1 .1 .1 .1 .1 .1 .0 ∙ c .before .before .before .before .before .before .before .before .before .before .before .before .before .before .before .before .before .step .kept .1 .1 .1 .1 .1 .1 .1 .0
 
--- src/lists.rt:151:1
 below-same-length-4 : (t : ℕ) → below-lts.Need-same-length-4 (
   step-reads.Asked,
   step-reads.Learnt,
@@ -163,7 +152,6 @@ below-same-length-4 : (t : ℕ) → below-lts.Need-same-length-4 (
 ) (below-at t) below.Post
 below-same-length-4 t c = c .before .before .before .before .before .before .before .list .kept .1 .1 .1 .1 .1 .1 .1 .1 .1 .1 .0
 
--- src/lists.rt:151:1
 below-returns : (t : ℕ) → below-lts.Need-returns (
   step-reads.Asked,
   step-reads.Learnt,
@@ -184,7 +172,6 @@ abbrev combine-μ-loop : combine-lts.MeasureT-loop
 combine-μ-loop m q depths truth cone used table trail₀ gains₀ v₀ buf₀ start d h s a k at c lo₀ hi₀ len₀ trail gains v buf lo hi len =
     c - (hi - lo)
 
--- src/lists.rt:122:9
 combine-uses-requires : (t : ℕ) → combine-lts.Need-uses-requires (
   uses-reads.Asked,
   uses-reads.Learnt,
@@ -211,7 +198,6 @@ combine-uses-requires t c κs = let S = c .before .before .before .before .befor
     let u = S .pre .1 .1 .0 .1 in
     (state-small G (H .inside), action-small G (S .args .s) (S .args .a) (S .args .k) (H .inside) (omega (arith, H .steps)) 0 u)
 
--- src/lists.rt:123:9
 combine-longest-requires : (t : ℕ) → combine-lts.Need-longest-requires (
   uses-reads.Asked,
   uses-reads.Learnt,
@@ -239,7 +225,6 @@ combine-longest-requires t c κs = let S = c .before .before .before .before .be
     let e = uses-right G (S .args .s) (S .args .a) (S .args .k) (H .inside) (omega (arith, H .steps)) (action-small G (S .args .s) (S .args .a) (S .args .k) (H .inside) (omega (arith, H .steps)) 0 u) (c .uses .ensures) in
     (omega (arith, H .steps), omega arith, λ o l. state-small G (reached G (S .args .s) (S .args .a) o (H .inside) (omega arith)))
 
--- src/lists.rt:124:18
 combine-add-hi : (t : ℕ) → combine-lts.Need-add-hi (
   uses-reads.Asked,
   uses-reads.Learnt,
@@ -262,7 +247,6 @@ combine-add-hi : (t : ℕ) → combine-lts.Need-add-hi (
 ) (combine-at t) combine.Post combine-Inv-loop combine-μ-loop
 combine-add-hi t c = omega (arith, c .longest .ensures .inside)
 
--- src/lists.rt:125:9
 combine-below-requires : (t : ℕ) → combine-lts.Need-below-requires (
   uses-reads.Asked,
   uses-reads.Learnt,
@@ -291,7 +275,6 @@ combine-below-requires t c κs = let S = c .before .before .before .before .befo
     let l : c .before .before .before .before .longest .result < entries (S .args .m .now) (S .args .s) (S .args .a) = omega (arith, c .before .before .before .before .longest .ensures .inside) in
     (omega arith, (G, ((H, l), first-room G (S .args .s) (S .args .a) (S .args .k) (H .inside) (omega (arith, H .steps)) (S .pre .1 .1 .1) (c .before .before .before .before .longest .result) l)))
 
--- src/lists.rt:126:63
 combine-cast-weight : (t : ℕ) → combine-lts.Need-cast-weight (
   uses-reads.Asked,
   uses-reads.Learnt,
@@ -314,7 +297,6 @@ combine-cast-weight : (t : ℕ) → combine-lts.Need-cast-weight (
 ) (combine-at t) combine.Post combine-Inv-loop combine-μ-loop
 combine-cast-weight t c = search needs
 
--- src/lists.rt:126:29
 combine-weight-requires : (t : ℕ) → combine-lts.Need-weight-requires (
   uses-reads.Asked,
   uses-reads.Learnt,
@@ -341,7 +323,6 @@ combine-weight-requires t c κs = let S = c .before .before .before .before .bef
     let u = S .pre .1 .1 .0 .1 in
     (omega (arith, state-small G (H .inside)), omega (arith, action-small G (S .args .s) (S .args .a) (S .args .k) (H .inside) (omega (arith, H .steps)) 0 u), omega (arith, c .before .before .before .before .before .before .before .before .before .before .before .before .before .longest .ensures .inside, uses-right G (S .args .s) (S .args .a) (S .args .k) (H .inside) (omega (arith, H .steps)) (action-small G (S .args .s) (S .args .a) (S .args .k) (H .inside) (omega (arith, H .steps)) 0 u) (c .before .before .before .before .before .before .before .before .before .before .before .before .before .before .uses .ensures), outcomes-few G (S .args .s) (S .args .a) (S .args .k) (H .inside) (omega (arith, H .steps)) 0 u))
 
--- src/lists.rt:126:5
 combine-shift-requires : (t : ℕ) → combine-lts.Need-shift-requires (
   uses-reads.Asked,
   uses-reads.Learnt,
@@ -370,7 +351,6 @@ combine-shift-requires t c κs = let S = c .before .before .before .before .befo
     let l : c .before .before .before .before .before .before .before .before .before .before .before .before .before .before .longest .result < entries (S .args .m .now) (S .args .s) (S .args .a) = omega (arith, c .before .before .before .before .before .before .before .before .before .before .before .before .before .before .longest .ensures .inside) in
     first-shifts G (S .args .s) (S .args .a) (S .args .k) (H .inside) (omega (arith, H .steps)) (S .pre .1 .1 .1) (c .before .before .before .before .before .before .before .before .before .before .before .before .before .before .longest .result) l (S .args .buf .now) refl H (c .before .before .before .before .before .before .before .before .before .below .ensures) (c .before .before .before .before .before .before .before .before .before .below .kept .1 .1 .1 .1 .1 .1 .1 .1 .1 .1 .0) (c .weight .ensures .0)
 
--- src/lists.rt:127:5
 combine-loop-holds : (t : ℕ) → combine-lts.Need-loop-holds (
   uses-reads.Asked,
   uses-reads.Learnt,
@@ -399,7 +379,6 @@ combine-loop-holds t c = let S = c .before .before .before .before .before .befo
     let l : c .before .before .before .before .before .before .before .before .before .before .before .before .before .before .before .before .before .longest .result < entries (S .args .m .now) (S .args .s) (S .args .a) = omega (arith, c .before .before .before .before .before .before .before .before .before .before .before .before .before .before .before .before .before .longest .ensures .inside) in
     first-spanned G (S .args .s) (S .args .a) (S .args .k) (H .inside) (omega (arith, H .steps)) (S .pre .1 .1 .1) (c .before .before .before .before .before .before .before .before .before .before .before .before .before .before .before .before .before .longest .result) l (S .args .buf .now) refl H (c .before .before .before .before .before .before .before .before .before .before .before .before .below .ensures) (c .before .before .before .before .before .before .before .before .before .before .before .before .below .kept .1 .1 .1 .1 .1 .1 .1 .1 .1 .1 .0) (c .before .before .before .weight .ensures .0) (c .before .before .shift .ensures) e (c .before .before .before .before .before .before .before .before .before .before .before .before .before .before .before .before .before .longest .ensures) refl (c .before .before .before .before .before .before .before .before .before .before .before .before .below .kept .1 .1 .1 .1 .1 .1 .1 .0) (c .before .before .before .before .before .before .before .before .before .before .before .before .below .kept .1 .1 .1 .1 .1 .1 .1 .1 .0) (c .before .before .before .before .before .before .before .before .before .before .before .before .below .kept .1 .1 .1 .1 .1 .1 .1 .1 .1 .0)
 
--- src/lists.rt:127:11
 combine-sub-loop : (t : ℕ) → combine-lts.Need-sub-loop (
   uses-reads.Asked,
   uses-reads.Learnt,
@@ -422,7 +401,6 @@ combine-sub-loop : (t : ℕ) → combine-lts.Need-sub-loop (
 ) (combine-at t) combine.Post combine-Inv-loop combine-μ-loop
 combine-sub-loop t c = omega (arith, c .loop .inv .some)
 
--- src/lists.rt:128:13
 combine-beside-requires : (t : ℕ) → combine-lts.Need-beside-requires (
   uses-reads.Asked,
   uses-reads.Learnt,
@@ -446,7 +424,6 @@ combine-beside-requires : (t : ℕ) → combine-lts.Need-beside-requires (
 combine-beside-requires t c κs = let I = c .before .loop .inv in
     (I .some, I .most, omega arith)
 
--- src/lists.rt:129:9
 combine-grown-requires : (t : ℕ) → combine-lts.Need-grown-requires (
   uses-reads.Asked,
   uses-reads.Learnt,
@@ -476,7 +453,6 @@ combine-grown-requires t c κs = let S = c .before .before .before .before .befo
     let z = c .before .before .before .before .before .before .before .before .before .shift .kept .0 ∙ c .before .before .before .before .before .before .before .before .before .before .before .before .before .before .before .before .before .before .before .below .kept .1 .1 .1 .1 .1 .1 .1 .1 .1 .1 .0 in
     (omega arith, (G, ((I .here, span-outcome G (S .args .s) (S .args .a) (S .args .k) (H .inside) (omega (arith, H .steps)) (S .pre .1 .1 .1) I z (c .before .before .before .before .beside .result) B), span-grows G (S .args .s) (S .args .a) (S .args .k) (H .inside) (omega (arith, H .steps)) (S .pre .1 .1 .1) I z (c .before .before .before .before .beside .result) B)))
 
--- src/lists.rt:130:9
 combine-least-requires : (t : ℕ) → combine-lts.Need-least-requires (
   uses-reads.Asked,
   uses-reads.Learnt,
@@ -499,7 +475,6 @@ combine-least-requires : (t : ℕ) → combine-lts.Need-least-requires (
 ) (combine-at t) combine.Post combine-Inv-loop combine-μ-loop
 combine-least-requires t c κs = search needs
 
--- src/lists.rt:131:23
 combine-add-most : (t : ℕ) → combine-lts.Need-add-most (
   uses-reads.Asked,
   uses-reads.Learnt,
@@ -527,7 +502,6 @@ combine-add-most t c = let S = c .before .before .before .before .before .before
     let I = c .before .before .before .before .before .before .before .before .before .before .before .before .before .before .before .loop .inv in
     omega (arith, beside-inside (I .some) (I .most) (c .before .before .before .before .before .before .before .before .before .before .before .before .before .beside .ensures), I .all, outcomes-few G (S .args .s) (S .args .a) (S .args .k) (H .inside) (omega (arith, H .steps)) 0 u)
 
--- src/lists.rt:131:9
 combine-most-requires : (t : ℕ) → combine-lts.Need-most-requires (
   uses-reads.Asked,
   uses-reads.Learnt,
@@ -550,7 +524,6 @@ combine-most-requires : (t : ℕ) → combine-lts.Need-most-requires (
 ) (combine-at t) combine.Post combine-Inv-loop combine-μ-loop
 combine-most-requires t c κs = search needs
 
--- src/lists.rt:127:5
 combine-loop-less : (t : ℕ) → combine-lts.Need-loop-less (
   uses-reads.Asked,
   uses-reads.Learnt,
@@ -574,7 +547,6 @@ combine-loop-less : (t : ℕ) → combine-lts.Need-loop-less (
 combine-loop-less t c = let I = c .before .before .before .before .before .before .before .before .before .before .before .before .before .before .before .before .loop .inv in
     rw (c .most .ensures, c .before .least .ensures) (wider-less (I .some) (I .most) (c .before .before .before .before .before .before .before .before .before .before .before .before .before .before .beside .ensures) (omega arith))
 
--- src/lists.rt:127:5
 combine-loop-again : (t : ℕ) → combine-lts.Need-loop-again (
   uses-reads.Asked,
   uses-reads.Learnt,
@@ -604,7 +576,6 @@ combine-loop-again t c = let S = c .before .before .before .before .before .befo
     let z = c .before .before .before .before .before .before .before .before .before .before .before .before .before .before .before .before .before .before .before .shift .kept .0 ∙ c .before .before .before .before .before .before .before .before .before .before .before .before .before .before .before .before .before .before .before .before .before .before .before .before .before .before .before .before .before .below .kept .1 .1 .1 .1 .1 .1 .1 .1 .1 .1 .0 in
     span-wider G (S .args .s) (S .args .a) (S .args .k) (H .inside) (omega (arith, H .steps)) (S .pre .1 .1 .1) I z (c .before .before .before .before .before .before .before .before .before .before .before .before .before .before .beside .result) (c .before .before .before .before .before .before .before .before .before .before .before .before .before .before .beside .ensures) (x .ensures) (x .kept .1 .1 .1 .1 .1 .1 .1 .0) (x .kept .1 .1 .1 .1 .1 .1 .1 .1 .0) (x .kept .1 .1 .1 .1 .1 .1 .1 .1 .1 .0) (x .kept .1 .1 .1 .1 .1 .1 .1 .1 .1 .1 .0) (c .before .least .ensures) (c .most .ensures)
 
--- src/lists.rt:116:1
 combine-same-length : (t : ℕ) → combine-lts.Need-same-length (
   uses-reads.Asked,
   uses-reads.Learnt,
@@ -627,7 +598,6 @@ combine-same-length : (t : ℕ) → combine-lts.Need-same-length (
 ) (combine-at t) combine.Post combine-Inv-loop combine-μ-loop
 combine-same-length t c = c .before .loop .inv .trails ∙ c .before .before .before .before .before .before .before .before .before .before .before .before .before .before .below .kept .1 .1 .1 .1 .1 .1 .1 .0
 
--- src/lists.rt:116:1
 combine-same-length-2 : (t : ℕ) → combine-lts.Need-same-length-2 (
   uses-reads.Asked,
   uses-reads.Learnt,
@@ -650,7 +620,6 @@ combine-same-length-2 : (t : ℕ) → combine-lts.Need-same-length-2 (
 ) (combine-at t) combine.Post combine-Inv-loop combine-μ-loop
 combine-same-length-2 t c = c .before .loop .inv .sums ∙ c .before .before .before .before .before .before .before .before .before .before .before .before .before .before .below .kept .1 .1 .1 .1 .1 .1 .1 .1 .0
 
--- src/lists.rt:116:1
 combine-same-length-3 : (t : ℕ) → combine-lts.Need-same-length-3 (
   uses-reads.Asked,
   uses-reads.Learnt,
@@ -673,7 +642,6 @@ combine-same-length-3 : (t : ℕ) → combine-lts.Need-same-length-3 (
 ) (combine-at t) combine.Post combine-Inv-loop combine-μ-loop
 combine-same-length-3 t c = c .before .loop .inv .values ∙ c .before .before .before .before .before .before .before .before .before .before .before .before .before .before .below .kept .1 .1 .1 .1 .1 .1 .1 .1 .1 .0
 
--- src/lists.rt:116:1
 combine-same-length-4 : (t : ℕ) → combine-lts.Need-same-length-4 (
   uses-reads.Asked,
   uses-reads.Learnt,
@@ -696,7 +664,6 @@ combine-same-length-4 : (t : ℕ) → combine-lts.Need-same-length-4 (
 ) (combine-at t) combine.Post combine-Inv-loop combine-μ-loop
 combine-same-length-4 t c = c .before .loop .inv .whole ∙ c .before .before .before .before .shift .kept .0 ∙ c .before .before .before .before .before .before .before .before .before .before .before .before .before .before .below .kept .1 .1 .1 .1 .1 .1 .1 .1 .1 .1 .0
 
--- src/lists.rt:116:1
 combine-returns : (t : ℕ) → combine-lts.Need-returns (
   uses-reads.Asked,
   uses-reads.Learnt,
@@ -730,7 +697,6 @@ combine-returns t c = let S = c .before .before .before .before .before .before 
     rebased (λ T. combined (weighed (model-of M) (S .args .k) (onward M (S .args .q .now) (S .args .start) (S .args .cone .now) T)) (outcomes (model-of M) (S .args .s) (S .args .a))) (c .before .before .before .before .before .before .before .before .before .before .before .before .before .before .below .ensures .kept) f
     (span-end G (S .args .s) (S .args .a) (S .args .k) (H .inside) (omega (arith, H .steps)) (S .pre .1 .1 .1) I z (omega arith))
 
--- src/lists.rt:143:29
 grown-target-requires : (t : ℕ) → grown-lts.Need-target-requires (
   target-reads.Asked,
   target-reads.Learnt,
@@ -745,7 +711,6 @@ grown-target-requires : (t : ℕ) → grown-lts.Need-target-requires (
 ) (grown-at t) grown.Post
 grown-target-requires t c κs = search needs
 
--- src/lists.rt:143:9
 grown-count-requires : (t : ℕ) → grown-lts.Need-count-requires (
   target-reads.Asked,
   target-reads.Learnt,
@@ -764,7 +729,6 @@ grown-count-requires t c κs = let S = c .before .before .before .before .before
     let u = S .pre .1 .1 .0 .1 in
     (omega (arith, H .steps), subst (λ z. z < 32) (sym (c .target .ensures .0)) (state-small G (reached G (S .args .s) (S .args .a) (S .args .o) (H .inside) u)))
 
--- src/lists.rt:144:20
 grown-mul-end : (t : ℕ) → grown-lts.Need-mul-end (
   target-reads.Asked,
   target-reads.Learnt,
@@ -784,7 +748,6 @@ grown-mul-end t c = let S = c .before .before .before .before .before .before .b
     let e = ap (λ z. S .args .len * z) (count-right G (S .args .s) (S .args .a) (S .args .k) (H .inside) (omega (arith, H .steps)) (S .args .o) u (S .pre .1 .1 .1 .room .few) (c .count .ensures) (c .before .target .ensures .0)) in
     omega (arith, S .pre .1 .1 .1 .few)
 
--- src/lists.rt:144:15
 grown-add-end : (t : ℕ) → grown-lts.Need-add-end (
   target-reads.Asked,
   target-reads.Learnt,
@@ -804,7 +767,6 @@ grown-add-end t c = let S = c .before .before .before .before .before .before .b
     let e = ap (λ z. S .args .len * z) (count-right G (S .args .s) (S .args .a) (S .args .k) (H .inside) (omega (arith, H .steps)) (S .args .o) u (S .pre .1 .1 .1 .room .few) (c .count .ensures) (c .before .target .ensures .0)) in
     omega (arith, S .pre .1 .1 .1 .room .fits, S .good .1 .1 .1 .1 .1 .1 .1 .1 .1 .1 .0)
 
--- src/lists.rt:145:5
 grown-below-requires : (t : ℕ) → grown-lts.Need-below-requires (
   target-reads.Asked,
   target-reads.Learnt,
@@ -824,7 +786,6 @@ grown-below-requires t c κs = let S = c .before .before .before .before .before
     let e = count-right G (S .args .s) (S .args .a) (S .args .k) (H .inside) (omega (arith, H .steps)) (S .args .o) u (S .pre .1 .1 .1 .room .few) (c .before .before .before .before .count .ensures) (c .before .before .before .before .before .target .ensures .0) in
     (omega arith, (G, ((H, u), subst (λ n. Room (S .args .k) (ways (S .args .m .now) (S .args .s) (S .args .a) (S .args .k) (S .args .o)) (S .args .at + S .args .len * n) (length (S .args .buf .now))) (sym e) (S .pre .1 .1 .1 .room))))
 
--- src/lists.rt:146:27
 grown-weight-requires : (t : ℕ) → grown-lts.Need-weight-requires (
   target-reads.Asked,
   target-reads.Learnt,
@@ -843,7 +804,6 @@ grown-weight-requires t c κs = let S = c .before .before .before .before .befor
     let u = S .pre .1 .1 .0 .1 in
     (omega (arith, state-small G (H .inside)), omega (arith, action-small G (S .args .s) (S .args .a) (S .args .k) (H .inside) (omega (arith, H .steps)) (S .args .o) u), omega (arith, outcomes-few G (S .args .s) (S .args .a) (S .args .k) (H .inside) (omega (arith, H .steps)) (S .args .o) u))
 
--- src/lists.rt:146:5
 grown-join-requires : (t : ℕ) → grown-lts.Need-join-requires (
   target-reads.Asked,
   target-reads.Learnt,
@@ -862,7 +822,6 @@ grown-join-requires t c κs = let S = c .before .before .before .before .before 
     let u = S .pre .1 .1 .0 .1 in
     grown-joins G (S .args .s) (S .args .a) (S .args .k) (H .inside) (omega (arith, H .steps)) (S .args .o) u (S .pre .1 .1 .1) (c .before .before .before .before .before .before .before .before .before .before .before .before .before .before .count .result) (count-right G (S .args .s) (S .args .a) (S .args .k) (H .inside) (omega (arith, H .steps)) (S .args .o) u (S .pre .1 .1 .1 .room .few) (c .before .before .before .before .before .before .before .before .before .before .before .before .before .before .count .ensures) (c .before .before .before .before .before .before .before .before .before .before .before .before .before .before .before .target .ensures .0)) (c .before .before .before .before .before .before .before .before .before .below .ensures) (c .before .before .before .before .before .before .before .before .before .below .kept .1 .1 .1 .1 .1 .1 .1 .1 .1 .1 .0) (c .weight .result) (c .weight .ensures .0)
 
--- src/lists.rt:147:5
 grown-mul-result : (t : ℕ) → grown-lts.Need-mul-result (
   target-reads.Asked,
   target-reads.Learnt,
@@ -882,7 +841,6 @@ grown-mul-result t c = let S = c .before .before .before .before .before .before
     let e = ap (λ z. S .args .len * z) (count-right G (S .args .s) (S .args .a) (S .args .k) (H .inside) (omega (arith, H .steps)) (S .args .o) u (S .pre .1 .1 .1 .room .few) (c .before .before .before .before .before .before .before .before .before .before .before .before .before .before .before .before .before .count .ensures) (c .before .before .before .before .before .before .before .before .before .before .before .before .before .before .before .before .before .before .target .ensures .0)) in
     omega (arith, S .pre .1 .1 .1 .few)
 
--- src/lists.rt:137:1
 grown-same-length : (t : ℕ) → grown-lts.Need-same-length (
   target-reads.Asked,
   target-reads.Learnt,
@@ -897,7 +855,6 @@ grown-same-length : (t : ℕ) → grown-lts.Need-same-length (
 ) (grown-at t) grown.Post
 grown-same-length t c = c .before .before .before .before .before .before .before .before .before .before .before .before .below .kept .1 .1 .1 .1 .1 .1 .1 .0
 
--- src/lists.rt:137:1
 grown-same-length-2 : (t : ℕ) → grown-lts.Need-same-length-2 (
   target-reads.Asked,
   target-reads.Learnt,
@@ -912,7 +869,6 @@ grown-same-length-2 : (t : ℕ) → grown-lts.Need-same-length-2 (
 ) (grown-at t) grown.Post
 grown-same-length-2 t c = c .before .before .before .before .before .before .before .before .before .before .before .before .below .kept .1 .1 .1 .1 .1 .1 .1 .1 .0
 
--- src/lists.rt:137:1
 grown-same-length-3 : (t : ℕ) → grown-lts.Need-same-length-3 (
   target-reads.Asked,
   target-reads.Learnt,
@@ -927,7 +883,6 @@ grown-same-length-3 : (t : ℕ) → grown-lts.Need-same-length-3 (
 ) (grown-at t) grown.Post
 grown-same-length-3 t c = c .before .before .before .before .before .before .before .before .before .before .before .before .below .kept .1 .1 .1 .1 .1 .1 .1 .1 .1 .0
 
--- src/lists.rt:137:1
 grown-same-length-4 : (t : ℕ) → grown-lts.Need-same-length-4 (
   target-reads.Asked,
   target-reads.Learnt,
@@ -942,7 +897,6 @@ grown-same-length-4 : (t : ℕ) → grown-lts.Need-same-length-4 (
 ) (grown-at t) grown.Post
 grown-same-length-4 t c = c .before .before .join .kept .0 ∙ c .before .before .before .before .before .before .before .before .before .before .before .before .below .kept .1 .1 .1 .1 .1 .1 .1 .1 .1 .1 .0
 
--- src/lists.rt:137:1
 grown-returns : (t : ℕ) → grown-lts.Need-returns (
   target-reads.Asked,
   target-reads.Learnt,
@@ -969,7 +923,6 @@ abbrev list-μ-loop : list-lts.MeasureT-loop
 list-μ-loop m q depths truth cone used table trail₀ gains₀ v₀ buf₀ start d h s k at n len₀ a₀ trail gains v buf len a =
     n - a
 
--- src/lists.rt:100:9
 list-decided-requires : (t : ℕ) → list-lts.Need-decided-requires (
   decided-reads.Asked,
   decided-reads.Learnt,
@@ -986,7 +939,6 @@ list-decided-requires t c κs = let S = c .before .before .before .before .befor
     let R = S .pre .1 .1 .1 in
     decides G H (c .before .before .if1 .taken) (S .args .buf .now) R
 
--- src/lists.rt:100:9
 list-same-length : (t : ℕ) → list-lts.Need-same-length (
   decided-reads.Asked,
   decided-reads.Learnt,
@@ -999,7 +951,6 @@ list-same-length : (t : ℕ) → list-lts.Need-same-length (
 ) (list-at t) list.Post list-Inv-loop list-μ-loop
 list-same-length t c = search needs
 
--- src/lists.rt:100:9
 list-same-length-2 : (t : ℕ) → list-lts.Need-same-length-2 (
   decided-reads.Asked,
   decided-reads.Learnt,
@@ -1012,7 +963,6 @@ list-same-length-2 : (t : ℕ) → list-lts.Need-same-length-2 (
 ) (list-at t) list.Post list-Inv-loop list-μ-loop
 list-same-length-2 t c = c .before .before .decided .kept .1 .1 .1 .1 .0
 
--- src/lists.rt:100:9
 list-returns : (t : ℕ) → list-lts.Need-returns (
   decided-reads.Asked,
   decided-reads.Learnt,
@@ -1029,7 +979,6 @@ list-returns t c = let S = c .before .before .before .before .before .before .be
     let R = S .pre .1 .1 .1 in
     decided-written G H (c .before .before .before .before .before .if1 .taken) (S .args .buf .now) R (c .before .before .decided .ensures .0) (c .before .before .decided .ensures .1)
 
--- src/lists.rt:102:9
 list-byte-requires : (t : ℕ) → list-lts.Need-byte-requires (
   decided-reads.Asked,
   decided-reads.Learnt,
@@ -1042,7 +991,6 @@ list-byte-requires : (t : ℕ) → list-lts.Need-byte-requires (
 ) (list-at t) list.Post list-Inv-loop list-μ-loop
 list-byte-requires t c κs = search needs
 
--- src/lists.rt:105:5
 list-loop-holds : (t : ℕ) → list-lts.Need-loop-holds (
   decided-reads.Asked,
   decided-reads.Learnt,
@@ -1059,7 +1007,6 @@ list-loop-holds t c = let S = c .before .before .before .before .before .before 
     let R = S .pre .1 .1 .1 in
     (c .byte .ensures, omega arith, listed-none G (S .args .k) (S .args .k - 1) (omega (arith, H .deep)) H)
 
--- src/lists.rt:106:16
 list-uses-requires : (t : ℕ) → list-lts.Need-uses-requires (
   decided-reads.Asked,
   decided-reads.Learnt,
@@ -1076,7 +1023,6 @@ list-uses-requires t c κs = let S = c .before .before .before .before .before .
     let R = S .pre .1 .1 .1 in
     (state-small G (H .inside), omega (arith, is-sized (S .args .m .now) (G .ready .model-accepted) .actions, c .before .loop .inv .0))
 
--- src/lists.rt:107:109
 list-sub-combine : (t : ℕ) → list-lts.Need-sub-combine (
   decided-reads.Asked,
   decided-reads.Learnt,
@@ -1093,7 +1039,6 @@ list-sub-combine t c = let S = c .before .before .before .before .before .before
     let R = S .pre .1 .1 .1 in
     omega (arith, H .deep)
 
--- src/lists.rt:107:116
 list-add-combine : (t : ℕ) → list-lts.Need-add-combine (
   decided-reads.Asked,
   decided-reads.Learnt,
@@ -1114,7 +1059,6 @@ list-add-combine t c = let S = c .before .before .before .before .before .before
     let r = action-room G (S .args .k) (S .args .k - 1) (omega (arith, H .deep)) R (I .2) refl g (omega arith) in
     omega (arith, r .fits, S .good .1 .1 .1 .1 .1 .1 .1 .1 .1 .1 .0)
 
--- src/lists.rt:107:20
 list-combine-requires : (t : ℕ) → list-lts.Need-combine-requires (
   decided-reads.Asked,
   decided-reads.Learnt,
@@ -1135,7 +1079,6 @@ list-combine-requires t c κs = let S = c .before .before .before .before .befor
     let w : 0 < entries (S .args .m .now) (S .args .s) (c .before .before .before .before .before .before .before .loop .a) = omega arith in
     (omega (arith, H .deep), (G, ((action-here G (S .args .k) (S .args .k - 1) (omega (arith, H .deep)) R (I .2) refl g w, w), action-room G (S .args .k) (S .args .k - 1) (omega (arith, H .deep)) R (I .2) refl g w)))
 
--- src/lists.rt:107:13
 list-add-len : (t : ℕ) → list-lts.Need-add-len (
   decided-reads.Asked,
   decided-reads.Learnt,
@@ -1156,7 +1099,6 @@ list-add-len t c = let S = c .before .before .before .before .before .before .be
     let w : 0 < entries (S .args .m .now) (S .args .s) (c .before .before .before .before .before .before .before .before .before .before .before .before .before .before .before .loop .a) = omega (arith, c .before .before .before .before .before .before .before .before .before .before .before .before .if2 .taken) in
     omega (arith, action-few G (S .args .k) (S .args .k - 1) (omega (arith, H .deep)) R (I .2) refl g w (take (S .args .h) (c .before .before .before .before .before .before .before .before .before .before .before .before .before .before .before .loop .trail)) (c .before .before .before .before .before .before .before .combine .ensures .count))
 
--- src/lists.rt:109:9
 list-add-a : (t : ℕ) → list-lts.Need-add-a (
   decided-reads.Asked,
   decided-reads.Learnt,
@@ -1169,7 +1111,6 @@ list-add-a : (t : ℕ) → list-lts.Need-add-a (
 ) (list-at t) list.Post list-Inv-loop list-μ-loop
 list-add-a t c = omega arith
 
--- src/lists.rt:105:5
 list-loop-less : (t : ℕ) → list-lts.Need-loop-less (
   decided-reads.Asked,
   decided-reads.Learnt,
@@ -1182,7 +1123,6 @@ list-loop-less : (t : ℕ) → list-lts.Need-loop-less (
 ) (list-at t) list.Post list-Inv-loop list-μ-loop
 list-loop-less t c = omega arith
 
--- src/lists.rt:105:5
 list-loop-again : (t : ℕ) → list-lts.Need-loop-again (
   decided-reads.Asked,
   decided-reads.Learnt,
@@ -1208,7 +1148,6 @@ list-loop-again t c = let S = c .before .before .before .before .before .before 
     (λ w. rw (w .1, w .2, w .3, w .4, w .5) (passed-over G (S .args .k) (S .args .k - 1) (omega (arith, H .deep)) R (I .2) refl g (omega (arith, w .0 .left))))
     (c .if2 .came))
 
--- src/lists.rt:93:1
 list-same-length-3 : (t : ℕ) → list-lts.Need-same-length-3 (
   decided-reads.Asked,
   decided-reads.Learnt,
@@ -1221,7 +1160,6 @@ list-same-length-3 : (t : ℕ) → list-lts.Need-same-length-3 (
 ) (list-at t) list.Post list-Inv-loop list-μ-loop
 list-same-length-3 t c = c .before .loop .inv .2 .trails
 
--- src/lists.rt:93:1
 list-same-length-4 : (t : ℕ) → list-lts.Need-same-length-4 (
   decided-reads.Asked,
   decided-reads.Learnt,
@@ -1234,7 +1172,6 @@ list-same-length-4 : (t : ℕ) → list-lts.Need-same-length-4 (
 ) (list-at t) list.Post list-Inv-loop list-μ-loop
 list-same-length-4 t c = c .before .loop .inv .2 .sums
 
--- src/lists.rt:93:1
 list-same-length-5 : (t : ℕ) → list-lts.Need-same-length-5 (
   decided-reads.Asked,
   decided-reads.Learnt,
@@ -1247,7 +1184,6 @@ list-same-length-5 : (t : ℕ) → list-lts.Need-same-length-5 (
 ) (list-at t) list.Post list-Inv-loop list-μ-loop
 list-same-length-5 t c = c .before .loop .inv .2 .values
 
--- src/lists.rt:93:1
 list-same-length-6 : (t : ℕ) → list-lts.Need-same-length-6 (
   decided-reads.Asked,
   decided-reads.Learnt,
@@ -1260,7 +1196,6 @@ list-same-length-6 : (t : ℕ) → list-lts.Need-same-length-6 (
 ) (list-at t) list.Post list-Inv-loop list-μ-loop
 list-same-length-6 t c = c .before .loop .inv .2 .whole
 
--- src/lists.rt:93:1
 list-returns-2 : (t : ℕ) → list-lts.Need-returns-2 (
   decided-reads.Asked,
   decided-reads.Learnt,
