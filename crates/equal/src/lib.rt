@@ -7,8 +7,10 @@ ghost use Rattle.models.specs.Layout.{model-of};
 ghost use Rattle.evaluation.specs.Reached.{formula, root-of};
 ghost use Rattle.equal.specs.Totals.{totals};
 ghost use Rattle.equal.specs.Listing.{Given, First};
+
 mod lists;
 mod spread;
+
 use crate::lists::list;
 use evaluation::learn;
 
@@ -50,6 +52,24 @@ pub fn first_equal(
     let mut gains = [0i32; 7];
     let mut v = [0u8; 280];
     learn(q, depths, truth, &trail, &gains, cone, &mut v, 0, start);
-    let len = list(m, q, depths, truth, cone, used, table, &mut trail, &mut gains, &mut v, buf, start, d, 0, start, n, 0);
+    let len = list(
+        m,
+        q,
+        depths,
+        truth,
+        cone,
+        used,
+        table,
+        &mut trail,
+        &mut gains,
+        &mut v,
+        buf,
+        start,
+        d,
+        0,
+        start,
+        n,
+        0,
+    );
     find(buf, len, x)
 }

@@ -78,7 +78,16 @@ fn most(x: u8, y: u8) -> u8
 }
 
 // The list where the condition is decided: all plans have the same total.
-fn decided(m: &[u8], table: &[u64; 224], cone: &[u8], v: &[u8], buf: &mut [u64], s: u8, k: u8, at: usize) -> usize
+fn decided(
+    m: &[u8],
+    table: &[u64; 224],
+    cone: &[u8],
+    v: &[u8],
+    buf: &mut [u64],
+    s: u8,
+    k: u8,
+    at: usize,
+) -> usize
     requires { ⌜ Decides (now m) (now cone) (now v) (now table) (now buf) s k at ⌝ }
     ensures { λ r. ⌜ (r ≡ getD (now (table .entry)) (32 * k + s) 0) × (now (buf .exit) ≡ splice (now (buf .entry)) at (replicate (getD (now (table .entry)) (32 * k + s) 0) (learnt.known (now (v .entry)) (root-of (now (cone .entry))) 0 * byte (now (m .entry)) 5 ^ k))) ⌝ }
 {
@@ -90,7 +99,25 @@ fn decided(m: &[u8], table: &[u64; 224], cone: &[u8], v: &[u8], buf: &mut [u64],
 }
 
 // Writes the totals of all plans of k steps from the state s, after h steps, and gives their number.
-pub fn list(m: &[u8], q: &[u8], depths: &[u32], truth: &[u8], cone: &[u8], used: &[u8; 264], table: &[u64; 224], trail: &mut [u8], gains: &mut [i32], v: &mut [u8], buf: &mut [u64], start: u8, d: u8, h: u8, s: u8, k: u8, at: usize) -> usize
+pub fn list(
+    m: &[u8],
+    q: &[u8],
+    depths: &[u32],
+    truth: &[u8],
+    cone: &[u8],
+    used: &[u8; 264],
+    table: &[u64; 224],
+    trail: &mut [u8],
+    gains: &mut [i32],
+    v: &mut [u8],
+    buf: &mut [u64],
+    start: u8,
+    d: u8,
+    h: u8,
+    s: u8,
+    k: u8,
+    at: usize,
+) -> usize
     requires { ⌜ Given (now m) (now q) start d (now depths) (now truth) (now cone) (now used) (now table) ⌝ }
     requires { ⌜ Here (now m) (now q) start d (now cone) (now trail) (now gains) (now v) h s k ⌝ }
     requires { ⌜ Room k (plan-total (model-of (now m)) k s) at (length (now buf)) ⌝ }
@@ -104,7 +131,26 @@ pub fn list(m: &[u8], q: &[u8], depths: &[u32], truth: &[u8], cone: &[u8], used:
     let mut a: u8 = 0;
     while a < n {
         if 0 < uses(used, s, a) {
-            len += combine(m, q, depths, truth, cone, used, table, trail, gains, v, buf, start, d, h, s, a, k - 1, at + len);
+            len += combine(
+                m,
+                q,
+                depths,
+                truth,
+                cone,
+                used,
+                table,
+                trail,
+                gains,
+                v,
+                buf,
+                start,
+                d,
+                h,
+                s,
+                a,
+                k - 1,
+                at + len,
+            );
         }
         a += 1;
     }
@@ -113,7 +159,26 @@ pub fn list(m: &[u8], q: &[u8], depths: &[u32], truth: &[u8], cone: &[u8], used:
 
 // Writes the totals of all plans that begin with the action a, with k steps below it: the lists below its outcomes, combined from the
 // longest one on, to the right and then to the left.
-fn combine(m: &[u8], q: &[u8], depths: &[u32], truth: &[u8], cone: &[u8], used: &[u8; 264], table: &[u64; 224], trail: &mut [u8], gains: &mut [i32], v: &mut [u8], buf: &mut [u64], start: u8, d: u8, h: u8, s: u8, a: u8, k: u8, at: usize) -> usize
+fn combine(
+    m: &[u8],
+    q: &[u8],
+    depths: &[u32],
+    truth: &[u8],
+    cone: &[u8],
+    used: &[u8; 264],
+    table: &[u64; 224],
+    trail: &mut [u8],
+    gains: &mut [i32],
+    v: &mut [u8],
+    buf: &mut [u64],
+    start: u8,
+    d: u8,
+    h: u8,
+    s: u8,
+    a: u8,
+    k: u8,
+    at: usize,
+) -> usize
     requires { ⌜ Given (now m) (now q) start d (now depths) (now truth) (now cone) (now used) (now table) ⌝ }
     requires { ⌜ Here (now m) (now q) start d (now cone) (now trail) (now gains) (now v) h s (k + 1) × (0 < entries (now m) s a) ⌝ }
     requires { ⌜ Room (k + 1) (multiply (λ o. plan-total (model-of (now m)) k (o .target)) (outcomes (model-of (now m)) s a)) at (length (now buf)) ⌝ }
@@ -122,11 +187,60 @@ fn combine(m: &[u8], q: &[u8], depths: &[u32], truth: &[u8], cone: &[u8], used: 
     let c = uses(used, s, a);
     let mut lo = longest(m, table, s, a, c, k);
     let mut hi = lo + 1;
-    let mut len = below(m, q, depths, truth, cone, used, table, trail, gains, v, buf, start, d, h, s, a, lo, k, at);
-    shift(buf, at, at, len, weight(m, s as usize, a as usize, lo as usize) as u64, 0);
+    let mut len = below(
+        m,
+        q,
+        depths,
+        truth,
+        cone,
+        used,
+        table,
+        trail,
+        gains,
+        v,
+        buf,
+        start,
+        d,
+        h,
+        s,
+        a,
+        lo,
+        k,
+        at,
+    );
+    shift(
+        buf,
+        at,
+        at,
+        len,
+        weight(m, s as usize, a as usize, lo as usize) as u64,
+        0,
+    );
     while hi - lo < c {
         let o = beside(lo, hi, c);
-        len = grown(m, q, depths, truth, cone, used, table, trail, gains, v, buf, start, d, h, s, a, o, k, at, len, lo < o);
+        len = grown(
+            m,
+            q,
+            depths,
+            truth,
+            cone,
+            used,
+            table,
+            trail,
+            gains,
+            v,
+            buf,
+            start,
+            d,
+            h,
+            s,
+            a,
+            o,
+            k,
+            at,
+            len,
+            lo < o,
+        );
         lo = least(lo, o);
         hi = most(hi, o + 1);
     }
@@ -134,7 +248,29 @@ fn combine(m: &[u8], q: &[u8], depths: &[u32], truth: &[u8], cone: &[u8], used: 
 }
 
 // Combines the list at `at` with the totals below a further outcome o, which are made behind the product: on its right, or on its left.
-fn grown(m: &[u8], q: &[u8], depths: &[u32], truth: &[u8], cone: &[u8], used: &[u8; 264], table: &[u64; 224], trail: &mut [u8], gains: &mut [i32], v: &mut [u8], buf: &mut [u64], start: u8, d: u8, h: u8, s: u8, a: u8, o: u8, k: u8, at: usize, len: usize, right: bool) -> usize
+fn grown(
+    m: &[u8],
+    q: &[u8],
+    depths: &[u32],
+    truth: &[u8],
+    cone: &[u8],
+    used: &[u8; 264],
+    table: &[u64; 224],
+    trail: &mut [u8],
+    gains: &mut [i32],
+    v: &mut [u8],
+    buf: &mut [u64],
+    start: u8,
+    d: u8,
+    h: u8,
+    s: u8,
+    a: u8,
+    o: u8,
+    k: u8,
+    at: usize,
+    len: usize,
+    right: bool,
+) -> usize
     requires { ⌜ Given (now m) (now q) start d (now depths) (now truth) (now cone) (now used) (now table) ⌝ }
     requires { ⌜ Here (now m) (now q) start d (now cone) (now trail) (now gains) (now v) h s (k + 1) × (o < entries (now m) s a) ⌝ }
     requires { ⌜ Grows (now buf) at len (plan-total (model-of (now m)) k ((outcome-of (now m) s a o) .target)) k ⌝ }
@@ -142,18 +278,97 @@ fn grown(m: &[u8], q: &[u8], depths: &[u32], truth: &[u8], cone: &[u8], used: &[
 {
     let n = count(table, k, target(m, s as usize, a as usize, o as usize));
     let end = at + len * n;
-    below(m, q, depths, truth, cone, used, table, trail, gains, v, buf, start, d, h, s, a, o, k, end);
-    join(buf, at, len, n, weight(m, s as usize, a as usize, o as usize) as u64, right);
+    below(
+        m,
+        q,
+        depths,
+        truth,
+        cone,
+        used,
+        table,
+        trail,
+        gains,
+        v,
+        buf,
+        start,
+        d,
+        h,
+        s,
+        a,
+        o,
+        k,
+        end,
+    );
+    join(
+        buf,
+        at,
+        len,
+        n,
+        weight(m, s as usize, a as usize, o as usize) as u64,
+        right,
+    );
     len * n
 }
 
 // Writes the totals of all plans of k steps below the outcome o of the action a.
-fn below(m: &[u8], q: &[u8], depths: &[u32], truth: &[u8], cone: &[u8], used: &[u8; 264], table: &[u64; 224], trail: &mut [u8], gains: &mut [i32], v: &mut [u8], buf: &mut [u64], start: u8, d: u8, h: u8, s: u8, a: u8, o: u8, k: u8, at: usize) -> usize
+fn below(
+    m: &[u8],
+    q: &[u8],
+    depths: &[u32],
+    truth: &[u8],
+    cone: &[u8],
+    used: &[u8; 264],
+    table: &[u64; 224],
+    trail: &mut [u8],
+    gains: &mut [i32],
+    v: &mut [u8],
+    buf: &mut [u64],
+    start: u8,
+    d: u8,
+    h: u8,
+    s: u8,
+    a: u8,
+    o: u8,
+    k: u8,
+    at: usize,
+) -> usize
     requires { ⌜ Given (now m) (now q) start d (now depths) (now truth) (now cone) (now used) (now table) ⌝ }
     requires { ⌜ Here (now m) (now q) start d (now cone) (now trail) (now gains) (now v) h s (k + 1) × (o < entries (now m) s a) ⌝ }
     requires { ⌜ Room k (plan-total (model-of (now m)) k ((outcome-of (now m) s a o) .target)) at (length (now buf)) ⌝ }
     ensures { λ r. ⌜ Written (totals (model-of (now (m .entry))) k ((outcome-of (now (m .entry)) s a o) .target) (λ l. onward (now (m .entry)) (now (q .entry)) start (now (cone .entry)) (take h (now (trail .entry))) (outcome-of (now (m .entry)) s a o ∷ l))) (now (m .entry)) (now (q .entry)) start (now (cone .entry)) h at (now (trail .entry)) (now (trail .exit)) (now (gains .exit)) (now (v .exit)) (now (buf .entry)) (now (buf .exit)) r ⌝ }
 {
-    let t = step(m, q, depths, truth, cone, trail, gains, v, start, h, s, a, o);
-    list(m, q, depths, truth, cone, used, table, trail, gains, v, buf, start, d, h + 1, t, k, at)
+    let t = step(
+        m,
+        q,
+        depths,
+        truth,
+        cone,
+        trail,
+        gains,
+        v,
+        start,
+        h,
+        s,
+        a,
+        o,
+    );
+    list(
+        m,
+        q,
+        depths,
+        truth,
+        cone,
+        used,
+        table,
+        trail,
+        gains,
+        v,
+        buf,
+        start,
+        d,
+        h + 1,
+        t,
+        k,
+        at,
+    )
 }

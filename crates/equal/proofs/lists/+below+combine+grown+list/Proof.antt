@@ -1139,14 +1139,17 @@ list-loop-again t c = let S = c .before .before .before .before .before .before 
     let R = S .pre .1 .1 .1 in
     let I = c .before .before .before .loop .inv in
     let g : c .before .before .before .loop .a < action-count (S .args .m .now) = omega (arith, I .0, c .before .before .loop-test .taken) in
-    let z = uses-right G (S .args .s) (c .before .before .before .loop .a) (S .args .k - 1) (H .inside) (omega (arith, H .steps, H .deep)) (omega (arith, is-sized (S .args .m .now) (G .ready .model-accepted) .actions)) (c .before .uses .ensures) in
-    (I .0, I .1, ⊎-elim
-    (λ w.
-    let x = w .5 in
-    rw (w .13, w .14, w .15, w .16, w .17)
-    (action-listed G (S .args .k) (S .args .k - 1) (omega (arith, H .deep)) R (I .2) refl g (omega (arith, w .0 .taken)) (x .ensures) (x .kept .1 .1 .1 .1 .1 .1 .1 .0) (x .kept .1 .1 .1 .1 .1 .1 .1 .1 .0) (x .kept .1 .1 .1 .1 .1 .1 .1 .1 .1 .0) (x .kept .1 .1 .1 .1 .1 .1 .1 .1 .1 .1 .0)))
-    (λ w. rw (w .1, w .2, w .3, w .4, w .5) (passed-over G (S .args .k) (S .args .k - 1) (omega (arith, H .deep)) R (I .2) refl g (omega (arith, w .0 .left))))
-    (c .if2 .came))
+    let z = uses-right G (S .args .s) (c .before .before .before .loop .a) (S .args .k - 1) (H .inside) (omega (arith, H .steps, H .deep)) (omega (arith, is-sized (S .args .m .now) (G .ready .model-accepted) .actions)) (c .before .uses .ensures) in (
+      I .0,
+      I .1,
+      ⊎-elim
+          (λ w.
+          let x = w .5 in
+          rw (w .13, w .14, w .15, w .16, w .17)
+          (action-listed G (S .args .k) (S .args .k - 1) (omega (arith, H .deep)) R (I .2) refl g (omega (arith, w .0 .taken)) (x .ensures) (x .kept .1 .1 .1 .1 .1 .1 .1 .0) (x .kept .1 .1 .1 .1 .1 .1 .1 .1 .0) (x .kept .1 .1 .1 .1 .1 .1 .1 .1 .1 .0) (x .kept .1 .1 .1 .1 .1 .1 .1 .1 .1 .1 .0)))
+          (λ w. rw (w .1, w .2, w .3, w .4, w .5) (passed-over G (S .args .k) (S .args .k - 1) (omega (arith, H .deep)) R (I .2) refl g (omega (arith, w .0 .left))))
+          (c .if2 .came),
+    )
 
 list-same-length-3 : (t : ℕ) → list-lts.Need-same-length-3 (
   decided-reads.Asked,
