@@ -1,0 +1,5 @@
+pub mod Stack
+pub mod Orders
+pub mod Steps
+pub mod Bounds
+pub mod Trying
