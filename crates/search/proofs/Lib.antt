@@ -3,3 +3,5 @@ pub mod Orders
 pub mod Steps
 pub mod Bounds
 pub mod Trying
+pub mod Walking
+pub mod Paths

@@ -39,7 +39,7 @@ additive le =
     }
 
 module _ (Q : Quantity) (O : Ordered Q) {A : Type 0} (v : A → Q .Value) where
-  pub better : A → A → A
+  unfoldable pub better : A → A → A
   better b y = cond (Q .at-most (v y) (v b)) b y
 
   -- The better of three, grouped either way.

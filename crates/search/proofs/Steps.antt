@@ -1,8 +1,8 @@
 -- The best plan by its first step: the first-best of the enabled choices, with the best plans below its outcomes.
 use Prim.Native.Nat.{ℕ, suc}
-use mathlib.Core.Path.{_≡_, refl, ap}
+use mathlib.Core.Path.{_≡_, refl, sym, ap, _∙_}
 use mathlib.Core.Bool.{Bool}
-use mathlib.Core.List.{List, [], _∷_, _++_, map, flatMap}
+use mathlib.Core.List.{List, [], _∷_, _++_, map, flatMap, append-assoc}
 use Rattle.logic.specs.Model.{Model, Step, enabled, outcomes}
 use Rattle.logic.specs.Quantity.{weights, order}
 use Rattle.logic.specs.Plan.{choices}
@@ -13,6 +13,11 @@ flat-map : {A B C : Type 0} (g : B → List C) (h : A → B) (l : List A) → fl
 unfolding flatMap
 flat-map g h [] = refl
 flat-map g h (x ∷ l) = ap (λ z. g (h x) ++ z) (flat-map g h l)
+
+pub flat-append : {A B : Type 0} (g : A → List B) (l r : List A) → flatMap g (l ++ r) ≡ flatMap g l ++ flatMap g r
+unfolding flatMap
+flat-append g [] r = refl
+flat-append g (x ∷ l) r = ap (λ z. g x ++ z) (flat-append g l r) ∙ sym (append-assoc (g x) (flatMap g l) (flatMap g r))
 
 module _ (least : Bool) (M : Model) (k s : ℕ) (f : List Step → ℕ) where
   -- The total of the choice a, and the choices of its plan, with the best plans below.
