@@ -5,3 +5,4 @@ pub mod Bounds
 pub mod Trying
 pub mod Walking
 pub mod Paths
+pub mod Turns

@@ -11,6 +11,7 @@ use lib.Seq.{length-take-le, take-take, take-at}
 use Rattle.logic.specs.Formula.{sat}
 use Rattle.logic.specs.Model.{Step}
 use Rattle.logic.specs.Quantity.{weights, order}
+use Rattle.logic.specs.Plan.{choices}
 use Rattle.logic.specs.Recursion.{greatest}
 use Rattle.logic.specs.Total.{one-if}
 use Rattle.blocks.specs.Bytes.{Bytes}
@@ -28,6 +29,7 @@ use Rattle.evaluation.proofs.Stepping.{leaf-value}
 use Rattle.search.specs.Greatest.{on-path, best-choices}
 use Rattle.search.specs.Buffers.{Wrote, Setting, Back, Picked}
 use Rattle.search.specs.declared.Best.{Best}
+use Rattle.search.proofs.Stack.{wrote-none}
 
 module _ (m q : Bytes) (start : ℕ) (cone : List ℕ) where
   pub on-path-bit : (t : List ℕ) (r : List Step) → on-path m q start cone t r ≤ 1
@@ -61,6 +63,9 @@ module _ {m used q : Bytes} {depths truth cone : List ℕ} {start : ℕ} {trail 
   pub sizes-here : (s < 32) × (action-count m ≤ 8)
   sizes-here = let z = passed-sized m (passed-all m (S .ready .model-accepted)) in omega (arith, state-here, z .states, z .actions)
 
+  pub few-here : (a : ℕ) → entries m s a ≤ 4
+  few-here a = entries-small m (passed-sized m (passed-all m (S .ready .model-accepted))) s a
+
   pub count-here : (a n : ℕ) → a < 8 → n ≡ getD used (8 * s + a) 0 → n ≡ entries m s a
   count-here a n h e =
       let x : (8 * s + a) / 8 ≡ s = omega arith in
@@ -71,33 +76,61 @@ module _ {m used q : Bytes} {depths truth cone : List ℕ} {start : ℕ} {trail 
   length-here = length-take-le h trail (omega (arith, S .few, S .roomy .steps))
 
   -- Where no step is left, the value is known.
-  pub leaf-here : k ≡ 0 → known v (root-of cone) 0 ≡ on-path m q start cone (take h trail) []
+  leaf-here : k ≡ 0 → known v (root-of cone) 0 ≡ on-path m q start cone (take h trail) []
   unfolding on-path
   leaf-here e =
       leaf-value (S .ready) (take h trail) gains v (S .knows) (omega (arith, S .deep, length-here))
       ∙ ap (λ p. one-if (sat (model-of m) (formula q (root-of cone)) start p)) (sym (append-nil (steps-of m start (take h trail))))
 
-  -- The same with the trail back.
-  pub setting-back : (trail′ : List ℕ) (gains′ : List ℤ) (v′ : List ℕ) → length trail′ ≡ length trail → length gains′ ≡ length gains → length v′ ≡ length v
-      → Back m q start cone h trail trail′ gains′ v′ → Setting m used q depths truth cone start trail′ gains′ v′ h s k
-  setting-back trail′ gains′ v′ e1 e2 e3 B =
+  pub picked-leaf : (least : Bool) (x at : ℕ) (c : List ℕ) → k ≡ 0 → x ≡ known v (root-of cone) 0
+      → Picked least m q start cone (take h trail) s k at c c (record { found = true; value = x; end = at })
+  unfolding greatest best-choices choices
+  picked-leaf least x at c e g = record { value = g ∙ leaf-here e ∙ rw e refl; wrote = rw e (wrote-none at c) }
+
+-- The buffers after some searches below: as long as they were, with the trail back.
+pub record Kept (m q : Bytes) (start : ℕ) (cone : List ℕ) (h : ℕ) (trail : List ℕ) (gains : List ℤ) (v choices trail′ : List ℕ) (gains′ : List ℤ)
+    (v′ choices′ : List ℕ) : Type 0 where
+  pub back : Back m q start cone h trail trail′ gains′ v′
+  pub steps : length trail′ ≡ length trail
+  pub sums : length gains′ ≡ length gains
+  pub places : length v′ ≡ length v
+  pub room : length choices′ ≡ length choices
+
+module _ {m used q : Bytes} {depths truth cone : List ℕ} {start : ℕ} {trail : List ℕ} {gains : List ℤ} {v : List ℕ} {h s k : ℕ}
+    (S : Setting m used q depths truth cone start trail gains v h s k) where
+  pub back-none : Back m q start cone h trail trail gains v
+  back-none = record { kept = refl; knows = S .knows }
+
+  pub kept-none : (choices : List ℕ) → Kept m q start cone h trail gains v choices trail gains v choices
+  kept-none choices = record { back = back-none; steps = refl; sums = refl; places = refl; room = refl }
+
+  pub setting-kept : {choices trail′ : List ℕ} {gains′ : List ℤ} {v′ choices′ : List ℕ} → Kept m q start cone h trail gains v choices trail′ gains′ v′ choices′
+      → Setting m used q depths truth cone start trail′ gains′ v′ h s k
+  setting-kept {gains′ = gains′} {v′} K =
+      let B = K .back in
       record {
         ready = S .ready;
         counted = S .counted;
-        roomy = record { steps = omega (arith, S .roomy .steps); sums = omega (arith, S .roomy .sums); places = omega (arith, S .roomy .places) };
+        roomy = record { steps = omega (arith, S .roomy .steps, K .steps); sums = omega (arith, S .roomy .sums, K .sums); places = omega (arith, S .roomy .places, K .places) };
         knows = subst (λ t. Knows m q start cone t gains′ v′) (sym (B .kept)) (B .knows);
         state = ap (state-after m start) (B .kept) ∙ S .state;
         deep = S .deep;
         few = S .few;
       }
 
-pub back-none : {m q : Bytes} {start : ℕ} {cone trail : List ℕ} {gains : List ℤ} {v : List ℕ} (h : ℕ) → Knows m q start cone (take h trail) gains v → Back m q start cone h trail trail gains v
-back-none h K = record { kept = refl; knows = K }
-
-pub back-back : {m q : Bytes} {start h : ℕ} {cone t0 t1 t2 : List ℕ} {g1 g2 : List ℤ} {v1 v2 : List ℕ}
-    → Back m q start cone h t0 t1 g1 v1 → Back m q start cone h t1 t2 g2 v2 → Back m q start cone h t0 t2 g2 v2
-back-back {m} {q} {start} {cone = cone} {g2 = g2} {v2 = v2} A B =
-    record { kept = B .kept ∙ A .kept; knows = subst (λ t. Knows m q start cone t g2 v2) (A .kept) (B .knows) }
+-- Kept by what came before, and by what comes after.
+pub kept-kept : {m q : Bytes} {start h : ℕ} {cone t0 : List ℕ} {g0 : List ℤ} {v0 c0 t1 : List ℕ} {g1 : List ℤ} {v1 c1 t2 : List ℕ} {g2 : List ℤ} {v2 c2 : List ℕ}
+    → Kept m q start cone h t0 g0 v0 c0 t1 g1 v1 c1 → Back m q start cone h t1 t2 g2 v2 → length t2 ≡ length t1 → length g2 ≡ length g1 → length v2 ≡ length v1
+    → length c2 ≡ length c1 → Kept m q start cone h t0 g0 v0 c0 t2 g2 v2 c2
+kept-kept {m} {q} {start} {cone = cone} {g2 = g2} {v2 = v2} K B et eg ev ec =
+    let A = K .back in
+    record {
+      back = record { kept = B .kept ∙ A .kept; knows = subst (λ t. Knows m q start cone t g2 v2) (A .kept) (B .knows) };
+      steps = et ∙ K .steps;
+      sums = eg ∙ K .sums;
+      places = ev ∙ K .places;
+      room = ec ∙ K .room;
+    }
 
 -- ---- a step
 
@@ -107,7 +140,7 @@ module _ {m used q : Bytes} {depths truth cone : List ℕ} {start : ℕ} {trail 
   offered = record { steps = omega (arith, S .few); state = S .state; used = used-here }
 
   outcome-few : o < 4
-  outcome-few = omega (arith, used-here, entries-small m (passed-sized m (passed-all m (S .ready .model-accepted))) s a)
+  outcome-few = omega (arith, used-here, few-here S a)
 
   module _ {trail′ : List ℕ} {gains′ : List ℤ} {v′ : List ℕ} {t : ℕ} (T : Stepped m q start cone h s a o trail trail′ gains′ v′ t) where
     the-step : step-of m (state-after m start (take h trail)) (4 * a + o) ≡ outcome-of m s a o
@@ -137,16 +170,17 @@ module _ {m used q : Bytes} {depths truth cone : List ℕ} {start : ℕ} {trail 
           knows = knows-shorter m q start cone (take h trail) (4 * a + o) gains″ v″ (subst (λ l. Knows m q start cone l gains″ v″) (T .longer) (B .knows));
         }
 
-    same-value : on-path m q start cone (take (h + 1) trail′) ≡ λ r. on-path m q start cone (take h trail) (outcome-of m s a o ∷ r)
-    same-value =
-        ap (on-path m q start cone) (T .longer)
-        ∙ on-path-more m q start cone (take h trail) (4 * a + o)
-        ∙ ap (λ x r. on-path m q start cone (take h trail) (x ∷ r)) the-step
+    -- What is picked after the step is the best below the outcome; t0 is the trail that the first h steps were.
+    module _ {t0 : List ℕ} (e : take h trail ≡ t0) where
+      same-value : on-path m q start cone (take (h + 1) trail′) ≡ λ r. on-path m q start cone t0 (outcome-of m s a o ∷ r)
+      same-value =
+          ap (on-path m q start cone) (T .longer)
+          ∙ on-path-more m q start cone (take h trail) (4 * a + o)
+          ∙ ap₂ (λ t x r. on-path m q start cone t (x ∷ r)) e the-step
 
-    -- What is picked after the step is the best below the outcome.
-    module _ {least : Bool} {at : ℕ} {before after : List ℕ} {b : Best} (P : Picked least m q start cone (take (h + 1) trail′) t k at before after b) where
-      pub picked-value : b .value ≡ greatest (weights (order least)) (model-of m) k ((outcome-of m s a o) .target) (λ r. on-path m q start cone (take h trail) (outcome-of m s a o ∷ r))
-      picked-value = P .value ∙ ap₂ (λ x f. greatest (weights (order least)) (model-of m) k x f) (T .state) same-value
+      module _ {least : Bool} {at : ℕ} {before after : List ℕ} {b : Best} (P : Picked least m q start cone (take (h + 1) trail′) t k at before after b) where
+        pub picked-value : b .value ≡ greatest (weights (order least)) (model-of m) k ((outcome-of m s a o) .target) (λ r. on-path m q start cone t0 (outcome-of m s a o ∷ r))
+        picked-value = P .value ∙ ap₂ (λ x f. greatest (weights (order least)) (model-of m) k x f) (T .state) same-value
 
-      pub picked-wrote : Wrote (best-choices least (model-of m) k ((outcome-of m s a o) .target) (λ r. on-path m q start cone (take h trail) (outcome-of m s a o ∷ r))) at before after (b .end)
-      picked-wrote = subst (λ x. Wrote x at before after (b .end)) (ap₂ (λ x f. best-choices least (model-of m) k x f) (T .state) same-value) (P .wrote)
+        pub picked-wrote : Wrote (best-choices least (model-of m) k ((outcome-of m s a o) .target) (λ r. on-path m q start cone t0 (outcome-of m s a o ∷ r))) at before after (b .end)
+        picked-wrote = subst (λ x. Wrote x at before after (b .end)) (ap₂ (λ x f. best-choices least (model-of m) k x f) (T .state) same-value) (P .wrote)
