@@ -2,21 +2,29 @@
 use Prim.Native.Nat.{ℕ, suc, _+_, _*_, _-_, _^_, _≤_, _<_}
 use native.Mathlib.Omega.{arith}
 use native.Mathlib.Nat.{pos-of-ne-zero}
-use mathlib.Core.Path.{_≡_, sym, ap, subst, _∙_}
+use mathlib.Core.Path.{_≡_, refl, sym, ap, subst, _∙_}
 use mathlib.Core.Bool.{Bool, false}
-use mathlib.Core.List.{List}
-use lib.IntN.{ℤ}
-use lib.ListN.{length, take, set, length-set}
+use mathlib.Core.List.{List, []}
+use lib.IntN.{ℤ, pos}
+use lib.ListN.{length, getD, take, set, length-set}
+use Rattle.logic.specs.Checked.{refusal}
+use Rattle.logic.specs.Formula.{depth}
 use Rattle.blocks.specs.Bytes.{Bytes}
 use Rattle.models.specs.Layout.{action-count, outcome-of, entries, model-of}
+use Rattle.models.specs.Grounds.{read-model}
+use Rattle.models.specs.Used.{Used}
 use Rattle.extension.specs.Choices.{room}
-use Rattle.extension.proofs.Laws.{room-step}
-use Rattle.evaluation.specs.Reached.{Ready}
+use Rattle.extension.proofs.Laws.{room-step, room-most}
+use Rattle.evaluation.specs.Path.{steps-of, state-after}
+use Rattle.evaluation.specs.Reached.{formula, root-of, Ready}
+use Rattle.evaluation.specs.Learnt.{learnt}
 use Rattle.evaluation.specs.Known.{Knows, Roomy, Offered, Stepped}
-use Rattle.search.specs.Greatest.{on-path}
+use Rattle.evaluation.proofs.Stepping.{begun}
+use Rattle.search.specs.Greatest.{on-path, best-choices, Finds}
 use Rattle.search.specs.Buffers.{Setting, Back, Keeps, Picked, Walks}
 use Rattle.search.specs.declared.Best.{Best}
 use Rattle.search.specs.declared.Walked.{Walked}
+use Rattle.search.proofs.Bounds.{choices-few}
 use Rattle.search.proofs.Trying.{Tried, enabled-below, tried-start, turn-skipped, tried-room, keeps-inside, turn-taken, picked-all}
 use Rattle.search.proofs.Walking.{Walking, walking-more, walking-room, sum-fits, walked-value, walked-wrote}
 use Rattle.search.proofs.Paths.{on-path-bit, state-here, Kept, kept-none, setting-kept, kept-kept, offered, setting-on, back-on, picked-value, picked-wrote}
@@ -146,3 +154,31 @@ turned-same {least} {m} {q} {start} {cone} {h} {s} {k} {at} {t₀} {g₀} {v₀}
   where
     P : List ℕ → List ℤ → List ℕ → List ℕ → Best → Type 0
     P t g v c b = Turned least m q start cone h s k at t₀ g₀ v₀ c₀ a t g v c b
+
+-- ---- from the start
+
+pub setting-start : {m used q : Bytes} {depths truth cone : List ℕ} {start d : ℕ} {trail : List ℕ} {gains : List ℤ} {v v′ : List ℕ}
+    → Ready m q start depths truth cone → Used m used → d ≡ depth (formula q (root-of cone)) → d ≤ 6 → Roomy trail gains v → length v′ ≡ length v
+    → getD gains 0 (pos 0) ≡ pos 0 → v′ ≡ learnt q depths truth trail gains 0 start cone v
+    → Setting m used q depths truth cone start trail gains v′ 0 start d
+unfolding state-after
+setting-start {trail = trail} {gains} {v} {v′} R U e h F l g k =
+    record {
+      ready = R;
+      counted = U;
+      roomy = record { steps = F .steps; sums = F .sums; places = omega (arith, F .places) };
+      knows = begun R trail gains v v′ g (F .places) k;
+      state = refl;
+      deep = omega arith;
+      few = omega arith;
+    }
+
+pub found : {m q : Bytes} {start d : ℕ} {cone before after : List ℕ} {least : Bool} {b : Best} → refusal (read-model m) ≡ 0 → d ≤ 6
+    → Picked least m q start cone [] start d 0 before after b → Finds least m q start cone d after (record { value = b .value; count = b .end })
+unfolding on-path steps-of best-choices
+found {m} {q} {start} {d} {cone} {least = least} passed h P =
+    record {
+      value = P .value;
+      chosen = P .wrote .wrote;
+      few = omega (arith, P .wrote .next, choices-few m passed least d start (on-path m q start cone []), room-most d h);
+    }
