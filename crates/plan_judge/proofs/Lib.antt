@@ -1,3 +1,6 @@
 pub mod Kept
 pub mod Returns
+pub mod Grounds
+pub mod Sizes
+pub mod Writes
 pub mod Demand3
