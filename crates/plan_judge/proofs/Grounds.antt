@@ -1,16 +1,16 @@
 -- What a desk holds where the grounds 20, 21 and 22 do not apply, and which of them applies where one does.
-use Prim.Native.Nat.{ℕ, zero, suc, _*_, _-_, _≤_, _<_}
+use Prim.Native.Nat.{ℕ, zero, suc, _-_, _<_}
 use native.Mathlib.Omega.{arith}
-use mathlib.Core.Path.{_≡_, refl, sym, ap, ap₂, subst, _∙_}
+use mathlib.Core.Path.{_≡_, refl, sym, ap, ap₂, _∙_}
 use mathlib.Core.Bool.{Bool, true, false, cond}
 use mathlib.Core.Option.{Option, none, some}
 use lib.Dec.{eqb}
-use lib.ListN.{getD, take}
+use lib.ListN.{getD}
 use borrow.Author.Tests.{eqb-true, eqb-false}
 use Rattle.logic.specs.Checked.{Checked, ok, refused, refusal, _>>=_, held}
 use Rattle.logic.specs.Model.{Model}
-use Rattle.logic.specs.Formula.{Formula, never, plan, relation, nonnegative}
-use Rattle.logic.specs.Verdict.{Goal, goal, plan-goal}
+use Rattle.logic.specs.Formula.{Formula, never, relation, nonnegative}
+use Rattle.logic.specs.Verdict.{goal, plan-goal}
 use Rattle.blocks.specs.Bytes.{Bytes, byte}
 use Rattle.models.specs.Layout.{state-count, action-count, prop-count, model-of}
 use Rattle.models.specs.Grounds.{read-model}
@@ -18,10 +18,9 @@ use Rattle.questions.specs.Layout.{Question, start-of, node-count, node-of, for
 use Rattle.questions.specs.Grounds.{read-question}
 use Rattle.questions.proofs.Accepted.{Accepted, accepted, at-never, at-prop, at-neg, at-both, at-does, at-next, at-gain, at-plan}
 use Rattle.questions.proofs.Laws.{by-operator}
-use Rattle.calls.specs.Calls.{Held, question-for}
 use Rattle.calls.specs.History.{got}
 use Rattle.plan_judge.specs.declared.Desk.{Desk}
-use Rattle.plan_judge.specs.View.{model-bytes, held-size, question-in, view}
+use Rattle.plan_judge.specs.View.{held-size, question-in, view}
 use Rattle.plan_judge.specs.State.{held-both, held-goal, PlanRoot}
 use Rattle.plan_judge.proofs.Returns.{said-bytes, model-none, model-passed, model-some, put-question, question-is, said-question}
 
@@ -115,7 +114,7 @@ module _ (d : Desk) where
       pub both-here : Both d
       unfolding got
       both-here =
-          let r : refusal (read-question (byte (said-bytes d) 2) (byte (said-bytes d) 3) (byte (said-bytes d) 4) (d .question)) ≡ 0 = sym (ap refusal (said-question d h (d .question))) ∙ e in
+          let r = sym (ap refusal (said-question d h (d .question))) ∙ e in
           record {
             passed = model-passed d h;
             held-model = model-some d h;

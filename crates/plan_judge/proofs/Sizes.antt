@@ -1,6 +1,6 @@
 -- How many choices the plan has with which choices begin: of the numbers from 1 on, the only one for which so many choices are a plan, all
 -- of them.
-use Prim.Native.Nat.{ℕ, zero, suc, _≤_, _<_}
+use Prim.Native.Nat.{ℕ, zero, suc, _≤_}
 use native.Mathlib.Omega.{arith}
 use mathlib.Core.Path.{_≡_, refl, sym, ap, _∙_}
 use mathlib.Core.Bool.{Bool, true, false}
@@ -41,7 +41,9 @@ ten-plan m zero s cs = tt
 ten-plan m (suc n) s [] = refl
 ten-plan m (suc n) s (a ∷ cs) =
     ten-guard (any (eqb a) (enabled m s)) _
-    (ten-bind (read-each (λ o. read-plan m n (o .target)) (outcomes m s a) cs) _ (ten-each (λ o. read-plan m n (o .target)) (λ o ds. ten-plan m n (o .target) ds) (outcomes m s a) cs) (λ qs. tt))
+    (ten-bind (read-each (λ o. read-plan m n (o .target)) (outcomes m s a) cs) _
+    (ten-each (λ o. read-plan m n (o .target)) (λ o ds. ten-plan m n (o .target) ds) (outcomes m s a) cs)
+    (λ qs. tt))
 
 plan-of-ten : (m : Model) (n s : ℕ) (cs : List ℕ) → Ten (plan-of m n s cs)
 unfolding plan-of
@@ -71,7 +73,8 @@ module _ (m : Model) (n s : ℕ) (cs : List ℕ) where
   size-found k l e =
       let x = plan-there m n s (take k cs) e in
       let w = plan-of-sound m n s (take k cs) (x .0) (x .1) in
-      let r : read-plan m n s cs ≡ ok (x .0, drop k cs) = ap (read-plan m n s) (sym (take-append-drop k cs) ∙ ap (λ z. z ++ drop k cs) (sym (w .1))) ∙ read-complete m n s (x .0) (drop k cs) (w .0) in
+      let i : cs ≡ choices n (x .0) ++ drop k cs = sym (take-append-drop k cs) ∙ ap (λ z. z ++ drop k cs) (sym (w .1)) in
+      let r : read-plan m n s cs ≡ ok (x .0, drop k cs) = ap (read-plan m n s) i ∙ read-complete m n s (x .0) (drop k cs) (w .0) in
       sym (ap (plan-size n) r ∙ ap length (w .1) ∙ length-take-le k cs l)
 
   pub size-missed : (k : ℕ) → 1 ≤ k → (refusal (plan-of m n s (take k cs)) ≡ 0 → ⊥) → plan-size n (read-plan m n s cs) ≡ k → ⊥

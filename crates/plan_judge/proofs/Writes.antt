@@ -1,6 +1,6 @@
 -- What write returns and leaves in the buffer, at each return of the code: past the grounds of the state it is the sheet of the plan with
 -- which the desk's choices begin, or ground 23, then 12.
-use Prim.Native.Nat.{ℕ, zero, suc, _+_, _*_, _-_, _≤_, _<_}
+use Prim.Native.Nat.{ℕ, zero, suc, _*_, _-_, _≤_, _<_}
 use native.Mathlib.Omega.{arith}
 use mathlib.Core.Path.{_≡_, refl, sym, ap, ap₂, _∙_}
 use mathlib.Core.Bool.{Bool, true, false, cond}
@@ -15,7 +15,7 @@ use Rattle.logic.specs.Checked.{Checked, ok, refused, refusal, _>>=_, _>>_, hel
 use Rattle.logic.specs.Model.{Model}
 use Rattle.logic.specs.Plan.{Plan, choices}
 use Rattle.logic.specs.Formula.{nonnegative}
-use Rattle.logic.specs.Verdict.{Goal, goal}
+use Rattle.logic.specs.Verdict.{goal}
 use Rattle.logic.specs.Verdict as logic
 use Rattle.logic.specs.Choices.{read-plan}
 use Rattle.logic.proofs.Checked.{bind-ok, ok-same}
@@ -31,13 +31,12 @@ use Rattle.plan_judge.specs.declared.Desk.{Desk}
 use Rattle.plan_judge.specs.declared.PlanRecord.{PlanRecord}
 use Rattle.plan_judge.specs.declared.Verdict.{Verdict}
 use Rattle.plan_judge.specs.declared.Verdict.the-variants.{No, Yes, YesPlan}
-use Rattle.plan_judge.specs.declared.Written.{Written}
 use Rattle.plan_judge.specs.declared.Written.the-variants.{Bytes as Filled, Refused}
 use Rattle.plan_judge.specs.View.{choices-in, verdict-in, verdict-on, view}
 use Rattle.plan_judge.specs.Values.{writing, written-by, filling, filled-by}
 use Rattle.plan_judge.specs.State.{held-both, held-goal, PlanRoot, plan-size, size-in, shown-size, shown-weight}
 use Rattle.plan_judge.proofs.Returns.{said-bytes}
-use Rattle.plan_judge.proofs.Grounds.{bind-refused, root-goal, both-of, Both, both-asked, plan-asked}
+use Rattle.plan_judge.proofs.Grounds.{bind-refused, root-goal, both-of, both-asked, plan-asked}
 
 -- ---- the choices of a "plan" root
 
@@ -140,12 +139,16 @@ bind-assoc : {A B C : Type 0} (c : Checked A) (f : A → Checked B) (g : B → C
 bind-assoc (ok a) f g = refl
 bind-assoc (refused k) f g = refl
 
+-- The rest of write for a model and a question: the goal, the verdict, the sheet.
+abbrev write-for : Option logic.Verdict → ℕ → Model → Question → Checked Bytes
+write-for o size m q = goal m (q .start) (q .root) >>= (λ g. held 23 o >>= (λ v. shown-sheet v >>= sheet-for (g .steps) (q .start) size))
+
 state-refused : (h : Held) (size k : ℕ) → k ≡ refusal (held-goal h) → (k ≡ 0 → ⊥) → k ≡ refusal (do-write h size)
 unfolding do-write held-goal held-both
 state-refused h size k e i = by (h .model) (h .question) e
   where
     by : (o : Option Model) (p : Option Question) → k ≡ refusal (both-of o p >>= (λ x. goal (x .0) (x .1 .start) (x .1 .root)))
-        → k ≡ refusal (held 20 o >>= (λ m. held 21 p >>= (λ q. goal m (q .start) (q .root) >>= (λ g. held 23 (h .verdict) >>= (λ v. shown-sheet v >>= sheet-for (g .steps) (q .start) size)))))
+        → k ≡ refusal (held 20 o >>= (λ m. held 21 p >>= write-for (h .verdict) size m))
     by none p z = z
     by (some m) none z = z
     by (some m) (some q) z = bind-refused (goal m (q .start) (q .root)) _ k z i
@@ -174,7 +177,7 @@ module _ (d : Desk) (a : Bytes) where
     write-is =
         let b = both-asked d e in
         let g = root-goal (accepted _ _ _ (d .question) (b .asked)) (model-of (said-bytes d)) start (plan-asked d e .is-plan) in
-        ap₂ (λ o p. held 20 o >>= (λ m. held 21 p >>= (λ q. goal m (q .start) (q .root) >>= (λ g. held 23 ((view d) .verdict) >>= (λ v. shown-sheet v >>= sheet-for (g .steps) (q .start) (length a)))))) (b .held-model) (b .held-question)
+        ap₂ (λ o p. held 20 o >>= (λ m. held 21 p >>= write-for ((view d) .verdict) (length a) m)) (b .held-model) (b .held-question)
         ∙ ap (λ c. c >>= (λ g. held 23 ((view d) .verdict) >>= (λ v. shown-sheet v >>= sheet-for (g .steps) start (length a)))) g
         ∙ bind-assoc (held 23 ((view d) .verdict)) shown-sheet (sheet-for steps start (length a))
 

@@ -9,7 +9,7 @@ ghost use Rattle.logic.specs.Choices.{read-plan};
 ghost use Rattle.blocks.specs.Bytes.{byte};
 ghost use Rattle.models.specs.Layout.{state-count, model-of};
 ghost use Rattle.models.specs.Grounds.{read-model};
-ghost use Rattle.questions.specs.Layout.{start-of, node-of, node-count, question-of};
+ghost use Rattle.questions.specs.Layout.{node-of, node-count, question-of};
 ghost use Rattle.questions.specs.Grounds.{read-question};
 ghost use Rattle.sheets.specs.Layout.{blocks-for};
 ghost use Rattle.plan_judge.specs.View.{held-size, choices-in, view};

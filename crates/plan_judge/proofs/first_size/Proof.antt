@@ -1,7 +1,7 @@
 -- The model is cut to the bytes that are held; the steps and the start are the question's.
-use Prim.Native.Nat.{ℕ, _*_}
+use Prim.Native.Nat.{_*_}
 use native.Mathlib.Omega.{arith}
-use mathlib.Core.Path.{_≡_, sym, ap, ap₂, _∙_}
+use mathlib.Core.Path.{ap, ap₂, _∙_}
 use lib.ListN.{take, length-take}
 use borrow.Author.Needs.{needs}
 use Rattle.logic.specs.Checked.{refusal}

@@ -1,9 +1,7 @@
-use Prim.Native.Nat.{ℕ, _*_, min}
 use native.Mathlib.Omega.{arith}
-use mathlib.Core.Path.{_≡_, sym, ap, _∙_}
-use lib.ListN.{length, take, length-take}
+use mathlib.Core.Path.{sym, ap, _∙_}
+use lib.ListN.{length-take}
 use Rattle.logic.specs.Checked.{refusal}
-use Rattle.blocks.specs.Bytes.{Bytes}
 use Rattle.models.specs.Grounds.{read-model}
 use Rattle.plan_judge.proofs.Returns.{said-cut, held-refused, held-whole}
 use borrow.Author.Needs.{needs}

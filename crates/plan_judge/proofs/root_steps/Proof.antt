@@ -1,7 +1,5 @@
 -- The field of the last node.
-use Prim.Native.Nat.{ℕ}
 use mathlib.Core.Path.{ap, _∙_}
-use lib.Dec.{eqb}
 use borrow.Author.Needs.{needs}
 use Rattle.questions.specs.Layout.{node-of}
 use Rattle.plan_judge.proofs.root_steps.Statement.{statement}

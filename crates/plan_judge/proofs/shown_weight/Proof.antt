@@ -1,5 +1,4 @@
 -- The record's weight, or 0 where there is no record.
-use mathlib.Core.Path.{sym, ap}
 use borrow.Author.Needs.{needs}
 use Rattle.plan_judge.specs.State.{shown-weight}
 use Rattle.plan_judge.proofs.shown_weight.Statement.{statement}
