@@ -9,15 +9,16 @@ use lib.ListN.{getD}
 use borrow.Author.Tests.{eqb-true, eqb-false}
 use Rattle.logic.specs.Checked.{Checked, ok, refused, refusal, _>>=_, held}
 use Rattle.logic.specs.Model.{Model}
-use Rattle.logic.specs.Formula.{Formula, never, relation, nonnegative}
-use Rattle.logic.specs.Verdict.{goal, plan-goal}
-use Rattle.blocks.specs.Bytes.{Bytes, byte}
+use Rattle.logic.specs.Formula.{Formula, Node, never, relation, nonnegative}
+use Rattle.logic.specs.Verdict.{Goal, goal, plan-goal}
+use Rattle.blocks.specs.Bytes.{Bytes}
 use Rattle.models.specs.Layout.{state-count, action-count, prop-count, model-of}
 use Rattle.models.specs.Grounds.{read-model}
 use Rattle.questions.specs.Layout.{Question, start-of, node-count, node-of, formulas-of, question-of}
 use Rattle.questions.specs.Grounds.{read-question}
 use Rattle.questions.proofs.Accepted.{Accepted, accepted, at-never, at-prop, at-neg, at-both, at-does, at-next, at-gain, at-plan}
 use Rattle.questions.proofs.Laws.{by-operator}
+use Rattle.calls.specs.Calls.{Held}
 use Rattle.calls.specs.History.{got}
 use Rattle.plan_judge.specs.declared.Desk.{Desk}
 use Rattle.plan_judge.specs.View.{held-size, question-in, view}
@@ -170,3 +171,37 @@ module _ (d : Desk) where
         by : (t : Bool) → eqb o 8 ≡ t → o ≡ 8
         by true q = eqb-true o 8 q
         by false q = absurd (omega (arith, no-plan both-asked (eqb-false o 8 q)))
+
+-- ---- what a call does with the model, the question and the goal
+
+abbrev pub goal-then : {B : Type 0} → Held → (Model → Question → Goal → Checked B) → Checked B
+goal-then h f = held 20 (h .model) >>= (λ m. held 21 (h .question) >>= (λ q. goal m (q .start) (q .root) >>= f m q))
+
+pub goal-refused : {B : Type 0} (h : Held) (f : Model → Question → Goal → Checked B) (k : ℕ) → k ≡ refusal (held-goal h) → (k ≡ 0 → ⊥) → k ≡ refusal (goal-then h f)
+unfolding held-goal held-both
+goal-refused h f k e i = by (h .model) (h .question) e
+  where
+    by : (o : Option Model) (p : Option Question) → k ≡ refusal (both-of o p >>= (λ x. goal (x .0) (x .1 .start) (x .1 .root)))
+        → k ≡ refusal (held 20 o >>= (λ m. held 21 p >>= (λ q. goal m (q .start) (q .root) >>= f m q)))
+    by none p z = z
+    by (some m) none z = z
+    by (some m) (some q) z = bind-refused (goal m (q .start) (q .root)) (f m q) k z i
+
+module _ (d : Desk) where
+  -- The root's node, its condition, and the goal.
+  abbrev pub root-node : Node
+  root-node = node-of (d .question) (node-count (d .question) - 1)
+
+  abbrev pub condition : Formula
+  condition = getD (formulas-of (d .question)) (root-node .left) never
+
+  abbrev pub asked-goal : Goal
+  asked-goal = plan-goal (model-of (said-bytes d)) (start-of (d .question)) (root-node .n) condition (relation (root-node .right)) (nonnegative (root-node .p)) (root-node .q)
+
+  pub goal-passed : {B : Type 0} → refusal (held-goal (view d)) ≡ 0 → (f : Model → Question → Goal → Checked B)
+      → goal-then (view d) f ≡ f (model-of (said-bytes d)) (question-of (d .question)) asked-goal
+  unfolding question-of
+  goal-passed e f =
+      let b = both-asked d e in
+      ap₂ (λ o p. held 20 o >>= (λ m. held 21 p >>= (λ q. goal m (q .start) (q .root) >>= f m q))) (b .held-model) (b .held-question)
+      ∙ ap (λ c. c >>= f (model-of (said-bytes d)) (question-of (d .question))) (root-goal (accepted _ _ _ (d .question) (b .asked)) (model-of (said-bytes d)) (start-of (d .question)) (plan-asked d e .is-plan))

@@ -3,4 +3,5 @@ pub mod Returns
 pub mod Grounds
 pub mod Sizes
 pub mod Writes
+pub mod Checks
 pub mod Demand3

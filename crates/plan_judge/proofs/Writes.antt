@@ -15,7 +15,7 @@ use Rattle.logic.specs.Checked.{Checked, ok, refused, refusal, _>>=_, _>>_, hel
 use Rattle.logic.specs.Model.{Model}
 use Rattle.logic.specs.Plan.{Plan, choices}
 use Rattle.logic.specs.Formula.{nonnegative}
-use Rattle.logic.specs.Verdict.{goal}
+use Rattle.logic.specs.Verdict.{Goal}
 use Rattle.logic.specs.Verdict as logic
 use Rattle.logic.specs.Choices.{read-plan}
 use Rattle.logic.proofs.Checked.{bind-ok, ok-same}
@@ -26,7 +26,7 @@ use Rattle.questions.specs.Layout.{Question, start-of, node-count, node-of, que
 use Rattle.questions.proofs.Accepted.{accepted}
 use Rattle.sheets.specs.Layout.{Sheet, sheet-bytes, blocks-for}
 use Rattle.sheets.proofs.ReadsBack.{sheet-length}
-use Rattle.calls.specs.Calls.{Held, shown-sheet, do-write}
+use Rattle.calls.specs.Calls.{shown-sheet, do-write}
 use Rattle.plan_judge.specs.declared.Desk.{Desk}
 use Rattle.plan_judge.specs.declared.PlanRecord.{PlanRecord}
 use Rattle.plan_judge.specs.declared.Verdict.{Verdict}
@@ -34,9 +34,9 @@ use Rattle.plan_judge.specs.declared.Verdict.the-variants.{No, Yes, YesP
 use Rattle.plan_judge.specs.declared.Written.the-variants.{Bytes as Filled, Refused}
 use Rattle.plan_judge.specs.View.{choices-in, verdict-in, verdict-on, view}
 use Rattle.plan_judge.specs.Values.{writing, written-by, filling, filled-by}
-use Rattle.plan_judge.specs.State.{held-both, held-goal, PlanRoot, plan-size, size-in, shown-size, shown-weight}
+use Rattle.plan_judge.specs.State.{held-goal, PlanRoot, plan-size, size-in, shown-size, shown-weight}
 use Rattle.plan_judge.proofs.Returns.{said-bytes}
-use Rattle.plan_judge.proofs.Grounds.{bind-refused, root-goal, both-of, both-asked, plan-asked}
+use Rattle.plan_judge.proofs.Grounds.{root-goal, both-asked, plan-asked, goal-refused, root-node, goal-passed}
 
 -- ---- the choices of a "plan" root
 
@@ -139,19 +139,9 @@ bind-assoc : {A B C : Type 0} (c : Checked A) (f : A → Checked B) (g : B → C
 bind-assoc (ok a) f g = refl
 bind-assoc (refused k) f g = refl
 
--- The rest of write for a model and a question: the goal, the verdict, the sheet.
-abbrev write-for : Option logic.Verdict → ℕ → Model → Question → Checked Bytes
-write-for o size m q = goal m (q .start) (q .root) >>= (λ g. held 23 o >>= (λ v. shown-sheet v >>= sheet-for (g .steps) (q .start) size))
-
-state-refused : (h : Held) (size k : ℕ) → k ≡ refusal (held-goal h) → (k ≡ 0 → ⊥) → k ≡ refusal (do-write h size)
-unfolding do-write held-goal held-both
-state-refused h size k e i = by (h .model) (h .question) e
-  where
-    by : (o : Option Model) (p : Option Question) → k ≡ refusal (both-of o p >>= (λ x. goal (x .0) (x .1 .start) (x .1 .root)))
-        → k ≡ refusal (held 20 o >>= (λ m. held 21 p >>= write-for (h .verdict) size m))
-    by none p z = z
-    by (some m) none z = z
-    by (some m) (some q) z = bind-refused (goal m (q .start) (q .root)) _ k z i
+-- What write does with a goal.
+abbrev write-for : Option logic.Verdict → ℕ → Model → Question → Goal → Checked Bytes
+write-for o size m q g = held 23 o >>= (λ v. shown-sheet v >>= sheet-for (g .steps) (q .start) size)
 
 module _ (d : Desk) (a : Bytes) where
   refused-both : (k : ℕ) → k ≡ refusal (do-write (view d) (length a)) → (k ≡ 0 → ⊥) → (Refused k ≡ written-by d (length a)) × (a ≡ filled-by d a)
@@ -163,23 +153,19 @@ module _ (d : Desk) (a : Bytes) where
       by (refused j) i = (ap Refused i, refl)
 
   pub write-state : (k : ℕ) → k ≡ refusal (held-goal (view d)) → (k ≡ 0 → ⊥) → (Refused k ≡ written-by d (length a)) × (a ≡ filled-by d a)
-  write-state k e h = refused-both k (state-refused (view d) (length a) k e h) h
+  unfolding do-write
+  write-state k e h = refused-both k (goal-refused (view d) (write-for ((view d) .verdict) (length a)) k e h) h
 
   module _ (e : refusal (held-goal (view d)) ≡ 0) where
     abbrev steps : ℕ
-    steps = node-of (d .question) (node-count (d .question) - 1) .n
+    steps = root-node d .n
 
     abbrev start : ℕ
     start = start-of (d .question)
 
     write-is : do-write (view d) (length a) ≡ (sheet-held d e ((view d) .verdict) >>= sheet-for steps start (length a))
     unfolding do-write question-of
-    write-is =
-        let b = both-asked d e in
-        let g = root-goal (accepted _ _ _ (d .question) (b .asked)) (model-of (said-bytes d)) start (plan-asked d e .is-plan) in
-        ap₂ (λ o p. held 20 o >>= (λ m. held 21 p >>= write-for ((view d) .verdict) (length a) m)) (b .held-model) (b .held-question)
-        ∙ ap (λ c. c >>= (λ g. held 23 ((view d) .verdict) >>= (λ v. shown-sheet v >>= sheet-for (g .steps) start (length a)))) g
-        ∙ bind-assoc (held 23 ((view d) .verdict)) shown-sheet (sheet-for steps start (length a))
+    write-is = goal-passed d e (write-for ((view d) .verdict) (length a)) ∙ bind-assoc (held 23 ((view d) .verdict)) shown-sheet (sheet-for steps start (length a))
 
     pub write-none : (count : ℕ) → count ≡ shown-size ((view d) .verdict) → count ≡ 0 → (Refused 23 ≡ written-by d (length a)) × (a ≡ filled-by d a)
     write-none count i z =

@@ -1,4 +1,4 @@
--- What judge, write and check find on a desk before they look at their input: a model, a question, a goal, a shown plan.
+-- What judge, write and check find: on the desk a model, a question, a goal, a shown plan; on a sheet a plan.
 use Prim.Native.Nat.{ℕ, _-_}
 use mathlib.Core.Path.{_≡_}
 use mathlib.Core.List.{List}
@@ -9,11 +9,13 @@ use Rattle.logic.specs.Model.{Model}
 use Rattle.logic.specs.Plan.{Plan, choices}
 use Rattle.logic.specs.Verdict.{Goal, goal}
 use Rattle.logic.specs.Verdict as logic
+use Rattle.logic.specs.Choices.{plan-of}
 use Rattle.blocks.specs.Bytes.{Bytes}
 use Rattle.models.specs.Layout.{state-count, action-count, prop-count}
 use Rattle.models.specs.Grounds.{read-model}
 use Rattle.questions.specs.Layout.{Question, node-count, node-of}
 use Rattle.questions.specs.Grounds.{read-question}
+use Rattle.sheets.specs.Grounds.{read-sheet}
 use Rattle.calls.specs.Calls.{Held}
 use Rattle.plan_judge.specs.declared.Verdict.{Verdict}
 use Rattle.plan_judge.specs.declared.Verdict.the-variants.{No, Yes, YesPlan}
@@ -57,3 +59,10 @@ unfoldable pub shown-weight : Verdict → ℕ
 shown-weight (No k) = 0
 shown-weight Yes = 0
 shown-weight (YesPlan r) = r .weight
+
+-- ---- the plan on a sheet: grounds 1 to 6, then 10
+
+unfoldable pub plan-on : Model → (n start : ℕ) → Bytes → Checked (Plan n)
+plan-on m n start b = do
+  x ← read-sheet n start b
+  plan-of m n start (x .choices)

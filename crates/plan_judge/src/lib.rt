@@ -9,12 +9,12 @@ ghost use Rattle.logic.specs.Choices.{read-plan};
 ghost use Rattle.blocks.specs.Bytes.{byte};
 ghost use Rattle.models.specs.Layout.{state-count, model-of};
 ghost use Rattle.models.specs.Grounds.{read-model};
-ghost use Rattle.questions.specs.Layout.{node-of, node-count, question-of};
+ghost use Rattle.questions.specs.Layout.{start-of, node-of, node-count, question-of};
 ghost use Rattle.questions.specs.Grounds.{read-question};
 ghost use Rattle.sheets.specs.Layout.{blocks-for};
 ghost use Rattle.plan_judge.specs.View.{held-size, choices-in, view};
 ghost use Rattle.plan_judge.specs.Values.{nothing, loaded-by, put-by, written-by, filled-by};
-ghost use Rattle.plan_judge.specs.State.{held-both, held-goal, plan-size, size-in, shown-size, shown-weight, PlanRoot};
+ghost use Rattle.plan_judge.specs.State.{held-both, held-goal, plan-size, size-in, shown-size, shown-weight, PlanRoot, plan-on};
 
 // The record of a shown plan: its total W, its steps, and its place in dictionary order for "equal", else 0.
 pub struct PlanRecord {
@@ -261,7 +261,12 @@ fn first_size(model: &[u8], blocks: usize, q: &[u8], choices: &[u8]) -> usize
     ensures { λ r. ⌜ r ≡ size-in (choices-in (model-of (take (512 * blocks) (now (model .entry)))) (question-of (now (q .entry))) (now (choices .entry))) ⌝ }
 {
     let n = blocks_end(model.len(), blocks);
-    plan_size(&model[..n], choices, root_steps(q) as usize, questions::start(q) as usize)
+    plan_size(
+        &model[..n],
+        choices,
+        root_steps(q) as usize,
+        questions::start(q) as usize,
+    )
 }
 
 // How many choices the shown plan has; 0 where none is shown.
@@ -321,4 +326,20 @@ pub fn write(d: Desk, buf: &mut [u8]) -> Written
     let w = shown_weight(d.verdict);
     let cs = d.choices;
     Written::Bytes(sheets::writer::write_sheet(buf, n, s, w, &cs[..count]))
+}
+
+// The first ground, 1 to 6 or 10, on which a sheet is refused for a question with a "plan" root; 0 where it has a plan.
+fn sheet_ground(m: &[u8], q: &[u8], b: &[u8]) -> u32
+    requires { ⌜ PlanRoot (now m) (now q) ⌝ }
+    ensures { λ r. ⌜ r ≡ refusal (plan-on (model-of (now (m .entry))) (node-of (now (q .entry)) (node-count (now (q .entry)) - 1) .n) (start-of (now (q .entry))) (now (b .entry))) ⌝ }
+{
+    let n = root_steps(q) as usize;
+    let s = questions::start(q) as usize;
+    let k = sheets::sheet_refusal(b, n, s);
+    if k != 0 {
+        return k;
+    }
+    let mut choices = [0u8; 1470];
+    let count = sheets::gather(b, &mut choices);
+    sheets::plans::plan_refusal(m, &choices[..count], n, s)
 }
