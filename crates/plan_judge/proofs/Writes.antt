@@ -183,7 +183,7 @@ module _ (d : Desk) (a : Bytes) where
       pub count-few : count ≤ length (d .choices)
       count-few = omega (arith, shown-by d e .few)
 
-      pub shown-length : length shown ≡ count
+      shown-length : length shown ≡ count
       shown-length = length-take-le count (d .choices) count-few
 
       sheet-size : length sheet ≡ 512 * blocks-for count
