@@ -32,12 +32,8 @@ use Rattle.plan_judge.specs.View.{view}
 use Rattle.plan_judge.specs.Values.{checking, checked-by}
 use Rattle.plan_judge.specs.State.{held-goal, plan-on}
 use Rattle.plan_judge.proofs.Returns.{said-bytes}
-use Rattle.plan_judge.proofs.Grounds.{bind-refused, bind-passed, goal-refused, root-node, condition, asked-goal, goal-passed}
+use Rattle.plan_judge.proofs.Grounds.{bind-refused, bind-passed, then-refused, limits-passed, goal-refused, root-node, condition, asked-goal, goal-passed}
 use Rattle.plan_judge.proofs.Sizes.{plan-there}
-
-then-refused : {A B : Type 0} (c : Checked A) (x : Checked B) (k : ℕ) → k ≡ refusal c → (k ≡ 0 → ⊥) → k ≡ refusal (c >> x)
-then-refused (ok a) x k e h = absurd (h e)
-then-refused (refused j) x k e h = e
 
 -- ---- the plan on a sheet
 
@@ -87,15 +83,6 @@ other-weight a b h = by (leb a b) (leb b a) refl refl
     by false u i j = ap (λ x. x && leb b a) i
     by true false i j = ap₂ (λ x y. x && y) i j
     by true true i j = absurd (h (omega (arith, leb-true a b i, leb-true b a j)))
-
-limits-passed : (m : Model) (fs : List Formula) → refusal (limits m fs) ≡ 0 → limits m fs ≡ ok tt
-unfolding limits
-limits-passed m fs e = by (every-plan (λ n r s. leb (path-total m n s) 1000000) m fs) (every-plan (λ n r s. not (is-equal r) || leb (plan-total m n s) 65536) m fs) e
-  where
-    by : (t u : Bool) → refusal (guard 24 t >> guard 25 u) ≡ 0 → (guard 24 t >> guard 25 u) ≡ ok tt
-    by true true z = refl
-    by true false z = absurd (omega arith)
-    by false u z = absurd (omega arith)
 
 module _ (d : Desk) (b : Bytes) where
   abbrev M : Model

@@ -2,15 +2,17 @@
 use Prim.Native.Nat.{ℕ, zero, suc, _-_, _<_}
 use native.Mathlib.Omega.{arith}
 use mathlib.Core.Path.{_≡_, refl, sym, ap, ap₂, _∙_}
-use mathlib.Core.Bool.{Bool, true, false, cond}
+use mathlib.Core.Bool.{Bool, true, false, cond, not, _||_}
+use mathlib.Core.List.{List}
 use mathlib.Core.Option.{Option, none, some}
-use lib.Dec.{eqb}
+use lib.Dec.{eqb, leb}
 use lib.ListN.{getD}
 use borrow.Author.Tests.{eqb-true, eqb-false}
-use Rattle.logic.specs.Checked.{Checked, ok, refused, refusal, _>>=_, held}
+use Rattle.logic.specs.Checked.{Checked, ok, refused, refusal, _>>=_, _>>_, held, guard}
 use Rattle.logic.specs.Model.{Model}
 use Rattle.logic.specs.Formula.{Formula, Node, never, relation, nonnegative}
-use Rattle.logic.specs.Verdict.{Goal, goal, plan-goal}
+use Rattle.logic.specs.Limits.{path-total, plan-total, every-plan, limits}
+use Rattle.logic.specs.Verdict.{Goal, goal, plan-goal, is-equal}
 use Rattle.blocks.specs.Bytes.{Bytes}
 use Rattle.models.specs.Layout.{state-count, action-count, prop-count, model-of}
 use Rattle.models.specs.Grounds.{read-model}
@@ -32,6 +34,20 @@ bind-refused (refused j) f k e h = e
 pub bind-passed : {A B : Type 0} (c : Checked A) (f : A → Checked B) → refusal (c >>= f) ≡ 0 → refusal c ≡ 0
 bind-passed (ok a) f e = refl
 bind-passed (refused k) f e = e
+
+pub then-refused : {A B : Type 0} (c : Checked A) (x : Checked B) (k : ℕ) → k ≡ refusal c → (k ≡ 0 → ⊥) → k ≡ refusal (c >> x)
+then-refused (ok a) x k e h = absurd (h e)
+then-refused (refused j) x k e h = e
+
+-- Past the limits.
+pub limits-passed : (m : Model) (fs : List Formula) → refusal (limits m fs) ≡ 0 → limits m fs ≡ ok tt
+unfolding limits
+limits-passed m fs e = by (every-plan (λ n r s. leb (path-total m n s) 1000000) m fs) (every-plan (λ n r s. not (is-equal r) || leb (plan-total m n s) 65536) m fs) e
+  where
+    by : (t u : Bool) → refusal (guard 24 t >> guard 25 u) ≡ 0 → (guard 24 t >> guard 25 u) ≡ ok tt
+    by true true z = refl
+    by true false z = absurd (omega arith)
+    by false u z = absurd (omega arith)
 
 -- ---- the root
 
@@ -172,20 +188,38 @@ module _ (d : Desk) where
         by true q = eqb-true o 8 q
         by false q = absurd (omega (arith, no-plan both-asked (eqb-false o 8 q)))
 
--- ---- what a call does with the model, the question and the goal
+-- ---- what a call does with the model and the question, and with the goal
+
+abbrev pub both-then : {B : Type 0} → Held → (Model → Question → Checked B) → Checked B
+both-then h f = held 20 (h .model) >>= (λ m. held 21 (h .question) >>= f m)
 
 abbrev pub goal-then : {B : Type 0} → Held → (Model → Question → Goal → Checked B) → Checked B
-goal-then h f = held 20 (h .model) >>= (λ m. held 21 (h .question) >>= (λ q. goal m (q .start) (q .root) >>= f m q))
+goal-then h f = both-then h (λ m q. goal m (q .start) (q .root) >>= f m q)
 
-pub goal-refused : {B : Type 0} (h : Held) (f : Model → Question → Goal → Checked B) (k : ℕ) → k ≡ refusal (held-goal h) → (k ≡ 0 → ⊥) → k ≡ refusal (goal-then h f)
-unfolding held-goal held-both
-goal-refused h f k e i = by (h .model) (h .question) e
-  where
-    by : (o : Option Model) (p : Option Question) → k ≡ refusal (both-of o p >>= (λ x. goal (x .0) (x .1 .start) (x .1 .root)))
-        → k ≡ refusal (held 20 o >>= (λ m. held 21 p >>= (λ q. goal m (q .start) (q .root) >>= f m q)))
-    by none p z = z
-    by (some m) none z = z
-    by (some m) (some q) z = bind-refused (goal m (q .start) (q .root)) (f m q) k z i
+module _ {B : Type 0} (h : Held) where
+  then-by : (f : Model → Question → Checked B) → both-then h f ≡ (held-both h >>= (λ x. f (x .0) (x .1)))
+  unfolding held-both
+  then-by f = by (h .model) (h .question)
+    where
+      by : (o : Option Model) (p : Option Question) → (held 20 o >>= (λ m. held 21 p >>= f m)) ≡ (both-of o p >>= (λ x. f (x .0) (x .1)))
+      by none p = refl
+      by (some m) none = refl
+      by (some m) (some q) = refl
+
+  pub both-refused : (f : Model → Question → Checked B) (k : ℕ) → k ≡ refusal (held-both h) → (k ≡ 0 → ⊥) → k ≡ refusal (both-then h f)
+  both-refused f k e i = bind-refused (held-both h) (λ x. f (x .0) (x .1)) k e i ∙ sym (ap refusal (then-by f))
+
+  pub goal-refused : (f : Model → Question → Goal → Checked B) (k : ℕ) → k ≡ refusal (held-goal h) → (k ≡ 0 → ⊥) → k ≡ refusal (goal-then h f)
+  unfolding held-goal
+  goal-refused f k e i = by (held-both h) e ∙ sym (ap refusal (then-by (λ m q. goal m (q .start) (q .root) >>= f m q)))
+    where
+      by : (c : Checked (Model × Question)) → k ≡ refusal (c >>= (λ x. goal (x .0) (x .1 .start) (x .1 .root)))
+          → k ≡ refusal (c >>= (λ x. goal (x .0) (x .1 .start) (x .1 .root) >>= f (x .0) (x .1)))
+      by (ok x) z = bind-refused (goal (x .0) (x .1 .start) (x .1 .root)) (f (x .0) (x .1)) k z i
+      by (refused j) z = z
+
+  pub both-passed : (m : Model) (q : Question) → held-both h ≡ ok (m, q) → (f : Model → Question → Checked B) → both-then h f ≡ f m q
+  both-passed m q e f = then-by f ∙ ap (λ c. c >>= (λ x. f (x .0) (x .1))) e
 
 module _ (d : Desk) where
   -- The root's node, its condition, and the goal.
@@ -203,5 +237,6 @@ module _ (d : Desk) where
   unfolding question-of
   goal-passed e f =
       let b = both-asked d e in
-      ap₂ (λ o p. held 20 o >>= (λ m. held 21 p >>= (λ q. goal m (q .start) (q .root) >>= f m q))) (b .held-model) (b .held-question)
-      ∙ ap (λ c. c >>= f (model-of (said-bytes d)) (question-of (d .question))) (root-goal (accepted _ _ _ (d .question) (b .asked)) (model-of (said-bytes d)) (start-of (d .question)) (plan-asked d e .is-plan))
+      let m : Model = model-of (said-bytes d) in
+      both-passed (view d) m (question-of (d .question)) (both-held d b) (λ m q. goal m (q .start) (q .root) >>= f m q)
+      ∙ ap (λ c. c >>= f m (question-of (d .question))) (root-goal (accepted _ _ _ (d .question) (b .asked)) m (start-of (d .question)) (plan-asked d e .is-plan))

@@ -4,4 +4,5 @@ pub mod Grounds
 pub mod Sizes
 pub mod Writes
 pub mod Checks
+pub mod Judges
 pub mod Demand3
