@@ -1,19 +1,19 @@
--- How many choices the plan has with which choices begin: of the numbers from 1 on, the only one for which so many choices are a plan, all
--- of them.
-use Prim.Native.Nat.{ℕ, zero, suc, _≤_}
+-- How many choices the plan has with which choices begin: the reader stands behind them.
+use Prim.Native.Nat.{ℕ, zero, suc, _-_}
 use native.Mathlib.Omega.{arith}
 use mathlib.Core.Path.{_≡_, refl, sym, ap, _∙_}
 use mathlib.Core.Bool.{Bool, true, false}
 use mathlib.Core.List.{List, [], _∷_, _++_}
 use lib.Dec.{eqb}
-use lib.ListN.{length, take, drop, length-append, take-append-drop}
-use lib.Seq.{take-at, length-take-le}
+use lib.ListN.{length, length-append}
 use Rattle.logic.specs.Lists.{any, is-empty}
 use Rattle.logic.specs.Checked.{Checked, ok, refused, refusal, _>>=_, _>>_, guard}
 use Rattle.logic.specs.Model.{Model, enabled, outcomes}
 use Rattle.logic.specs.Plan.{Plan, choices}
 use Rattle.logic.specs.Choices.{read-each, read-plan, plan-of}
-use Rattle.logic.proofs.Reading.{read-sound, read-complete, plan-of-sound, plan-of-complete}
+use Rattle.logic.proofs.Reading.{read-sound}
+use Rattle.sheets.specs.declared.plans.End.the-variants.{At, Refused}
+use Rattle.sheets.specs.Ends.{end-of}
 use Rattle.plan_judge.specs.State.{plan-size}
 
 -- ---- choices are refused by ground 10 alone
@@ -60,30 +60,20 @@ plan-there m n s cs e = by (plan-of m n s cs) refl (plan-of-ten m n s cs)
 -- ---- the number of choices
 
 module _ (m : Model) (n s : ℕ) (cs : List ℕ) where
-  pub size-most : plan-size n (read-plan m n s cs) ≤ length cs
-  unfolding plan-size
-  size-most = by (read-plan m n s cs) refl
+  pub size-at : (p : ℕ) → At p ≡ end-of (length cs) (read-plan m n s cs) → p ≡ plan-size n (read-plan m n s cs)
+  unfolding end-of plan-size
+  size-at p e = by (read-plan m n s cs) refl e
     where
-      by : (c : Checked (Plan n × List ℕ)) → read-plan m n s cs ≡ c → plan-size n c ≤ length cs
-      by (ok x) e = omega (arith, ap length (read-sound m n s cs x e .1) ∙ length-append (choices n (x .0)) (x .1))
-      by (refused k) e = omega arith
+      by : (c : Checked (Plan n × List ℕ)) → read-plan m n s cs ≡ c → At p ≡ end-of (length cs) c → p ≡ plan-size n c
+      by (ok x) i z =
+          let y : p ≡ length cs - length (x .1) = cc in
+          omega (arith, ap length (read-sound m n s cs x i .1) ∙ length-append (choices n (x .0)) (x .1))
+      by (refused k) i z = let y : _≡_ {A = ℕ} 0 1 = cc in absurd (omega arith)
 
-  pub size-found : (k : ℕ) → k ≤ length cs → refusal (plan-of m n s (take k cs)) ≡ 0 → k ≡ plan-size n (read-plan m n s cs)
-  unfolding plan-size
-  size-found k l e =
-      let x = plan-there m n s (take k cs) e in
-      let w = plan-of-sound m n s (take k cs) (x .0) (x .1) in
-      let i : cs ≡ choices n (x .0) ++ drop k cs = sym (take-append-drop k cs) ∙ ap (λ z. z ++ drop k cs) (sym (w .1)) in
-      let r : read-plan m n s cs ≡ ok (x .0, drop k cs) = ap (read-plan m n s) i ∙ read-complete m n s (x .0) (drop k cs) (w .0) in
-      sym (ap (plan-size n) r ∙ ap length (w .1) ∙ length-take-le k cs l)
-
-  pub size-missed : (k : ℕ) → 1 ≤ k → (refusal (plan-of m n s (take k cs)) ≡ 0 → ⊥) → plan-size n (read-plan m n s cs) ≡ k → ⊥
-  unfolding plan-size
-  size-missed k l h = by (read-plan m n s cs) refl
+  pub size-none : (k : ℕ) → Refused k ≡ end-of (length cs) (read-plan m n s cs) → 0 ≡ plan-size n (read-plan m n s cs)
+  unfolding end-of plan-size
+  size-none k e = by (read-plan m n s cs) e
     where
-      by : (c : Checked (Plan n × List ℕ)) → read-plan m n s cs ≡ c → plan-size n c ≡ k → ⊥
-      by (refused j) e q = omega arith
-      by (ok x) e q =
-          let w = read-sound m n s cs x e in
-          let t : take k cs ≡ choices n (x .0) = ap (take k) (w .1) ∙ take-at (choices n (x .0)) (x .1) k q in
-          h (ap (λ l. refusal (plan-of m n s l)) t ∙ ap refusal (plan-of-complete m n s (x .0) (w .0)))
+      by : (c : Checked (Plan n × List ℕ)) → Refused k ≡ end-of (length cs) c → 0 ≡ plan-size n c
+      by (ok x) z = let y : _≡_ {A = ℕ} 0 1 = cc in absurd (omega arith)
+      by (refused j) z = refl

@@ -245,14 +245,11 @@ fn plan_size(m: &[u8], choices: &[u8], n: usize, s: usize) -> usize
     requires { ⌜ (refusal (read-model (now m)) ≡ 0) × (s < state-count (now m)) ⌝ }
     ensures { λ r. ⌜ r ≡ plan-size n (read-plan (model-of (now (m .entry))) n s (now (choices .entry))) ⌝ }
 {
-    let mut k: usize = 1;
-    while k <= choices.len() {
-        if sheets::plans::plan_refusal(m, &choices[..k], n, s) == 0 {
-            return k;
-        }
-        k += 1;
+    let end = sheets::plans::plan_end(m, choices, n, s, 0);
+    match end {
+        sheets::plans::End::At(p) => p,
+        sheets::plans::End::Refused(_) => 0,
     }
-    0
 }
 
 // The same for the plan that a question with a "plan" root asks for.
