@@ -3,7 +3,7 @@ use Prim.Native.Nat.{ℕ, zero, suc, _*_, _^_, _≤_, _<_}
 use native.Mathlib.Nat.{mul-pos, mul-le-mul}
 use native.Mathlib.Omega.{arith}
 use mathlib.Core.Path.{_≡_, refl, sym, ap, subst, _∙_}
-use mathlib.Core.Bool.{_&&_}
+use mathlib.Core.Bool.{Bool, _&&_}
 use mathlib.Core.List.{List, [], _∷_, List·Memᴰ, List·Memᴰ·head, List·Memᴰ·tail}
 use lib.ListN.{length}
 use lib.Dec.{leb}
@@ -73,6 +73,7 @@ module _ (b : Bytes) (e : refusal (read-model b) ≡ 0) where
   pub denominator-small : denominator-of b ≤ 100
   unfolding sizes-right within
   denominator-small =
-      let u = and-both (within 1 32 (state-count b) && within 1 8 (action-count b) && within 1 32 (prop-count b) && within 1 100 (denominator-of b)) _ (passed-all b e .sizes) in
-      let v = and-both (within 1 32 (state-count b) && within 1 8 (action-count b) && within 1 32 (prop-count b)) _ (u .0) in
+      let t : Bool = within 1 32 (state-count b) && within 1 8 (action-count b) && within 1 32 (prop-count b) in
+      let u = and-both (t && within 1 100 (denominator-of b)) _ (passed-all b e .sizes) in
+      let v = and-both t _ (u .0) in
       leb-true (denominator-of b) 100 (and-both (leb 1 (denominator-of b)) _ (v .1) .1)

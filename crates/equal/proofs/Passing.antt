@@ -56,7 +56,8 @@ module _ {m q : Bytes} {start d : ℕ} {depths truth cone used table : List ℕ}
   listed-none H = record { below = omega arith; here = H; written = written-none (H .knows); trails = refl; sums = refl; values = refl; whole = refl }
 
   module _ {h s at size len a : ℕ} {trail₀ trail : List ℕ} {gains₀ gains : List ℤ} {v₀ v buf₀ buf : List ℕ}
-      (R : Room k (plan-total (model-of m) k s) at size) (L : Listed m q start d cone h s k j at trail₀ gains₀ v₀ buf₀ trail gains v buf len a) (in-buf : length buf₀ ≡ size) where
+      (R : Room k (plan-total (model-of m) k s) at size) (L : Listed m q start d cone h s k j at trail₀ gains₀ v₀ buf₀ trail gains v buf len a)
+      (in-buf : length buf₀ ≡ size) where
     P : ℕ → ℕ
     P b = multiply (λ o. plan-total (model-of m) j (o .target)) (outcomes (model-of m) s b)
 
@@ -67,7 +68,9 @@ module _ {m q : Bytes} {start d : ℕ} {depths truth cone used table : List ℕ}
     unfolding P weighed
     chosen-length T b =
         combined-length (weighed (model-of m) j (onward m q start cone T)) (λ o. plan-total (model-of m) j (o .target))
-        (λ o. length-map (totals (model-of m) j (o .target) (λ r. onward m q start cone T (o ∷ r))) (λ y. o .weight * y) ∙ totals-length (model-of m) j (o .target) (λ r. onward m q start cone T (o ∷ r)))
+        (λ o.
+        length-map (totals (model-of m) j (o .target) (λ r. onward m q start cone T (o ∷ r))) (λ y. o .weight * y)
+        ∙ totals-length (model-of m) j (o .target) (λ r. onward m q start cone T (o ∷ r)))
         (outcomes (model-of m) s b)
 
     so-far : len ≡ sum naturals P (passed m s a)
@@ -95,7 +98,9 @@ module _ {m q : Bytes} {start d : ℕ} {depths truth cone used table : List ℕ}
           record {
             below = omega arith;
             here = L .here;
-            written = subst (λ l. Written (flatMap (chosen m q start cone s j (take h trail₀)) l) m q start cone h at trail₀ trail gains v buf₀ buf len) (sym e) (L .written);
+            written =
+                subst (λ l. Written (flatMap (chosen m q start cone s j (take h trail₀)) l) m q start cone h at trail₀ trail gains v buf₀ buf len) (sym e)
+                (L .written);
             trails = L .trails;
             sums = L .sums;
             values = L .values;
@@ -111,7 +116,9 @@ module _ {m q : Bytes} {start d : ℕ} {depths truth cone used table : List ℕ}
 
         pub action-room : Room (j + 1) (multiply (λ o. plan-total (model-of m) j (o .target)) (outcomes (model-of m) s a)) (at + len) (length buf)
         unfolding P
-        action-room = subst (λ n. Room n (P a) (at + len) (length buf)) (sym (add-one j)) (subst (Room (suc j) (P a) (at + len)) (sym (L .whole ∙ in-buf)) (room-part room len within-all))
+        action-room =
+            subst (λ n. Room n (P a) (at + len) (length buf)) (sym (add-one j))
+            (subst (Room (suc j) (P a) (at + len)) (sym (L .whole ∙ in-buf)) (room-part room len within-all))
 
         pub action-few : (T : List ℕ) {r : ℕ} → r ≡ length (chosen m q start cone s j T a) → len + r ≤ 65536
         action-few T e = omega (arith, chosen-length T a, within-all, room .few)
@@ -126,7 +133,8 @@ module _ {m q : Bytes} {start d : ℕ} {depths truth cone used table : List ℕ}
         action-listed {trail₁} {gains₁} {v₁} {buf₁} {r} W e₁ e₂ e₃ e₄ =
             let T : List ℕ = take h trail₀ in
             let C : ℕ → List ℕ = chosen m q start cone s j T in
-            let e : flatMap C (passed m s a) ++ C a ≡ flatMap C (passed m s (a + 1)) = sym (ap (λ i. flatMap C (passed m s i)) (add-one a) ∙ flatMap-yes (usable m s) C a yes) in
+            let e : flatMap C (passed m s a) ++ C a ≡ flatMap C (passed m s (a + 1)) =
+            sym (ap (λ i. flatMap C (passed m s i)) (add-one a) ∙ flatMap-yes (usable m s) C a yes) in
             let W₁ : Written (C a) m q start cone h (at + len) trail₀ trail₁ gains₁ v₁ buf buf₁ r =
             rebased (λ T. chosen m q start cone s j T a) (L .written .kept) refl W in
             record {
@@ -140,7 +148,8 @@ module _ {m q : Bytes} {start d : ℕ} {depths truth cone used table : List ℕ}
             }
 
     -- All of them.
-    pub listed-all : action-count m ≤ a → Written (totals (model-of m) k s (onward m q start cone (take h trail₀))) m q start cone h at trail₀ trail gains v buf₀ buf len
+    pub listed-all : action-count m ≤ a
+        → Written (totals (model-of m) k s (onward m q start cone (take h trail₀))) m q start cone h at trail₀ trail gains v buf₀ buf len
     listed-all g =
         let x : a ≡ action-count m = omega (arith, L .below) in
         let f : List Step → ℕ = onward m q start cone (take h trail₀) in

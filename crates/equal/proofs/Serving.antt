@@ -14,4 +14,5 @@ use Rattle.equal.specs.Listing.{Counts}
 
 pub counts-right : (m : Bytes) (table : List ℕ) → Totals true (model-of m) table → Counts m table
 unfolding total limit
-counts-right m table T = record { right = λ n s h k l. T .at n s h (rw (states-held m) k) ∙ min-eq-right {n = plan-total (model-of m) n s} {m = 65537} (omega arith) }
+counts-right m table T =
+    record { right = λ n s h k l. T .at n s h (rw (states-held m) k) ∙ min-eq-right {n = plan-total (model-of m) n s} {m = 65537} (omega arith) }

@@ -1,5 +1,5 @@
 -- The lists of an action's outcomes, combined one after the other in place: what a turn asks, and what it leaves.
-use Prim.Native.Nat.{ℕ, zero, suc, _+_, _*_, _-_, _^_, _/_, _%_, _≤_, _<_, min, max}
+use Prim.Native.Nat.{ℕ, zero, suc, _+_, _*_, _-_, _^_, _≤_, _<_, min, max}
 use native.Mathlib.Nat.{le-refl, le-trans, le-mul-of-pos-right, mul-le-mul}
 use native.Mathlib.Numerals.{add-one}
 use native.Mathlib.Omega.{arith}
@@ -34,7 +34,7 @@ use Rattle.equal.proofs.Bounds.{Up-to, up-times, up-totals, up-combined
 use Rattle.equal.proofs.Rooms.{room-first, room-next}
 use Rattle.equal.proofs.Combine.{Holds, held-before, held-part, first-held, joined-length, join-held, joins, Beside, beside-inside, wider-some, wider-most, wider-combined, wider-times}
 use Rattle.equal.proofs.Accepting.{is-accepted, is-sized, some-plan, denominator-small, multiply-outcomes, combined-outcomes}
-use Rattle.equal.proofs.Writing.{rebased, still, onward-small, reached, state-small}
+use Rattle.equal.proofs.Writing.{rebased, still, onward-small, reached}
 
 -- The number of plans below the outcome i of an action, and their totals, weighed.
 abbrev pub ways : (m : Bytes) (s a k : ℕ) → ℕ → ℕ
@@ -47,6 +47,15 @@ count-length : (k n : ℕ) → length (count-from k n) ≡ n
 unfolding count-from
 count-length k zero = refl
 count-length k (suc n) = ap suc (count-length (suc k) n)
+
+-- A state, and an action there with k steps below it.
+pub record Place (m : Bytes) (s a k : ℕ) : Type 0 where
+  pub state : s < state-count m
+  pub few : k + 1 ≤ 6
+
+pub placed : {m q : Bytes} {start d : ℕ} {cone trail : List ℕ} {gains : List ℤ} {v : List ℕ} {h s : ℕ} (a k : ℕ)
+    → Here m q start d cone trail gains v h s (k + 1) → Place m s a k
+placed a k H = record { state = H .inside; few = omega (arith, H .steps) }
 
 -- The lists of the outcomes from lo to hi stand combined at `at`, and no outcome has a longer list.
 pub record Spanned (m q : Bytes) (start d : ℕ) (cone : List ℕ) (h s a k at c : ℕ) (trail₀ : List ℕ) (gains₀ : List ℤ) (v₀ buf₀ trail : List ℕ) (gains : List ℤ)
@@ -113,29 +122,28 @@ module _ (buf buf₁ : List ℕ) (at len n k : ℕ) (K : Grows buf at len n k) (
 
 -- ---- the outcomes of an action
 
-module _ {m q : Bytes} {start d : ℕ} {depths truth cone used table : List ℕ} (G : Given m q start d depths truth cone used table) (s a k : ℕ)
-    (state : s < state-count m) (few : k + 1 ≤ 6) where
+module _ {m q : Bytes} {start d : ℕ} {depths truth cone used table : List ℕ} (G : Given m q start d depths truth cone used table) {s a k : ℕ} (place : Place m s a k) where
   abbrev t : ℕ → ℕ
   t = ways m s a k
 
   abbrev F : List ℕ → ℕ → List ℕ
   F = lists m q start cone s a k
 
-  pub lists-length : (T : List ℕ) (i : ℕ) → length (F T i) ≡ t i
+  lists-length : (T : List ℕ) (i : ℕ) → length (F T i) ≡ t i
   unfolding weighed
   lists-length T i =
       let o : Step = outcome-of m s a i in
       length-map (totals (model-of m) k (o .target) (λ r. onward m q start cone T (o ∷ r))) (λ y. o .weight * y)
       ∙ totals-length (model-of m) k (o .target) (λ r. onward m q start cone T (o ∷ r))
 
-  pub ways-some : (i : ℕ) → i < entries m s a → 0 < t i
-  ways-some i u = some-plan m (G .ready .model-accepted) k ((outcome-of m s a i) .target) (reached G s a i state u)
+  ways-some : (i : ℕ) → i < entries m s a → 0 < t i
+  ways-some i u = some-plan m (G .ready .model-accepted) k ((outcome-of m s a i) .target) (reached G s a i (place .state) u)
 
   -- The table's number of plans below an outcome.
-  pub ways-served : (i : ℕ) → i < entries m s a → t i ≤ 65536 → getD table (32 * k + (outcome-of m s a i) .target) 0 ≡ t i
-  ways-served i u h = G .counts .right k ((outcome-of m s a i) .target) (omega arith) (reached G s a i state u) h
+  ways-served : (i : ℕ) → i < entries m s a → t i ≤ 65536 → getD table (32 * k + (outcome-of m s a i) .target) 0 ≡ t i
+  ways-served i u h = G .counts .right k ((outcome-of m s a i) .target) (omega (arith, place .few)) (reached G s a i (place .state) u) h
 
-  pub lists-small : (T : List ℕ) (i : ℕ) → i < entries m s a → Up-to (100 ^ 6) (F T i)
+  lists-small : (T : List ℕ) (i : ℕ) → i < entries m s a → Up-to (100 ^ 6) (F T i)
   unfolding weighed
   lists-small T i u x j =
       let o : Step = outcome-of m s a i in
@@ -143,16 +151,17 @@ module _ {m q : Bytes} {start d : ℕ} {depths truth cone used table : List ℕ}
       let D : ℕ = (model-of m) .denominator in
       let l : x ≤ o .weight * D ^ k =
       up-times (o .weight) (D ^ k) (totals (model-of m) k (o .target) f)
-      (up-totals (model-of m) (is-accepted m (G .ready .model-accepted)) k (o .target) (rw (states-held m) (reached G s a i state u)) f (λ r. onward-small m q start cone T (o ∷ r)))
+      (up-totals (model-of m) (is-accepted m (G .ready .model-accepted)) k (o .target) (rw (states-held m) (reached G s a i (place .state) u)) f
+      (λ r. onward-small m q start cone T (o ∷ r)))
       x j in
-      let p : D ^ k ≤ 100 ^ 5 = power-le D k 5 (rw (denominator-held m) (denominator-small m (G .ready .model-accepted))) (omega arith) in
-      omega (arith, mul-le-mul (fair m (G .ready .model-accepted) s a i state u .light) p)
+      let p : D ^ k ≤ 100 ^ 5 = power-le D k 5 (rw (denominator-held m) (denominator-small m (G .ready .model-accepted))) (omega (arith, place .few)) in
+      omega (arith, mul-le-mul (fair m (G .ready .model-accepted) s a i (place .state) u .light) p)
 
   pub count-right : (i : ℕ) → i < entries m s a → t i ≤ 65536 → {x y : ℕ} → x ≡ getD table (32 * k + y) 0 → y ≡ (outcome-of m s a i) .target → x ≡ t i
   count-right i u h e f = e ∙ ap (λ y. getD table (32 * k + y) 0) f ∙ ways-served i u h
 
   -- The lists of some of the outcomes, combined.
-  pub span-count : (T : List ℕ) (lo n : ℕ) → length (combined (F T) (count-from lo n)) ≡ multiply t (count-from lo n)
+  span-count : (T : List ℕ) (lo n : ℕ) → length (combined (F T) (count-from lo n)) ≡ multiply t (count-from lo n)
   span-count T lo n = combined-length (F T) t (lists-length T) (count-from lo n)
 
   span-small : (T : List ℕ) (lo n : ℕ) → lo + n ≤ entries m s a → n ≤ 4 → Up-to (4 * 100 ^ 6) (combined (F T) (count-from lo n))
@@ -160,23 +169,13 @@ module _ {m q : Bytes} {start d : ℕ} {depths truth cone used table : List ℕ}
       let u = up-combined (F T) (100 ^ 6) (count-from lo n) (λ i p. lists-small T i (omega (arith, counted-range lo n p .1))) x j in
       omega (arith, u, mul-le-mul l (le-refl (100 ^ 6)), ap (λ z. z * 100 ^ 6) (count-length lo n))
 
-  pub span-within : (lo n : ℕ) → lo + n ≤ entries m s a → multiply t (count-from lo n) ≤ multiply t (count-from 0 (entries m s a))
+  span-within : (lo n : ℕ) → lo + n ≤ entries m s a → multiply t (count-from lo n) ≤ multiply t (count-from 0 (entries m s a))
   span-within lo n h = multiply-within t (entries m s a) ways-some lo n h
-
-  pub action-small : (i : ℕ) → i < entries m s a → a < 8
-  action-small i u = omega (arith, fair m (G .ready .model-accepted) s a i state u .action, is-sized m (G .ready .model-accepted) .actions)
-
-  pub uses-right : {x : ℕ} → a < 8 → x ≡ getD used (8 * s + a) 0 → x ≡ entries m s a
-  uses-right h e =
-      let l : s < 32 = state-small G state in
-      let y : (8 * s + a) / 8 ≡ s = omega arith in
-      let z : (8 * s + a) % 8 ≡ a = omega arith in
-      e ∙ G .uses .count (8 * s + a) (omega arith) ∙ ap₂ (entries m) y z
 
   pub outcomes-few : (i : ℕ) → i < entries m s a → entries m s a ≤ 4
   outcomes-few i u =
-      subst (λ n. n ≤ 4) (sym (entries-inside m s a state (fair m (G .ready .model-accepted) s a i state u .action)))
-      (kept (true-of (pre-of m a) (state-mask m s)) (is-sized m (G .ready .model-accepted) .posts a (fair m (G .ready .model-accepted) s a i state u .action)))
+      subst (λ n. n ≤ 4) (sym (entries-inside m s a (place .state) (fair m (G .ready .model-accepted) s a i (place .state) u .action)))
+      (kept (true-of (pre-of m a) (state-mask m s)) (is-sized m (G .ready .model-accepted) .posts a (fair m (G .ready .model-accepted) s a i (place .state) u .action)))
     where
       kept : (t : Bool) → post-count m a ≤ 4 → cond t (post-count m a) 0 ≤ 4
       kept true h = h
@@ -195,9 +194,11 @@ module _ {m q : Bytes} {start d : ℕ} {depths truth cone used table : List ℕ}
     pub first-room : (i : ℕ) → i < entries m s a → Room k (t i) at size
     first-room i u = room-first room (ways-few i u)
 
-    module _ (lo : ℕ) (u : lo < entries m s a) {trail trail₁ : List ℕ} {gains gains₁ : List ℤ} {v v₁ : List ℕ} (buf : List ℕ) {buf₁ : List ℕ} {h r w : ℕ} (in-buf : length buf ≡ size)
+    module _ (lo : ℕ) (u : lo < entries m s a) {trail trail₁ : List ℕ} {gains gains₁ : List ℤ} {v v₁ : List ℕ} (buf : List ℕ) {buf₁ : List ℕ}
+        {h r w : ℕ} (in-buf : length buf ≡ size)
         (H : Here m q start d cone trail gains v h s (k + 1))
-        (W : Written (totals (model-of m) k ((outcome-of m s a lo) .target) (λ l. onward m q start cone (take h trail) (outcome-of m s a lo ∷ l))) m q start cone h at trail trail₁ gains₁ v₁ buf buf₁ r)
+        (W : Written (totals (model-of m) k ((outcome-of m s a lo) .target) (λ l. onward m q start cone (take h trail) (outcome-of m s a lo ∷ l)))
+        m q start cone h at trail trail₁ gains₁ v₁ buf buf₁ r)
         (whole : length buf₁ ≡ length buf) (e : w ≡ (outcome-of m s a lo) .weight) where
       xs : List ℕ
       xs = totals (model-of m) k ((outcome-of m s a lo) .target) (λ l. onward m q start cone (take h trail) (outcome-of m s a lo ∷ l))
@@ -220,8 +221,9 @@ module _ {m q : Bytes} {start d : ℕ} {depths truth cone used table : List ℕ}
             source = omega (arith, inside-buf, first-count);
             target = omega (arith, inside-buf, first-count);
             fits = λ y i.
-                let l : w * y ≤ 100 ^ 6 = subst (λ z. z * y ≤ 100 ^ 6) (sym e) (lists-small (take h trail) lo u ((outcome-of m s a lo) .weight * y) (in-map (λ y. (outcome-of m s a lo) .weight * y) (subst (List·Memᴰ y) at-first i))) in
-                omega arith;
+                let v : ℕ = (outcome-of m s a lo) .weight in
+                let l : v * y ≤ 100 ^ 6 = lists-small (take h trail) lo u (v * y) (in-map (λ y. v * y) (subst (List·Memᴰ y) at-first i)) in
+                rw e (omega arith);
           }
 
       module _ {buf₂ : List ℕ} (f : buf₂ ≡ splice buf₁ at (map (λ y. 0 + w * y) (part buf₁ at r))) where
@@ -229,7 +231,8 @@ module _ {m q : Bytes} {start d : ℕ} {depths truth cone used table : List ℕ}
         unfolding xs weighed
         first-holds =
             subst (λ z. Holds buf buf₂ at (map (λ y. z * y) xs)) e
-            (first-held buf buf₁ buf₂ at xs w (omega (arith, inside-buf)) (omega (arith, inside-buf)) (W .listed) (subst (λ n. buf₂ ≡ splice buf₁ at (map (λ y. 0 + w * y) (part buf₁ at n))) (W .count) f))
+            (first-held buf buf₁ buf₂ at xs w (omega (arith, inside-buf)) (omega (arith, inside-buf)) (W .listed)
+            (subst (λ n. buf₂ ≡ splice buf₁ at (map (λ y. 0 + w * y) (part buf₁ at n))) (W .count) f))
 
         pub first-before : take at buf₂ ≡ take at buf
         first-before = held-before buf buf₂ at (F (take h trail) lo) (omega (arith, inside-buf)) first-holds at (le-refl at)
@@ -240,7 +243,8 @@ module _ {m q : Bytes} {start d : ℕ} {depths truth cone used table : List ℕ}
         first-spanned {c} {hi} ec L eh e₁ e₂ e₃ =
             let T : List ℕ = take h trail in
             let n : hi - lo ≡ 1 = omega arith in
-            let one : combined (F T) (count-from lo (hi - lo)) ≡ F T lo = ap (λ n. combined (F T) (count-from lo n)) n ∙ ap (combined (F T)) (count-one lo) ∙ combined-one (F T) lo in
+            let one : combined (F T) (count-from lo (hi - lo)) ≡ F T lo =
+            ap (λ n. combined (F T) (count-from lo n)) n ∙ ap (combined (F T)) (count-one lo) ∙ combined-one (F T) lo in
             let held : Holds buf buf₂ at (combined (F T) (count-from lo (hi - lo))) = subst (Holds buf buf₂ at) (sym one) first-holds in
             let V₁ : Written (combined (F T) (count-from lo (hi - lo))) m q start cone h at trail trail₁ gains₁ v₁ buf buf₂ r =
             record { kept = W .kept; knows = W .knows; count = first-count ∙ sym (ap length one ∙ lists-length T lo); listed = held } in
@@ -250,8 +254,13 @@ module _ {m q : Bytes} {start d : ℕ} {depths truth cone used table : List ℕ}
               some = omega arith;
               most = omega (arith, L .inside);
               longest = λ i l.
-                  omega
-                  (arith, L .most i l, first-count, ways-served i (rw ec at l) (le-trans (ways-few i (rw ec at l)) (room .few)), ways-served lo u (le-trans (ways-few lo u) (room .few)));
+                  omega (
+                    arith,
+                    L .most i l,
+                    first-count,
+                    ways-served i (rw ec at l) (le-trans (ways-few i (rw ec at l)) (room .few)),
+                    ways-served lo u (le-trans (ways-few lo u) (room .few)),
+                  );
               here = here₁;
               written = here-again (λ T. combined (F T) (count-from lo (hi - lo))) V₁ first-before;
               trails = refl;
@@ -284,12 +293,14 @@ module _ {m q : Bytes} {start d : ℕ} {depths truth cone used table : List ℕ}
 
       -- All of them.
       pub span-end : c ≤ hi - lo
-          → Written (combined (weighed (model-of m) k (onward m q start cone (take h trail₀))) (outcomes (model-of m) s a)) m q start cone h at trail₀ trail gains v buf₀ buf len
+          → Written (combined (weighed (model-of m) k (onward m q start cone (take h trail₀))) (outcomes (model-of m) s a))
+          m q start cone h at trail₀ trail gains v buf₀ buf len
       span-end g =
           let x : lo ≡ 0 = omega (arith, S .some, S .most) in
           let y : hi - lo ≡ entries m s a = omega (arith, S .all, S .some, S .most) in
-          let e : combined (F (take h trail₀)) (count-from lo (hi - lo)) ≡ combined (weighed (model-of m) k (onward m q start cone (take h trail₀))) (outcomes (model-of m) s a) =
-          ap₂ (λ i n. combined (F (take h trail₀)) (count-from i n)) x y ∙ sym (combined-outcomes m s a (weighed (model-of m) k (onward m q start cone (take h trail₀)))) in
+          let f : Step → List ℕ = weighed (model-of m) k (onward m q start cone (take h trail₀)) in
+          let e : combined (F (take h trail₀)) (count-from lo (hi - lo)) ≡ combined f (outcomes (model-of m) s a) =
+          ap₂ (λ i n. combined (F (take h trail₀)) (count-from i n)) x y ∙ sym (combined-outcomes m s a f) in
           subst (λ l. Written l m q start cone h at trail₀ trail gains v buf₀ buf len) e (S .written)
 
       module _ (o : ℕ) (B : Beside lo hi c o) where
@@ -301,7 +312,8 @@ module _ {m q : Bytes} {start d : ℕ} {depths truth cone used table : List ℕ}
 
         wide-within : len * t o ≤ multiply t (count-from 0 (entries m s a))
         wide-within =
-            rw wide-len (span-within (min lo o) (max hi (o + 1) - min lo o) (omega (arith, S .all, wider-some (S .some) (S .most) B, wider-most (S .some) (S .most) B)))
+            rw wide-len
+            (span-within (min lo o) (max hi (o + 1) - min lo o) (omega (arith, S .all, wider-some (S .some) (S .most) B, wider-most (S .some) (S .most) B)))
 
         pub span-grows : Grows buf at len (t o) k
         span-grows =
@@ -309,7 +321,8 @@ module _ {m q : Bytes} {start d : ℕ} {depths truth cone used table : List ℕ}
               some = long-some;
               few = le-trans wide-within (room .few);
               small = λ x i. span-small (take h trail₀) lo (hi - lo) span (omega (arith, span, outcomes-few lo some-outcome)) x (subst (List·Memᴰ x) at-span i);
-              room = subst (Room k (t o) (at + len * t o)) (sym (S .whole ∙ in-buf)) (room-next room (S .longest o (rw (S .all) span-outcome)) (le-refl len) long-some wide-within);
+              room = subst (Room k (t o) (at + len * t o)) (sym (S .whole ∙ in-buf))
+                  (room-next room (S .longest o (rw (S .all) span-outcome)) (le-refl len) long-some wide-within);
             }
 
         pub span-wider : {trail₁ : List ℕ} {gains₁ : List ℤ} {v₁ buf₁ : List ℕ} {r lo₁ hi₁ : ℕ}
@@ -327,7 +340,8 @@ module _ {m q : Bytes} {start d : ℕ} {depths truth cone used table : List ℕ}
             held-before buf₀ buf at (combined (F T) (count-from lo (hi - lo))) (omega (arith, in-place)) (S .written .listed) at (le-refl at) in
             let V₁ : Written (joined (ltb lo o) (part buf at len) (F T o)) m q start cone h at trail₀ trail₁ gains₁ v₁ buf₀ buf₁ r =
             rebased (λ T. joined (ltb lo o) (part buf at len) (F T o)) (S .written .kept) before W in
-            let V₂ : Written X m q start cone h at trail₀ trail₁ gains₁ v₁ buf₀ buf₁ r = subst (λ l. Written l m q start cone h at trail₀ trail₁ gains₁ v₁ buf₀ buf₁ r) same V₁ in
+            let V₂ : Written X m q start cone h at trail₀ trail₁ gains₁ v₁ buf₀ buf₁ r =
+            subst (λ l. Written l m q start cone h at trail₀ trail₁ gains₁ v₁ buf₀ buf₁ r) same V₁ in
             let n : r ≡ len * t o =
             V₂ .count ∙ span-count T lo₁ (hi₁ - lo₁) ∙ ap₂ (λ i j. multiply t (count-from i (j - i))) el eh ∙ sym wide-len in
             record {
@@ -347,7 +361,8 @@ module _ {m q : Bytes} {start d : ℕ} {depths truth cone used table : List ℕ}
 
   module _ (o : ℕ) (u : o < entries m s a) {trail trail₁ : List ℕ} {gains₁ : List ℤ} {v₁ : List ℕ} {buf buf₁ : List ℕ} {h at len r : ℕ}
       (K : Grows buf at len (t o) k) (n : ℕ) (en : n ≡ t o)
-      (W : Written (totals (model-of m) k ((outcome-of m s a o) .target) (λ l. onward m q start cone (take h trail) (outcome-of m s a o ∷ l))) m q start cone h (at + len * n) trail trail₁ gains₁ v₁ buf buf₁ r)
+      (W : Written (totals (model-of m) k ((outcome-of m s a o) .target) (λ l. onward m q start cone (take h trail) (outcome-of m s a o ∷ l)))
+      m q start cone h (at + len * n) trail trail₁ gains₁ v₁ buf buf₁ r)
       (whole : length buf₁ ≡ length buf) (w : ℕ) (ew : w ≡ (outcome-of m s a o) .weight) where
     ys : List ℕ
     ys = totals (model-of m) k ((outcome-of m s a o) .target) (λ l. onward m q start cone (take h trail) (outcome-of m s a o ∷ l))

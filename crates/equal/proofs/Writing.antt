@@ -95,6 +95,16 @@ module _ {m q : Bytes} {start d : ℕ} {depths truth cone used table : List ℕ}
   pub reached : (s a o : ℕ) → s < state-count m → o < entries m s a → (outcome-of m s a o) .target < state-count m
   reached s a o h u = fair m (G .ready .model-accepted) s a o h u .reaches
 
+  pub action-small : (s a o : ℕ) → s < state-count m → o < entries m s a → a < 8
+  action-small s a o h u = omega (arith, fair m (G .ready .model-accepted) s a o h u .action, is-sized m (G .ready .model-accepted) .actions)
+
+  pub uses-right : (s a : ℕ) {x : ℕ} → s < state-count m → a < 8 → x ≡ getD used (8 * s + a) 0 → x ≡ entries m s a
+  uses-right s a h g e =
+      let l : s < 32 = state-small h in
+      let y : (8 * s + a) / 8 ≡ s = omega arith in
+      let z : (8 * s + a) % 8 ≡ a = omega arith in
+      e ∙ G .uses .count (8 * s + a) (omega arith) ∙ ap₂ (entries m) y z
+
   module _ {trail : List ℕ} {gains : List ℤ} {v : List ℕ} {h s k : ℕ} (H : Here m q start d cone trail gains v h s k) where
     pub path-length : length (take h trail) ≡ h
     path-length = length-take-le h trail (omega (arith, H .steps, H .roomy .steps))
@@ -134,14 +144,17 @@ module _ {m q : Bytes} {start d : ℕ} {depths truth cone used table : List ℕ}
         decided-written {buf′} {r} e f =
             let X : List ℕ = replicate (plan-total (model-of m) k s) (known v (root-of cone) 0 * byte m 5 ^ k) in
             let alike : totals (model-of m) k s (onward m q start cone (take h trail)) ≡ X =
-            totals-alike (model-of m) (is-accepted m (G .ready .model-accepted)) k s (rw (states-held m) (H .inside)) (onward m q start cone (take h trail)) (known v (root-of cone) 0) value-on
+            totals-alike (model-of m) (is-accepted m (G .ready .model-accepted)) k s (rw (states-held m) (H .inside))
+            (onward m q start cone (take h trail)) (known v (root-of cone) 0) value-on
             ∙ ap (λ z. replicate (plan-total (model-of m) k s) (known v (root-of cone) 0 * z ^ k)) (denominator-held m) in
             let g : buf′ ≡ splice buf at X = f ∙ ap (λ n. splice buf at (replicate n (known v (root-of cone) 0 * byte m 5 ^ k))) served in
             record {
               kept = refl;
               knows = H .knows;
               count = e ∙ served ∙ sym (totals-length (model-of m) k s (onward m q start cone (take h trail)));
-              listed = subst (λ l. take (at + length l) buf′ ≡ take at buf ++ l) (sym alike) (ap (take (at + length X)) g ∙ take-written buf at X (omega (arith, room .fits)));
+              listed =
+                  subst (λ l. take (at + length l) buf′ ≡ take at buf ++ l) (sym alike)
+                  (ap (take (at + length X)) g ∙ take-written buf at X (omega (arith, room .fits)));
             }
 
   -- ---- below an outcome
@@ -191,10 +204,12 @@ module _ {m q : Bytes} {start d : ℕ} {depths truth cone used table : List ℕ}
 
       pub below-written : {at r : ℕ} {trail₂ : List ℕ} {gains₂ : List ℤ} {v₂ buf buf₂ : List ℕ}
           → Written (totals (model-of m) k t (onward m q start cone (take (h + 1) trail₁))) m q start cone (h + 1) at trail₁ trail₂ gains₂ v₂ buf buf₂ r
-          → Written (totals (model-of m) k ((outcome-of m s a o) .target) (λ l. onward m q start cone (take h trail) (outcome-of m s a o ∷ l))) m q start cone h at trail trail₂ gains₂ v₂ buf buf₂ r
+          → Written (totals (model-of m) k ((outcome-of m s a o) .target) (λ l. onward m q start cone (take h trail) (outcome-of m s a o ∷ l)))
+          m q start cone h at trail trail₂ gains₂ v₂ buf buf₂ r
       below-written {at} {r} {trail₂} {gains₂} {v₂} {buf} {buf₂} W =
           let X : List ℕ = totals (model-of m) k ((outcome-of m s a o) .target) (λ l. onward m q start cone (take h trail) (outcome-of m s a o ∷ l)) in
-          let same : totals (model-of m) k t (onward m q start cone (take (h + 1) trail₁)) ≡ X = ap₂ (λ i f. totals (model-of m) k i f) (S .state) (fun-ext onward-on) in
+          let same : totals (model-of m) k t (onward m q start cone (take (h + 1) trail₁)) ≡ X =
+          ap₂ (λ i f. totals (model-of m) k i f) (S .state) (fun-ext onward-on) in
           let n : length (take h trail) ≡ h = path-length H in
           let on : take (h + 1) trail₂ ≡ take h trail ++ (b ∷ []) = W .kept ∙ longer in
           record {

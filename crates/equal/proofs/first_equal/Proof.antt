@@ -6,6 +6,7 @@ use lib.ListN.{length, take, replicate}
 use borrow.Author.Needs.{needs}
 use Rattle.logic.specs.Limits.{plan-total}
 use Rattle.models.specs.Layout.{model-of}
+use Rattle.evaluation.specs.Known.{Roomy}
 use Rattle.evaluation.proofs.Stepping.{begun}
 use Rattle.equal.specs.Listing.{onward}
 use Rattle.equal.proofs.Rooms.{room-whole}
@@ -42,13 +43,18 @@ list-requires c κs = let S = c .before .before .before .before .before .before 
     let v = x .last .1 .1 .1 .1 .1 .1 .0 in
     let n : length v ≡ 280 = x .kept .1 .1 .1 .1 .1 .1 .0 in
     let knows = begun (G .ready) (replicate 6 0) (replicate 7 (pos 0)) (replicate 280 0) v refl (omega arith) (x .ensures) in
-    (G, (begins G (replicate 6 0) (replicate 7 (pos 0)) v (S .pre .1 .0) (S .pre .1 .1) (record { steps = omega arith; sums = omega arith; places = omega arith }) knows, room-whole (S .args .n) (plan-total (model-of (S .args .m .now)) (S .args .n) (S .args .start)) (length (S .args .buf .now)) (S .pre .1 .1) (S .pre .1 .2) (S .pre .1 .3)))
+    let roomy : Roomy (replicate 6 0) (replicate 7 (pos 0)) v = record { steps = omega arith; sums = omega arith; places = omega arith } in
+    let total = plan-total (model-of (S .args .m .now)) (S .args .n) (S .args .start) in
+    let room = room-whole (S .args .n) total (length (S .args .buf .now)) (S .pre .1 .1) (S .pre .1 .2) (S .pre .1 .3) in
+    (G, (begins G (replicate 6 0) (replicate 7 (pos 0)) v (S .pre .1 .0) (S .pre .1 .1) roomy knows, room))
 
 find-requires : tie.Need-find-requires
 find-requires c κs = let S = c .before .before .before .before .before .before .before .before .before .before .before .before .before .before .before .before .before .before .before .before .before .before in
     let x = c .before .before .before .before .before .before .list in
-    let M = model-of (S .args .m .now) in
-    omega (arith, x .ensures .count, totals-length M (S .args .n) (S .args .start) (onward (S .args .m .now) (S .args .q .now) (S .args .start) (S .args .cone .now) (take 0 (replicate 6 0))), x .kept .1 .1 .1 .1 .1 .1 .1 .1 .1 .1 .0, S .pre .1 .2, S .pre .1 .3)
+    let M = S .args .m .now in
+    let f = onward M (S .args .q .now) (S .args .start) (S .args .cone .now) (take 0 (replicate 6 0)) in
+    omega
+    (arith, x .ensures .count, totals-length (model-of M) (S .args .n) (S .args .start) f, x .kept .1 .1 .1 .1 .1 .1 .1 .1 .1 .1 .0, S .pre .1 .2, S .pre .1 .3)
 
 same-length : tie.Need-same-length
 same-length c = search needs

@@ -1,14 +1,15 @@
 -- `list`, `combine`, `grown` and `below` meet their contracts, together: the steps left fall round the cycle. The lists of a state's actions are
 -- written one after the other (`Listed`), those of an action's outcomes are combined from the longest one on (`Spanned`).
-use Prim.Native.Nat.{ℕ, _+_, _*_, _-_, _<_}
+use Prim.Native.Nat.{suc, ℕ, _+_, _*_, _-_, _<_}
 use native.Mathlib.Omega.{arith}
+use mathlib.Core.List.{List}
 use mathlib.Core.Path.{_≡_, refl, sym, ap, subst, _∙_}
 use mathlib.Core.Logic.{⊎-elim}
 use lib.ListN.{length, take}
 use borrow.Author.Needs.{needs}
 use borrow.Fn.Kinds.{In}
 use borrow.Fn.PlainCycle.{Measures, is, falls, and}
-use Rattle.logic.specs.Model.{outcomes}
+use Rattle.logic.specs.Model.{Step, outcomes}
 use Rattle.logic.specs.Limits.{plan-total}
 use Rattle.blocks.proofs.byte.Reads as byte-reads
 use Rattle.models.specs.Layout.{action-count, model-of, entries}
@@ -18,11 +19,11 @@ use Rattle.evaluation.proofs.step.Reads as step-reads
 use Rattle.equal.specs.Room.{Room}
 use Rattle.equal.specs.Totals.{combined, weighed}
 use Rattle.equal.specs.Listing.{onward}
+use Rattle.equal.proofs.Taking.{placed, count-right, span-outcome, Spanned, ways, outcomes-few, first-room, first-shifts, first-before, first-spanned, span-end, span-grows, span-wider, grown-joins, grown-written}
+use Rattle.equal.proofs.Writing.{action-small, uses-right, state-small, reached, offered, below-here, below-written, decides, decided-written, rebased}
+use Rattle.equal.proofs.Passing.{action-few, Listed, listed-none, passed-over, action-room, action-here, action-listed, listed-all}
 use Rattle.equal.proofs.Combine.{beside-inside, wider-less}
 use Rattle.equal.proofs.Accepting.{is-sized}
-use Rattle.equal.proofs.Taking.{uses-right, count-right, span-outcome, Spanned, ways, action-small, outcomes-few, first-room, first-shifts, first-before, first-spanned, span-end, span-grows, span-wider, grown-joins, grown-written}
-use Rattle.equal.proofs.Passing.{action-few, Listed, listed-none, passed-over, action-room, action-here, action-listed, listed-all}
-use Rattle.equal.proofs.Writing.{state-small, reached, offered, below-here, below-written, decides, decided-written, rebased}
 use Rattle.equal.proofs.lists.below.Reads as below
 use Rattle.equal.proofs.lists.below.Kinds as below-kinds
 use Rattle.equal.proofs.lists.+below+combine+grown+list.Lts-below as below-lts
@@ -46,6 +47,8 @@ use Rattle.equal.proofs.spread.join.Reads as join-reads
 use Rattle.equal.proofs.spread.shift.Reads as shift-reads
 use Rattle.equal.proofs.lists.+below+combine+grown+list.{statement}
 use Rattle.equal.proofs.lists.+below+combine+grown+list.Tie.{close}
+
+-- written one after the other (`Listed`), those of an action's outcomes are combined from the longest one on (`Spanned`).
 
 abbrev μ-below : Measures 11 below-kinds.ps ℕ
 μ-below κs a = 4 * a .1 .1 .1 .1 .1 .1 .1 .1 .1 .1 .1 .1 .1 .1 .1 .1 .1 .0 + 1
@@ -196,7 +199,7 @@ combine-uses-requires t c κs = let S = c .before .before .before .before .befor
     let G = S .pre .1 .0 in
     let H = S .pre .1 .1 .0 .0 in
     let u = S .pre .1 .1 .0 .1 in
-    (state-small G (H .inside), action-small G (S .args .s) (S .args .a) (S .args .k) (H .inside) (omega (arith, H .steps)) 0 u)
+    (state-small G (H .inside), action-small G (S .args .s) (S .args .a) 0 (H .inside) u)
 
 combine-longest-requires : (t : ℕ) → combine-lts.Need-longest-requires (
   uses-reads.Asked,
@@ -222,7 +225,7 @@ combine-longest-requires t c κs = let S = c .before .before .before .before .be
     let G = S .pre .1 .0 in
     let H = S .pre .1 .1 .0 .0 in
     let u = S .pre .1 .1 .0 .1 in
-    let e = uses-right G (S .args .s) (S .args .a) (S .args .k) (H .inside) (omega (arith, H .steps)) (action-small G (S .args .s) (S .args .a) (S .args .k) (H .inside) (omega (arith, H .steps)) 0 u) (c .uses .ensures) in
+    let e = uses-right G (S .args .s) (S .args .a) (H .inside) (action-small G (S .args .s) (S .args .a) 0 (H .inside) u) (c .uses .ensures) in
     (omega (arith, H .steps), omega arith, λ o l. state-small G (reached G (S .args .s) (S .args .a) o (H .inside) (omega arith)))
 
 combine-add-hi : (t : ℕ) → combine-lts.Need-add-hi (
@@ -271,9 +274,12 @@ combine-below-requires t c κs = let S = c .before .before .before .before .befo
     let G = S .pre .1 .0 in
     let H = S .pre .1 .1 .0 .0 in
     let u = S .pre .1 .1 .0 .1 in
-    let e = uses-right G (S .args .s) (S .args .a) (S .args .k) (H .inside) (omega (arith, H .steps)) (action-small G (S .args .s) (S .args .a) (S .args .k) (H .inside) (omega (arith, H .steps)) 0 u) (c .before .before .before .before .before .uses .ensures) in
-    let l : c .before .before .before .before .longest .result < entries (S .args .m .now) (S .args .s) (S .args .a) = omega (arith, c .before .before .before .before .longest .ensures .inside) in
-    (omega arith, (G, ((H, l), first-room G (S .args .s) (S .args .a) (S .args .k) (H .inside) (omega (arith, H .steps)) (S .pre .1 .1 .1) (c .before .before .before .before .longest .result) l)))
+    let P = placed (S .args .a) (S .args .k) H in
+    let R = S .pre .1 .1 .1 in
+    let lo = c .before .before .before .before .longest in
+    let e = uses-right G (S .args .s) (S .args .a) (H .inside) (action-small G (S .args .s) (S .args .a) 0 (H .inside) u) (c .before .before .before .before .before .uses .ensures) in
+    let l : lo .result < entries (S .args .m .now) (S .args .s) (S .args .a) = omega (arith, lo .ensures .inside) in
+    (omega arith, (G, ((H, l), first-room G P R (lo .result) l)))
 
 combine-cast-weight : (t : ℕ) → combine-lts.Need-cast-weight (
   uses-reads.Asked,
@@ -321,7 +327,12 @@ combine-weight-requires t c κs = let S = c .before .before .before .before .bef
     let G = S .pre .1 .0 in
     let H = S .pre .1 .1 .0 .0 in
     let u = S .pre .1 .1 .0 .1 in
-    (omega (arith, state-small G (H .inside)), omega (arith, action-small G (S .args .s) (S .args .a) (S .args .k) (H .inside) (omega (arith, H .steps)) 0 u), omega (arith, c .before .before .before .before .before .before .before .before .before .before .before .before .before .longest .ensures .inside, uses-right G (S .args .s) (S .args .a) (S .args .k) (H .inside) (omega (arith, H .steps)) (action-small G (S .args .s) (S .args .a) (S .args .k) (H .inside) (omega (arith, H .steps)) 0 u) (c .before .before .before .before .before .before .before .before .before .before .before .before .before .before .uses .ensures), outcomes-few G (S .args .s) (S .args .a) (S .args .k) (H .inside) (omega (arith, H .steps)) 0 u))
+    let P = placed (S .args .a) (S .args .k) H in
+    let R = S .pre .1 .1 .1 in
+    let lo = c .before .before .before .before .before .before .before .before .before .before .before .before .before .longest in
+    let e = uses-right G (S .args .s) (S .args .a) (H .inside) (action-small G (S .args .s) (S .args .a) 0 (H .inside) u) (c .before .before .before .before .before .before .before .before .before .before .before .before .before .before .uses .ensures) in
+    let l : lo .result < entries (S .args .m .now) (S .args .s) (S .args .a) = omega (arith, lo .ensures .inside) in
+    (omega (arith, state-small G (H .inside)), omega (arith, action-small G (S .args .s) (S .args .a) 0 (H .inside) u), omega (arith, outcomes-few G P 0 u))
 
 combine-shift-requires : (t : ℕ) → combine-lts.Need-shift-requires (
   uses-reads.Asked,
@@ -347,9 +358,14 @@ combine-shift-requires t c κs = let S = c .before .before .before .before .befo
     let G = S .pre .1 .0 in
     let H = S .pre .1 .1 .0 .0 in
     let u = S .pre .1 .1 .0 .1 in
-    let e = uses-right G (S .args .s) (S .args .a) (S .args .k) (H .inside) (omega (arith, H .steps)) (action-small G (S .args .s) (S .args .a) (S .args .k) (H .inside) (omega (arith, H .steps)) 0 u) (c .before .before .before .before .before .before .before .before .before .before .before .before .before .before .before .uses .ensures) in
-    let l : c .before .before .before .before .before .before .before .before .before .before .before .before .before .before .longest .result < entries (S .args .m .now) (S .args .s) (S .args .a) = omega (arith, c .before .before .before .before .before .before .before .before .before .before .before .before .before .before .longest .ensures .inside) in
-    first-shifts G (S .args .s) (S .args .a) (S .args .k) (H .inside) (omega (arith, H .steps)) (S .pre .1 .1 .1) (c .before .before .before .before .before .before .before .before .before .before .before .before .before .before .longest .result) l (S .args .buf .now) refl H (c .before .before .before .before .before .before .before .before .before .below .ensures) (c .before .before .before .before .before .before .before .before .before .below .kept .1 .1 .1 .1 .1 .1 .1 .1 .1 .1 .0) (c .weight .ensures .0)
+    let P = placed (S .args .a) (S .args .k) H in
+    let R = S .pre .1 .1 .1 in
+    let lo = c .before .before .before .before .before .before .before .before .before .before .before .before .before .before .longest in
+    let e = uses-right G (S .args .s) (S .args .a) (H .inside) (action-small G (S .args .s) (S .args .a) 0 (H .inside) u) (c .before .before .before .before .before .before .before .before .before .before .before .before .before .before .before .uses .ensures) in
+    let l : lo .result < entries (S .args .m .now) (S .args .s) (S .args .a) = omega (arith, lo .ensures .inside) in
+    let b = c .before .before .before .before .before .before .before .before .before .below in
+    let w = c .weight in
+    first-shifts G P R (lo .result) l (S .args .buf .now) refl H (b .ensures) (b .kept .1 .1 .1 .1 .1 .1 .1 .1 .1 .1 .0) (w .ensures .0)
 
 combine-loop-holds : (t : ℕ) → combine-lts.Need-loop-holds (
   uses-reads.Asked,
@@ -375,9 +391,14 @@ combine-loop-holds t c = let S = c .before .before .before .before .before .befo
     let G = S .pre .1 .0 in
     let H = S .pre .1 .1 .0 .0 in
     let u = S .pre .1 .1 .0 .1 in
-    let e = uses-right G (S .args .s) (S .args .a) (S .args .k) (H .inside) (omega (arith, H .steps)) (action-small G (S .args .s) (S .args .a) (S .args .k) (H .inside) (omega (arith, H .steps)) 0 u) (c .before .before .before .before .before .before .before .before .before .before .before .before .before .before .before .before .before .before .uses .ensures) in
-    let l : c .before .before .before .before .before .before .before .before .before .before .before .before .before .before .before .before .before .longest .result < entries (S .args .m .now) (S .args .s) (S .args .a) = omega (arith, c .before .before .before .before .before .before .before .before .before .before .before .before .before .before .before .before .before .longest .ensures .inside) in
-    first-spanned G (S .args .s) (S .args .a) (S .args .k) (H .inside) (omega (arith, H .steps)) (S .pre .1 .1 .1) (c .before .before .before .before .before .before .before .before .before .before .before .before .before .before .before .before .before .longest .result) l (S .args .buf .now) refl H (c .before .before .before .before .before .before .before .before .before .before .before .before .below .ensures) (c .before .before .before .before .before .before .before .before .before .before .before .before .below .kept .1 .1 .1 .1 .1 .1 .1 .1 .1 .1 .0) (c .before .before .before .weight .ensures .0) (c .before .before .shift .ensures) e (c .before .before .before .before .before .before .before .before .before .before .before .before .before .before .before .before .before .longest .ensures) refl (c .before .before .before .before .before .before .before .before .before .before .before .before .below .kept .1 .1 .1 .1 .1 .1 .1 .0) (c .before .before .before .before .before .before .before .before .before .before .before .before .below .kept .1 .1 .1 .1 .1 .1 .1 .1 .0) (c .before .before .before .before .before .before .before .before .before .before .before .before .below .kept .1 .1 .1 .1 .1 .1 .1 .1 .1 .0)
+    let P = placed (S .args .a) (S .args .k) H in
+    let R = S .pre .1 .1 .1 in
+    let lo = c .before .before .before .before .before .before .before .before .before .before .before .before .before .before .before .before .before .longest in
+    let e = uses-right G (S .args .s) (S .args .a) (H .inside) (action-small G (S .args .s) (S .args .a) 0 (H .inside) u) (c .before .before .before .before .before .before .before .before .before .before .before .before .before .before .before .before .before .before .uses .ensures) in
+    let l : lo .result < entries (S .args .m .now) (S .args .s) (S .args .a) = omega (arith, lo .ensures .inside) in
+    let b = c .before .before .before .before .before .before .before .before .before .before .before .before .below in
+    let w = c .before .before .before .weight in
+    first-spanned G P R (lo .result) l (S .args .buf .now) refl H (b .ensures) (b .kept .1 .1 .1 .1 .1 .1 .1 .1 .1 .1 .0) (w .ensures .0) (c .before .before .shift .ensures) e (lo .ensures) refl (b .kept .1 .1 .1 .1 .1 .1 .1 .0) (b .kept .1 .1 .1 .1 .1 .1 .1 .1 .0) (b .kept .1 .1 .1 .1 .1 .1 .1 .1 .1 .0)
 
 combine-sub-loop : (t : ℕ) → combine-lts.Need-sub-loop (
   uses-reads.Asked,
@@ -448,10 +469,12 @@ combine-grown-requires t c κs = let S = c .before .before .before .before .befo
     let G = S .pre .1 .0 in
     let H = S .pre .1 .1 .0 .0 in
     let u = S .pre .1 .1 .0 .1 in
+    let P = placed (S .args .a) (S .args .k) H in
+    let R = S .pre .1 .1 .1 in
     let I = c .before .before .before .before .before .before .loop .inv in
-    let B = c .before .before .before .before .beside .ensures in
+    let o = c .before .before .before .before .beside in
     let z = c .before .before .before .before .before .before .before .before .before .shift .kept .0 ∙ c .before .before .before .before .before .before .before .before .before .before .before .before .before .before .before .before .before .before .before .below .kept .1 .1 .1 .1 .1 .1 .1 .1 .1 .1 .0 in
-    (omega arith, (G, ((I .here, span-outcome G (S .args .s) (S .args .a) (S .args .k) (H .inside) (omega (arith, H .steps)) (S .pre .1 .1 .1) I z (c .before .before .before .before .beside .result) B), span-grows G (S .args .s) (S .args .a) (S .args .k) (H .inside) (omega (arith, H .steps)) (S .pre .1 .1 .1) I z (c .before .before .before .before .beside .result) B)))
+    (omega arith, (G, ((I .here, span-outcome G P R I z (o .result) (o .ensures)), span-grows G P R I z (o .result) (o .ensures))))
 
 combine-least-requires : (t : ℕ) → combine-lts.Need-least-requires (
   uses-reads.Asked,
@@ -499,8 +522,10 @@ combine-add-most t c = let S = c .before .before .before .before .before .before
     let G = S .pre .1 .0 in
     let H = S .pre .1 .1 .0 .0 in
     let u = S .pre .1 .1 .0 .1 in
+    let P = placed (S .args .a) (S .args .k) H in
+    let R = S .pre .1 .1 .1 in
     let I = c .before .before .before .before .before .before .before .before .before .before .before .before .before .before .before .loop .inv in
-    omega (arith, beside-inside (I .some) (I .most) (c .before .before .before .before .before .before .before .before .before .before .before .before .before .beside .ensures), I .all, outcomes-few G (S .args .s) (S .args .a) (S .args .k) (H .inside) (omega (arith, H .steps)) 0 u)
+    omega (arith, beside-inside (I .some) (I .most) (c .before .before .before .before .before .before .before .before .before .before .before .before .before .beside .ensures), I .all, outcomes-few G P 0 u)
 
 combine-most-requires : (t : ℕ) → combine-lts.Need-most-requires (
   uses-reads.Asked,
@@ -571,10 +596,13 @@ combine-loop-again t c = let S = c .before .before .before .before .before .befo
     let G = S .pre .1 .0 in
     let H = S .pre .1 .1 .0 .0 in
     let u = S .pre .1 .1 .0 .1 in
+    let P = placed (S .args .a) (S .args .k) H in
+    let R = S .pre .1 .1 .1 in
     let I = c .before .before .before .before .before .before .before .before .before .before .before .before .before .before .before .before .loop .inv in
-    let x = c .before .before .before .before .before .before .before .before .before .grown in
+    let o = c .before .before .before .before .before .before .before .before .before .before .before .before .before .before .beside in
     let z = c .before .before .before .before .before .before .before .before .before .before .before .before .before .before .before .before .before .before .before .shift .kept .0 ∙ c .before .before .before .before .before .before .before .before .before .before .before .before .before .before .before .before .before .before .before .before .before .before .before .before .before .before .before .before .before .below .kept .1 .1 .1 .1 .1 .1 .1 .1 .1 .1 .0 in
-    span-wider G (S .args .s) (S .args .a) (S .args .k) (H .inside) (omega (arith, H .steps)) (S .pre .1 .1 .1) I z (c .before .before .before .before .before .before .before .before .before .before .before .before .before .before .beside .result) (c .before .before .before .before .before .before .before .before .before .before .before .before .before .before .beside .ensures) (x .ensures) (x .kept .1 .1 .1 .1 .1 .1 .1 .0) (x .kept .1 .1 .1 .1 .1 .1 .1 .1 .0) (x .kept .1 .1 .1 .1 .1 .1 .1 .1 .1 .0) (x .kept .1 .1 .1 .1 .1 .1 .1 .1 .1 .1 .0) (c .before .least .ensures) (c .most .ensures)
+    let x = c .before .before .before .before .before .before .before .before .before .grown in
+    span-wider G P R I z (o .result) (o .ensures) (x .ensures) (x .kept .1 .1 .1 .1 .1 .1 .1 .0) (x .kept .1 .1 .1 .1 .1 .1 .1 .1 .0) (x .kept .1 .1 .1 .1 .1 .1 .1 .1 .1 .0) (x .kept .1 .1 .1 .1 .1 .1 .1 .1 .1 .1 .0) (c .before .least .ensures) (c .most .ensures)
 
 combine-same-length : (t : ℕ) → combine-lts.Need-same-length (
   uses-reads.Asked,
@@ -688,14 +716,19 @@ combine-returns t c = let S = c .before .before .before .before .before .before 
     let G = S .pre .1 .0 in
     let H = S .pre .1 .1 .0 .0 in
     let u = S .pre .1 .1 .0 .1 in
-    let e = uses-right G (S .args .s) (S .args .a) (S .args .k) (H .inside) (omega (arith, H .steps)) (action-small G (S .args .s) (S .args .a) (S .args .k) (H .inside) (omega (arith, H .steps)) 0 u) (c .before .before .before .before .before .before .before .before .before .before .before .before .before .before .before .before .before .before .before .before .uses .ensures) in
-    let l : c .before .before .before .before .before .before .before .before .before .before .before .before .before .before .before .before .before .before .before .longest .result < entries (S .args .m .now) (S .args .s) (S .args .a) = omega (arith, c .before .before .before .before .before .before .before .before .before .before .before .before .before .before .before .before .before .before .before .longest .ensures .inside) in
-    let I = c .before .loop .inv in
+    let P = placed (S .args .a) (S .args .k) H in
+    let R = S .pre .1 .1 .1 in
+    let lo = c .before .before .before .before .before .before .before .before .before .before .before .before .before .before .before .before .before .before .before .longest in
+    let e = uses-right G (S .args .s) (S .args .a) (H .inside) (action-small G (S .args .s) (S .args .a) 0 (H .inside) u) (c .before .before .before .before .before .before .before .before .before .before .before .before .before .before .before .before .before .before .before .before .uses .ensures) in
+    let l : lo .result < entries (S .args .m .now) (S .args .s) (S .args .a) = omega (arith, lo .ensures .inside) in
+    let b = c .before .before .before .before .before .before .before .before .before .before .before .before .before .before .below in
+    let w = c .before .before .before .before .before .weight in
+    let h = c .before .before .before .before .shift in
     let M = S .args .m .now in
-    let z = c .before .before .before .before .shift .kept .0 ∙ c .before .before .before .before .before .before .before .before .before .before .before .before .before .before .below .kept .1 .1 .1 .1 .1 .1 .1 .1 .1 .1 .0 in
-    let f = first-before G (S .args .s) (S .args .a) (S .args .k) (H .inside) (omega (arith, H .steps)) (S .pre .1 .1 .1) (c .before .before .before .before .before .before .before .before .before .before .before .before .before .before .before .before .before .before .before .longest .result) l (S .args .buf .now) refl H (c .before .before .before .before .before .before .before .before .before .before .before .before .before .before .below .ensures) (c .before .before .before .before .before .before .before .before .before .before .before .before .before .before .below .kept .1 .1 .1 .1 .1 .1 .1 .1 .1 .1 .0) (c .before .before .before .before .before .weight .ensures .0) (c .before .before .before .before .shift .ensures) in
-    rebased (λ T. combined (weighed (model-of M) (S .args .k) (onward M (S .args .q .now) (S .args .start) (S .args .cone .now) T)) (outcomes (model-of M) (S .args .s) (S .args .a))) (c .before .before .before .before .before .before .before .before .before .before .before .before .before .before .below .ensures .kept) f
-    (span-end G (S .args .s) (S .args .a) (S .args .k) (H .inside) (omega (arith, H .steps)) (S .pre .1 .1 .1) I z (omega arith))
+    let f : List ℕ → List Step → ℕ = onward M (S .args .q .now) (S .args .start) (S .args .cone .now) in
+    rebased (λ T. combined (weighed (model-of M) (S .args .k) (f T)) (outcomes (model-of M) (S .args .s) (S .args .a)))
+    (b .ensures .kept) (first-before G P R (lo .result) l (S .args .buf .now) refl H (b .ensures) (b .kept .1 .1 .1 .1 .1 .1 .1 .1 .1 .1 .0) (w .ensures .0) (h .ensures))
+    (span-end G P R (c .before .loop .inv) (h .kept .0 ∙ b .kept .1 .1 .1 .1 .1 .1 .1 .1 .1 .1 .0) (omega arith))
 
 grown-target-requires : (t : ℕ) → grown-lts.Need-target-requires (
   target-reads.Asked,
@@ -745,8 +778,11 @@ grown-mul-end t c = let S = c .before .before .before .before .before .before .b
     let G = S .pre .1 .0 in
     let H = S .pre .1 .1 .0 .0 in
     let u = S .pre .1 .1 .0 .1 in
-    let e = ap (λ z. S .args .len * z) (count-right G (S .args .s) (S .args .a) (S .args .k) (H .inside) (omega (arith, H .steps)) (S .args .o) u (S .pre .1 .1 .1 .room .few) (c .count .ensures) (c .before .target .ensures .0)) in
-    omega (arith, S .pre .1 .1 .1 .few)
+    let P = placed (S .args .a) (S .args .k) H in
+    let R = S .pre .1 .1 .1 in
+    let n = c .count in
+    let e = count-right G P (S .args .o) u (R .room .few) (n .ensures) (c .before .target .ensures .0) in
+    omega (arith, R .few, ap (λ z. S .args .len * z) e)
 
 grown-add-end : (t : ℕ) → grown-lts.Need-add-end (
   target-reads.Asked,
@@ -764,8 +800,11 @@ grown-add-end t c = let S = c .before .before .before .before .before .before .b
     let G = S .pre .1 .0 in
     let H = S .pre .1 .1 .0 .0 in
     let u = S .pre .1 .1 .0 .1 in
-    let e = ap (λ z. S .args .len * z) (count-right G (S .args .s) (S .args .a) (S .args .k) (H .inside) (omega (arith, H .steps)) (S .args .o) u (S .pre .1 .1 .1 .room .few) (c .count .ensures) (c .before .target .ensures .0)) in
-    omega (arith, S .pre .1 .1 .1 .room .fits, S .good .1 .1 .1 .1 .1 .1 .1 .1 .1 .1 .0)
+    let P = placed (S .args .a) (S .args .k) H in
+    let R = S .pre .1 .1 .1 in
+    let n = c .count in
+    let e = count-right G P (S .args .o) u (R .room .few) (n .ensures) (c .before .target .ensures .0) in
+    omega (arith, R .room .fits, ap (λ z. S .args .len * z) e, S .good .1 .1 .1 .1 .1 .1 .1 .1 .1 .1 .0)
 
 grown-below-requires : (t : ℕ) → grown-lts.Need-below-requires (
   target-reads.Asked,
@@ -783,8 +822,12 @@ grown-below-requires t c κs = let S = c .before .before .before .before .before
     let G = S .pre .1 .0 in
     let H = S .pre .1 .1 .0 .0 in
     let u = S .pre .1 .1 .0 .1 in
-    let e = count-right G (S .args .s) (S .args .a) (S .args .k) (H .inside) (omega (arith, H .steps)) (S .args .o) u (S .pre .1 .1 .1 .room .few) (c .before .before .before .before .count .ensures) (c .before .before .before .before .before .target .ensures .0) in
-    (omega arith, (G, ((H, u), subst (λ n. Room (S .args .k) (ways (S .args .m .now) (S .args .s) (S .args .a) (S .args .k) (S .args .o)) (S .args .at + S .args .len * n) (length (S .args .buf .now))) (sym e) (S .pre .1 .1 .1 .room))))
+    let P = placed (S .args .a) (S .args .k) H in
+    let R = S .pre .1 .1 .1 in
+    let n = c .before .before .before .before .count in
+    let e = count-right G P (S .args .o) u (R .room .few) (n .ensures) (c .before .before .before .before .before .target .ensures .0) in
+    let w = ways (S .args .m .now) (S .args .s) (S .args .a) (S .args .k) (S .args .o) in
+    (omega arith, (G, ((H, u), subst (λ n. Room (S .args .k) w (S .args .at + S .args .len * n) (length (S .args .buf .now))) (sym e) (R .room))))
 
 grown-weight-requires : (t : ℕ) → grown-lts.Need-weight-requires (
   target-reads.Asked,
@@ -802,7 +845,9 @@ grown-weight-requires t c κs = let S = c .before .before .before .before .befor
     let G = S .pre .1 .0 in
     let H = S .pre .1 .1 .0 .0 in
     let u = S .pre .1 .1 .0 .1 in
-    (omega (arith, state-small G (H .inside)), omega (arith, action-small G (S .args .s) (S .args .a) (S .args .k) (H .inside) (omega (arith, H .steps)) (S .args .o) u), omega (arith, outcomes-few G (S .args .s) (S .args .a) (S .args .k) (H .inside) (omega (arith, H .steps)) (S .args .o) u))
+    let P = placed (S .args .a) (S .args .k) H in
+    let R = S .pre .1 .1 .1 in
+    (omega (arith, state-small G (H .inside)), omega (arith, action-small G (S .args .s) (S .args .a) (S .args .o) (H .inside) u), omega (arith, outcomes-few G P (S .args .o) u))
 
 grown-join-requires : (t : ℕ) → grown-lts.Need-join-requires (
   target-reads.Asked,
@@ -820,7 +865,13 @@ grown-join-requires t c κs = let S = c .before .before .before .before .before 
     let G = S .pre .1 .0 in
     let H = S .pre .1 .1 .0 .0 in
     let u = S .pre .1 .1 .0 .1 in
-    grown-joins G (S .args .s) (S .args .a) (S .args .k) (H .inside) (omega (arith, H .steps)) (S .args .o) u (S .pre .1 .1 .1) (c .before .before .before .before .before .before .before .before .before .before .before .before .before .before .count .result) (count-right G (S .args .s) (S .args .a) (S .args .k) (H .inside) (omega (arith, H .steps)) (S .args .o) u (S .pre .1 .1 .1 .room .few) (c .before .before .before .before .before .before .before .before .before .before .before .before .before .before .count .ensures) (c .before .before .before .before .before .before .before .before .before .before .before .before .before .before .before .target .ensures .0)) (c .before .before .before .before .before .before .before .before .before .below .ensures) (c .before .before .before .before .before .before .before .before .before .below .kept .1 .1 .1 .1 .1 .1 .1 .1 .1 .1 .0) (c .weight .result) (c .weight .ensures .0)
+    let P = placed (S .args .a) (S .args .k) H in
+    let R = S .pre .1 .1 .1 in
+    let n = c .before .before .before .before .before .before .before .before .before .before .before .before .before .before .count in
+    let e = count-right G P (S .args .o) u (R .room .few) (n .ensures) (c .before .before .before .before .before .before .before .before .before .before .before .before .before .before .before .target .ensures .0) in
+    let b = c .before .before .before .before .before .before .before .before .before .below in
+    let w = c .weight in
+    grown-joins G P (S .args .o) u R (n .result) e (b .ensures) (b .kept .1 .1 .1 .1 .1 .1 .1 .1 .1 .1 .0) (w .result) (w .ensures .0)
 
 grown-mul-result : (t : ℕ) → grown-lts.Need-mul-result (
   target-reads.Asked,
@@ -838,8 +889,11 @@ grown-mul-result t c = let S = c .before .before .before .before .before .before
     let G = S .pre .1 .0 in
     let H = S .pre .1 .1 .0 .0 in
     let u = S .pre .1 .1 .0 .1 in
-    let e = ap (λ z. S .args .len * z) (count-right G (S .args .s) (S .args .a) (S .args .k) (H .inside) (omega (arith, H .steps)) (S .args .o) u (S .pre .1 .1 .1 .room .few) (c .before .before .before .before .before .before .before .before .before .before .before .before .before .before .before .before .before .count .ensures) (c .before .before .before .before .before .before .before .before .before .before .before .before .before .before .before .before .before .before .target .ensures .0)) in
-    omega (arith, S .pre .1 .1 .1 .few)
+    let P = placed (S .args .a) (S .args .k) H in
+    let R = S .pre .1 .1 .1 in
+    let n = c .before .before .before .before .before .before .before .before .before .before .before .before .before .before .before .before .before .count in
+    let e = count-right G P (S .args .o) u (R .room .few) (n .ensures) (c .before .before .before .before .before .before .before .before .before .before .before .before .before .before .before .before .before .before .target .ensures .0) in
+    omega (arith, R .few, ap (λ z. S .args .len * z) e)
 
 grown-same-length : (t : ℕ) → grown-lts.Need-same-length (
   target-reads.Asked,
@@ -913,7 +967,13 @@ grown-returns t c = let S = c .before .before .before .before .before .before .b
     let G = S .pre .1 .0 in
     let H = S .pre .1 .1 .0 .0 in
     let u = S .pre .1 .1 .0 .1 in
-    grown-written G (S .args .s) (S .args .a) (S .args .k) (H .inside) (omega (arith, H .steps)) (S .args .o) u (S .pre .1 .1 .1) (c .before .before .before .before .before .before .before .before .before .before .before .before .before .before .before .before .before .count .result) (count-right G (S .args .s) (S .args .a) (S .args .k) (H .inside) (omega (arith, H .steps)) (S .args .o) u (S .pre .1 .1 .1 .room .few) (c .before .before .before .before .before .before .before .before .before .before .before .before .before .before .before .before .before .count .ensures) (c .before .before .before .before .before .before .before .before .before .before .before .before .before .before .before .before .before .before .target .ensures .0)) (c .before .before .before .before .before .before .before .before .before .before .before .before .below .ensures) (c .before .before .before .before .before .before .before .before .before .before .before .before .below .kept .1 .1 .1 .1 .1 .1 .1 .1 .1 .1 .0) (c .before .before .before .weight .result) (c .before .before .before .weight .ensures .0) (S .args .right) (c .before .before .join .ensures)
+    let P = placed (S .args .a) (S .args .k) H in
+    let R = S .pre .1 .1 .1 in
+    let n = c .before .before .before .before .before .before .before .before .before .before .before .before .before .before .before .before .before .count in
+    let e = count-right G P (S .args .o) u (R .room .few) (n .ensures) (c .before .before .before .before .before .before .before .before .before .before .before .before .before .before .before .before .before .before .target .ensures .0) in
+    let b = c .before .before .before .before .before .before .before .before .before .before .before .before .below in
+    let w = c .before .before .before .weight in
+    grown-written G P (S .args .o) u R (n .result) e (b .ensures) (b .kept .1 .1 .1 .1 .1 .1 .1 .1 .1 .1 .0) (w .result) (w .ensures .0) (S .args .right) (c .before .before .join .ensures)
 
 abbrev list-Inv-loop : list-lts.InvT-loop
 list-Inv-loop m q depths truth cone used table trail₀ gains₀ v₀ buf₀ start d h s k at n len₀ a₀ trail gains v buf len a =
@@ -1005,7 +1065,8 @@ list-loop-holds t c = let S = c .before .before .before .before .before .before 
     let G = S .pre .1 .0 in
     let H = S .pre .1 .1 .0 in
     let R = S .pre .1 .1 .1 in
-    (c .byte .ensures, omega arith, listed-none G (S .args .k) (S .args .k - 1) (omega (arith, H .deep)) H)
+    let i : S .args .k ≡ suc (S .args .k - 1) = omega (arith, H .deep) in
+    (c .byte .ensures, omega arith, listed-none G (S .args .k) (S .args .k - 1) i H)
 
 list-uses-requires : (t : ℕ) → list-lts.Need-uses-requires (
   decided-reads.Asked,
@@ -1054,9 +1115,10 @@ list-add-combine t c = let S = c .before .before .before .before .before .before
     let H = S .pre .1 .1 .0 in
     let R = S .pre .1 .1 .1 in
     let I = c .before .before .before .before .before .before .before .loop .inv in
+    let i : S .args .k ≡ suc (S .args .k - 1) = omega (arith, H .deep, I .1) in
     let g : c .before .before .before .before .before .before .before .loop .a < action-count (S .args .m .now) = omega (arith, I .0, c .before .before .before .before .before .before .loop-test .taken) in
-    let z = uses-right G (S .args .s) (c .before .before .before .before .before .before .before .loop .a) (S .args .k - 1) (H .inside) (omega (arith, H .steps, H .deep)) (omega (arith, is-sized (S .args .m .now) (G .ready .model-accepted) .actions)) (c .before .before .before .before .before .uses .ensures) in
-    let r = action-room G (S .args .k) (S .args .k - 1) (omega (arith, H .deep)) R (I .2) refl g (omega arith) in
+    let z = uses-right G (S .args .s) (c .before .before .before .before .before .before .before .loop .a) (H .inside) (omega (arith, is-sized (S .args .m .now) (G .ready .model-accepted) .actions)) (c .before .before .before .before .before .uses .ensures) in
+    let r = action-room G (S .args .k) (S .args .k - 1) i R (I .2) refl g (omega arith) in
     omega (arith, r .fits, S .good .1 .1 .1 .1 .1 .1 .1 .1 .1 .1 .0)
 
 list-combine-requires : (t : ℕ) → list-lts.Need-combine-requires (
@@ -1074,10 +1136,11 @@ list-combine-requires t c κs = let S = c .before .before .before .before .befor
     let H = S .pre .1 .1 .0 in
     let R = S .pre .1 .1 .1 in
     let I = c .before .before .before .before .before .before .before .loop .inv in
+    let i : S .args .k ≡ suc (S .args .k - 1) = omega (arith, H .deep, I .1) in
     let g : c .before .before .before .before .before .before .before .loop .a < action-count (S .args .m .now) = omega (arith, I .0, c .before .before .before .before .before .before .loop-test .taken) in
-    let z = uses-right G (S .args .s) (c .before .before .before .before .before .before .before .loop .a) (S .args .k - 1) (H .inside) (omega (arith, H .steps, H .deep)) (omega (arith, is-sized (S .args .m .now) (G .ready .model-accepted) .actions)) (c .before .before .before .before .before .uses .ensures) in
+    let z = uses-right G (S .args .s) (c .before .before .before .before .before .before .before .loop .a) (H .inside) (omega (arith, is-sized (S .args .m .now) (G .ready .model-accepted) .actions)) (c .before .before .before .before .before .uses .ensures) in
     let w : 0 < entries (S .args .m .now) (S .args .s) (c .before .before .before .before .before .before .before .loop .a) = omega arith in
-    (omega (arith, H .deep), (G, ((action-here G (S .args .k) (S .args .k - 1) (omega (arith, H .deep)) R (I .2) refl g w, w), action-room G (S .args .k) (S .args .k - 1) (omega (arith, H .deep)) R (I .2) refl g w)))
+    (omega (arith, H .deep), (G, ((action-here G (S .args .k) (S .args .k - 1) i R (I .2) refl g w, w), action-room G (S .args .k) (S .args .k - 1) i R (I .2) refl g w)))
 
 list-add-len : (t : ℕ) → list-lts.Need-add-len (
   decided-reads.Asked,
@@ -1094,10 +1157,11 @@ list-add-len t c = let S = c .before .before .before .before .before .before .be
     let H = S .pre .1 .1 .0 in
     let R = S .pre .1 .1 .1 in
     let I = c .before .before .before .before .before .before .before .before .before .before .before .before .before .before .before .loop .inv in
+    let i : S .args .k ≡ suc (S .args .k - 1) = omega (arith, H .deep, I .1) in
     let g : c .before .before .before .before .before .before .before .before .before .before .before .before .before .before .before .loop .a < action-count (S .args .m .now) = omega (arith, I .0, c .before .before .before .before .before .before .before .before .before .before .before .before .before .before .loop-test .taken) in
-    let z = uses-right G (S .args .s) (c .before .before .before .before .before .before .before .before .before .before .before .before .before .before .before .loop .a) (S .args .k - 1) (H .inside) (omega (arith, H .steps, H .deep)) (omega (arith, is-sized (S .args .m .now) (G .ready .model-accepted) .actions)) (c .before .before .before .before .before .before .before .before .before .before .before .before .before .uses .ensures) in
+    let z = uses-right G (S .args .s) (c .before .before .before .before .before .before .before .before .before .before .before .before .before .before .before .loop .a) (H .inside) (omega (arith, is-sized (S .args .m .now) (G .ready .model-accepted) .actions)) (c .before .before .before .before .before .before .before .before .before .before .before .before .before .uses .ensures) in
     let w : 0 < entries (S .args .m .now) (S .args .s) (c .before .before .before .before .before .before .before .before .before .before .before .before .before .before .before .loop .a) = omega (arith, c .before .before .before .before .before .before .before .before .before .before .before .before .if2 .taken) in
-    omega (arith, action-few G (S .args .k) (S .args .k - 1) (omega (arith, H .deep)) R (I .2) refl g w (take (S .args .h) (c .before .before .before .before .before .before .before .before .before .before .before .before .before .before .before .loop .trail)) (c .before .before .before .before .before .before .before .combine .ensures .count))
+    omega (arith, action-few G (S .args .k) (S .args .k - 1) i R (I .2) refl g w (take (S .args .h) (c .before .before .before .before .before .before .before .before .before .before .before .before .before .before .before .loop .trail)) (c .before .before .before .before .before .before .before .combine .ensures .count))
 
 list-add-a : (t : ℕ) → list-lts.Need-add-a (
   decided-reads.Asked,
@@ -1138,16 +1202,17 @@ list-loop-again t c = let S = c .before .before .before .before .before .before 
     let H = S .pre .1 .1 .0 in
     let R = S .pre .1 .1 .1 in
     let I = c .before .before .before .loop .inv in
+    let i : S .args .k ≡ suc (S .args .k - 1) = omega (arith, H .deep, I .1) in
     let g : c .before .before .before .loop .a < action-count (S .args .m .now) = omega (arith, I .0, c .before .before .loop-test .taken) in
-    let z = uses-right G (S .args .s) (c .before .before .before .loop .a) (S .args .k - 1) (H .inside) (omega (arith, H .steps, H .deep)) (omega (arith, is-sized (S .args .m .now) (G .ready .model-accepted) .actions)) (c .before .uses .ensures) in (
+    let z = uses-right G (S .args .s) (c .before .before .before .loop .a) (H .inside) (omega (arith, is-sized (S .args .m .now) (G .ready .model-accepted) .actions)) (c .before .uses .ensures) in (
       I .0,
       I .1,
       ⊎-elim
           (λ w.
           let x = w .5 in
           rw (w .13, w .14, w .15, w .16, w .17)
-          (action-listed G (S .args .k) (S .args .k - 1) (omega (arith, H .deep)) R (I .2) refl g (omega (arith, w .0 .taken)) (x .ensures) (x .kept .1 .1 .1 .1 .1 .1 .1 .0) (x .kept .1 .1 .1 .1 .1 .1 .1 .1 .0) (x .kept .1 .1 .1 .1 .1 .1 .1 .1 .1 .0) (x .kept .1 .1 .1 .1 .1 .1 .1 .1 .1 .1 .0)))
-          (λ w. rw (w .1, w .2, w .3, w .4, w .5) (passed-over G (S .args .k) (S .args .k - 1) (omega (arith, H .deep)) R (I .2) refl g (omega (arith, w .0 .left))))
+          (action-listed G (S .args .k) (S .args .k - 1) i R (I .2) refl g (omega (arith, w .0 .taken)) (x .ensures) (x .kept .1 .1 .1 .1 .1 .1 .1 .0) (x .kept .1 .1 .1 .1 .1 .1 .1 .1 .0) (x .kept .1 .1 .1 .1 .1 .1 .1 .1 .1 .0) (x .kept .1 .1 .1 .1 .1 .1 .1 .1 .1 .1 .0)))
+          (λ w. rw (w .1, w .2, w .3, w .4, w .5) (passed-over G (S .args .k) (S .args .k - 1) i R (I .2) refl g (omega (arith, w .0 .left))))
           (c .if2 .came),
     )
 
@@ -1213,7 +1278,8 @@ list-returns-2 t c = let S = c .before .before .before .before .before .before .
     let G = S .pre .1 .0 in
     let H = S .pre .1 .1 .0 in
     let R = S .pre .1 .1 .1 in
-    listed-all G (S .args .k) (S .args .k - 1) (omega (arith, H .deep)) R (c .before .loop .inv .2) refl (omega (arith, c .before .loop .inv .0))
+    let i : S .args .k ≡ suc (S .args .k - 1) = omega (arith, H .deep, c .before .loop .inv .1) in
+    listed-all G (S .args .k) (S .args .k - 1) i R (c .before .loop .inv .2) refl (omega (arith, c .before .loop .inv .0))
 
 pub +below+combine+grown+list-spec : {M : Type 1} → statement M
 +below+combine+grown+list-spec = close μ-below μ-combine μ-grown μ-list (λ t. below-lts.spec (
