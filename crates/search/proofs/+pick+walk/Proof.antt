@@ -1,16 +1,15 @@
 -- `pick` and `walk` meet their contracts, together: the steps left fall from the one to the other. `pick` keeps the best of the choices tried
 -- (`Tried`), `walk` the sum over the outcomes walked (`Walking`).
-use Prim.Native.Nat.{ℕ, _+_, _*_, _-_, _≤_, _<_}
+use Prim.Native.Nat.{ℕ, _+_, _-_, _≤_, _<_}
 use native.Mathlib.Omega.{arith}
-use mathlib.Core.Path.{_≡_, refl, sym, ap, _∙_}
+use mathlib.Core.Path.{_≡_, sym, ap, _∙_}
 use mathlib.Core.Logic.{⊎-elim}
 use borrow.Author.Needs.{needs}
-use lib.ListN.{length, take, length-set}
-use Rattle.models.specs.Layout.{action-count, entries, model-of}
+use lib.ListN.{take, length-set}
+use Rattle.models.specs.Layout.{action-count, entries}
 use Rattle.extension.specs.Choices.{room}
 use Rattle.evaluation.specs.Learnt.{known}
 use Rattle.search.specs.Greatest.{on-path}
-use Rattle.search.specs.Buffers.{Setting, Back}
 use Rattle.search.proofs.Walking.{Walking, walking-none}
 use Rattle.search.proofs.Paths.{sizes-here, few-here, count-here, picked-leaf, Kept, back-none, kept-none}
 use Rattle.search.proofs.Turns.{step-asked, pick-room, pick-setting, walk-fits, walk-more, walk-kept, walked-all, Turned, turned-none, walk-room, walk-setting, turned-all, turned-skipped, keep-asked, turned-taken, turned-same}
@@ -339,7 +338,7 @@ pick-loop-again t c = let S = c .before .before .before .before .before .before 
       L .inv .0,
       omega (arith, c .before .before .loop-test .taken),
       turned-same (w .17) (w .18) (w .19) (w .20) (w .21)
-      (turned-taken (S .pre .1 .0) some (L .inv .2) (S .pre .1 .1) (w .5 .ensures .0) (λ e. w .0 .taken (n ∙ e)) (w .5 .ensures .1) (w .14 .ensures) (w .5 .kept .1 .1 .1 .1 .1 .1 .0) (w .5 .kept .1 .1 .1 .1 .1 .1 .1 .0) (w .5 .kept .1 .1 .1 .1 .1 .1 .1 .1 .0) (w .14 .kept .0 ∙ w .5 .kept .1 .1 .1 .1 .1 .1 .1 .1 .1 .0)),
+          (turned-taken (S .pre .1 .0) some (L .inv .2) (S .pre .1 .1) (w .5 .ensures .0) (λ e. w .0 .taken (n ∙ e)) (w .5 .ensures .1) (w .14 .ensures) (w .5 .kept .1 .1 .1 .1 .1 .1 .0) (w .5 .kept .1 .1 .1 .1 .1 .1 .1 .0) (w .5 .kept .1 .1 .1 .1 .1 .1 .1 .1 .0) (w .14 .kept .0 ∙ w .5 .kept .1 .1 .1 .1 .1 .1 .1 .1 .1 .0)),
     ))
     (λ w. (
       L .inv .0,
