@@ -1,19 +1,17 @@
 -- How large totals are, and how many choices plans have: the weights of all paths of a plan sum to a power of the denominator, and an
 -- action has at most four outcomes.
-use Prim.Native.Nat.{ℕ, zero, suc, _+_, _*_, _^_, _≤_, _<_}
+use Prim.Native.Nat.{ℕ, zero, suc, _*_, _^_, _≤_, _<_}
 use native.Mathlib.Nat.{add-le-add, mul-le-mul-left, mul-le-mul-right, le-refl, le-trans, suc-mul}
 use native.Mathlib.Omega.{arith}
-use mathlib.Core.Path.{_≡_, refl, sym, ap, ap₂, subst, _∙_}
+use mathlib.Core.Path.{_≡_, ap, subst}
 use mathlib.Core.Bool.{Bool, true, _&&_}
-use mathlib.Core.List.{List, [], _∷_, _++_, map, flatMap}
-use lib.Dec.{leb}
+use mathlib.Core.List.{List, [], _∷_, flatMap}
 use lib.ListN.{length, length-append}
-use borrow.Author.Tests.{leb-true}
 use Rattle.logic.specs.Checked.{refusal}
 use Rattle.logic.specs.Model.{Model, Step, enabled, outcomes}
 use Rattle.logic.specs.Quantity.{naturals, sum, weights, order}
-use Rattle.logic.specs.Plan.{Plan, paths, weight, choices}
-use Rattle.logic.specs.Recursion.{best-choice, greatest, best-plan}
+use Rattle.logic.specs.Plan.{paths, weight, choices}
+use Rattle.logic.specs.Recursion.{greatest}
 use Rattle.logic.specs.Accepted.{Accepted}
 use Rattle.logic.specs.Total.{total}
 use Rattle.logic.proofs.Tests.{and-both, length-tabulate}
@@ -29,7 +27,7 @@ use Rattle.models.proofs.Readable.{readable}
 use Rattle.models.proofs.Rows.{outcomes-are, entries-few}
 use Rattle.bounds.proofs.Powers.{power-le}
 use Rattle.extension.specs.Choices.{room}
-use Rattle.search.specs.Greatest.{best-choices, worth, below}
+use Rattle.search.specs.Greatest.{best-choices, below}
 use Rattle.search.proofs.Orders.{ordered, additive}
 use Rattle.search.proofs.Steps.{best-of, plan-from, choices-step}
 

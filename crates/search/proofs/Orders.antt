@@ -3,12 +3,12 @@
 use Prim.Native.Nat.{ℕ, _<_}
 use native.Mathlib.Omega.{arith}
 use native.Mathlib.Decide.{decLt}
-use mathlib.Core.Path.{_≡_, refl, sym, ap, subst, _∙_}
+use mathlib.Core.Path.{_≡_, refl, sym, ap, _∙_}
 use mathlib.Core.Bool.{Bool, true, false, not, cond, false≢true}
 use mathlib.Core.List.{List, [], _∷_, _++_}
 use lib.Dec.{T, leb, ltb}
 use borrow.Author.Tests.{lt-ltb, le-ltb, lt-leb, le-leb}
-use Rattle.logic.specs.Quantity.{Quantity, naturals, reversed, weights, order}
+use Rattle.logic.specs.Quantity.{Quantity, naturals, weights, order}
 use Rattle.logic.specs.Recursion.{first-best}
 use Rattle.logic.proofs.Tests.{T→true, true→T, not-true}
 use Rattle.logic.proofs.Sums.{Additive, naturals-additive}

@@ -16,13 +16,12 @@ use Rattle.logic.specs.Recursion.{greatest}
 use Rattle.logic.specs.Total.{one-if}
 use Rattle.blocks.specs.Bytes.{Bytes}
 use Rattle.models.specs.Layout.{state-count, action-count, outcome-of, entries, model-of}
-use Rattle.models.specs.Used.{Used}
 use Rattle.models.proofs.Passed.{passed-all, passed-sized}
 use Rattle.models.proofs.Laws.{entries-small}
 use Rattle.evaluation.specs.Path.{step-of, steps-of, state-after}
-use Rattle.evaluation.specs.Reached.{formula, root-of, Ready}
+use Rattle.evaluation.specs.Reached.{formula, root-of}
 use Rattle.evaluation.specs.Learnt.{known}
-use Rattle.evaluation.specs.Known.{Knows, Roomy, Offered, Stepped}
+use Rattle.evaluation.specs.Known.{Knows, Offered, Stepped}
 use Rattle.evaluation.proofs.Trails.{steps-append, state-append, state-inside}
 use Rattle.evaluation.proofs.Knowing.{knows-shorter}
 use Rattle.evaluation.proofs.Stepping.{leaf-value}

@@ -63,9 +63,10 @@ module _ {m used q : Bytes} {depths truth cone : List ℕ} {start : ℕ} {trail�
             (walking-more least m s a k (on-path m q start cone (take h trail₀)) (S .ready .model-accepted) (state-here S) (omega (arith, S .few)) (on-path-bit m q start cone (take h trail₀))
             o here at end (b .end) sum (b .value) choices₀ choices choices″ W (picked-value k N a o here T (K .back .kept) P) (picked-wrote k N a o here T (K .back .kept) P) w e)
 
-      pub walk-kept : length trail″ ≡ length trail → length gains″ ≡ length gains → length v″ ≡ length v → length choices″ ≡ length choices
+      pub walk-kept : length trail′ ≡ length trail → length gains′ ≡ length gains → length v′ ≡ length v
+          → length trail″ ≡ length trail′ → length gains″ ≡ length gains′ → length v″ ≡ length v′ → length choices″ ≡ length choices
           → Kept m q start cone h trail₀ gains₀ v₀ choices₀ trail″ gains″ v″ choices″
-      walk-kept et eg ev ec = kept-kept K (back-on k (setting-kept S K) a o here T B) et eg ev ec
+      walk-kept et eg ev et′ eg′ ev′ ec = kept-kept K (back-on k (setting-kept S K) a o here T B) (et′ ∙ et) (eg′ ∙ eg) (ev′ ∙ ev) ec
 
 -- All outcomes are walked.
 pub walked-all : {m used q : Bytes} {depths truth cone : List ℕ} {start : ℕ} {trail : List ℕ} {gains : List ℤ} {v choices₀ choices : List ℕ} {h s j : ℕ}

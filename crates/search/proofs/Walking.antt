@@ -1,7 +1,7 @@
 -- The outcomes walked so far: their weights times the best totals below them are summed, and the choices there stand one behind the other.
 use Prim.Native.Nat.{ℕ, _+_, _*_, _^_, _≤_, _<_}
 use native.Mathlib.Omega.{arith}
-use native.Mathlib.Nat.{mul-le-mul, add-zero, suc-mul, mul-le-mul-right}
+use native.Mathlib.Nat.{mul-le-mul, add-zero, mul-le-mul-right}
 use native.Mathlib.Numerals.{add-one}
 use mathlib.Core.Path.{_≡_, refl, sym, ap, ap₂, subst, _∙_}
 use mathlib.Core.Bool.{Bool}

@@ -154,7 +154,25 @@ fn pick(
         if count(used, s, a) != 0 {
             let from = best.end;
             choices[from] = a;
-            let w = walk(m, used, q, depths, truth, cone, trail, gains, v, choices, start, h, s, a, k - 1, from + 1, least);
+            let w = walk(
+                m,
+                used,
+                q,
+                depths,
+                truth,
+                cone,
+                trail,
+                gains,
+                v,
+                choices,
+                start,
+                h,
+                s,
+                a,
+                k - 1,
+                from + 1,
+                least,
+            );
             best = keep(choices, best, w, at, least);
         }
         a += 1;
@@ -192,8 +210,39 @@ fn walk(
     let mut end = at;
     let mut o: u8 = 0;
     while o < n {
-        let t = step(m, q, depths, truth, cone, trail, gains, v, start, h, s, a, o);
-        let b = pick(m, used, q, depths, truth, cone, trail, gains, v, choices, start, h + 1, t, k, end, least);
+        let t = step(
+            m,
+            q,
+            depths,
+            truth,
+            cone,
+            trail,
+            gains,
+            v,
+            start,
+            h,
+            s,
+            a,
+            o,
+        );
+        let b = pick(
+            m,
+            used,
+            q,
+            depths,
+            truth,
+            cone,
+            trail,
+            gains,
+            v,
+            choices,
+            start,
+            h + 1,
+            t,
+            k,
+            end,
+            least,
+        );
         sum = add_mul(sum, weight(m, s as usize, a as usize, o as usize), b.value);
         end = b.end;
         o += 1;
@@ -225,7 +274,24 @@ pub fn find(
     let mut gains = [0i32; 7];
     let mut v = [0u8; 280];
     learn(q, depths, truth, &trail, &gains, cone, &mut v, 0, start);
-    let b = pick(m, used, q, depths, truth, cone, &mut trail, &mut gains, &mut v, choices, start, 0, start, d, 0, least);
+    let b = pick(
+        m,
+        used,
+        q,
+        depths,
+        truth,
+        cone,
+        &mut trail,
+        &mut gains,
+        &mut v,
+        choices,
+        start,
+        0,
+        start,
+        d,
+        0,
+        least,
+    );
     Found {
         value: b.value,
         count: b.end,

@@ -1,16 +1,15 @@
 -- `pick` and `walk` meet their contracts, together: the steps left fall from the one to the other. `pick` keeps the best of the choices tried
 -- (`Tried`), `walk` the sum over the outcomes walked (`Walking`).
-use Prim.Native.Nat.{ℕ, _+_, _*_, _-_, _≤_, _<_}
+use Prim.Native.Nat.{ℕ, _+_, _-_, _≤_, _<_}
 use native.Mathlib.Omega.{arith}
-use mathlib.Core.Path.{_≡_, refl, sym, ap, _∙_}
+use mathlib.Core.Path.{_≡_, sym, ap, _∙_}
 use mathlib.Core.Logic.{⊎-elim}
 use borrow.Author.Needs.{needs}
-use lib.ListN.{length, take, length-set}
-use Rattle.models.specs.Layout.{action-count, entries, model-of}
+use lib.ListN.{take, length-set}
+use Rattle.models.specs.Layout.{action-count, entries}
 use Rattle.extension.specs.Choices.{room}
 use Rattle.evaluation.specs.Learnt.{known}
 use Rattle.search.specs.Greatest.{on-path}
-use Rattle.search.specs.Buffers.{Setting, Back}
 use Rattle.search.proofs.Walking.{Walking, walking-none}
 use Rattle.search.proofs.Paths.{sizes-here, few-here, count-here, picked-leaf, Kept, back-none, kept-none}
 use Rattle.search.proofs.Turns.{step-asked, pick-room, pick-setting, walk-fits, walk-more, walk-kept, walked-all, Turned, turned-none, walk-room, walk-setting, turned-all, turned-skipped, keep-asked, turned-taken, turned-same}
@@ -281,7 +280,7 @@ pick-keep-requires : (t : ℕ) → pick-lts.Need-keep-requires (
 ) (pick-at t) pick.Post pick-Inv-loop pick-μ-loop
 pick-keep-requires t c κs = let S = c .before .before .before .before .before .before .before .before .before .before .before .before .before .before .before .before .before .before .before .before .before .before .before .before .before .before .before in
     let L = c .before .before .before .before .before .before .before .before .before .before .before .before .before .before .before .before .loop in
-    keep-asked (S .pre .1 .0) (c .before .before .before .before .before .before .before .before .before .before .before .before .before .before .before .before .before .before .if1 .left) (L .inv .2) (S .pre .1 .1) (c .before .before .before .before .before .before .before .before .walk .ensures .0)
+    keep-asked (S .pre .1 .0) (c .before .before .before .before .before .before .before .before .before .before .before .before .before .before .before .before .before .before .if1 .left) (L .inv .2) (S .pre .1 .1) {choices′ = c .before .before .before .before .before .before .before .before .walk .last .1 .1 .1 .1 .1 .1 .1 .1 .1 .0} (c .before .before .before .before .before .before .before .before .walk .ensures .0)
 
 pick-add-a : (t : ℕ) → pick-lts.Need-add-a (
   root-reads.Asked,
@@ -339,7 +338,7 @@ pick-loop-again t c = let S = c .before .before .before .before .before .before 
       L .inv .0,
       omega (arith, c .before .before .loop-test .taken),
       turned-same (w .17) (w .18) (w .19) (w .20) (w .21)
-      (turned-taken (S .pre .1 .0) some (L .inv .2) (S .pre .1 .1) (w .5 .ensures .0) (λ e. w .0 .taken (n ∙ e)) (w .5 .ensures .1) (w .14 .ensures) (w .5 .kept .1 .1 .1 .1 .1 .1 .0) (w .5 .kept .1 .1 .1 .1 .1 .1 .1 .0) (w .5 .kept .1 .1 .1 .1 .1 .1 .1 .1 .0) (w .14 .kept .0 ∙ w .5 .kept .1 .1 .1 .1 .1 .1 .1 .1 .1 .0)),
+          (turned-taken (S .pre .1 .0) some (L .inv .2) (S .pre .1 .1) {choices′ = w .5 .last .1 .1 .1 .1 .1 .1 .1 .1 .1 .0} (w .5 .ensures .0) (λ e. w .0 .taken (n ∙ e)) (w .5 .ensures .1) (w .14 .ensures) (w .5 .kept .1 .1 .1 .1 .1 .1 .0) (w .5 .kept .1 .1 .1 .1 .1 .1 .1 .0) (w .5 .kept .1 .1 .1 .1 .1 .1 .1 .1 .0) (w .14 .kept .0 ∙ w .5 .kept .1 .1 .1 .1 .1 .1 .1 .1 .1 .0)),
     ))
     (λ w. (
       L .inv .0,
@@ -517,7 +516,7 @@ walk-pick-requires t c κs = let S = c .before .before .before .before .before .
     let here : L .o < entries (S .args .m .now) (S .args .s) (S .args .a) = omega (arith, L .inv .0, c .before .before .before .before .before .before .before .before .before .before .before .before .before .loop-test .taken) in (
       omega (arith, S .pre .0),
       (
-        pick-setting (S .args .k) (S .pre .1 .0) (L .inv .3) (L .inv .2) here (T .ensures) (T .kept .1 .1 .1 .1 .1 .0) (T .kept .1 .1 .1 .1 .1 .1 .0) (T .kept .1 .1 .1 .1 .1 .1 .1 .0),
+        pick-setting (S .args .k) (S .pre .1 .0) (L .inv .3) (L .inv .2) here {trail′ = T .last .1 .1 .1 .1 .1 .0} {gains′ = T .last .1 .1 .1 .1 .1 .1 .0} {v′ = T .last .1 .1 .1 .1 .1 .1 .1 .0} (T .ensures) (T .kept .1 .1 .1 .1 .1 .0) (T .kept .1 .1 .1 .1 .1 .1 .0) (T .kept .1 .1 .1 .1 .1 .1 .1 .0),
         pick-room (S .args .k) (S .pre .1 .0) (L .inv .3) (L .inv .2) here (S .pre .1 .1 .1),
       ),
     )
@@ -570,7 +569,7 @@ walk-add-mul-requires t c κs = let S = c .before .before .before .before .befor
     let T = c .before .before .before .before .before .before .before .before .before .before .before .before .before .before .before .before .before .before .step in
     let P = c .before .before .before .before .before .before .before .before .pick in
     let here : L .o < entries (S .args .m .now) (S .args .s) (S .args .a) = omega (arith, L .inv .0, c .before .before .before .before .before .before .before .before .before .before .before .before .before .before .before .before .before .before .before .before .before .before .loop-test .taken) in
-    walk-fits (S .args .k) (S .pre .1 .0) (L .inv .3) (L .inv .2) here (T .ensures) (P .ensures .0) (P .ensures .1) (c .weight .result) (c .weight .ensures .0)
+    walk-fits (S .args .k) (S .pre .1 .0) (L .inv .3) (L .inv .2) here {trail′ = T .last .1 .1 .1 .1 .1 .0} {gains′ = T .last .1 .1 .1 .1 .1 .1 .0} {v′ = T .last .1 .1 .1 .1 .1 .1 .1 .0} (T .ensures) {trail″ = P .last .1 .1 .1 .1 .1 .1 .0} {gains″ = P .last .1 .1 .1 .1 .1 .1 .1 .0} {v″ = P .last .1 .1 .1 .1 .1 .1 .1 .1 .0} {choices″ = P .last .1 .1 .1 .1 .1 .1 .1 .1 .1 .0} (P .ensures .0) (P .ensures .1) (c .weight .result) (c .weight .ensures .0)
 
 walk-add-o : (t : ℕ) → walk-lts.Need-add-o (
   count-reads.Asked,
@@ -620,8 +619,8 @@ walk-loop-again t c = let S = c .before .before .before .before .before .before 
     let here : L .o < entries (S .args .m .now) (S .args .s) (S .args .a) = omega (arith, L .inv .0, c .before .before .before .before .before .before .before .before .before .before .before .before .before .before .before .before .before .before .before .before .before .before .before .loop-test .taken) in (
       L .inv .0,
       omega (arith, c .before .before .before .before .before .before .before .before .before .before .before .before .before .before .before .before .before .before .before .before .before .before .before .loop-test .taken),
-      walk-more (S .args .k) (S .pre .1 .0) (L .inv .3) (L .inv .2) here (T .ensures) (P .ensures .0) (P .ensures .1) (c .before .weight .result) (c .before .weight .ensures .0) (c .add-mul .ensures),
-      walk-kept (S .args .k) (S .pre .1 .0) (L .inv .3) (L .inv .2) here (T .ensures) (P .ensures .0) (P .ensures .1) (P .kept .1 .1 .1 .1 .1 .1 .0 ∙ T .kept .1 .1 .1 .1 .1 .0) (P .kept .1 .1 .1 .1 .1 .1 .1 .0 ∙ T .kept .1 .1 .1 .1 .1 .1 .0) (P .kept .1 .1 .1 .1 .1 .1 .1 .1 .0 ∙ T .kept .1 .1 .1 .1 .1 .1 .1 .0) (P .kept .1 .1 .1 .1 .1 .1 .1 .1 .1 .0),
+      walk-more (S .args .k) (S .pre .1 .0) (L .inv .3) (L .inv .2) here {trail′ = T .last .1 .1 .1 .1 .1 .0} {gains′ = T .last .1 .1 .1 .1 .1 .1 .0} {v′ = T .last .1 .1 .1 .1 .1 .1 .1 .0} (T .ensures) {trail″ = P .last .1 .1 .1 .1 .1 .1 .0} {gains″ = P .last .1 .1 .1 .1 .1 .1 .1 .0} {v″ = P .last .1 .1 .1 .1 .1 .1 .1 .1 .0} {choices″ = P .last .1 .1 .1 .1 .1 .1 .1 .1 .1 .0} (P .ensures .0) (P .ensures .1) (c .before .weight .result) (c .before .weight .ensures .0) (c .add-mul .ensures),
+      walk-kept (S .args .k) (S .pre .1 .0) (L .inv .3) (L .inv .2) here {trail′ = T .last .1 .1 .1 .1 .1 .0} {gains′ = T .last .1 .1 .1 .1 .1 .1 .0} {v′ = T .last .1 .1 .1 .1 .1 .1 .1 .0} (T .ensures) {trail″ = P .last .1 .1 .1 .1 .1 .1 .0} {gains″ = P .last .1 .1 .1 .1 .1 .1 .1 .0} {v″ = P .last .1 .1 .1 .1 .1 .1 .1 .1 .0} {choices″ = P .last .1 .1 .1 .1 .1 .1 .1 .1 .1 .0} (P .ensures .0) (P .ensures .1) (T .kept .1 .1 .1 .1 .1 .0) (T .kept .1 .1 .1 .1 .1 .1 .0) (T .kept .1 .1 .1 .1 .1 .1 .1 .0) (P .kept .1 .1 .1 .1 .1 .1 .0) (P .kept .1 .1 .1 .1 .1 .1 .1 .0) (P .kept .1 .1 .1 .1 .1 .1 .1 .1 .0) (P .kept .1 .1 .1 .1 .1 .1 .1 .1 .1 .0),
     )
 
 walk-same-length : (t : ℕ) → walk-lts.Need-same-length (

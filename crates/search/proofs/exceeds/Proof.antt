@@ -1,5 +1,5 @@
 -- `exceeds`: each order is the negation of the other, turned round.
-use mathlib.Core.Path.{_≡_, sym, ap, _∙_}
+use mathlib.Core.Path.{sym, ap, _∙_}
 use mathlib.Core.Bool.{not}
 use Rattle.logic.specs.Quantity.{order}
 use Rattle.search.proofs.Orders.{less-not}

@@ -1,5 +1,5 @@
 -- `keep`: a candidate that wins is moved down, and one that does not is left.
-use mathlib.Core.Path.{_≡_, refl, sym, _∙_}
+use mathlib.Core.Path.{refl, sym, _∙_}
 use mathlib.Core.Bool.{false≢true}
 use borrow.Author.Needs.{needs}
 use Rattle.search.proofs.keep.Statement.{statement}

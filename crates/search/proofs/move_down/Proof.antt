@@ -1,9 +1,7 @@
 -- `move_down`: the bytes go down in order, so that none is written over before it is moved.
-use Prim.Native.Nat.{_+_, _-_, _≤_}
+use Prim.Native.Nat.{_-_, _≤_}
 use native.Mathlib.Omega.{arith}
-use mathlib.Core.Path.{_≡_, ap, _∙_}
-use borrow.Author.Needs.{needs}
-use lib.ListN.{take}
+use mathlib.Core.Path.{_≡_}
 use Rattle.search.proofs.Stack.{Moved, moved-none, moved-more}
 use Rattle.search.proofs.move_down.Statement.{statement}
 use Rattle.search.proofs.move_down.Tie as tie

@@ -1,5 +1,5 @@
 -- `wins`: by whether there is a best so far.
-use mathlib.Core.Path.{_≡_, sym, ap, _∙_}
+use mathlib.Core.Path.{sym, ap, _∙_}
 use mathlib.Core.Bool.{not, _||_}
 use borrow.Author.Needs.{needs}
 use Rattle.logic.specs.Quantity.{order}
