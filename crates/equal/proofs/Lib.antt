@@ -7,3 +7,9 @@ pub mod Combine
 pub mod Rooms
 pub mod Spans
 pub mod Bounds
+pub mod Accepting
+pub mod Writing
+pub mod Taking
+pub mod Passing
+pub mod Searching
+pub mod Serving

@@ -1,19 +1,22 @@
 -- What making the list of totals is handed, and what it promises.
-use Prim.Native.Nat.{ℕ, _+_, _*_, _≤_, _<_}
+use Prim.Native.Nat.{ℕ, _+_, _*_, _^_, _≤_, _<_}
 use mathlib.Core.Path.{_≡_}
-use mathlib.Core.List.{List, _++_}
+use mathlib.Core.List.{List, _++_, List·Memᴰ}
 use lib.IntN.{ℤ}
 use lib.ListN.{getD, length, take}
 use Rattle.logic.specs.Model.{Step}
 use Rattle.logic.specs.Formula.{depth}
 use Rattle.logic.specs.Total.{value-of}
 use Rattle.logic.specs.Limits.{plan-total}
-use Rattle.blocks.specs.Bytes.{Bytes}
+use Rattle.blocks.specs.Bytes.{Bytes, byte}
 use Rattle.models.specs.Layout.{state-count, model-of, entries, outcome-of}
 use Rattle.models.specs.Used.{Used}
 use Rattle.evaluation.specs.Path.{steps-of, state-after}
 use Rattle.evaluation.specs.Reached.{formula, root-of, Ready}
+use Rattle.evaluation.specs.Learnt.{known}
 use Rattle.evaluation.specs.Known.{Knows, Roomy}
+use Rattle.equal.specs.Totals.{part}
+use Rattle.equal.specs.Room.{Room}
 
 -- The value of the condition at the cone's root on the path that begins with the trail t and goes on with r.
 abbrev pub onward : (m q : Bytes) (start : ℕ) (cone t : List ℕ) → List Step → ℕ
@@ -51,3 +54,25 @@ pub record Written (xs : List ℕ) (m q : Bytes) (start : ℕ) (cone : List ℕ)
 pub record Longest (m : Bytes) (table : List ℕ) (s a c k j : ℕ) : Type 0 where
   pub inside : j < c
   pub most : (o : ℕ) → o < c → getD table (32 * k + (outcome-of m s a o) .target) 0 ≤ getD table (32 * k + (outcome-of m s a j) .target) 0
+
+-- Where the condition is decided: its value stands at the root's first place, and the list fits.
+pub record Decides (m cone v table buf : List ℕ) (s k at : ℕ) : Type 0 where
+  pub some : 0 < length cone
+  pub steps : k ≤ 6
+  pub state : s < 32
+  pub part-of : byte m 5 ≤ 100
+  pub truth : known v (root-of cone) 0 ≤ 1
+  pub room : at + getD table (32 * k + s) 0 ≤ length buf
+
+-- What stands at `at` before the list of a further outcome, n numbers over k steps, is made behind the product and joined on.
+pub record Grows (buf : List ℕ) (at len n k : ℕ) : Type 0 where
+  pub some : 0 < len
+  pub few : len * n ≤ 65536
+  pub small : (x : ℕ) → List·Memᴰ x (part buf at len) → x ≤ 4 * 100 ^ 6
+  pub room : Room k n (at + len * n) (length buf)
+
+-- r is the first place of x in the list; where there is none, the list's length.
+pub record First (l : List ℕ) (x r : ℕ) : Type 0 where
+  pub few : r ≤ length l
+  pub none-before : (j : ℕ) → j < r → (getD l j 0 ≡ x → ⊥)
+  pub there : r < length l → getD l r 0 ≡ x

@@ -2,16 +2,21 @@
 ghost use mathlib.Core.Path.{_≡_};
 ghost use mathlib.Core.Logic.{_⊎_};
 ghost use Prim.Native.Nat.{_+_, _*_, _^_, _-_, _≤_, _<_, min, max};
-ghost use lib.ListN.{getD, length, take};
+ghost use mathlib.Core.List.{_∷_};
+ghost use lib.ListN.{getD, length, replicate, take};
 ghost use Rattle.logic.specs.Model.{outcomes};
 ghost use Rattle.logic.specs.Limits.{multiply, plan-total};
-ghost use Rattle.models.specs.Layout.{action-count, model-of, entries, outcome-of};
-ghost use Rattle.equal.specs.Totals.{totals, combined, weighed};
+ghost use Rattle.blocks.specs.Bytes.{byte};
+ghost use Rattle.models.specs.Layout.{model-of, entries, outcome-of};
+ghost use Rattle.evaluation.specs.Learnt as learnt;
+ghost use Rattle.evaluation.specs.Reached.{root-of};
+ghost use Rattle.equal.specs.Totals.{totals, combined, weighed, joined, part, splice};
 ghost use Rattle.equal.specs.Room.{Room};
-ghost use Rattle.equal.specs.Listing.{onward, Given, Here, Written, Longest};
+ghost use Rattle.equal.specs.Listing.{onward, Given, Here, Written, Longest, Decides, Grows};
 use crate::spread::fill;
 use crate::spread::join;
 use crate::spread::shift;
+use blocks::byte;
 use blocks::wide;
 use bounds::power;
 use evaluation::known;
@@ -70,4 +75,300 @@ fn most(x: u8, y: u8) -> u8
     ensures { λ r. ⌜ r ≡ max x y ⌝ }
 {
     if x < y { y } else { x }
+}
+
+// The list where the condition is decided: all plans have the same total.
+fn decided(
+    m: &[u8],
+    table: &[u64; 224],
+    cone: &[u8],
+    v: &[u8],
+    buf: &mut [u64],
+    s: u8,
+    k: u8,
+    at: usize,
+) -> usize
+    requires { ⌜ Decides (now m) (now cone) (now v) (now table) (now buf) s k at ⌝ }
+    ensures { λ r. ⌜ (r ≡ getD (now (table .entry)) (32 * k + s) 0) × (now (buf .exit) ≡ splice (now (buf .entry)) at (replicate (getD (now (table .entry)) (32 * k + s) 0) (learnt.known (now (v .entry)) (root-of (now (cone .entry))) 0 * byte (now (m .entry)) 5 ^ k))) ⌝ }
+{
+    let n = count(table, k, s as usize);
+    let last = cone.len() - 1;
+    let x = known(v, cone[last], 0) as u64 * power(wide(m, 5), k);
+    fill(buf, at, n, x);
+    n
+}
+
+// Writes the totals of all plans of k steps from the state s, after h steps, and gives their number.
+pub fn list(
+    m: &[u8],
+    q: &[u8],
+    depths: &[u32],
+    truth: &[u8],
+    cone: &[u8],
+    used: &[u8; 264],
+    table: &[u64; 224],
+    trail: &mut [u8],
+    gains: &mut [i32],
+    v: &mut [u8],
+    buf: &mut [u64],
+    start: u8,
+    d: u8,
+    h: u8,
+    s: u8,
+    k: u8,
+    at: usize,
+) -> usize
+    requires { ⌜ Given (now m) (now q) start d (now depths) (now truth) (now cone) (now used) (now table) ⌝ }
+    requires { ⌜ Here (now m) (now q) start d (now cone) (now trail) (now gains) (now v) h s k ⌝ }
+    requires { ⌜ Room k (plan-total (model-of (now m)) k s) at (length (now buf)) ⌝ }
+    ensures { λ r. ⌜ Written (totals (model-of (now (m .entry))) k s (onward (now (m .entry)) (now (q .entry)) start (now (cone .entry)) (take h (now (trail .entry))))) (now (m .entry)) (now (q .entry)) start (now (cone .entry)) h at (now (trail .entry)) (now (trail .exit)) (now (gains .exit)) (now (v .exit)) (now (buf .entry)) (now (buf .exit)) r ⌝ }
+{
+    if d <= h {
+        return decided(m, table, cone, v, buf, s, k, at);
+    }
+    let n = byte(m, 3);
+    let mut len: usize = 0;
+    let mut a: u8 = 0;
+    while a < n {
+        if 0 < uses(used, s, a) {
+            len += combine(
+                m,
+                q,
+                depths,
+                truth,
+                cone,
+                used,
+                table,
+                trail,
+                gains,
+                v,
+                buf,
+                start,
+                d,
+                h,
+                s,
+                a,
+                k - 1,
+                at + len,
+            );
+        }
+        a += 1;
+    }
+    len
+}
+
+// Writes the totals of all plans that begin with the action a, with k steps below it: the lists below its outcomes, combined from the
+// longest one on, to the right and then to the left.
+fn combine(
+    m: &[u8],
+    q: &[u8],
+    depths: &[u32],
+    truth: &[u8],
+    cone: &[u8],
+    used: &[u8; 264],
+    table: &[u64; 224],
+    trail: &mut [u8],
+    gains: &mut [i32],
+    v: &mut [u8],
+    buf: &mut [u64],
+    start: u8,
+    d: u8,
+    h: u8,
+    s: u8,
+    a: u8,
+    k: u8,
+    at: usize,
+) -> usize
+    requires { ⌜ Given (now m) (now q) start d (now depths) (now truth) (now cone) (now used) (now table) ⌝ }
+    requires { ⌜ Here (now m) (now q) start d (now cone) (now trail) (now gains) (now v) h s (k + 1) × (0 < entries (now m) s a) ⌝ }
+    requires { ⌜ Room (k + 1) (multiply (λ o. plan-total (model-of (now m)) k (o .target)) (outcomes (model-of (now m)) s a)) at (length (now buf)) ⌝ }
+    ensures { λ r. ⌜ Written (combined (weighed (model-of (now (m .entry))) k (onward (now (m .entry)) (now (q .entry)) start (now (cone .entry)) (take h (now (trail .entry))))) (outcomes (model-of (now (m .entry))) s a)) (now (m .entry)) (now (q .entry)) start (now (cone .entry)) h at (now (trail .entry)) (now (trail .exit)) (now (gains .exit)) (now (v .exit)) (now (buf .entry)) (now (buf .exit)) r ⌝ }
+{
+    let c = uses(used, s, a);
+    let mut lo = longest(m, table, s, a, c, k);
+    let mut hi = lo + 1;
+    let mut len = below(
+        m,
+        q,
+        depths,
+        truth,
+        cone,
+        used,
+        table,
+        trail,
+        gains,
+        v,
+        buf,
+        start,
+        d,
+        h,
+        s,
+        a,
+        lo,
+        k,
+        at,
+    );
+    shift(
+        buf,
+        at,
+        at,
+        len,
+        weight(m, s as usize, a as usize, lo as usize) as u64,
+        0,
+    );
+    while hi - lo < c {
+        let o = beside(lo, hi, c);
+        len = grown(
+            m,
+            q,
+            depths,
+            truth,
+            cone,
+            used,
+            table,
+            trail,
+            gains,
+            v,
+            buf,
+            start,
+            d,
+            h,
+            s,
+            a,
+            o,
+            k,
+            at,
+            len,
+            lo < o,
+        );
+        lo = least(lo, o);
+        hi = most(hi, o + 1);
+    }
+    len
+}
+
+// Combines the list at `at` with the totals below a further outcome o, which are made behind the product: on its right, or on its left.
+fn grown(
+    m: &[u8],
+    q: &[u8],
+    depths: &[u32],
+    truth: &[u8],
+    cone: &[u8],
+    used: &[u8; 264],
+    table: &[u64; 224],
+    trail: &mut [u8],
+    gains: &mut [i32],
+    v: &mut [u8],
+    buf: &mut [u64],
+    start: u8,
+    d: u8,
+    h: u8,
+    s: u8,
+    a: u8,
+    o: u8,
+    k: u8,
+    at: usize,
+    len: usize,
+    right: bool,
+) -> usize
+    requires { ⌜ Given (now m) (now q) start d (now depths) (now truth) (now cone) (now used) (now table) ⌝ }
+    requires { ⌜ Here (now m) (now q) start d (now cone) (now trail) (now gains) (now v) h s (k + 1) × (o < entries (now m) s a) ⌝ }
+    requires { ⌜ Grows (now buf) at len (plan-total (model-of (now m)) k ((outcome-of (now m) s a o) .target)) k ⌝ }
+    ensures { λ r. ⌜ Written (joined right (part (now (buf .entry)) at len) (weighed (model-of (now (m .entry))) k (onward (now (m .entry)) (now (q .entry)) start (now (cone .entry)) (take h (now (trail .entry)))) (outcome-of (now (m .entry)) s a o))) (now (m .entry)) (now (q .entry)) start (now (cone .entry)) h at (now (trail .entry)) (now (trail .exit)) (now (gains .exit)) (now (v .exit)) (now (buf .entry)) (now (buf .exit)) r ⌝ }
+{
+    let n = count(table, k, target(m, s as usize, a as usize, o as usize));
+    let end = at + len * n;
+    below(
+        m,
+        q,
+        depths,
+        truth,
+        cone,
+        used,
+        table,
+        trail,
+        gains,
+        v,
+        buf,
+        start,
+        d,
+        h,
+        s,
+        a,
+        o,
+        k,
+        end,
+    );
+    join(
+        buf,
+        at,
+        len,
+        n,
+        weight(m, s as usize, a as usize, o as usize) as u64,
+        right,
+    );
+    len * n
+}
+
+// Writes the totals of all plans of k steps below the outcome o of the action a.
+fn below(
+    m: &[u8],
+    q: &[u8],
+    depths: &[u32],
+    truth: &[u8],
+    cone: &[u8],
+    used: &[u8; 264],
+    table: &[u64; 224],
+    trail: &mut [u8],
+    gains: &mut [i32],
+    v: &mut [u8],
+    buf: &mut [u64],
+    start: u8,
+    d: u8,
+    h: u8,
+    s: u8,
+    a: u8,
+    o: u8,
+    k: u8,
+    at: usize,
+) -> usize
+    requires { ⌜ Given (now m) (now q) start d (now depths) (now truth) (now cone) (now used) (now table) ⌝ }
+    requires { ⌜ Here (now m) (now q) start d (now cone) (now trail) (now gains) (now v) h s (k + 1) × (o < entries (now m) s a) ⌝ }
+    requires { ⌜ Room k (plan-total (model-of (now m)) k ((outcome-of (now m) s a o) .target)) at (length (now buf)) ⌝ }
+    ensures { λ r. ⌜ Written (totals (model-of (now (m .entry))) k ((outcome-of (now (m .entry)) s a o) .target) (λ l. onward (now (m .entry)) (now (q .entry)) start (now (cone .entry)) (take h (now (trail .entry))) (outcome-of (now (m .entry)) s a o ∷ l))) (now (m .entry)) (now (q .entry)) start (now (cone .entry)) h at (now (trail .entry)) (now (trail .exit)) (now (gains .exit)) (now (v .exit)) (now (buf .entry)) (now (buf .exit)) r ⌝ }
+{
+    let t = step(
+        m,
+        q,
+        depths,
+        truth,
+        cone,
+        trail,
+        gains,
+        v,
+        start,
+        h,
+        s,
+        a,
+        o,
+    );
+    list(
+        m,
+        q,
+        depths,
+        truth,
+        cone,
+        used,
+        table,
+        trail,
+        gains,
+        v,
+        buf,
+        start,
+        d,
+        h + 1,
+        t,
+        k,
+        at,
+    )
 }

@@ -72,7 +72,7 @@ module _ (d : Desk) (b : Bytes) where
 
 -- ---- the model that a desk holds
 
-pub take-short : (n : ℕ) (l : Bytes) → take (min n (length l)) l ≡ take n l
+take-short : (n : ℕ) (l : Bytes) → take (min n (length l)) l ≡ take n l
 take-short n l = by (leb n (length l)) refl
   where
     by : (t : Bool) → leb n (length l) ≡ t → take (min n (length l)) l ≡ take n l
@@ -81,6 +81,10 @@ take-short n l = by (leb n (length l)) refl
         let h = leb-false n (length l) e in
         let m : min n (length l) ≡ length l = omega arith in
         ap (λ k. take k l) m ∙ take-all (length l) l (omega arith) ∙ sym (take-all n l (omega arith))
+
+-- The part that is cut is what the desk says it has.
+pub said-cut : (l : Bytes) (blocks n : ℕ) → n ≡ min (512 * blocks) (length l) → take n l ≡ take (512 * blocks) l
+said-cut l blocks n e = ap (λ k. take k l) e ∙ take-short (512 * blocks) l
 
 pub held-refused : (l : Bytes) (blocks k : ℕ) → k ≡ refusal (read-model (take (512 * blocks) l)) → (k ≡ 0 → ⊥) → 0 ≡ held-size l blocks
 unfolding held-size
@@ -93,10 +97,10 @@ held-whole l blocks n e h =
 
 -- A desk holds no model where no byte is held, else the model of its bytes.
 module _ (d : Desk) where
-  abbrev said-bytes : Bytes
+  abbrev pub said-bytes : Bytes
   said-bytes = take (512 * d .blocks) (d .model)
 
-  model-none : held-size (d .model) (d .blocks) ≡ 0 → (view d) .model ≡ none
+  pub model-none : held-size (d .model) (d .blocks) ≡ 0 → (view d) .model ≡ none
   unfolding view model-bytes held-size got
   model-none e = by (read-model said-bytes) refl
     where
@@ -108,7 +112,7 @@ module _ (d : Desk) where
           absurd (omega (arith, n .0, n .1))
 
   module _ (h : held-size (d .model) (d .blocks) ≡ 0 → ⊥) where
-    model-passed : refusal (read-model said-bytes) ≡ 0
+    pub model-passed : refusal (read-model said-bytes) ≡ 0
     unfolding held-size
     model-passed = by (eqb (refusal (read-model said-bytes)) 0) refl
       where
@@ -116,29 +120,38 @@ module _ (d : Desk) where
         by true e = eqb-true _ _ e
         by false e = absurd (h (ap (λ t. cond t (length said-bytes) 0) e))
 
-    abbrev held-model : Model
+    abbrev pub held-model : Model
     held-model = model-of said-bytes
 
-    model-some : (view d) .model ≡ some held-model
+    pub model-some : (view d) .model ≡ some held-model
     unfolding view model-bytes got
     model-some = ap got (read-passed said-bytes (passed-all said-bytes model-passed))
 
     -- The numbers of states, actions and propositions stand in the desk's bytes.
-    said-byte : (i : ℕ) → i < 1024 → byte said-bytes i ≡ byte (d .model) i
+    pub said-byte : (i : ℕ) → i < 1024 → byte said-bytes i ≡ byte (d .model) i
     said-byte i l =
         let n = whole-length 2 12 said-bytes (passed-all said-bytes model-passed .whole) in
         getD-take (512 * d .blocks) (d .model) i 0 (omega (arith, n .0, n .1, length-take (512 * d .blocks) (d .model)))
 
     module _ (b : Bytes) where
-      abbrev put-question : Checked Question
+      abbrev pub put-question : Checked Question
       put-question = read-question (byte (d .model) 2) (byte (d .model) 3) (byte (d .model) 4) b
 
-      put-is : do-put (view d) b ≡ put-question
-      unfolding do-put model-of
-      put-is =
-          ap (λ o. held 20 o >>= (λ m. question-for m b)) model-some
-          ∙ ap₂ (λ S A. read-question S A (byte said-bytes 4) b) (states-held said-bytes ∙ said-byte 2 (omega arith)) (length-tabulate _ (byte said-bytes 3) ∙ said-byte 3 (omega arith))
+      pub question-is : question-for held-model b ≡ put-question
+      unfolding model-of
+      question-is =
+          ap₂ (λ S A. read-question S A (byte said-bytes 4) b) (states-held said-bytes ∙ said-byte 2 (omega arith)) (length-tabulate _ (byte said-bytes 3) ∙ said-byte 3 (omega arith))
           ∙ ap (λ N. read-question (byte (d .model) 2) (byte (d .model) 3) N b) (said-byte 4 (omega arith))
+
+      pub said-question : put-question ≡ read-question (byte said-bytes 2) (byte said-bytes 3) (byte said-bytes 4) b
+      said-question =
+          sym
+          (ap₂ (λ S A. read-question S A (byte said-bytes 4) b) (said-byte 2 (omega arith)) (said-byte 3 (omega arith))
+          ∙ ap (λ N. read-question (byte (d .model) 2) (byte (d .model) 3) N b) (said-byte 4 (omega arith)))
+
+      put-is : do-put (view d) b ≡ put-question
+      unfolding do-put
+      put-is = ap (λ o. held 20 o >>= (λ m. question-for m b)) model-some ∙ question-is
 
       pub put-refused : (k : ℕ) → k ≡ refusal put-question → (k ≡ 0 → ⊥) → record { answer = Refused k; desk = d } ≡ put-by d b
       unfolding put-by

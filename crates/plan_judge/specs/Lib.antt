@@ -1,3 +1,4 @@
 pub mod View
 pub mod Values
 pub mod Session
+pub mod State

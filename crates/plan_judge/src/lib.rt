@@ -1,12 +1,20 @@
 // The plan judge as it is offered to callers: the desk (document 01's word for the judge's state) and its calls. No call asks anything of
 // its caller; a refusal leaves the desk, and each lent buffer, as found.
 ghost use mathlib.Core.Path.{_≡_};
-ghost use Prim.Native.Nat.{_*_, min};
+ghost use Prim.Native.Nat.{_*_, _-_, _≤_, _<_, min};
+ghost use lib.Dec.{eqb};
+ghost use lib.ListN.{length, take};
 ghost use Rattle.logic.specs.Checked.{refusal};
+ghost use Rattle.logic.specs.Choices.{read-plan};
 ghost use Rattle.blocks.specs.Bytes.{byte};
+ghost use Rattle.models.specs.Layout.{state-count, model-of};
+ghost use Rattle.models.specs.Grounds.{read-model};
+ghost use Rattle.questions.specs.Layout.{start-of, node-of, node-count, question-of};
 ghost use Rattle.questions.specs.Grounds.{read-question};
-ghost use Rattle.plan_judge.specs.View.{held-size};
-ghost use Rattle.plan_judge.specs.Values.{nothing, loaded-by, put-by};
+ghost use Rattle.sheets.specs.Layout.{blocks-for};
+ghost use Rattle.plan_judge.specs.View.{held-size, choices-in, view};
+ghost use Rattle.plan_judge.specs.Values.{nothing, loaded-by, put-by, written-by, filled-by};
+ghost use Rattle.plan_judge.specs.State.{held-both, held-goal, plan-size, size-in, shown-size, shown-weight, PlanRoot, plan-on};
 
 // The record of a shown plan: its total W, its steps, and its place in dictionary order for "equal", else 0.
 pub struct PlanRecord {
@@ -175,4 +183,160 @@ pub fn put(d: Desk, b: &[u8]) -> Taking
             choices: c,
         },
     }
+}
+
+// The ground of the desk on which judge is refused: no model, no question; 0 where both are held.
+fn state_ground(d: Desk) -> u32
+    ensures { λ r. ⌜ r ≡ refusal (held-both (view d)) ⌝ }
+{
+    if held_bytes(&d.model, d.blocks) == 0 {
+        return 20;
+    }
+    if !d.asked {
+        return 21;
+    }
+    let q = d.question;
+    if question_ground(&q, &d.model) != 0 {
+        return 21;
+    }
+    0
+}
+
+// The number of a question's root, its last node.
+fn root(q: &[u8]) -> u8
+    ensures { λ r. ⌜ r ≡ node-count (now (q .entry)) - 1 ⌝ }
+{
+    let count = questions::node_count(q);
+    if count == 0 {
+        return 0;
+    }
+    count - 1
+}
+
+fn root_is_plan(q: &[u8]) -> bool
+    ensures { λ r. ⌜ r ≡ eqb (node-of (now (q .entry)) (node-count (now (q .entry)) - 1) .operator) 8 ⌝ }
+{
+    questions::operator(q, root(q)) == 8
+}
+
+// The steps of a "plan" root.
+fn root_steps(q: &[u8]) -> u8
+    ensures { λ r. ⌜ r ≡ node-of (now (q .entry)) (node-count (now (q .entry)) - 1) .n ⌝ }
+{
+    questions::steps(q, root(q))
+}
+
+// The ground of the desk on which write and check are refused: no model, no question, a root that is no "plan"; else 0.
+fn plan_ground(d: Desk) -> u32
+    ensures { λ r. ⌜ r ≡ refusal (held-goal (view d)) ⌝ }
+{
+    let k = state_ground(d);
+    if k != 0 {
+        return k;
+    }
+    if root_is_plan(&d.question) {
+        return 0;
+    }
+    22
+}
+
+// How many choices the n-step plan has with which these choices begin; 0 where they begin with none.
+fn plan_size(m: &[u8], choices: &[u8], n: usize, s: usize) -> usize
+    requires { ⌜ (refusal (read-model (now m)) ≡ 0) × (s < state-count (now m)) ⌝ }
+    ensures { λ r. ⌜ r ≡ plan-size n (read-plan (model-of (now (m .entry))) n s (now (choices .entry))) ⌝ }
+{
+    let end = sheets::plans::plan_end(m, choices, n, s, 0);
+    match end {
+        sheets::plans::End::At(p) => p,
+        sheets::plans::End::Refused(_) => 0,
+    }
+}
+
+// The same for the plan that a question with a "plan" root asks for.
+fn first_size(model: &[u8], blocks: usize, q: &[u8], choices: &[u8]) -> usize
+    requires { ⌜ PlanRoot (take (512 * blocks) (now model)) (now q) ⌝ }
+    ensures { λ r. ⌜ r ≡ size-in (choices-in (model-of (take (512 * blocks) (now (model .entry)))) (question-of (now (q .entry))) (now (choices .entry))) ⌝ }
+{
+    let n = blocks_end(model.len(), blocks);
+    plan_size(
+        &model[..n],
+        choices,
+        root_steps(q) as usize,
+        questions::start(q) as usize,
+    )
+}
+
+// How many choices the shown plan has; 0 where none is shown.
+fn shown_size(d: Desk) -> usize
+    requires { ⌜ refusal (held-goal (view d)) ≡ 0 ⌝ }
+    ensures { λ r. ⌜ r ≡ shown-size ((view d) .verdict) ⌝ }
+{
+    if !d.judged {
+        return 0;
+    }
+    let v = d.verdict;
+    let q = d.question;
+    let cs = d.choices;
+    match v {
+        Verdict::YesPlan(_) => first_size(&d.model, d.blocks, &q, &cs),
+        Verdict::Yes => 0,
+        Verdict::No(_) => 0,
+    }
+}
+
+// The weight in the record of a shown plan.
+fn shown_weight(v: Verdict) -> u64
+    ensures { λ r. ⌜ r ≡ shown-weight v ⌝ }
+{
+    match v {
+        Verdict::YesPlan(p) => p.weight,
+        Verdict::Yes => 0,
+        Verdict::No(_) => 0,
+    }
+}
+
+// The bytes of a sheet with so many choices.
+fn sheet_size(count: usize) -> usize
+    requires { ⌜ count ≤ 1365 ⌝ }
+    ensures { λ r. ⌜ r ≡ 512 * blocks-for count ⌝ }
+{
+    512 * ((count + 489) / 490)
+}
+
+// Writes the shown plan's sheet into the first blocks of a lent buffer; or refuses by grounds 20 to 23, then 12, and leaves the buffer.
+pub fn write(d: Desk, buf: &mut [u8]) -> Written
+    ensures { λ r. ⌜ (r ≡ written-by d (length (now (buf .entry)))) × (now (buf .exit) ≡ filled-by d (now (buf .entry))) ⌝ }
+{
+    let k = plan_ground(d);
+    if k != 0 {
+        return Written::Refused(k);
+    }
+    let count = shown_size(d);
+    if count == 0 {
+        return Written::Refused(23);
+    }
+    if buf.len() < sheet_size(count) {
+        return Written::Refused(12);
+    }
+    let n = root_steps(&d.question);
+    let s = questions::start(&d.question);
+    let w = shown_weight(d.verdict);
+    let cs = d.choices;
+    Written::Bytes(sheets::writer::write_sheet(buf, n, s, w, &cs[..count]))
+}
+
+// The first ground, 1 to 6 or 10, on which a sheet is refused for a question with a "plan" root; 0 where it has a plan.
+fn sheet_ground(m: &[u8], q: &[u8], b: &[u8]) -> u32
+    requires { ⌜ PlanRoot (now m) (now q) ⌝ }
+    ensures { λ r. ⌜ r ≡ refusal (plan-on (model-of (now (m .entry))) (node-of (now (q .entry)) (node-count (now (q .entry)) - 1) .n) (start-of (now (q .entry))) (now (b .entry))) ⌝ }
+{
+    let n = root_steps(q) as usize;
+    let s = questions::start(q) as usize;
+    let k = sheets::sheet_refusal(b, n, s);
+    if k != 0 {
+        return k;
+    }
+    let mut choices = [0u8; 1470];
+    let count = sheets::gather(b, &mut choices);
+    sheets::plans::plan_refusal(m, &choices[..count], n, s)
 }

@@ -10,13 +10,13 @@ ghost use Rattle.models.specs.Grounds.{read-model};
 ghost use Rattle.sheets.specs.Ends.{end-of};
 
 // Where the choices of a plan end, or the number of a refusal.
-enum End {
+pub enum End {
     At(usize),
     Refused(u32),
 }
 
 // Reads the choices from `at` on as an n-step plan from the state s.
-fn plan_end(m: &[u8], choices: &[u8], n: usize, s: usize, at: usize) -> End
+pub fn plan_end(m: &[u8], choices: &[u8], n: usize, s: usize, at: usize) -> End
     requires { ⌜ (refusal (read-model (now m)) ≡ 0) × (s < state-count (now m)) × (at ≤ length (now choices)) ⌝ }
     ensures { λ r. ⌜ r ≡ end-of (length (now (choices .entry))) (read-plan (model-of (now (m .entry))) n s (drop at (now (choices .entry)))) ⌝ }
 {

@@ -1,18 +1,12 @@
-use Prim.Native.Nat.{ℕ, _*_, min}
 use native.Mathlib.Omega.{arith}
-use mathlib.Core.Path.{_≡_, sym, ap, _∙_}
-use lib.ListN.{length, take, length-take}
+use mathlib.Core.Path.{sym, ap, _∙_}
+use lib.ListN.{length-take}
 use Rattle.logic.specs.Checked.{refusal}
-use Rattle.blocks.specs.Bytes.{Bytes}
 use Rattle.models.specs.Grounds.{read-model}
-use Rattle.plan_judge.proofs.Returns.{take-short, held-refused, held-whole}
+use Rattle.plan_judge.proofs.Returns.{said-cut, held-refused, held-whole}
 use borrow.Author.Needs.{needs}
 use Rattle.plan_judge.proofs.held_bytes.Statement.{statement}
 use Rattle.plan_judge.proofs.held_bytes.Tie as tie
-
--- The part that is cut is what the desk says it has.
-cut : (l : Bytes) (blocks n : ℕ) → n ≡ min (512 * blocks) (length l) → take n l ≡ take (512 * blocks) l
-cut l blocks n e = ap (λ k. take k l) e ∙ take-short (512 * blocks) l
 
 blocks-end-requires : tie.Need-blocks-end-requires
 blocks-end-requires c κs = search needs
@@ -26,13 +20,13 @@ model-refusal-requires c κs = search needs
 returns : tie.Need-returns
 returns c = let l = c .before .before .before .before .before .args .model .now in
     let n = c .before .before .before .before .before .args .blocks in
-    held-refused l n (c .before .model-refusal .result) (c .before .model-refusal .ensures ∙ ap (λ z. refusal (read-model z)) (cut l n (c .before .before .before .blocks-end .result) (c .before .before .before .blocks-end .ensures))) (c .if1 .taken)
+    held-refused l n (c .before .model-refusal .result) (c .before .model-refusal .ensures ∙ ap (λ z. refusal (read-model z)) (said-cut l n (c .before .before .before .blocks-end .result) (c .before .before .before .blocks-end .ensures))) (c .if1 .taken)
 
 returns-2 : tie.Need-returns-2
 returns-2 c = let l = c .before .before .before .before .before .args .model .now in
     let n = c .before .before .before .before .before .args .blocks in
     held-whole l n (c .before .before .before .blocks-end .result) (c .before .before .before .blocks-end .ensures)
-    (ap (λ z. refusal (read-model z)) (sym (cut l n (c .before .before .before .blocks-end .result) (c .before .before .before .blocks-end .ensures))) ∙ sym (c .before .model-refusal .ensures) ∙ c .if1 .left)
+    (ap (λ z. refusal (read-model z)) (sym (said-cut l n (c .before .before .before .blocks-end .result) (c .before .before .before .blocks-end .ensures))) ∙ sym (c .before .model-refusal .ensures) ∙ c .if1 .left)
 
 pub held-bytes-spec : {M : Type 1} → statement M
 held-bytes-spec =

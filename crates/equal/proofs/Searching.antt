@@ -1,0 +1,79 @@
+-- The first place of a number among the totals; and the search at the start, before any step.
+use Prim.Native.Nat.{ℕ, zero, suc, _+_, _≤_, _<_}
+use native.Mathlib.Nat.{zero-add}
+use native.Mathlib.Decide.{ℕ-discrete}
+use native.Mathlib.Omega.{arith}
+use mathlib.Core.Path.{_≡_, refl, sym, ap, subst, _∙_}
+use mathlib.Core.List.{List, [], _∷_, map}
+use lib.IntN.{ℤ}
+use lib.ListN.{length, take, getD, List·getD-map, length-map}
+use lib.Seq.{getD-take, length-take-le}
+use Rattle.logic.specs.Model.{Model, Step}
+use Rattle.logic.specs.Quantity.{naturals}
+use Rattle.logic.specs.Plan.{Plan, plans}
+use Rattle.logic.specs.Limits.{plan-total}
+use Rattle.logic.specs.Total.{total, value-of}
+use Rattle.logic.proofs.Dictionary.{plan-count}
+use Rattle.blocks.specs.Bytes.{Bytes}
+use Rattle.models.specs.Layout.{model-of}
+use Rattle.evaluation.specs.Path.{steps-of, state-after}
+use Rattle.evaluation.specs.Reached.{formula, root-of}
+use Rattle.evaluation.specs.Known.{Knows, Roomy}
+use Rattle.equal.specs.Totals.{totals}
+use Rattle.equal.specs.Listing.{onward, Given, Here, Written, First}
+
+module _ (buf : List ℕ) (len x : ℕ) (fits : len ≤ length buf) where
+  -- None of the first i numbers is x.
+  abbrev pub Absent : ℕ → Type 0
+  Absent i = (j : ℕ) → j < i → (getD buf j 0 ≡ x → ⊥)
+
+  pub absent-more : (i : ℕ) → Absent i → (getD buf i 0 ≡ x → ⊥) → Absent (i + 1)
+  absent-more i h g j l = go (ℕ-discrete j i)
+    where
+      go : Dec (j ≡ i) → getD buf j 0 ≡ x → ⊥
+      go (yes e) = subst (λ k. getD buf k 0 ≡ x → ⊥) (sym e) g
+      go (no e) = h j (omega arith)
+
+  size : length (take len buf) ≡ len
+  size = length-take-le len buf fits
+
+  pub first-found : (i : ℕ) → i < len → Absent i → getD buf i 0 ≡ x → First (take len buf) x i
+  first-found i h g e =
+      record { few = omega (arith, size); none-before = λ j l p. g j l (sym (getD-take len buf j 0 (omega arith)) ∙ p); there = λ l. getD-take len buf i 0 h ∙ e }
+
+  pub first-nowhere : Absent len → First (take len buf) x len
+  first-nowhere g =
+      record { few = omega (arith, size); none-before = λ j l p. g j l (sym (getD-take len buf j 0 l) ∙ p); there = λ l. absurd (omega (arith, size)) }
+
+-- ---- the start
+
+module _ {m q : Bytes} {start d : ℕ} {depths truth cone used table : List ℕ} (G : Given m q start d depths truth cone used table) where
+  pub begins : {n : ℕ} (trail : List ℕ) (gains : List ℤ) (v : List ℕ) → d ≤ n → n ≤ 6 → Roomy trail gains v → Knows m q start cone [] gains v
+      → Here m q start d cone trail gains v 0 start n
+  unfolding state-after
+  begins trail gains v h k R K = record { steps = omega arith; deep = omega arith; inside = G .ready .state; state = refl; roomy = R; knows = K }
+
+  -- The list from the start, and the first of it.
+  pub first-listed : (n x : ℕ) {r i : ℕ} {trail trail₁ : List ℕ} {gains₁ : List ℤ} {v₁ buf buf₁ : List ℕ}
+      → Written (totals (model-of m) n start (onward m q start cone (take 0 trail))) m q start cone 0 0 trail trail₁ gains₁ v₁ buf buf₁ r
+      → First (take r buf₁) x i → First (totals (model-of m) n start (value-of (model-of m) (formula q (root-of cone)) start)) x i
+  unfolding steps-of
+  first-listed n x {r} {i} {buf₁ = buf₁} W F =
+      let X : List ℕ = totals (model-of m) n start (value-of (model-of m) (formula q (root-of cone)) start) in
+      subst (λ l. First l x i) (ap (λ k. take k buf₁) (W .count ∙ sym (zero-add (length X))) ∙ W .listed) F
+
+-- ---- what a place in the list says of the plan there
+
+getD-default : {A : Type 0} (l : List A) (j : ℕ) (c e : A) → j < length l → getD l j c ≡ getD l j e
+getD-default [] j c e h = absurd (omega arith)
+getD-default (x ∷ l) zero c e h = refl
+getD-default (x ∷ l) (suc j) c e h = getD-default l j c e (omega arith)
+
+module _ (m : Model) (n s : ℕ) (f : List Step → ℕ) where
+  -- The total of plan number j.
+  pub totals-at : (j : ℕ) (p : Plan n) → j < plan-total m n s → getD (totals m n s f) j 0 ≡ total naturals m n s (getD (plans m n s) j p) f
+  unfolding totals
+  totals-at j p h =
+      let g : Plan n → ℕ = λ π. total naturals m n s π f in
+      getD-default (map g (plans m n s)) j 0 (g p) (omega (arith, length-map (plans m n s) g, plan-count m n s))
+      ∙ List·getD-map g (plans m n s) j p

@@ -1,0 +1,18 @@
+-- The table of `limits` is right where the lists read it: a number of plans up to the limit is below the cap.
+use Prim.Native.Nat.{ℕ}
+use native.Mathlib.Nat.{min-eq-right}
+use native.Mathlib.Omega.{arith}
+use mathlib.Core.Path.{_∙_}
+use mathlib.Core.Bool.{true}
+use mathlib.Core.List.{List}
+use Rattle.logic.specs.Limits.{plan-total}
+use Rattle.blocks.specs.Bytes.{Bytes}
+use Rattle.models.specs.Layout.{model-of}
+use Rattle.models.proofs.Held.{states-held}
+use Rattle.limits.specs.Totals.{total, limit, Totals}
+use Rattle.equal.specs.Listing.{Counts}
+
+pub counts-right : (m : Bytes) (table : List ℕ) → Totals true (model-of m) table → Counts m table
+unfolding total limit
+counts-right m table T =
+    record { right = λ n s h k l. T .at n s h (rw (states-held m) k) ∙ min-eq-right {n = plan-total (model-of m) n s} {m = 65537} (omega arith) }

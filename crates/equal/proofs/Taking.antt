@@ -1,0 +1,400 @@
+-- The lists of an action's outcomes, combined one after the other in place: what a turn asks, and what it leaves.
+use Prim.Native.Nat.{ℕ, zero, suc, _+_, _*_, _-_, _^_, _≤_, _<_, min, max}
+use native.Mathlib.Nat.{le-refl, le-trans, le-mul-of-pos-right, mul-le-mul}
+use native.Mathlib.Numerals.{add-one}
+use native.Mathlib.Omega.{arith}
+use mathlib.Core.Path.{_≡_, refl, sym, ap, ap₂, subst, _∙_}
+use mathlib.Core.Bool.{Bool, true, false, cond}
+use mathlib.Core.Logic.{inl}
+use mathlib.Core.List.{List, [], _∷_, _++_, map, List·Memᴰ}
+use lib.IntN.{ℤ}
+use lib.Dec.{ltb}
+use lib.ListN.{length, take, getD, length-map, take-append-drop}
+use lib.Seq.{take-take}
+use Rattle.logic.specs.Lists.{count-from}
+use Rattle.logic.specs.Model.{Step, outcomes, true-of}
+use Rattle.logic.specs.Limits.{multiply, plan-total}
+use Rattle.logic.proofs.Tests.{counted-range}
+use Rattle.logic.proofs.Members.{in-map}
+use Rattle.blocks.specs.Bytes.{Bytes}
+use Rattle.models.specs.Layout.{state-count, pre-of, state-mask, post-count, model-of, entries, outcome-of}
+use Rattle.models.proofs.Laws.{entries-inside}
+use Rattle.models.proofs.Held.{states-held, denominator-held}
+use Rattle.evaluation.proofs.Trails.{fair}
+use Rattle.bounds.proofs.Powers.{power-le}
+use Rattle.equal.specs.Totals.{totals, part, splice, joined, combined, weighed}
+use Rattle.equal.specs.Spread.{Shifts, Joins}
+use Rattle.equal.specs.Room.{Room}
+use Rattle.equal.specs.Listing.{onward, Given, Here, Written, Longest, Grows}
+use Rattle.equal.proofs.Splice.{part-length, part-drop}
+use Rattle.equal.proofs.Totals.{totals-length}
+use Rattle.equal.proofs.Grid.{combined-length, combined-one}
+use Rattle.equal.proofs.Spans.{multiply-within, multiply-one}
+use Rattle.equal.proofs.Bounds.{Up-to, up-times, up-totals, up-combined}
+use Rattle.equal.proofs.Rooms.{room-first, room-next}
+use Rattle.equal.proofs.Combine.{Holds, held-before, held-part, first-held, joined-length, join-held, joins, Beside, beside-inside, wider-some, wider-most, wider-combined, wider-times}
+use Rattle.equal.proofs.Accepting.{is-accepted, is-sized, some-plan, denominator-small, multiply-outcomes, combined-outcomes}
+use Rattle.equal.proofs.Writing.{rebased, still, onward-small, reached}
+
+-- The number of plans below the outcome i of an action, and their totals, weighed.
+abbrev pub ways : (m : Bytes) (s a k : ℕ) → ℕ → ℕ
+ways m s a k i = plan-total (model-of m) k ((outcome-of m s a i) .target)
+
+abbrev pub lists : (m q : Bytes) (start : ℕ) (cone : List ℕ) (s a k : ℕ) → List ℕ → ℕ → List ℕ
+lists m q start cone s a k T i = weighed (model-of m) k (onward m q start cone T) (outcome-of m s a i)
+
+count-length : (k n : ℕ) → length (count-from k n) ≡ n
+unfolding count-from
+count-length k zero = refl
+count-length k (suc n) = ap suc (count-length (suc k) n)
+
+-- A state, and an action there with k steps below it.
+pub record Place (m : Bytes) (s a k : ℕ) : Type 0 where
+  pub state : s < state-count m
+  pub few : k + 1 ≤ 6
+
+pub placed : {m q : Bytes} {start d : ℕ} {cone trail : List ℕ} {gains : List ℤ} {v : List ℕ} {h s : ℕ} (a k : ℕ)
+    → Here m q start d cone trail gains v h s (k + 1) → Place m s a k
+placed a k H = record { state = H .inside; few = omega (arith, H .steps) }
+
+-- The lists of the outcomes from lo to hi stand combined at `at`, and no outcome has a longer list.
+pub record Spanned (m q : Bytes) (start d : ℕ) (cone : List ℕ) (h s a k at c : ℕ) (trail₀ : List ℕ) (gains₀ : List ℤ) (v₀ buf₀ trail : List ℕ) (gains : List ℤ)
+    (v buf : List ℕ) (lo hi len : ℕ) : Type 0 where
+  pub all : c ≡ entries m s a
+  pub some : lo < hi
+  pub most : hi ≤ c
+  pub longest : (i : ℕ) → i < c → ways m s a k i ≤ len
+  pub here : Here m q start d cone trail gains v h s (k + 1)
+  pub written : Written (combined (lists m q start cone s a k (take h trail₀)) (count-from lo (hi - lo))) m q start cone h at trail₀ trail gains v buf₀ buf len
+  pub trails : length trail ≡ length trail₀
+  pub sums : length gains ≡ length gains₀
+  pub values : length v ≡ length v₀
+  pub whole : length buf ≡ length buf₀
+
+count-one : (k : ℕ) → count-from k 1 ≡ k ∷ []
+unfolding count-from
+count-one k = refl
+
+-- A list that was written is there.
+here-again : {m q : Bytes} {start : ℕ} {cone : List ℕ} {h at r : ℕ} {trail trail₁ : List ℕ} {gains₁ : List ℤ} {v₁ b b₁ : List ℕ} (X : List ℕ → List ℕ)
+    → Written (X (take h trail)) m q start cone h at trail trail₁ gains₁ v₁ b b₁ r → take at b₁ ≡ take at b
+    → Written (X (take h trail₁)) m q start cone h at trail₁ trail₁ gains₁ v₁ b₁ b₁ r
+here-again X W e = rebased X (sym (W .kept)) (sym e) W
+
+-- ---- a list joined on
+
+module _ (buf buf₁ : List ℕ) (at len n k : ℕ) (K : Grows buf at len n k) (ys : List ℕ) (ly : length ys ≡ n) (some : 0 < n)
+    (Y : Holds buf buf₁ (at + len * n) ys) (whole : length buf₁ ≡ length buf) where
+  long : len ≤ len * n
+  long = le-mul-of-pos-right len some
+
+  lx : length (part buf at len) ≡ len
+  lx = part-length buf at len (omega (arith, long, K .room .fits))
+
+  there : Holds buf buf at (part buf at len)
+  unfolding part
+  there =
+      ap (λ i. take (at + i) buf) lx
+      ∙ sym (take-append-drop at (take (at + len) buf))
+      ∙ ap₂ _++_ (take-take at (at + len) buf (omega arith)) (sym (part-drop buf at len))
+
+  behind : Holds buf buf₁ (at + length (part buf at len) * length ys) ys
+  behind = subst (λ i. Holds buf buf₁ (at + i) ys) (sym (ap₂ _*_ lx ly)) Y
+
+  inside : at + length (part buf at len) * length ys ≤ length buf
+  inside = rw (lx, ly) (omega (arith, K .room .fits))
+
+  pub held-joins : (w : ℕ) → Up-to (100 ^ 6) (map (λ y. w * y) ys) → Joins buf₁ at len n w
+  held-joins w h =
+      rw (lx, ly) at
+      (joins buf buf buf₁ at (part buf at len) ys (omega (arith, K .room .fits)) inside (rw ly some) there behind w (4 * 100 ^ 6) (100 ^ 6)
+      (rw lx (K .some)) (rw (lx, ly) (omega (arith, K .room .fits))) (K .small) h (omega arith))
+
+  pub joined-held : (buf₂ : List ℕ) (w : ℕ) (right : Bool)
+      → buf₂ ≡ splice buf₁ at (joined right (part buf₁ at len) (map (λ y. w * y) (part buf₁ (at + len * n) n)))
+      → Holds buf buf₂ at (joined right (part buf at len) (map (λ y. w * y) ys))
+  joined-held buf₂ w right e =
+      join-held buf buf buf₁ at (part buf at len) ys (omega (arith, K .room .fits)) inside (rw ly some) there behind buf₂ w right
+      (omega (arith, K .room .fits)) (rw (lx, ly) e)
+
+  pub joined-count : (w : ℕ) (right : Bool) → len * n ≡ length (joined right (part buf at len) (map (λ y. w * y) ys))
+  joined-count w right = sym (joined-length right (part buf at len) (map (λ y. w * y) ys) ∙ ap₂ _*_ lx (length-map ys (λ y. w * y) ∙ ly))
+
+-- ---- the outcomes of an action
+
+module _ {m q : Bytes} {start d : ℕ} {depths truth cone used table : List ℕ} (G : Given m q start d depths truth cone used table) {s a k : ℕ} (place : Place m s a k) where
+  abbrev t : ℕ → ℕ
+  t = ways m s a k
+
+  abbrev F : List ℕ → ℕ → List ℕ
+  F = lists m q start cone s a k
+
+  lists-length : (T : List ℕ) (i : ℕ) → length (F T i) ≡ t i
+  unfolding weighed
+  lists-length T i =
+      let o : Step = outcome-of m s a i in
+      length-map (totals (model-of m) k (o .target) (λ r. onward m q start cone T (o ∷ r))) (λ y. o .weight * y)
+      ∙ totals-length (model-of m) k (o .target) (λ r. onward m q start cone T (o ∷ r))
+
+  ways-some : (i : ℕ) → i < entries m s a → 0 < t i
+  ways-some i u = some-plan m (G .ready .model-accepted) k ((outcome-of m s a i) .target) (reached G s a i (place .state) u)
+
+  -- The table's number of plans below an outcome.
+  ways-served : (i : ℕ) → i < entries m s a → t i ≤ 65536 → getD table (32 * k + (outcome-of m s a i) .target) 0 ≡ t i
+  ways-served i u h = G .counts .right k ((outcome-of m s a i) .target) (omega (arith, place .few)) (reached G s a i (place .state) u) h
+
+  lists-small : (T : List ℕ) (i : ℕ) → i < entries m s a → Up-to (100 ^ 6) (F T i)
+  unfolding weighed
+  lists-small T i u x j =
+      let o : Step = outcome-of m s a i in
+      let f : List Step → ℕ = λ r. onward m q start cone T (o ∷ r) in
+      let D : ℕ = (model-of m) .denominator in
+      let l : x ≤ o .weight * D ^ k =
+      up-times (o .weight) (D ^ k) (totals (model-of m) k (o .target) f)
+      (up-totals (model-of m) (is-accepted m (G .ready .model-accepted)) k (o .target) (rw (states-held m) (reached G s a i (place .state) u)) f
+      (λ r. onward-small m q start cone T (o ∷ r)))
+      x j in
+      let p : D ^ k ≤ 100 ^ 5 = power-le D k 5 (rw (denominator-held m) (denominator-small m (G .ready .model-accepted))) (omega (arith, place .few)) in
+      omega (arith, mul-le-mul (fair m (G .ready .model-accepted) s a i (place .state) u .light) p)
+
+  pub count-right : (i : ℕ) → i < entries m s a → t i ≤ 65536 → {x y : ℕ} → x ≡ getD table (32 * k + y) 0 → y ≡ (outcome-of m s a i) .target → x ≡ t i
+  count-right i u h e f = e ∙ ap (λ y. getD table (32 * k + y) 0) f ∙ ways-served i u h
+
+  -- The lists of some of the outcomes, combined.
+  span-count : (T : List ℕ) (lo n : ℕ) → length (combined (F T) (count-from lo n)) ≡ multiply t (count-from lo n)
+  span-count T lo n = combined-length (F T) t (lists-length T) (count-from lo n)
+
+  span-small : (T : List ℕ) (lo n : ℕ) → lo + n ≤ entries m s a → n ≤ 4 → Up-to (4 * 100 ^ 6) (combined (F T) (count-from lo n))
+  span-small T lo n h l x j =
+      let u = up-combined (F T) (100 ^ 6) (count-from lo n) (λ i p. lists-small T i (omega (arith, counted-range lo n p .1))) x j in
+      omega (arith, u, mul-le-mul l (le-refl (100 ^ 6)), ap (λ z. z * 100 ^ 6) (count-length lo n))
+
+  span-within : (lo n : ℕ) → lo + n ≤ entries m s a → multiply t (count-from lo n) ≤ multiply t (count-from 0 (entries m s a))
+  span-within lo n h = multiply-within t (entries m s a) ways-some lo n h
+
+  pub outcomes-few : (i : ℕ) → i < entries m s a → entries m s a ≤ 4
+  outcomes-few i u =
+      subst (λ n. n ≤ 4) (sym (entries-inside m s a (place .state) (fair m (G .ready .model-accepted) s a i (place .state) u .action)))
+      (kept (true-of (pre-of m a) (state-mask m s)) (is-sized m (G .ready .model-accepted) .posts a (fair m (G .ready .model-accepted) s a i (place .state) u .action)))
+    where
+      kept : (t : Bool) → post-count m a ≤ 4 → cond t (post-count m a) 0 ≤ 4
+      kept true h = h
+      kept false h = omega arith
+
+  module _ {at size : ℕ} (R : Room (k + 1) (multiply (λ o. plan-total (model-of m) k (o .target)) (outcomes (model-of m) s a)) at size) where
+    room : Room (suc k) (multiply t (count-from 0 (entries m s a))) at size
+    room =
+        let P : Step → ℕ = λ o. plan-total (model-of m) k (o .target) in
+        subst (λ n. Room (suc k) n at size) (multiply-outcomes m s a P) (subst (λ n. Room n (multiply P (outcomes (model-of m) s a)) at size) (add-one k) R)
+
+    ways-few : (i : ℕ) → i < entries m s a → t i ≤ multiply t (count-from 0 (entries m s a))
+    ways-few i u = subst (λ n. n ≤ multiply t (count-from 0 (entries m s a))) (multiply-one t i) (span-within i 1 (omega arith))
+
+    -- The first list, in its place.
+    pub first-room : (i : ℕ) → i < entries m s a → Room k (t i) at size
+    first-room i u = room-first room (ways-few i u)
+
+    module _ (lo : ℕ) (u : lo < entries m s a) {trail trail₁ : List ℕ} {gains gains₁ : List ℤ} {v v₁ : List ℕ} (buf : List ℕ) {buf₁ : List ℕ}
+        {h r w : ℕ} (in-buf : length buf ≡ size)
+        (H : Here m q start d cone trail gains v h s (k + 1))
+        (W : Written (totals (model-of m) k ((outcome-of m s a lo) .target) (λ l. onward m q start cone (take h trail) (outcome-of m s a lo ∷ l)))
+        m q start cone h at trail trail₁ gains₁ v₁ buf buf₁ r)
+        (whole : length buf₁ ≡ length buf) (e : w ≡ (outcome-of m s a lo) .weight) where
+      xs : List ℕ
+      xs = totals (model-of m) k ((outcome-of m s a lo) .target) (λ l. onward m q start cone (take h trail) (outcome-of m s a lo ∷ l))
+
+      first-count : r ≡ t lo
+      first-count = W .count ∙ totals-length (model-of m) k ((outcome-of m s a lo) .target) (λ l. onward m q start cone (take h trail) (outcome-of m s a lo ∷ l))
+
+      inside-buf : at + t lo ≤ length buf
+      inside-buf = omega (arith, room .fits, ways-few lo u)
+
+      at-first : part buf₁ at r ≡ xs
+      unfolding xs
+      at-first = ap (part buf₁ at) (W .count) ∙ held-part buf buf₁ at xs (omega (arith, inside-buf)) (W .listed)
+
+      pub first-shifts : Shifts buf₁ at at r w 0
+      unfolding xs weighed
+      first-shifts =
+          record {
+            clear = inl (le-refl at);
+            source = omega (arith, inside-buf, first-count);
+            target = omega (arith, inside-buf, first-count);
+            fits = λ y i.
+                let v : ℕ = (outcome-of m s a lo) .weight in
+                let l : v * y ≤ 100 ^ 6 = lists-small (take h trail) lo u (v * y) (in-map (λ y. v * y) (subst (List·Memᴰ y) at-first i)) in
+                rw e (omega arith);
+          }
+
+      module _ {buf₂ : List ℕ} (f : buf₂ ≡ splice buf₁ at (map (λ y. 0 + w * y) (part buf₁ at r))) where
+        first-holds : Holds buf buf₂ at (F (take h trail) lo)
+        unfolding xs weighed
+        first-holds =
+            subst (λ z. Holds buf buf₂ at (map (λ y. z * y) xs)) e
+            (first-held buf buf₁ buf₂ at xs w (omega (arith, inside-buf)) (omega (arith, inside-buf)) (W .listed)
+            (subst (λ n. buf₂ ≡ splice buf₁ at (map (λ y. 0 + w * y) (part buf₁ at n))) (W .count) f))
+
+        pub first-before : take at buf₂ ≡ take at buf
+        first-before = held-before buf buf₂ at (F (take h trail) lo) (omega (arith, inside-buf)) first-holds at (le-refl at)
+
+        pub first-spanned : {c hi : ℕ} → c ≡ entries m s a → Longest m table s a c k lo → hi ≡ lo + 1
+            → length trail₁ ≡ length trail → length gains₁ ≡ length gains → length v₁ ≡ length v
+            → Spanned m q start d cone h s a k at c trail₁ gains₁ v₁ buf₂ trail₁ gains₁ v₁ buf₂ lo hi r
+        first-spanned {c} {hi} ec L eh e₁ e₂ e₃ =
+            let T : List ℕ = take h trail in
+            let n : hi - lo ≡ 1 = omega arith in
+            let one : combined (F T) (count-from lo (hi - lo)) ≡ F T lo =
+            ap (λ n. combined (F T) (count-from lo n)) n ∙ ap (combined (F T)) (count-one lo) ∙ combined-one (F T) lo in
+            let held : Holds buf buf₂ at (combined (F T) (count-from lo (hi - lo))) = subst (Holds buf buf₂ at) (sym one) first-holds in
+            let V₁ : Written (combined (F T) (count-from lo (hi - lo))) m q start cone h at trail trail₁ gains₁ v₁ buf buf₂ r =
+            record { kept = W .kept; knows = W .knows; count = first-count ∙ sym (ap length one ∙ lists-length T lo); listed = held } in
+            let here₁ : Here m q start d cone trail₁ gains₁ v₁ h s (k + 1) = still H W e₁ e₂ e₃ in
+            record {
+              all = ec;
+              some = omega arith;
+              most = omega (arith, L .inside);
+              longest = λ i l.
+                  omega (
+                    arith,
+                    L .most i l,
+                    first-count,
+                    ways-served i (rw ec at l) (le-trans (ways-few i (rw ec at l)) (room .few)),
+                    ways-served lo u (le-trans (ways-few lo u) (room .few)),
+                  );
+              here = here₁;
+              written = here-again (λ T. combined (F T) (count-from lo (hi - lo))) V₁ first-before;
+              trails = refl;
+              sums = refl;
+              values = refl;
+              whole = refl;
+            }
+
+    module _ {h c lo hi len : ℕ} {trail₀ trail : List ℕ} {gains₀ gains : List ℤ} {v₀ v buf₀ buf : List ℕ}
+        (S : Spanned m q start d cone h s a k at c trail₀ gains₀ v₀ buf₀ trail gains v buf lo hi len) (in-buf : length buf₀ ≡ size) where
+      span : lo + (hi - lo) ≤ entries m s a
+      span = omega (arith, S .all, S .some, S .most)
+
+      span-len : len ≡ multiply t (count-from lo (hi - lo))
+      span-len = S .written .count ∙ span-count (take h trail₀) lo (hi - lo)
+
+      some-outcome : lo < entries m s a
+      some-outcome = omega (arith, S .all, S .some, S .most)
+
+      long-some : 0 < len
+      long-some = omega (arith, ways-some lo some-outcome, S .longest lo (omega (arith, S .some, S .most)))
+
+      in-place : at + len ≤ length buf₀
+      in-place = omega (arith, room .fits, span-len, span-within lo (hi - lo) span)
+
+      at-span : part buf at len ≡ combined (F (take h trail₀)) (count-from lo (hi - lo))
+      at-span =
+          ap (part buf at) (S .written .count)
+          ∙ held-part buf₀ buf at (combined (F (take h trail₀)) (count-from lo (hi - lo))) (omega (arith, in-place)) (S .written .listed)
+
+      -- All of them.
+      pub span-end : c ≤ hi - lo
+          → Written (combined (weighed (model-of m) k (onward m q start cone (take h trail₀))) (outcomes (model-of m) s a))
+          m q start cone h at trail₀ trail gains v buf₀ buf len
+      span-end g =
+          let x : lo ≡ 0 = omega (arith, S .some, S .most) in
+          let y : hi - lo ≡ entries m s a = omega (arith, S .all, S .some, S .most) in
+          let f : Step → List ℕ = weighed (model-of m) k (onward m q start cone (take h trail₀)) in
+          let e : combined (F (take h trail₀)) (count-from lo (hi - lo)) ≡ combined f (outcomes (model-of m) s a) =
+          ap₂ (λ i n. combined (F (take h trail₀)) (count-from i n)) x y ∙ sym (combined-outcomes m s a f) in
+          subst (λ l. Written l m q start cone h at trail₀ trail gains v buf₀ buf len) e (S .written)
+
+      module _ (o : ℕ) (B : Beside lo hi c o) where
+        pub span-outcome : o < entries m s a
+        span-outcome = omega (arith, S .all, beside-inside (S .some) (S .most) B)
+
+        wide-len : len * t o ≡ multiply t (count-from (min lo o) (max hi (o + 1) - min lo o))
+        wide-len = ap (λ n. n * t o) span-len ∙ wider-times (S .some) (S .most) B t
+
+        wide-within : len * t o ≤ multiply t (count-from 0 (entries m s a))
+        wide-within =
+            rw wide-len
+            (span-within (min lo o) (max hi (o + 1) - min lo o) (omega (arith, S .all, wider-some (S .some) (S .most) B, wider-most (S .some) (S .most) B)))
+
+        pub span-grows : Grows buf at len (t o) k
+        span-grows =
+            record {
+              some = long-some;
+              few = le-trans wide-within (room .few);
+              small = λ x i. span-small (take h trail₀) lo (hi - lo) span (omega (arith, span, outcomes-few lo some-outcome)) x (subst (List·Memᴰ x) at-span i);
+              room = subst (Room k (t o) (at + len * t o)) (sym (S .whole ∙ in-buf))
+                  (room-next room (S .longest o (rw (S .all) span-outcome)) (le-refl len) long-some wide-within);
+            }
+
+        pub span-wider : {trail₁ : List ℕ} {gains₁ : List ℤ} {v₁ buf₁ : List ℕ} {r lo₁ hi₁ : ℕ}
+            → Written (joined (ltb lo o) (part buf at len) (F (take h trail) o)) m q start cone h at trail trail₁ gains₁ v₁ buf buf₁ r
+            → length trail₁ ≡ length trail → length gains₁ ≡ length gains → length v₁ ≡ length v → length buf₁ ≡ length buf
+            → lo₁ ≡ min lo o → hi₁ ≡ max hi (o + 1)
+            → Spanned m q start d cone h s a k at c trail₀ gains₀ v₀ buf₀ trail₁ gains₁ v₁ buf₁ lo₁ hi₁ r
+        span-wider {trail₁} {gains₁} {v₁} {buf₁} {r} {lo₁} {hi₁} W e₁ e₂ e₃ e₄ el eh =
+            let T : List ℕ = take h trail₀ in
+            let X : List ℕ = combined (F T) (count-from lo₁ (hi₁ - lo₁)) in
+            let same : joined (ltb lo o) (part buf at len) (F T o) ≡ X =
+            ap (λ l. joined (ltb lo o) l (F T o)) at-span ∙ wider-combined (S .some) (S .most) B (F T)
+            ∙ ap₂ (λ i j. combined (F T) (count-from i (j - i))) (sym el) (sym eh) in
+            let before : take at buf ≡ take at buf₀ =
+            held-before buf₀ buf at (combined (F T) (count-from lo (hi - lo))) (omega (arith, in-place)) (S .written .listed) at (le-refl at) in
+            let V₁ : Written (joined (ltb lo o) (part buf at len) (F T o)) m q start cone h at trail₀ trail₁ gains₁ v₁ buf₀ buf₁ r =
+            rebased (λ T. joined (ltb lo o) (part buf at len) (F T o)) (S .written .kept) before W in
+            let V₂ : Written X m q start cone h at trail₀ trail₁ gains₁ v₁ buf₀ buf₁ r =
+            subst (λ l. Written l m q start cone h at trail₀ trail₁ gains₁ v₁ buf₀ buf₁ r) same V₁ in
+            let n : r ≡ len * t o =
+            V₂ .count ∙ span-count T lo₁ (hi₁ - lo₁) ∙ ap₂ (λ i j. multiply t (count-from i (j - i))) el eh ∙ sym wide-len in
+            record {
+              all = S .all;
+              some = rw (el, eh) (wider-some (S .some) (S .most) B);
+              most = rw eh (wider-most (S .some) (S .most) B);
+              longest = λ i l. rw n (le-trans (S .longest i l) (le-mul-of-pos-right len (ways-some o span-outcome)));
+              here = still (S .here) W e₁ e₂ e₃;
+              written = V₂;
+              trails = e₁ ∙ S .trails;
+              sums = e₂ ∙ S .sums;
+              values = e₃ ∙ S .values;
+              whole = e₄ ∙ S .whole;
+            }
+
+  -- ---- a further outcome
+
+  module _ (o : ℕ) (u : o < entries m s a) {trail trail₁ : List ℕ} {gains₁ : List ℤ} {v₁ : List ℕ} {buf buf₁ : List ℕ} {h at len r : ℕ}
+      (K : Grows buf at len (t o) k) (n : ℕ) (en : n ≡ t o)
+      (W : Written (totals (model-of m) k ((outcome-of m s a o) .target) (λ l. onward m q start cone (take h trail) (outcome-of m s a o ∷ l)))
+      m q start cone h (at + len * n) trail trail₁ gains₁ v₁ buf buf₁ r)
+      (whole : length buf₁ ≡ length buf) (w : ℕ) (ew : w ≡ (outcome-of m s a o) .weight) where
+    ys : List ℕ
+    ys = totals (model-of m) k ((outcome-of m s a o) .target) (λ l. onward m q start cone (take h trail) (outcome-of m s a o ∷ l))
+
+    ly : length ys ≡ n
+    unfolding ys
+    ly = totals-length (model-of m) k ((outcome-of m s a o) .target) (λ l. onward m q start cone (take h trail) (outcome-of m s a o ∷ l)) ∙ sym en
+
+    K₁ : Grows buf at len n k
+    K₁ = rw en K
+
+    some-one : 0 < n
+    some-one = rw en (ways-some o u)
+
+    new : Holds buf buf₁ (at + len * n) ys
+    unfolding ys
+    new = W .listed
+
+    is-weighed : map (λ y. w * y) ys ≡ F (take h trail) o
+    unfolding ys weighed
+    is-weighed = ap (λ z. map (λ y. z * y) ys) ew
+
+    pub grown-joins : Joins buf₁ at len n w
+    grown-joins = held-joins buf buf₁ at len n k K₁ ys ly some-one new whole w (subst (Up-to (100 ^ 6)) (sym is-weighed) (lists-small (take h trail) o u))
+
+    pub grown-written : (right : Bool) {buf₂ : List ℕ} → buf₂ ≡ splice buf₁ at (joined right (part buf₁ at len) (map (λ y. w * y) (part buf₁ (at + len * n) n)))
+        → Written (joined right (part buf at len) (F (take h trail) o)) m q start cone h at trail trail₁ gains₁ v₁ buf buf₂ (len * n)
+    grown-written right {buf₂} e =
+        subst (λ l. Written (joined right (part buf at len) l) m q start cone h at trail trail₁ gains₁ v₁ buf buf₂ (len * n)) is-weighed
+        (record {
+          kept = W .kept;
+          knows = W .knows;
+          count = joined-count buf buf₁ at len n k K₁ ys ly some-one new whole w right;
+          listed = joined-held buf buf₁ at len n k K₁ ys ly some-one new whole buf₂ w right e;
+        })

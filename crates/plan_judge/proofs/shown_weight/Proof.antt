@@ -1,0 +1,30 @@
+-- The record's weight, or 0 where there is no record.
+use borrow.Author.Needs.{needs}
+use Rattle.plan_judge.specs.State.{shown-weight}
+use Rattle.plan_judge.proofs.shown_weight.Statement.{statement}
+use Rattle.plan_judge.proofs.shown_weight.Tie as tie
+
+enum-known-v : tie.Need-enum-known-v
+enum-known-v c = search needs
+
+enum-told : tie.Need-enum-told
+enum-told c = search needs
+
+enum-told-2 : tie.Need-enum-told-2
+enum-told-2 c = search needs
+
+returns : tie.Need-returns
+unfolding shown-weight
+returns c = search needs
+
+returns-2 : tie.Need-returns-2
+unfolding shown-weight
+returns-2 c = search needs
+
+returns-3 : tie.Need-returns-3
+unfolding shown-weight
+returns-3 c = search needs
+
+pub shown-weight-spec : {M : Type 1} → statement M
+shown-weight-spec =
+    tie.close (tie.spec enum-known-v enum-told enum-told-2 returns returns-2 returns-3)

@@ -1,0 +1,182 @@
+-- What the code writes. With what is still to be written below the outcomes that are left, the buffer is as it is to be; each turn writes a part of that,
+-- and at the end nothing is left.
+use Prim.Native.Nat.{ℕ, zero, suc, _+_, _*_, _-_, _/_, _%_, _≤_, _<_}
+use native.Mathlib.Omega.{arith}
+use native.Mathlib.Numerals.{add-one}
+use native.Mathlib.Nat.{mul-div-right, div-lt-iff-lt-mul, mod-lt, suc-mul, mul-le-mul-right}
+use mathlib.Core.Path.{_≡_, refl, sym, ap, ap₂, subst, _∙_}
+use mathlib.Core.Bool.{true}
+use mathlib.Core.List.{List, [], _∷_, _++_, flatMap}
+use lib.ListN.{length, getD, set, length-append}
+use lib.Seq.{set-split}
+use Rattle.logic.specs.Checked.{refusal}
+use Rattle.logic.specs.Model.{Model, Step, outcomes}
+use Rattle.logic.specs.Plan.{choices}
+use Rattle.logic.specs.Limits.{plan-total}
+use Rattle.logic.specs.Extension.{first-plan}
+use Rattle.blocks.specs.Bytes.{Bytes}
+use Rattle.models.specs.Layout.{outcome-of, entries, model-of}
+use Rattle.models.specs.Grounds.{read-model}
+use Rattle.models.specs.Readable.{Readable}
+use Rattle.models.proofs.Rows.{entries-few}
+use Rattle.limits.specs.Totals.{Totals}
+use Rattle.extension.specs.Choices.{splice, room, Ran}
+use Rattle.extension.proofs.Laws.{ran-none, ran-ran}
+use Rattle.ranking.specs.Places.{listed, parts-at, below, ways, plan-at, Found, Wrote}
+use Rattle.ranking.proofs.Places.{plan-at-is}
+use Rattle.ranking.proofs.Laws.{factors, left, left-all, left-step, left-end, ways-left, ways-all, Turn, turn}
+
+-- ---- splices
+
+splice-none : (l : List ℕ) (p : ℕ) → l ≡ splice l p []
+splice-none l p = ran-none [] [] 0 p l refl .wrote
+
+splice-splice : (l : List ℕ) (p : ℕ) (x y : List ℕ) → p + length x ≤ length l → splice (splice l p x) (p + length x) y ≡ splice l p (x ++ y)
+splice-splice l p x y h =
+    let once : (l : List ℕ) (p : ℕ) (x : List ℕ) → Ran (x, []) (length x) [] 0 0 l (splice l p x) p (p + length x) =
+    λ l p x. record { wrote = refl; next = refl; left = refl; near = omega arith; size = omega arith } in
+    ran-ran [] (x, []) (y, []) (x ++ y, []) (length x) (length y) 0 0 0 p (p + length x) (p + length x + length y) l (splice l p x)
+    (splice (splice l p x) (p + length x) y) h (once l p x) (once (splice l p x) (p + length x) y) refl .wrote
+
+splice-set : (l : List ℕ) (p a : ℕ) → p < length l → set l p a ≡ splice l p (a ∷ [])
+unfolding splice
+splice-set l p a h = rw (add-one) (set-split l p a h)
+
+-- ---- a choice
+
+module _ (m : Model) where
+  -- The choices below each outcome of a list, at place k.
+  abbrev pub chosen : (n : ℕ) → List Step → ℕ → List ℕ
+  chosen n l k = flatMap (choices n) (parts-at (below m n) (λ o. plan-at m n (o .target)) l k)
+
+  pub from-none : (n s i at : ℕ) (l : List ℕ) → n ≡ 0 → Wrote (choices n (plan-at m n s i)) (room n) l l at at
+  unfolding choices
+  from-none zero s i at l e = record { wrote = splice-none l at; to = omega arith; size = omega arith }
+  from-none (suc n) s i at l e = absurd (omega arith)
+
+  choice-wrote : (n s i a size place at next : ℕ) (old new : List ℕ) → Found m n s i a size place → at < length old
+      → Wrote (chosen n (outcomes m s a) place) (4 * room n) (set old at a) new (at + 1) next
+      → Wrote (choices (suc n) (plan-at m (suc n) s i)) (room (suc n)) old new at next
+  unfolding choices plan-at room
+  choice-wrote n s i a size place at next old new f h w =
+      let x : List ℕ = chosen n (outcomes m s a) place in
+      subst (λ y. Wrote (y .0 ∷ chosen n (outcomes m s (y .0)) (y .1)) (1 + 4 * room n) old new at next) (f .block)
+      (record {
+        wrote = w .wrote ∙ ap (λ l. splice l (at + 1) x) (splice-set old at a h) ∙ splice-splice old at (a ∷ []) x (omega arith);
+        to = omega (arith, w .to);
+        size = omega (arith, w .size);
+      })
+
+  -- A choice, and what stands below its outcomes.
+  pub from-choice : {n s i a size place at next : ℕ} {old new : List ℕ} → (n ≡ 0 → ⊥) → Found m (n - 1) s i a size place → at < length old
+      → Wrote (chosen (n - 1) (outcomes m s a) place) (4 * room (n - 1)) (set old at a) new (at + 1) next
+      → Wrote (choices n (plan-at m n s i)) (room n) old new at next
+  from-choice {n} {s} {i} {a} {size} {place} {at} {next} {old} {new} z f h w =
+      let e : suc (n - 1) ≡ n = omega arith in
+      subst (λ n. Wrote (choices n (plan-at m n s i)) (room n) old new at next) e (choice-wrote (n - 1) s i a size place at next old new f h w)
+
+-- ---- the loop over the outcomes
+
+module _ (b : Bytes) (n s a place : ℕ) (old : List ℕ) (at : ℕ) where
+  -- What is to be written below the outcomes from j on, at what is left of the place.
+  abbrev to-write : ℕ → ℕ → List ℕ
+  to-write j rest = chosen (model-of b) n (left b s a j) rest
+
+  -- Outcomes before j are done: with what is still to be written, the buffer is as it is to be.
+  pub record Underway (count j size rest : ℕ) (new : List ℕ) (next : ℕ) : Type 0 where
+    pub entered : count ≡ entries b s a
+    pub sized : size ≡ ways-left b s a n j
+    pub inside : rest < size
+    pub few : size ≤ 65536
+    pub write : splice new next (to-write j rest) ≡ splice old at (to-write 0 place)
+    pub to : next + length (to-write j rest) ≡ at + length (to-write 0 place)
+    pub near : next ≤ at + j * room n
+    pub kept : length new ≡ length old
+
+  pub below-start : (count size : ℕ) → count ≡ entries b s a → size ≡ ways (model-of b) n s a → place < size → size ≤ 65536
+      → Underway count 0 size place old at
+  below-start count size c e h f =
+      record {
+        entered = c;
+        sized = e ∙ sym (ways-all b s a n);
+        inside = h;
+        few = f;
+        write = refl;
+        to = refl;
+        near = omega arith;
+        kept = refl;
+      }
+
+  pub below-end : {count j size rest next : ℕ} {new : List ℕ} → Readable b → j ≡ count → Underway count j size rest new next
+      → Wrote (chosen (model-of b) n (outcomes (model-of b) s a) place) (4 * room n) old new at next
+  unfolding flatMap parts-at
+  below-end {count} {j} {size} {rest} {next} {new} r e here =
+      let none : to-write j rest ≡ [] = ap (λ l. chosen (model-of b) n l rest) (left-end b s a j (e ∙ here .entered)) in
+      let most : j * room n ≤ 4 * room n = mul-le-mul-right (room n) (omega (arith, here .entered, entries-few b r s a)) in
+      subst (λ l. Wrote (chosen (model-of b) n l place) (4 * room n) old new at next) (left-all b s a)
+      (record {
+        wrote = splice-none new next ∙ ap (splice new next) (sym none) ∙ here .write;
+        to = omega (arith, here .to, ap length none);
+        size = omega (arith, here .to, ap length none, here .near, most);
+      })
+
+-- A turn of the loop, for an outcome that leads to t.
+module _ {b : Bytes} {n s a place : ℕ} {old : List ℕ} {at count j size rest next : ℕ} {new : List ℕ}
+    (here : Underway b n s a place old at count j size rest new next) (l : j < count) where
+  pub below-turn : refusal (read-model b) ≡ 0 → {counts : List ℕ} → Totals true (model-of b) counts → n ≤ 6
+      → {x t : ℕ} → x ≡ a → t ≡ (outcome-of b s x j) .target → Turn b counts n s a j t
+  below-turn e totals h {x} {t} q g =
+      turn b e totals n s a h x j t q g (omega (arith, here .entered)) (omega (arith, here .sized, here .inside)) (omega (arith, here .sized, here .few))
+
+  pub fits : Readable b → at + 4 * room n ≤ length old → next + room n ≤ length new
+  fits r h =
+      let most : suc j * room n ≤ 4 * room n = mul-le-mul-right (room n) (omega (arith, here .entered, entries-few b r s a)) in
+      omega (arith, here .near, here .kept, suc-mul j (room n), most)
+
+  module _ {counts : List ℕ} {t : ℕ} (u : Turn b counts n s a j t) where
+    -- The division is exact, and both parts of the place are in range.
+    pub divides : {y : ℕ} → y ≡ getD counts (32 * n + t) 0 → size / y ≡ ways-left b s a n (j + 1)
+    divides e = ap₂ (λ x y. x / y) (here .sized ∙ u .split) (e ∙ u .counted) ∙ mul-div-right (ways-left b s a n (j + 1)) (u .some)
+
+    module _ {v : ℕ} (e : v ≡ ways-left b s a n (j + 1)) where
+      pub quotient : rest / v < plan-total (model-of b) n t
+      quotient = rw e (div-lt-iff-lt-mul (u .later) .1 (rw (here .sized ∙ u .split) at (here .inside)))
+
+      write-step : to-write b n s a place old at j rest
+          ≡ choices n (plan-at (model-of b) n t (rest / v)) ++ to-write b n s a place old at (j + 1) (rest % v)
+      unfolding flatMap parts-at
+      write-step =
+          ap (λ l. chosen (model-of b) n l rest) (left-step b s a j (rw (here .entered) at l))
+          ∙ ap₂ (λ t v. choices n (plan-at (model-of b) n t (rest / v)) ++ to-write b n s a place old at (j + 1) (rest % v)) (sym (u .target)) (sym e)
+
+      pub below-more : {next′ : ℕ} {new′ : List ℕ} → next + room n ≤ length new
+          → Wrote (choices n (plan-at (model-of b) n t (rest / v))) (room n) new new′ next next′ → length new′ ≡ length new
+          → Underway b n s a place old at count (j + 1) v (rest % v) new′ next′
+      below-more h w k =
+          let x : List ℕ = choices n (plan-at (model-of b) n t (rest / v)) in
+          let y : List ℕ = to-write b n s a place old at (j + 1) (rest % v) in
+          let f = factors (plan-total (model-of b) n t) (ways-left b s a n (j + 1)) (sym (u .split)) (omega (arith, here .sized, here .inside)) in
+          record {
+            entered = here .entered;
+            sized = e;
+            inside = mod-lt rest (rw e (u .later));
+            few = omega (arith, here .sized, here .few, f .3);
+            write = ap₂ (λ l q. splice l q y) (w .wrote) (w .to)
+                ∙ splice-splice new next x y (omega (arith, w .size))
+                ∙ ap (splice new next) (sym write-step)
+                ∙ here .write;
+            to = omega (arith, w .to, here .to, ap length write-step, length-append x y);
+            near = rw (add-one j) (omega (arith, here .near, w .to, w .size, suc-mul j (room n)));
+            kept = k ∙ here .kept;
+          }
+
+-- ---- the whole
+
+-- What stands at the beginning of the buffer is the plan of the list.
+pub nth-listed : (m : Model) (n s i y x next : ℕ) (old new : List ℕ) → y ≡ n → x ≡ s → i < plan-total m n s
+    → Wrote (choices y (plan-at m y x i)) (room y) old new 0 next
+    → (new ≡ splice old 0 (choices n (listed m n s i))) × (next ≡ length (choices n (listed m n s i)))
+nth-listed m n s i y x next old new e q h w =
+    let here : choices y (plan-at m y x i) ≡ choices n (listed m n s i) =
+    ap₂ (λ n s. choices n (plan-at m n s i)) e q ∙ ap (choices n) (sym (plan-at-is m n s i (first-plan m n s) h)) in
+    (w .wrote ∙ ap (splice old 0) here, omega (arith, w .to, ap length here))

@@ -1,0 +1,769 @@
+-- `pick` and `walk` meet their contracts, together: the steps left fall from the one to the other. `pick` keeps the best of the choices tried
+-- (`Tried`), `walk` the sum over the outcomes walked (`Walking`).
+use Prim.Native.Nat.{ℕ, _+_, _-_, _≤_, _<_}
+use native.Mathlib.Omega.{arith}
+use mathlib.Core.Path.{_≡_, sym, ap, _∙_}
+use mathlib.Core.Logic.{⊎-elim}
+use borrow.Author.Needs.{needs}
+use lib.ListN.{take, length-set}
+use Rattle.models.specs.Layout.{action-count, entries}
+use Rattle.extension.specs.Choices.{room}
+use Rattle.evaluation.specs.Learnt.{known}
+use Rattle.search.specs.Greatest.{on-path}
+use Rattle.search.proofs.Walking.{Walking, walking-none}
+use Rattle.search.proofs.Paths.{sizes-here, few-here, count-here, picked-leaf, Kept, back-none, kept-none}
+use Rattle.search.proofs.Turns.{step-asked, pick-room, pick-setting, walk-fits, walk-more, walk-kept, walked-all, Turned, turned-none, walk-room, walk-setting, turned-all, turned-skipped, keep-asked, turned-taken, turned-same}
+use borrow.Fn.Kinds.{In}
+use borrow.Fn.PlainCycle.{Measures, is, falls, and}
+use Rattle.search.proofs.pick.Reads as pick
+use Rattle.search.proofs.pick.Kinds as pick-kinds
+use Rattle.search.proofs.+pick+walk.Lts-pick as pick-lts
+use Rattle.search.proofs.walk.Reads as walk
+use Rattle.search.proofs.walk.Kinds as walk-kinds
+use Rattle.search.proofs.+pick+walk.Lts-walk as walk-lts
+use Rattle.blocks.proofs.byte.Reads as byte-reads
+use Rattle.evaluation.proofs.known.Reads as known-reads
+use Rattle.evaluation.proofs.step.Reads as step-reads
+use Rattle.models.proofs.weight.Reads as weight-reads
+use Rattle.search.proofs.add_mul.Reads as add-mul-reads
+use Rattle.search.proofs.count.Reads as count-reads
+use Rattle.search.proofs.keep.Reads as keep-reads
+use Rattle.search.proofs.root.Reads as root-reads
+use Rattle.search.proofs.+pick+walk.{statement}
+use Rattle.search.proofs.+pick+walk.Tie.{close}
+
+abbrev μ-pick : Measures 10 pick-kinds.ps ℕ
+μ-pick κs a = a .1 .1 .1 .1 .1 .1 .1 .1 .1 .1 .1 .1 .1 .0 + a .1 .1 .1 .1 .1 .1 .1 .1 .1 .1 .1 .1 .1 .0
+
+abbrev μ-walk : Measures 10 walk-kinds.ps ℕ
+μ-walk κs a = a .1 .1 .1 .1 .1 .1 .1 .1 .1 .1 .1 .1 .1 .1 .0 + a .1 .1 .1 .1 .1 .1 .1 .1 .1 .1 .1 .1 .1 .1 .0 + 1
+
+abbrev pick-at : ℕ → In 10 pick-kinds.ps
+pick-at t = and 10 pick-kinds.ps (is 10 pick-kinds.ps μ-pick t) pick.Pre
+
+abbrev pick-below : ℕ → In 10 pick-kinds.ps
+pick-below t = and 10 pick-kinds.ps (falls 10 pick-kinds.ps _<_ μ-pick t) pick.Pre
+
+abbrev walk-at : ℕ → In 10 walk-kinds.ps
+walk-at t = and 10 walk-kinds.ps (is 10 walk-kinds.ps μ-walk t) walk.Pre
+
+abbrev walk-below : ℕ → In 10 walk-kinds.ps
+walk-below t = and 10 walk-kinds.ps (falls 10 walk-kinds.ps _<_ μ-walk t) walk.Pre
+
+abbrev pick-Inv-loop : pick-lts.InvT-loop
+pick-Inv-loop m used q depths truth cone trail₀ gains₀ v₀ choices₀ start h s k at least n best₀ a₀ trail gains v choices best a = (n ≡ action-count m) × (a ≤ n) × Turned least m q start cone h s k at trail₀ gains₀ v₀ choices₀ a trail gains v choices best
+
+abbrev pick-μ-loop : pick-lts.MeasureT-loop
+pick-μ-loop m used q depths truth cone trail₀ gains₀ v₀ choices₀ start h s k at least n best₀ a₀ trail gains v choices best a = n - a
+
+pick-root-requires : (t : ℕ) → pick-lts.Need-root-requires (
+  root-reads.Asked,
+  root-reads.Learnt,
+  known-reads.Asked,
+  known-reads.Learnt,
+  byte-reads.Asked,
+  byte-reads.Learnt,
+  count-reads.Asked,
+  count-reads.Learnt,
+  walk-below t,
+  walk.Post,
+  keep-reads.Asked,
+  keep-reads.Learnt,
+) (pick-at t) pick.Post pick-Inv-loop pick-μ-loop
+pick-root-requires t c κs = (c .before .before .before .before .before .before .before .before .before .before .pre .1 .0) .ready .ordered .some
+
+pick-known-requires : (t : ℕ) → pick-lts.Need-known-requires (
+  root-reads.Asked,
+  root-reads.Learnt,
+  known-reads.Asked,
+  known-reads.Learnt,
+  byte-reads.Asked,
+  byte-reads.Learnt,
+  count-reads.Asked,
+  count-reads.Learnt,
+  walk-below t,
+  walk.Post,
+  keep-reads.Asked,
+  keep-reads.Learnt,
+) (pick-at t) pick.Post pick-Inv-loop pick-μ-loop
+pick-known-requires t c κs = search needs
+
+pick-cast-t27 : (t : ℕ) → pick-lts.Need-cast-t27 (
+  root-reads.Asked,
+  root-reads.Learnt,
+  known-reads.Asked,
+  known-reads.Learnt,
+  byte-reads.Asked,
+  byte-reads.Learnt,
+  count-reads.Asked,
+  count-reads.Learnt,
+  walk-below t,
+  walk.Post,
+  keep-reads.Asked,
+  keep-reads.Learnt,
+) (pick-at t) pick.Post pick-Inv-loop pick-μ-loop
+pick-cast-t27 t c = search needs
+
+pick-same-length : (t : ℕ) → pick-lts.Need-same-length (
+  root-reads.Asked,
+  root-reads.Learnt,
+  known-reads.Asked,
+  known-reads.Learnt,
+  byte-reads.Asked,
+  byte-reads.Learnt,
+  count-reads.Asked,
+  count-reads.Learnt,
+  walk-below t,
+  walk.Post,
+  keep-reads.Asked,
+  keep-reads.Learnt,
+) (pick-at t) pick.Post pick-Inv-loop pick-μ-loop
+pick-same-length t c = search needs
+
+pick-returns : (t : ℕ) → pick-lts.Need-returns (
+  root-reads.Asked,
+  root-reads.Learnt,
+  known-reads.Asked,
+  known-reads.Learnt,
+  byte-reads.Asked,
+  byte-reads.Learnt,
+  count-reads.Asked,
+  count-reads.Learnt,
+  walk-below t,
+  walk.Post,
+  keep-reads.Asked,
+  keep-reads.Learnt,
+) (pick-at t) pick.Post pick-Inv-loop pick-μ-loop
+pick-returns t c = let S = c .before .before .before .before .before .before .before .before .before .before .before .before in
+    (picked-leaf (S .pre .1 .0) (S .args .least) (c .known .result) (S .args .at) (S .args .choices .now) (c .before .before .before .if1 .taken) (c .known .ensures ∙ ap (λ j. known (S .args .v .now) j 0) (c .before .root .ensures)), back-none (S .pre .1 .0))
+
+pick-byte-requires : (t : ℕ) → pick-lts.Need-byte-requires (
+  root-reads.Asked,
+  root-reads.Learnt,
+  known-reads.Asked,
+  known-reads.Learnt,
+  byte-reads.Asked,
+  byte-reads.Learnt,
+  count-reads.Asked,
+  count-reads.Learnt,
+  walk-below t,
+  walk.Post,
+  keep-reads.Asked,
+  keep-reads.Learnt,
+) (pick-at t) pick.Post pick-Inv-loop pick-μ-loop
+pick-byte-requires t c κs = search needs
+
+pick-loop-holds : (t : ℕ) → pick-lts.Need-loop-holds (
+  root-reads.Asked,
+  root-reads.Learnt,
+  known-reads.Asked,
+  known-reads.Learnt,
+  byte-reads.Asked,
+  byte-reads.Learnt,
+  count-reads.Asked,
+  count-reads.Learnt,
+  walk-below t,
+  walk.Post,
+  keep-reads.Asked,
+  keep-reads.Learnt,
+) (pick-at t) pick.Post pick-Inv-loop pick-μ-loop
+pick-loop-holds t c = let S = c .before .before .before .before .before .before .before .before .before .before in
+    (c .byte .ensures, omega arith, turned-none (S .pre .1 .0) (S .args .at) (S .args .choices .now))
+
+pick-count-requires : (t : ℕ) → pick-lts.Need-count-requires (
+  root-reads.Asked,
+  root-reads.Learnt,
+  known-reads.Asked,
+  known-reads.Learnt,
+  byte-reads.Asked,
+  byte-reads.Learnt,
+  count-reads.Asked,
+  count-reads.Learnt,
+  walk-below t,
+  walk.Post,
+  keep-reads.Asked,
+  keep-reads.Learnt,
+) (pick-at t) pick.Post pick-Inv-loop pick-μ-loop
+pick-count-requires t c κs = let S = c .before .before .before .before .before .before .before .before .before .before .before .before in
+    let L = c .before .loop in
+    let z = sizes-here (S .pre .1 .0) in
+    (z .0, omega (arith, z .1, L .inv .0, c .loop-test .taken))
+
+pick-slice-write-choices : (t : ℕ) → pick-lts.Need-slice-write-choices (
+  root-reads.Asked,
+  root-reads.Learnt,
+  known-reads.Asked,
+  known-reads.Learnt,
+  byte-reads.Asked,
+  byte-reads.Learnt,
+  count-reads.Asked,
+  count-reads.Learnt,
+  walk-below t,
+  walk.Post,
+  keep-reads.Asked,
+  keep-reads.Learnt,
+) (pick-at t) pick.Post pick-Inv-loop pick-μ-loop
+pick-slice-write-choices t c = let S = c .before .before .before .before .before .before .before .before .before .before .before .before .before .before in
+    let L = c .before .before .before .loop in
+    walk-room (S .pre .1 .0) (c .before .before .before .before .before .if1 .left) (L .inv .2) (S .pre .1 .1) .0
+
+pick-sub-walk : (t : ℕ) → pick-lts.Need-sub-walk (
+  root-reads.Asked,
+  root-reads.Learnt,
+  known-reads.Asked,
+  known-reads.Learnt,
+  byte-reads.Asked,
+  byte-reads.Learnt,
+  count-reads.Asked,
+  count-reads.Learnt,
+  walk-below t,
+  walk.Post,
+  keep-reads.Asked,
+  keep-reads.Learnt,
+) (pick-at t) pick.Post pick-Inv-loop pick-μ-loop
+pick-sub-walk t c = search needs
+
+pick-add-walk : (t : ℕ) → pick-lts.Need-add-walk (
+  root-reads.Asked,
+  root-reads.Learnt,
+  known-reads.Asked,
+  known-reads.Learnt,
+  byte-reads.Asked,
+  byte-reads.Learnt,
+  count-reads.Asked,
+  count-reads.Learnt,
+  walk-below t,
+  walk.Post,
+  keep-reads.Asked,
+  keep-reads.Learnt,
+) (pick-at t) pick.Post pick-Inv-loop pick-μ-loop
+pick-add-walk t c = let S = c .before .before .before .before .before .before .before .before .before .before .before .before .before .before .before .before .before .before in
+    let L = c .before .before .before .before .before .before .before .loop in
+    omega (arith, walk-room (S .pre .1 .0) (c .before .before .before .before .before .before .before .before .before .if1 .left) (L .inv .2) (S .pre .1 .1) .0, (L .inv .2) .kept .room)
+
+pick-walk-requires : (t : ℕ) → pick-lts.Need-walk-requires (
+  root-reads.Asked,
+  root-reads.Learnt,
+  known-reads.Asked,
+  known-reads.Learnt,
+  byte-reads.Asked,
+  byte-reads.Learnt,
+  count-reads.Asked,
+  count-reads.Learnt,
+  walk-below t,
+  walk.Post,
+  keep-reads.Asked,
+  keep-reads.Learnt,
+) (pick-at t) pick.Post pick-Inv-loop pick-μ-loop
+pick-walk-requires t c κs = let S = c .before .before .before .before .before .before .before .before .before .before .before .before .before .before .before .before .before .before in
+    let L = c .before .before .before .before .before .before .before .loop in
+    let some = c .before .before .before .before .before .before .before .before .before .if1 .left in
+    let r = walk-room (S .pre .1 .0) some (L .inv .2) (S .pre .1 .1) in
+    let z = sizes-here (S .pre .1 .0) in (
+      omega (arith, S .pre .0, some),
+      (walk-setting (S .pre .1 .0) some (L .inv .2), (omega (arith, z .1, L .inv .0, c .before .before .before .before .before .before .loop-test .taken), simp length-set (r .1))),
+    )
+
+pick-keep-requires : (t : ℕ) → pick-lts.Need-keep-requires (
+  root-reads.Asked,
+  root-reads.Learnt,
+  known-reads.Asked,
+  known-reads.Learnt,
+  byte-reads.Asked,
+  byte-reads.Learnt,
+  count-reads.Asked,
+  count-reads.Learnt,
+  walk-below t,
+  walk.Post,
+  keep-reads.Asked,
+  keep-reads.Learnt,
+) (pick-at t) pick.Post pick-Inv-loop pick-μ-loop
+pick-keep-requires t c κs = let S = c .before .before .before .before .before .before .before .before .before .before .before .before .before .before .before .before .before .before .before .before .before .before .before .before .before .before .before in
+    let L = c .before .before .before .before .before .before .before .before .before .before .before .before .before .before .before .before .loop in
+    keep-asked (S .pre .1 .0) (c .before .before .before .before .before .before .before .before .before .before .before .before .before .before .before .before .before .before .if1 .left) (L .inv .2) (S .pre .1 .1) {choices′ = c .before .before .before .before .before .before .before .before .walk .last .1 .1 .1 .1 .1 .1 .1 .1 .1 .0} (c .before .before .before .before .before .before .before .before .walk .ensures .0)
+
+pick-add-a : (t : ℕ) → pick-lts.Need-add-a (
+  root-reads.Asked,
+  root-reads.Learnt,
+  known-reads.Asked,
+  known-reads.Learnt,
+  byte-reads.Asked,
+  byte-reads.Learnt,
+  count-reads.Asked,
+  count-reads.Learnt,
+  walk-below t,
+  walk.Post,
+  keep-reads.Asked,
+  keep-reads.Learnt,
+) (pick-at t) pick.Post pick-Inv-loop pick-μ-loop
+pick-add-a t c = search needs
+
+pick-loop-less : (t : ℕ) → pick-lts.Need-loop-less (
+  root-reads.Asked,
+  root-reads.Learnt,
+  known-reads.Asked,
+  known-reads.Learnt,
+  byte-reads.Asked,
+  byte-reads.Learnt,
+  count-reads.Asked,
+  count-reads.Learnt,
+  walk-below t,
+  walk.Post,
+  keep-reads.Asked,
+  keep-reads.Learnt,
+) (pick-at t) pick.Post pick-Inv-loop pick-μ-loop
+pick-loop-less t c = search needs
+
+pick-loop-again : (t : ℕ) → pick-lts.Need-loop-again (
+  root-reads.Asked,
+  root-reads.Learnt,
+  known-reads.Asked,
+  known-reads.Learnt,
+  byte-reads.Asked,
+  byte-reads.Learnt,
+  count-reads.Asked,
+  count-reads.Learnt,
+  walk-below t,
+  walk.Post,
+  keep-reads.Asked,
+  keep-reads.Learnt,
+) (pick-at t) pick.Post pick-Inv-loop pick-μ-loop
+pick-loop-again t c = let S = c .before .before .before .before .before .before .before .before .before .before .before .before .before .before in
+    let L = c .before .before .before .loop in
+    let some = c .before .before .before .before .before .if1 .left in
+    let less : L .a < 8 = omega (arith, sizes-here (S .pre .1 .0) .1, L .inv .0, c .before .before .loop-test .taken) in
+    let n = count-here (S .pre .1 .0) (L .a) (c .before .count .result) less (c .before .count .ensures) in
+    ⊎-elim
+    (λ w. (
+      L .inv .0,
+      omega (arith, c .before .before .loop-test .taken),
+      turned-same (w .17) (w .18) (w .19) (w .20) (w .21)
+          (turned-taken (S .pre .1 .0) some (L .inv .2) (S .pre .1 .1) {choices′ = w .5 .last .1 .1 .1 .1 .1 .1 .1 .1 .1 .0} (w .5 .ensures .0) (λ e. w .0 .taken (n ∙ e)) (w .5 .ensures .1) (w .14 .ensures) (w .5 .kept .1 .1 .1 .1 .1 .1 .0) (w .5 .kept .1 .1 .1 .1 .1 .1 .1 .0) (w .5 .kept .1 .1 .1 .1 .1 .1 .1 .1 .0) (w .14 .kept .0 ∙ w .5 .kept .1 .1 .1 .1 .1 .1 .1 .1 .1 .0)),
+    ))
+    (λ w. (
+      L .inv .0,
+      omega (arith, c .before .before .loop-test .taken),
+      turned-same (w .1) (w .2) (w .3) (w .4) (w .5) (turned-skipped (S .pre .1 .0) some (L .inv .2) (sym n ∙ w .0 .left)),
+    ))
+    (c .if2 .came)
+
+pick-same-length-2 : (t : ℕ) → pick-lts.Need-same-length-2 (
+  root-reads.Asked,
+  root-reads.Learnt,
+  known-reads.Asked,
+  known-reads.Learnt,
+  byte-reads.Asked,
+  byte-reads.Learnt,
+  count-reads.Asked,
+  count-reads.Learnt,
+  walk-below t,
+  walk.Post,
+  keep-reads.Asked,
+  keep-reads.Learnt,
+) (pick-at t) pick.Post pick-Inv-loop pick-μ-loop
+pick-same-length-2 t c = (c .before .loop .inv .2) .kept .steps
+
+pick-same-length-3 : (t : ℕ) → pick-lts.Need-same-length-3 (
+  root-reads.Asked,
+  root-reads.Learnt,
+  known-reads.Asked,
+  known-reads.Learnt,
+  byte-reads.Asked,
+  byte-reads.Learnt,
+  count-reads.Asked,
+  count-reads.Learnt,
+  walk-below t,
+  walk.Post,
+  keep-reads.Asked,
+  keep-reads.Learnt,
+) (pick-at t) pick.Post pick-Inv-loop pick-μ-loop
+pick-same-length-3 t c = (c .before .loop .inv .2) .kept .sums
+
+pick-same-length-4 : (t : ℕ) → pick-lts.Need-same-length-4 (
+  root-reads.Asked,
+  root-reads.Learnt,
+  known-reads.Asked,
+  known-reads.Learnt,
+  byte-reads.Asked,
+  byte-reads.Learnt,
+  count-reads.Asked,
+  count-reads.Learnt,
+  walk-below t,
+  walk.Post,
+  keep-reads.Asked,
+  keep-reads.Learnt,
+) (pick-at t) pick.Post pick-Inv-loop pick-μ-loop
+pick-same-length-4 t c = (c .before .loop .inv .2) .kept .places
+
+pick-same-length-5 : (t : ℕ) → pick-lts.Need-same-length-5 (
+  root-reads.Asked,
+  root-reads.Learnt,
+  known-reads.Asked,
+  known-reads.Learnt,
+  byte-reads.Asked,
+  byte-reads.Learnt,
+  count-reads.Asked,
+  count-reads.Learnt,
+  walk-below t,
+  walk.Post,
+  keep-reads.Asked,
+  keep-reads.Learnt,
+) (pick-at t) pick.Post pick-Inv-loop pick-μ-loop
+pick-same-length-5 t c = (c .before .loop .inv .2) .kept .room
+
+pick-returns-2 : (t : ℕ) → pick-lts.Need-returns-2 (
+  root-reads.Asked,
+  root-reads.Learnt,
+  known-reads.Asked,
+  known-reads.Learnt,
+  byte-reads.Asked,
+  byte-reads.Learnt,
+  count-reads.Asked,
+  count-reads.Learnt,
+  walk-below t,
+  walk.Post,
+  keep-reads.Asked,
+  keep-reads.Learnt,
+) (pick-at t) pick.Post pick-Inv-loop pick-μ-loop
+pick-returns-2 t c = let S = c .before .before .before .before .before .before .before .before .before .before .before .before in
+    let L = c .before .loop in
+    (turned-all (S .pre .1 .0) (c .before .before .before .if1 .left) (L .inv .2) (omega (arith, L .inv .0)), (L .inv .2) .kept .back)
+
+abbrev walk-Inv-loop : walk-lts.InvT-loop
+walk-Inv-loop m used q depths truth cone trail₀ gains₀ v₀ choices₀ start h s a k at least n sum₀ end₀ o₀ trail gains v choices sum end o = (n ≡ entries m s a) × (o ≤ n) × Walking least m s a k (on-path m q start cone (take h trail₀)) o at choices₀ choices sum end
+    × Kept m q start cone h trail₀ gains₀ v₀ choices₀ trail gains v choices
+
+abbrev walk-μ-loop : walk-lts.MeasureT-loop
+walk-μ-loop m used q depths truth cone trail₀ gains₀ v₀ choices₀ start h s a k at least n sum₀ end₀ o₀ trail gains v choices sum end o = n - o
+
+walk-count-requires : (t : ℕ) → walk-lts.Need-count-requires (
+  count-reads.Asked,
+  count-reads.Learnt,
+  step-reads.Asked,
+  step-reads.Learnt,
+  pick-below t,
+  pick.Post,
+  weight-reads.Asked,
+  weight-reads.Learnt,
+  add-mul-reads.Asked,
+  add-mul-reads.Learnt,
+) (walk-at t) walk.Post walk-Inv-loop walk-μ-loop
+walk-count-requires t c κs = let S = c .before .before .before .before .before .before .before .before in
+    ((sizes-here (S .pre .1 .0)) .0, S .pre .1 .1 .0)
+
+walk-loop-holds : (t : ℕ) → walk-lts.Need-loop-holds (
+  count-reads.Asked,
+  count-reads.Learnt,
+  step-reads.Asked,
+  step-reads.Learnt,
+  pick-below t,
+  pick.Post,
+  weight-reads.Asked,
+  weight-reads.Learnt,
+  add-mul-reads.Asked,
+  add-mul-reads.Learnt,
+) (walk-at t) walk.Post walk-Inv-loop walk-μ-loop
+walk-loop-holds t c = let S = c .before .before .before .before .before .before .before .before .before in
+    (count-here (S .pre .1 .0) (S .args .a) (c .count .result) (S .pre .1 .1 .0) (c .count .ensures), omega arith, walking-none (S .args .least) (S .args .m .now) (S .args .s) (S .args .a) (S .args .k) (on-path (S .args .m .now) (S .args .q .now) (S .args .start) (S .args .cone .now) (take (S .args .h) (S .args .trail .now))) (S .args .at) (S .args .choices .now), kept-none (S .pre .1 .0) (S .args .choices .now))
+
+walk-step-requires : (t : ℕ) → walk-lts.Need-step-requires (
+  count-reads.Asked,
+  count-reads.Learnt,
+  step-reads.Asked,
+  step-reads.Learnt,
+  pick-below t,
+  pick.Post,
+  weight-reads.Asked,
+  weight-reads.Learnt,
+  add-mul-reads.Asked,
+  add-mul-reads.Learnt,
+) (walk-at t) walk.Post walk-Inv-loop walk-μ-loop
+walk-step-requires t c κs = let S = c .before .before .before .before .before .before .before .before .before .before .before .before .before .before in
+    let L = c .before .before .before .before .loop in
+    let x = step-asked (S .args .k) (S .pre .1 .0) (L .inv .3) (L .inv .2) (omega (arith, L .inv .0, c .before .before .before .loop-test .taken)) in
+    (x .0, (x .1, (x .2, x .3)))
+
+walk-add-pick : (t : ℕ) → walk-lts.Need-add-pick (
+  count-reads.Asked,
+  count-reads.Learnt,
+  step-reads.Asked,
+  step-reads.Learnt,
+  pick-below t,
+  pick.Post,
+  weight-reads.Asked,
+  weight-reads.Learnt,
+  add-mul-reads.Asked,
+  add-mul-reads.Learnt,
+) (walk-at t) walk.Post walk-Inv-loop walk-μ-loop
+walk-add-pick t c = let S = c .before .before .before .before .before .before .before .before .before .before .before .before .before .before .before .before .before .before .before .before .before .before .before .before in
+    omega (arith, (S .pre .1 .0) .few)
+
+walk-pick-requires : (t : ℕ) → walk-lts.Need-pick-requires (
+  count-reads.Asked,
+  count-reads.Learnt,
+  step-reads.Asked,
+  step-reads.Learnt,
+  pick-below t,
+  pick.Post,
+  weight-reads.Asked,
+  weight-reads.Learnt,
+  add-mul-reads.Asked,
+  add-mul-reads.Learnt,
+) (walk-at t) walk.Post walk-Inv-loop walk-μ-loop
+walk-pick-requires t c κs = let S = c .before .before .before .before .before .before .before .before .before .before .before .before .before .before .before .before .before .before .before .before .before .before .before .before in
+    let L = c .before .before .before .before .before .before .before .before .before .before .before .before .before .before .loop in
+    let T = c .before .before .before .before .before .before .before .before .before .step in
+    let here : L .o < entries (S .args .m .now) (S .args .s) (S .args .a) = omega (arith, L .inv .0, c .before .before .before .before .before .before .before .before .before .before .before .before .before .loop-test .taken) in (
+      omega (arith, S .pre .0),
+      (
+        pick-setting (S .args .k) (S .pre .1 .0) (L .inv .3) (L .inv .2) here {trail′ = T .last .1 .1 .1 .1 .1 .0} {gains′ = T .last .1 .1 .1 .1 .1 .1 .0} {v′ = T .last .1 .1 .1 .1 .1 .1 .1 .0} (T .ensures) (T .kept .1 .1 .1 .1 .1 .0) (T .kept .1 .1 .1 .1 .1 .1 .0) (T .kept .1 .1 .1 .1 .1 .1 .1 .0),
+        pick-room (S .args .k) (S .pre .1 .0) (L .inv .3) (L .inv .2) here (S .pre .1 .1 .1),
+      ),
+    )
+
+walk-cast-weight : (t : ℕ) → walk-lts.Need-cast-weight (
+  count-reads.Asked,
+  count-reads.Learnt,
+  step-reads.Asked,
+  step-reads.Learnt,
+  pick-below t,
+  pick.Post,
+  weight-reads.Asked,
+  weight-reads.Learnt,
+  add-mul-reads.Asked,
+  add-mul-reads.Learnt,
+) (walk-at t) walk.Post walk-Inv-loop walk-μ-loop
+walk-cast-weight t c = search needs
+
+walk-weight-requires : (t : ℕ) → walk-lts.Need-weight-requires (
+  count-reads.Asked,
+  count-reads.Learnt,
+  step-reads.Asked,
+  step-reads.Learnt,
+  pick-below t,
+  pick.Post,
+  weight-reads.Asked,
+  weight-reads.Learnt,
+  add-mul-reads.Asked,
+  add-mul-reads.Learnt,
+) (walk-at t) walk.Post walk-Inv-loop walk-μ-loop
+walk-weight-requires t c κs = let S = c .before .before .before .before .before .before .before .before .before .before .before .before .before .before .before .before .before .before .before .before .before .before .before .before .before .before .before .before .before .before .before .before in
+    let L = c .before .before .before .before .before .before .before .before .before .before .before .before .before .before .before .before .before .before .before .before .before .before .loop in
+    let z = sizes-here (S .pre .1 .0) in
+    (omega (arith, z .0), omega (arith, S .pre .1 .1 .0), omega (arith, L .inv .0, c .before .before .before .before .before .before .before .before .before .before .before .before .before .before .before .before .before .before .before .before .before .loop-test .taken, few-here (S .pre .1 .0) (S .args .a)))
+
+walk-add-mul-requires : (t : ℕ) → walk-lts.Need-add-mul-requires (
+  count-reads.Asked,
+  count-reads.Learnt,
+  step-reads.Asked,
+  step-reads.Learnt,
+  pick-below t,
+  pick.Post,
+  weight-reads.Asked,
+  weight-reads.Learnt,
+  add-mul-reads.Asked,
+  add-mul-reads.Learnt,
+) (walk-at t) walk.Post walk-Inv-loop walk-μ-loop
+walk-add-mul-requires t c κs = let S = c .before .before .before .before .before .before .before .before .before .before .before .before .before .before .before .before .before .before .before .before .before .before .before .before .before .before .before .before .before .before .before .before .before in
+    let L = c .before .before .before .before .before .before .before .before .before .before .before .before .before .before .before .before .before .before .before .before .before .before .before .loop in
+    let T = c .before .before .before .before .before .before .before .before .before .before .before .before .before .before .before .before .before .before .step in
+    let P = c .before .before .before .before .before .before .before .before .pick in
+    let here : L .o < entries (S .args .m .now) (S .args .s) (S .args .a) = omega (arith, L .inv .0, c .before .before .before .before .before .before .before .before .before .before .before .before .before .before .before .before .before .before .before .before .before .before .loop-test .taken) in
+    walk-fits (S .args .k) (S .pre .1 .0) (L .inv .3) (L .inv .2) here {trail′ = T .last .1 .1 .1 .1 .1 .0} {gains′ = T .last .1 .1 .1 .1 .1 .1 .0} {v′ = T .last .1 .1 .1 .1 .1 .1 .1 .0} (T .ensures) {trail″ = P .last .1 .1 .1 .1 .1 .1 .0} {gains″ = P .last .1 .1 .1 .1 .1 .1 .1 .0} {v″ = P .last .1 .1 .1 .1 .1 .1 .1 .1 .0} {choices″ = P .last .1 .1 .1 .1 .1 .1 .1 .1 .1 .0} (P .ensures .0) (P .ensures .1) (c .weight .result) (c .weight .ensures .0)
+
+walk-add-o : (t : ℕ) → walk-lts.Need-add-o (
+  count-reads.Asked,
+  count-reads.Learnt,
+  step-reads.Asked,
+  step-reads.Learnt,
+  pick-below t,
+  pick.Post,
+  weight-reads.Asked,
+  weight-reads.Learnt,
+  add-mul-reads.Asked,
+  add-mul-reads.Learnt,
+) (walk-at t) walk.Post walk-Inv-loop walk-μ-loop
+walk-add-o t c = let S = c .before .before .before .before .before .before .before .before .before .before .before .before .before .before .before .before .before .before .before .before .before .before .before .before .before .before .before .before .before .before .before .before .before .before in
+    omega (arith, c .before .before .before .before .before .before .before .before .before .before .before .before .before .before .before .before .before .before .before .before .before .before .before .before .loop .inv .0, c .before .before .before .before .before .before .before .before .before .before .before .before .before .before .before .before .before .before .before .before .before .before .before .loop-test .taken, few-here (S .pre .1 .0) (S .args .a))
+
+walk-loop-less : (t : ℕ) → walk-lts.Need-loop-less (
+  count-reads.Asked,
+  count-reads.Learnt,
+  step-reads.Asked,
+  step-reads.Learnt,
+  pick-below t,
+  pick.Post,
+  weight-reads.Asked,
+  weight-reads.Learnt,
+  add-mul-reads.Asked,
+  add-mul-reads.Learnt,
+) (walk-at t) walk.Post walk-Inv-loop walk-μ-loop
+walk-loop-less t c = omega (arith, c .before .before .before .before .before .before .before .before .before .before .before .before .before .before .before .before .before .before .before .before .before .before .before .before .loop .inv .1, c .before .before .before .before .before .before .before .before .before .before .before .before .before .before .before .before .before .before .before .before .before .before .before .loop-test .taken)
+
+walk-loop-again : (t : ℕ) → walk-lts.Need-loop-again (
+  count-reads.Asked,
+  count-reads.Learnt,
+  step-reads.Asked,
+  step-reads.Learnt,
+  pick-below t,
+  pick.Post,
+  weight-reads.Asked,
+  weight-reads.Learnt,
+  add-mul-reads.Asked,
+  add-mul-reads.Learnt,
+) (walk-at t) walk.Post walk-Inv-loop walk-μ-loop
+walk-loop-again t c = let S = c .before .before .before .before .before .before .before .before .before .before .before .before .before .before .before .before .before .before .before .before .before .before .before .before .before .before .before .before .before .before .before .before .before .before in
+    let L = c .before .before .before .before .before .before .before .before .before .before .before .before .before .before .before .before .before .before .before .before .before .before .before .before .loop in
+    let T = c .before .before .before .before .before .before .before .before .before .before .before .before .before .before .before .before .before .before .before .step in
+    let P = c .before .before .before .before .before .before .before .before .before .pick in
+    let here : L .o < entries (S .args .m .now) (S .args .s) (S .args .a) = omega (arith, L .inv .0, c .before .before .before .before .before .before .before .before .before .before .before .before .before .before .before .before .before .before .before .before .before .before .before .loop-test .taken) in (
+      L .inv .0,
+      omega (arith, c .before .before .before .before .before .before .before .before .before .before .before .before .before .before .before .before .before .before .before .before .before .before .before .loop-test .taken),
+      walk-more (S .args .k) (S .pre .1 .0) (L .inv .3) (L .inv .2) here {trail′ = T .last .1 .1 .1 .1 .1 .0} {gains′ = T .last .1 .1 .1 .1 .1 .1 .0} {v′ = T .last .1 .1 .1 .1 .1 .1 .1 .0} (T .ensures) {trail″ = P .last .1 .1 .1 .1 .1 .1 .0} {gains″ = P .last .1 .1 .1 .1 .1 .1 .1 .0} {v″ = P .last .1 .1 .1 .1 .1 .1 .1 .1 .0} {choices″ = P .last .1 .1 .1 .1 .1 .1 .1 .1 .1 .0} (P .ensures .0) (P .ensures .1) (c .before .weight .result) (c .before .weight .ensures .0) (c .add-mul .ensures),
+      walk-kept (S .args .k) (S .pre .1 .0) (L .inv .3) (L .inv .2) here {trail′ = T .last .1 .1 .1 .1 .1 .0} {gains′ = T .last .1 .1 .1 .1 .1 .1 .0} {v′ = T .last .1 .1 .1 .1 .1 .1 .1 .0} (T .ensures) {trail″ = P .last .1 .1 .1 .1 .1 .1 .0} {gains″ = P .last .1 .1 .1 .1 .1 .1 .1 .0} {v″ = P .last .1 .1 .1 .1 .1 .1 .1 .1 .0} {choices″ = P .last .1 .1 .1 .1 .1 .1 .1 .1 .1 .0} (P .ensures .0) (P .ensures .1) (T .kept .1 .1 .1 .1 .1 .0) (T .kept .1 .1 .1 .1 .1 .1 .0) (T .kept .1 .1 .1 .1 .1 .1 .1 .0) (P .kept .1 .1 .1 .1 .1 .1 .0) (P .kept .1 .1 .1 .1 .1 .1 .1 .0) (P .kept .1 .1 .1 .1 .1 .1 .1 .1 .0) (P .kept .1 .1 .1 .1 .1 .1 .1 .1 .1 .0),
+    )
+
+walk-same-length : (t : ℕ) → walk-lts.Need-same-length (
+  count-reads.Asked,
+  count-reads.Learnt,
+  step-reads.Asked,
+  step-reads.Learnt,
+  pick-below t,
+  pick.Post,
+  weight-reads.Asked,
+  weight-reads.Learnt,
+  add-mul-reads.Asked,
+  add-mul-reads.Learnt,
+) (walk-at t) walk.Post walk-Inv-loop walk-μ-loop
+walk-same-length t c = (c .before .loop .inv .3) .steps
+
+walk-same-length-2 : (t : ℕ) → walk-lts.Need-same-length-2 (
+  count-reads.Asked,
+  count-reads.Learnt,
+  step-reads.Asked,
+  step-reads.Learnt,
+  pick-below t,
+  pick.Post,
+  weight-reads.Asked,
+  weight-reads.Learnt,
+  add-mul-reads.Asked,
+  add-mul-reads.Learnt,
+) (walk-at t) walk.Post walk-Inv-loop walk-μ-loop
+walk-same-length-2 t c = (c .before .loop .inv .3) .sums
+
+walk-same-length-3 : (t : ℕ) → walk-lts.Need-same-length-3 (
+  count-reads.Asked,
+  count-reads.Learnt,
+  step-reads.Asked,
+  step-reads.Learnt,
+  pick-below t,
+  pick.Post,
+  weight-reads.Asked,
+  weight-reads.Learnt,
+  add-mul-reads.Asked,
+  add-mul-reads.Learnt,
+) (walk-at t) walk.Post walk-Inv-loop walk-μ-loop
+walk-same-length-3 t c = (c .before .loop .inv .3) .places
+
+walk-same-length-4 : (t : ℕ) → walk-lts.Need-same-length-4 (
+  count-reads.Asked,
+  count-reads.Learnt,
+  step-reads.Asked,
+  step-reads.Learnt,
+  pick-below t,
+  pick.Post,
+  weight-reads.Asked,
+  weight-reads.Learnt,
+  add-mul-reads.Asked,
+  add-mul-reads.Learnt,
+) (walk-at t) walk.Post walk-Inv-loop walk-μ-loop
+walk-same-length-4 t c = (c .before .loop .inv .3) .room
+
+walk-returns : (t : ℕ) → walk-lts.Need-returns (
+  count-reads.Asked,
+  count-reads.Learnt,
+  step-reads.Asked,
+  step-reads.Learnt,
+  pick-below t,
+  pick.Post,
+  weight-reads.Asked,
+  weight-reads.Learnt,
+  add-mul-reads.Asked,
+  add-mul-reads.Learnt,
+) (walk-at t) walk.Post walk-Inv-loop walk-μ-loop
+walk-returns t c = let S = c .before .before .before .before .before .before .before .before .before .before .before in
+    let L = c .before .loop in
+    (walked-all (S .pre .1 .0) (L .inv .2) (omega (arith, L .inv .0)), (L .inv .3) .back)
+
+pub +pick+walk-spec : {M : Type 1} → statement M
++pick+walk-spec = close μ-pick μ-walk (λ t. pick-lts.spec (
+  root-reads.Asked,
+  root-reads.Learnt,
+  known-reads.Asked,
+  known-reads.Learnt,
+  byte-reads.Asked,
+  byte-reads.Learnt,
+  count-reads.Asked,
+  count-reads.Learnt,
+  walk-below t,
+  walk.Post,
+  keep-reads.Asked,
+  keep-reads.Learnt,
+)
+    (pick-at t)
+    pick.Post
+    pick-Inv-loop
+    pick-μ-loop
+    (pick-root-requires t)
+    (pick-known-requires t)
+    (pick-cast-t27 t)
+    (pick-same-length t)
+    (pick-returns t)
+    (pick-byte-requires t)
+    (pick-loop-holds t)
+    (pick-count-requires t)
+    (pick-slice-write-choices t)
+    (pick-sub-walk t)
+    (pick-add-walk t)
+    (pick-walk-requires t)
+    (pick-keep-requires t)
+    (pick-add-a t)
+    (pick-loop-less t)
+    (pick-loop-again t)
+    (pick-same-length-2 t)
+    (pick-same-length-3 t)
+    (pick-same-length-4 t)
+    (pick-same-length-5 t)
+    (pick-returns-2 t))
+    λ t. walk-lts.spec (
+      count-reads.Asked,
+      count-reads.Learnt,
+      step-reads.Asked,
+      step-reads.Learnt,
+      pick-below t,
+      pick.Post,
+      weight-reads.Asked,
+      weight-reads.Learnt,
+      add-mul-reads.Asked,
+      add-mul-reads.Learnt,
+    )
+    (walk-at t)
+    walk.Post
+    walk-Inv-loop
+    walk-μ-loop
+    (walk-count-requires t)
+    (walk-loop-holds t)
+    (walk-step-requires t)
+    (walk-add-pick t)
+    (walk-pick-requires t)
+    (walk-cast-weight t)
+    (walk-weight-requires t)
+    (walk-add-mul-requires t)
+    (walk-add-o t)
+    (walk-loop-less t)
+    (walk-loop-again t)
+    (walk-same-length t)
+    (walk-same-length-2 t)
+    (walk-same-length-3 t)
+    (walk-same-length-4 t)
+    (walk-returns t)

@@ -1,0 +1,185 @@
+-- Paths of a search: a step more leads to the outcome's target, where the value of the rest is the value with the step taken; and after
+-- the search below, the trail is back.
+use Prim.Native.Nat.{ℕ, _+_, _*_, _/_, _%_, _≤_, _<_}
+use native.Mathlib.Omega.{arith}
+use mathlib.Core.Path.{_≡_, refl, sym, ap, ap₂, subst, _∙_, fun-ext}
+use mathlib.Core.Bool.{Bool, true, false}
+use mathlib.Core.List.{List, [], _∷_, _++_, append-nil, append-assoc}
+use lib.IntN.{ℤ}
+use lib.ListN.{length, getD, take}
+use lib.Seq.{length-take-le, take-take, take-at}
+use Rattle.logic.specs.Formula.{sat}
+use Rattle.logic.specs.Model.{Step}
+use Rattle.logic.specs.Quantity.{weights, order}
+use Rattle.logic.specs.Plan.{choices}
+use Rattle.logic.specs.Recursion.{greatest}
+use Rattle.logic.specs.Total.{one-if}
+use Rattle.blocks.specs.Bytes.{Bytes}
+use Rattle.models.specs.Layout.{state-count, action-count, outcome-of, entries, model-of}
+use Rattle.models.proofs.Passed.{passed-all, passed-sized}
+use Rattle.models.proofs.Laws.{entries-small}
+use Rattle.evaluation.specs.Path.{step-of, steps-of, state-after}
+use Rattle.evaluation.specs.Reached.{formula, root-of}
+use Rattle.evaluation.specs.Learnt.{known}
+use Rattle.evaluation.specs.Known.{Knows, Offered, Stepped}
+use Rattle.evaluation.proofs.Trails.{steps-append, state-append, state-inside}
+use Rattle.evaluation.proofs.Knowing.{knows-shorter}
+use Rattle.evaluation.proofs.Stepping.{leaf-value}
+use Rattle.search.specs.Greatest.{on-path, best-choices}
+use Rattle.search.specs.Buffers.{Wrote, Setting, Back, Picked}
+use Rattle.search.specs.declared.Best.{Best}
+use Rattle.search.proofs.Stack.{wrote-none}
+
+module _ (m q : Bytes) (start : ℕ) (cone : List ℕ) where
+  pub on-path-bit : (t : List ℕ) (r : List Step) → on-path m q start cone t r ≤ 1
+  unfolding on-path one-if
+  on-path-bit t r = go (sat (model-of m) (formula q (root-of cone)) start (steps-of m start t ++ r))
+    where
+      go : (b : Bool) → one-if b ≤ 1
+      go true = omega arith
+      go false = omega arith
+
+  -- A step more on the trail is a step less of the rest.
+  on-path-more : (t : List ℕ) (b : ℕ) → on-path m q start cone (t ++ (b ∷ [])) ≡ λ r. on-path m q start cone t (step-of m (state-after m start t) b ∷ r)
+  unfolding on-path steps-of
+  on-path-more t b =
+      fun-ext (λ r.
+      ap (λ p. one-if (sat (model-of m) (formula q (root-of cone)) start p))
+      (ap (λ p. p ++ r) (steps-append m start t (b ∷ [])) ∙ append-assoc (steps-of m start t) (step-of m (state-after m start t) b ∷ []) r))
+
+step-is : (m : Bytes) (s a o : ℕ) → o < 4 → step-of m s (4 * a + o) ≡ outcome-of m s a o
+unfolding step-of
+step-is m s a o h =
+    let x : (4 * a + o) / 4 ≡ a = omega arith in
+    let y : (4 * a + o) % 4 ≡ o = omega arith in
+    ap₂ (outcome-of m s) x y
+
+module _ {m used q : Bytes} {depths truth cone : List ℕ} {start : ℕ} {trail : List ℕ} {gains : List ℤ} {v : List ℕ} {h s k : ℕ}
+    (S : Setting m used q depths truth cone start trail gains v h s k) where
+  pub state-here : s < state-count m
+  state-here = subst (λ x. x < state-count m) (S .state) (state-inside m (S .ready .model-accepted) (S .knows .followed) (S .ready .state))
+
+  pub sizes-here : (s < 32) × (action-count m ≤ 8)
+  sizes-here = let z = passed-sized m (passed-all m (S .ready .model-accepted)) in omega (arith, state-here, z .states, z .actions)
+
+  pub few-here : (a : ℕ) → entries m s a ≤ 4
+  few-here a = entries-small m (passed-sized m (passed-all m (S .ready .model-accepted))) s a
+
+  pub count-here : (a n : ℕ) → a < 8 → n ≡ getD used (8 * s + a) 0 → n ≡ entries m s a
+  count-here a n h e =
+      let x : (8 * s + a) / 8 ≡ s = omega arith in
+      let y : (8 * s + a) % 8 ≡ a = omega arith in
+      e ∙ S .counted .count (8 * s + a) (omega (arith, sizes-here)) ∙ ap₂ (entries m) x y
+
+  length-here : length (take h trail) ≡ h
+  length-here = length-take-le h trail (omega (arith, S .few, S .roomy .steps))
+
+  -- Where no step is left, the value is known.
+  leaf-here : k ≡ 0 → known v (root-of cone) 0 ≡ on-path m q start cone (take h trail) []
+  unfolding on-path
+  leaf-here e =
+      leaf-value (S .ready) (take h trail) gains v (S .knows) (omega (arith, S .deep, length-here))
+      ∙ ap (λ p. one-if (sat (model-of m) (formula q (root-of cone)) start p)) (sym (append-nil (steps-of m start (take h trail))))
+
+  pub picked-leaf : (least : Bool) (x at : ℕ) (c : List ℕ) → k ≡ 0 → x ≡ known v (root-of cone) 0
+      → Picked least m q start cone (take h trail) s k at c c (record { found = true; value = x; end = at })
+  unfolding greatest best-choices choices
+  picked-leaf least x at c e g = record { value = g ∙ leaf-here e ∙ rw e refl; wrote = rw e (wrote-none at c) }
+
+-- The buffers after some searches below: as long as they were, with the trail back.
+pub record Kept (m q : Bytes) (start : ℕ) (cone : List ℕ) (h : ℕ) (trail : List ℕ) (gains : List ℤ) (v choices trail′ : List ℕ) (gains′ : List ℤ)
+    (v′ choices′ : List ℕ) : Type 0 where
+  pub back : Back m q start cone h trail trail′ gains′ v′
+  pub steps : length trail′ ≡ length trail
+  pub sums : length gains′ ≡ length gains
+  pub places : length v′ ≡ length v
+  pub room : length choices′ ≡ length choices
+
+module _ {m used q : Bytes} {depths truth cone : List ℕ} {start : ℕ} {trail : List ℕ} {gains : List ℤ} {v : List ℕ} {h s k : ℕ}
+    (S : Setting m used q depths truth cone start trail gains v h s k) where
+  pub back-none : Back m q start cone h trail trail gains v
+  back-none = record { kept = refl; knows = S .knows }
+
+  pub kept-none : (choices : List ℕ) → Kept m q start cone h trail gains v choices trail gains v choices
+  kept-none choices = record { back = back-none; steps = refl; sums = refl; places = refl; room = refl }
+
+  pub setting-kept : {choices trail′ : List ℕ} {gains′ : List ℤ} {v′ choices′ : List ℕ} → Kept m q start cone h trail gains v choices trail′ gains′ v′ choices′
+      → Setting m used q depths truth cone start trail′ gains′ v′ h s k
+  setting-kept {gains′ = gains′} {v′} K =
+      let B = K .back in
+      record {
+        ready = S .ready;
+        counted = S .counted;
+        roomy = record { steps = omega (arith, S .roomy .steps, K .steps); sums = omega (arith, S .roomy .sums, K .sums); places = omega (arith, S .roomy .places, K .places) };
+        knows = subst (λ t. Knows m q start cone t gains′ v′) (sym (B .kept)) (B .knows);
+        state = ap (state-after m start) (B .kept) ∙ S .state;
+        deep = S .deep;
+        few = S .few;
+      }
+
+-- Kept by what came before, and by what comes after.
+pub kept-kept : {m q : Bytes} {start h : ℕ} {cone t0 : List ℕ} {g0 : List ℤ} {v0 c0 t1 : List ℕ} {g1 : List ℤ} {v1 c1 t2 : List ℕ} {g2 : List ℤ} {v2 c2 : List ℕ}
+    → Kept m q start cone h t0 g0 v0 c0 t1 g1 v1 c1 → Back m q start cone h t1 t2 g2 v2 → length t2 ≡ length t1 → length g2 ≡ length g1 → length v2 ≡ length v1
+    → length c2 ≡ length c1 → Kept m q start cone h t0 g0 v0 c0 t2 g2 v2 c2
+kept-kept {m} {q} {start} {cone = cone} {g2 = g2} {v2 = v2} K B et eg ev ec =
+    let A = K .back in
+    record {
+      back = record { kept = B .kept ∙ A .kept; knows = subst (λ t. Knows m q start cone t g2 v2) (A .kept) (B .knows) };
+      steps = et ∙ K .steps;
+      sums = eg ∙ K .sums;
+      places = ev ∙ K .places;
+      room = ec ∙ K .room;
+    }
+
+-- ---- a step
+
+module _ {m used q : Bytes} {depths truth cone : List ℕ} {start : ℕ} {trail : List ℕ} {gains : List ℤ} {v : List ℕ} {h s : ℕ} (k : ℕ)
+    (S : Setting m used q depths truth cone start trail gains v h s (k + 1)) (a o : ℕ) (used-here : o < entries m s a) where
+  pub offered : Offered m start trail h s a o
+  offered = record { steps = omega (arith, S .few); state = S .state; used = used-here }
+
+  outcome-few : o < 4
+  outcome-few = omega (arith, used-here, few-here S a)
+
+  module _ {trail′ : List ℕ} {gains′ : List ℤ} {v′ : List ℕ} {t : ℕ} (T : Stepped m q start cone h s a o trail trail′ gains′ v′ t) where
+    the-step : step-of m (state-after m start (take h trail)) (4 * a + o) ≡ outcome-of m s a o
+    the-step = ap (λ x. step-of m x (4 * a + o)) (S .state) ∙ step-is m s a o outcome-few
+
+    pub setting-on : length trail′ ≡ length trail → length gains′ ≡ length gains → length v′ ≡ length v
+        → Setting m used q depths truth cone start trail′ gains′ v′ (h + 1) t k
+    unfolding state-after
+    setting-on e1 e2 e3 =
+        record {
+          ready = S .ready;
+          counted = S .counted;
+          roomy = record { steps = omega (arith, S .roomy .steps); sums = omega (arith, S .roomy .sums); places = omega (arith, S .roomy .places) };
+          knows = T .knows;
+          state = ap (state-after m start) (T .longer) ∙ state-append m start (take h trail) ((4 * a + o) ∷ []) ∙ ap (λ x. x .target) the-step ∙ sym (T .state);
+          deep = omega (arith, S .deep);
+          few = omega (arith, S .few);
+        }
+
+    pub back-on : {trail″ : List ℕ} {gains″ : List ℤ} {v″ : List ℕ} → Back m q start cone (h + 1) trail′ trail″ gains″ v″ → Back m q start cone h trail trail″ gains″ v″
+    back-on {trail″} {gains″} {v″} B =
+        record {
+          kept =
+              sym (take-take h (h + 1) trail″ (omega arith))
+              ∙ ap (take h) (B .kept ∙ T .longer)
+              ∙ take-at (take h trail) ((4 * a + o) ∷ []) h (length-take-le h trail (omega (arith, S .few, S .roomy .steps)));
+          knows = knows-shorter m q start cone (take h trail) (4 * a + o) gains″ v″ (subst (λ l. Knows m q start cone l gains″ v″) (T .longer) (B .knows));
+        }
+
+    -- What is picked after the step is the best below the outcome; t0 is the trail that the first h steps were.
+    module _ {t0 : List ℕ} (e : take h trail ≡ t0) where
+      same-value : on-path m q start cone (take (h + 1) trail′) ≡ λ r. on-path m q start cone t0 (outcome-of m s a o ∷ r)
+      same-value =
+          ap (on-path m q start cone) (T .longer)
+          ∙ on-path-more m q start cone (take h trail) (4 * a + o)
+          ∙ ap₂ (λ t x r. on-path m q start cone t (x ∷ r)) e the-step
+
+      module _ {least : Bool} {at : ℕ} {before after : List ℕ} {b : Best} (P : Picked least m q start cone (take (h + 1) trail′) t k at before after b) where
+        pub picked-value : b .value ≡ greatest (weights (order least)) (model-of m) k ((outcome-of m s a o) .target) (λ r. on-path m q start cone t0 (outcome-of m s a o ∷ r))
+        picked-value = P .value ∙ ap₂ (λ x f. greatest (weights (order least)) (model-of m) k x f) (T .state) same-value
+
+        pub picked-wrote : Wrote (best-choices least (model-of m) k ((outcome-of m s a o) .target) (λ r. on-path m q start cone t0 (outcome-of m s a o ∷ r))) at before after (b .end)
+        picked-wrote = subst (λ x. Wrote x at before after (b .end)) (ap₂ (λ x f. best-choices least (model-of m) k x f) (T .state) same-value) (P .wrote)

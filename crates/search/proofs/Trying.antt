@@ -1,0 +1,188 @@
+-- The choices tried so far: with one more, the best is the better of the two, and it stands at the bottom of the stack.
+use Prim.Native.Nat.{ℕ, suc, _+_, _≤_, _<_, zero-le}
+use native.Mathlib.Omega.{arith}
+use native.Mathlib.Numerals.{add-one}
+use native.Mathlib.Nat.{pos-of-ne-zero}
+use mathlib.Core.Path.{_≡_, refl, sym, ap, ap₂, subst, _∙_}
+use mathlib.Core.Bool.{Bool, true, false, not, cond, _||_, false≢true}
+use mathlib.Core.List.{List, [], _∷_, _++_, append-nil}
+use lib.Dec.{ltb}
+use lib.ListN.{length, set}
+use borrow.Author.Tests.{lt-ltb, le-ltb}
+use Rattle.logic.specs.Lists.{keep, is-empty, count-from}
+use Rattle.logic.specs.Checked.{refusal}
+use Rattle.logic.specs.Model.{Model, Step, enabled}
+use Rattle.logic.specs.Quantity.{weights, order}
+use Rattle.logic.specs.Recursion.{first-best, best-choice, greatest}
+use Rattle.logic.proofs.Tests.{keep-append, count-more}
+use Rattle.blocks.specs.Bytes.{Bytes}
+use Rattle.models.specs.Layout.{state-count, action-count, entries, model-of}
+use Rattle.models.specs.Grounds.{read-model}
+use Rattle.models.proofs.Passed.{passed-all}
+use Rattle.models.proofs.Held.{states-held, enabled-entries, accepted}
+use Rattle.extension.specs.Choices.{room}
+use Rattle.search.specs.Greatest.{on-path, best-choices}
+use Rattle.search.specs.Buffers.{Wrote, Keeps, wins, Picked, Walks}
+use Rattle.search.specs.declared.Best.{Best}
+use Rattle.search.specs.declared.Walked.{Walked}
+use Rattle.search.proofs.Orders.{ordered, better, first-best-more}
+use Rattle.search.proofs.Stack.{wrote-none, wrote-choice, wrote-inside, wrote-both, wrote-first, wrote-over}
+use Rattle.search.proofs.Bounds.{plan-few}
+use Rattle.search.proofs.Steps.{worth-of, plan-from, best-of, greatest-step, choices-step}
+
+-- One number more is tested.
+pub kept-more : (f : ℕ → Bool) (n : ℕ) → keep f (count-from 0 (n + 1)) ≡ keep f (count-from 0 n) ++ cond (f n) (n ∷ []) []
+unfolding keep
+kept-more f n =
+    let z : 0 + n ≡ n = omega arith in
+    ap (λ i. keep f (count-from 0 i)) (add-one n)
+    ∙ ap (keep f) (count-more 0 n)
+    ∙ keep-append f (count-from 0 n) ((0 + n) ∷ [])
+    ∙ ap (λ i. keep f (count-from 0 n) ++ cond (f i) (i ∷ []) []) z
+
+-- The choices of the best plan that begins with one of l.
+unfoldable pub so-far : (least : Bool) (M : Model) (k s : ℕ) (f : List Step → ℕ) → List ℕ → List ℕ
+unfolding is-empty
+so-far least M k s f l = cond (is-empty l) [] (plan-from least M k s f (best-of least M k s f l))
+
+pub record Tried (least : Bool) (M : Model) (k s : ℕ) (f : List Step → ℕ) (l : List ℕ) (at : ℕ) (before after : List ℕ) (b : Best) : Type 0 where
+  pub found : b .found ≡ not (is-empty l)
+  pub value : is-empty l ≡ false → b .value ≡ worth-of least M k s f (best-of least M k s f l)
+  pub wrote : Wrote (so-far least M k s f l) at before after (b .end)
+
+module _ (least : Bool) (M : Model) (k s : ℕ) (f : List Step → ℕ) where
+  abbrev best : List ℕ → ℕ
+  best l = best-of least M k s f l
+
+  pub tried-none : (at : ℕ) (c : List ℕ) → Tried least M k s f [] at c c (record { found = false; value = 0; end = at })
+  unfolding so-far is-empty
+  tried-none at c = record { found = refl; value = λ e. absurd (false≢true (sym e)); wrote = wrote-none at c }
+
+  -- The best of l stands at `at`, the candidate a behind it, and the better of them has been kept.
+  module _ (l : List ℕ) (a at : ℕ) (c0 c1 c2 c3 : List ℕ) (b r : Best) (w : Walked) (inside : at ≤ length c0) (T : Tried least M k s f l at c0 c1 b)
+      (value : w .value ≡ worth-of least M k s f a) (wrote : Wrote (plan-from least M k s f a) (b .end) c1 c2 (w .end)) (K : Keeps b w at least c2 c3 r) where
+    won : (l′ : List ℕ) → is-empty l′ ≡ false → best l′ ≡ a → wins b (w .value) least ≡ true → Tried least M k s f l′ at c0 c3 r
+    unfolding so-far
+    won l′ e h t =
+        let u = K .taken t in
+        record {
+          found = ap (λ z. z .found) (u .0) ∙ sym (ap not e);
+          value = λ _. ap (λ z. z .value) (u .0) ∙ value ∙ sym (ap (worth-of least M k s f) h);
+          wrote = rw (e, h) (subst (λ z. Wrote (plan-from least M k s f a) at c0 c3 (z .end)) (sym (u .0)) (wrote-over (T .wrote) wrote inside c3 (u .1)));
+        }
+
+    lost : (l′ : List ℕ) → is-empty l′ ≡ is-empty l → best l′ ≡ best l → wins b (w .value) least ≡ false → Tried least M k s f l′ at c0 c3 r
+    unfolding so-far
+    lost l′ e h t =
+        let u = K .left t in
+        record {
+          found = ap (λ z. z .found) (u .0) ∙ T .found ∙ sym (ap not e);
+          value = λ d. ap (λ z. z .value) (u .0) ∙ T .value (sym e ∙ d) ∙ sym (ap (worth-of least M k s f) h);
+          wrote = rw (e, h) (subst (λ z. Wrote (so-far least M k s f l) at c0 z (r .end)) (sym (u .1)) (subst (λ z. Wrote (so-far least M k s f l) at c0 c2 (z .end)) (sym (u .0)) (wrote-first (T .wrote) wrote inside)));
+        }
+
+  -- One choice more is tried.
+  pub tried-more : (l : List ℕ) (a at : ℕ) (c0 c1 c2 c3 : List ℕ) (b r : Best) (w : Walked) → at ≤ length c0 → Tried least M k s f l at c0 c1 b
+      → w .value ≡ worth-of least M k s f a → Wrote (plan-from least M k s f a) (b .end) c1 c2 (w .end) → Keeps b w at least c2 c3 r
+      → Tried least M k s f (l ++ (a ∷ [])) at c0 c3 r
+  unfolding is-empty wins best-choice first-best better
+  tried-more [] a at c0 c1 c2 c3 b r w h T v W K =
+      won [] a at c0 c1 c2 c3 b r w h T v W K (a ∷ []) refl refl (ap (λ t. not t || not (order least (w .value) (b .value))) (T .found))
+  tried-more (x ∷ l) a at c0 c1 c2 c3 b r w h T v W K = go (order least (w .value) (b .value)) refl
+    where
+      z : ℕ
+      z = best (x ∷ l)
+
+      winner : (t : Bool) → order least (w .value) (b .value) ≡ t → best ((x ∷ l) ++ (a ∷ [])) ≡ cond t z a
+      winner t e =
+          first-best-more (weights (order least)) (ordered least) (worth-of least M k s f) x l a
+          ∙ ap (λ u. cond u z a) (ap₂ (order least) (sym v) (sym (T .value refl)) ∙ e)
+
+      winning : (t : Bool) → order least (w .value) (b .value) ≡ t → wins b (w .value) least ≡ not t
+      winning t e = ap₂ (λ u i. not u || not i) (T .found) e
+
+      go : (t : Bool) → order least (w .value) (b .value) ≡ t → Tried least M k s f ((x ∷ l) ++ (a ∷ [])) at c0 c3 r
+      go true e = lost (x ∷ l) a at c0 c1 c2 c3 b r w h T v W K ((x ∷ l) ++ (a ∷ [])) refl (winner true e) (winning true e)
+      go false e = won (x ∷ l) a at c0 c1 c2 c3 b r w h T v W K ((x ∷ l) ++ (a ∷ [])) refl (winner false e) (winning false e)
+
+  -- All enabled choices have been tried, and there is one.
+  module _ (l : List ℕ) (a : ℕ) (rest : List ℕ) (at : ℕ) (c0 c : List ℕ) (b : Best) (all : enabled M s ≡ l) (some : enabled M s ≡ a ∷ rest) (T : Tried least M k s f l at c0 c b) where
+    not-none : is-empty l ≡ false
+    unfolding is-empty
+    not-none = ap is-empty (sym all ∙ some)
+
+    pub tried-value : b .value ≡ greatest (weights (order least)) M (suc k) s f
+    tried-value = T .value not-none ∙ ap (λ x. worth-of least M k s f (best x)) (sym all) ∙ sym (greatest-step least M k s f)
+
+    pub tried-wrote : Wrote (best-choices least M (suc k) s f) at c0 c (b .end)
+    unfolding so-far
+    tried-wrote =
+        subst (λ x. Wrote x at c0 c (b .end))
+        (ap (λ t. cond t [] (plan-from least M k s f (best l))) not-none ∙ ap (λ x. plan-from least M k s f (best x)) (sym all) ∙ sym (choices-step least M k s f)) (T .wrote)
+
+-- ---- the loop over the actions
+
+-- The enabled actions below n.
+abbrev pub enabled-below : Bytes → ℕ → ℕ → List ℕ
+enabled-below m s n = keep (λ a. ltb 0 (entries m s a)) (count-from 0 n)
+
+module _ (m : Bytes) (s a : ℕ) where
+  pub enabled-skip : entries m s a ≡ 0 → enabled-below m s (a + 1) ≡ enabled-below m s a
+  enabled-skip e =
+      kept-more (λ a. ltb 0 (entries m s a)) a
+      ∙ ap (λ t. enabled-below m s a ++ cond t (a ∷ []) []) (le-ltb 0 (entries m s a) (omega arith))
+      ∙ append-nil (enabled-below m s a)
+
+  pub enabled-one : (entries m s a ≡ 0 → ⊥) → enabled-below m s (a + 1) ≡ enabled-below m s a ++ (a ∷ [])
+  enabled-one z =
+      kept-more (λ a. ltb 0 (entries m s a)) a
+      ∙ ap (λ t. enabled-below m s a ++ cond t (a ∷ []) []) (lt-ltb 0 (entries m s a) (omega (arith, pos-of-ne-zero z)))
+
+module _ (least : Bool) (m q : Bytes) (start : ℕ) (cone t : List ℕ) (s k : ℕ) where
+  abbrev f : List Step → ℕ
+  f = on-path m q start cone t
+
+  pub tried-start : (at : ℕ) (c : List ℕ) → Tried least (model-of m) k s f (enabled-below m s 0) at c c (record { found = false; value = 0; end = at })
+  unfolding keep count-from
+  tried-start at c = tried-none least (model-of m) k s f at c
+
+  -- The action a is not enabled.
+  pub turn-skipped : (a at : ℕ) (c0 c : List ℕ) (b : Best) → entries m s a ≡ 0
+      → Tried least (model-of m) k s f (enabled-below m s a) at c0 c b → Tried least (model-of m) k s f (enabled-below m s (a + 1)) at c0 c b
+  turn-skipped a at c0 c b e T = subst (λ l. Tried least (model-of m) k s f l at c0 c b) (sym (enabled-skip m s a e)) T
+
+  module _ (a at : ℕ) (c0 c1 c2 : List ℕ) (b : Best) (w : Walked) (inside : at ≤ length c0) (room-here : b .end < length c1)
+      (T : Tried least (model-of m) k s f (enabled-below m s a) at c0 c1 b) (W : Walks least m q start cone t s a k (b .end + 1) (set c1 (b .end) a) c2 w) where
+    -- The candidate stands behind the best.
+    pub candidate : Wrote (plan-from least (model-of m) k s f a) (b .end) c1 c2 (w .end)
+    candidate = wrote-both (wrote-choice a (b .end) c1 room-here) (W .wrote)
+
+    pub keeps-inside : (at ≤ b .end) × (b .end ≤ w .end) × (w .end ≤ length c2)
+    keeps-inside = (omega (arith, T .wrote .next), omega (arith, candidate .next), wrote-inside (omega arith) candidate)
+
+    pub turn-taken : (c3 : List ℕ) (r : Best) → (entries m s a ≡ 0 → ⊥) → Keeps b w at least c2 c3 r
+        → Tried least (model-of m) k s f (enabled-below m s (a + 1)) at c0 c3 r
+    turn-taken c3 r z K =
+        subst (λ l. Tried least (model-of m) k s f l at c0 c3 r) (sym (enabled-one m s a z))
+        (tried-more least (model-of m) k s f (enabled-below m s a) a at c0 c1 c2 c3 b r w inside T (W .value) candidate K)
+
+  module _ (passed : refusal (read-model m) ≡ 0) (at : ℕ) (c0 c : List ℕ) (b : Best) where
+    -- The best takes no more room than a plan.
+    pub tried-room : (l : List ℕ) → Tried least (model-of m) k s f l at c0 c b → b .end ≤ at + room (suc k)
+    unfolding so-far
+    tried-room l T = omega (arith, T .wrote .next, go (is-empty l))
+      where
+        go : (e : Bool) → length (cond e [] (plan-from least (model-of m) k s f (best-of least (model-of m) k s f l))) ≤ room (suc k)
+        go true = zero-le
+        go false = plan-few m passed least k s f _
+
+    pub picked-all : s < state-count m → Tried least (model-of m) k s f (enabled-below m s (action-count m)) at c0 c b
+        → Picked least m q start cone t s (suc k) at c0 c b
+    picked-all h T =
+        let p = passed-all m passed in
+        let e = enabled-entries m p s h in
+        let some = (accepted m p) .some-choice s (rw (states-held m) h) in
+        record {
+          value = tried-value least (model-of m) k s f (enabled-below m s (action-count m)) (some .0) (some .1) at c0 c b e (some .2) T;
+          wrote = tried-wrote least (model-of m) k s f (enabled-below m s (action-count m)) (some .0) (some .1) at c0 c b e (some .2) T;
+        }

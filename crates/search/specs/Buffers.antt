@@ -1,0 +1,62 @@
+-- The buffers of a search, what it asks of them and how it leaves them. `choices` is a stack of plans' choices: those of the best plan so
+-- far, and behind them the candidate's.
+use Prim.Native.Nat.{ℕ, _+_, _-_, _≤_}
+use mathlib.Core.Path.{_≡_}
+use mathlib.Core.Bool.{Bool, true, false, not, _||_}
+use mathlib.Core.List.{List, _++_}
+use lib.IntN.{ℤ}
+use lib.ListN.{length, take, drop}
+use Rattle.logic.specs.Formula.{depth}
+use Rattle.logic.specs.Model.{outcomes}
+use Rattle.logic.specs.Quantity.{weights, order}
+use Rattle.logic.specs.Recursion.{greatest}
+use Rattle.blocks.specs.Bytes.{Bytes}
+use Rattle.models.specs.Layout.{model-of}
+use Rattle.models.specs.Used.{Used}
+use Rattle.evaluation.specs.Path.{state-after}
+use Rattle.evaluation.specs.Reached.{formula, root-of, Ready}
+use Rattle.evaluation.specs.Known.{Knows, Roomy}
+use Rattle.search.specs.Greatest.{on-path, worth, below, best-choices}
+use Rattle.search.specs.declared.Best.{Best}
+use Rattle.search.specs.declared.Walked.{Walked}
+
+-- x stands from `at` up to `end`, behind what stood there before.
+pub record Wrote (x : List ℕ) (at : ℕ) (before after : List ℕ) (end : ℕ) : Type 0 where
+  pub wrote : take end after ≡ take at before ++ x
+  pub next : end ≡ at + length x
+
+-- A candidate wins where there is no best yet or it is better, not where it is as good: first among equals.
+unfoldable pub wins : Best → ℕ → Bool → Bool
+wins b value least = not (b .found) || not (order least value (b .value))
+
+-- The candidate, which stands from the end of the best on, moved down to `at` if it wins.
+pub record Keeps (b : Best) (w : Walked) (at : ℕ) (least : Bool) (before after : List ℕ) (r : Best) : Type 0 where
+  pub taken : wins b (w .value) least ≡ true
+      → (r ≡ record { found = true; value = w .value; end = at + (w .end - b .end) })
+      × (take (at + (w .end - b .end)) after ≡ take at before ++ take (w .end - b .end) (drop (b .end) before))
+  pub left : wins b (w .value) least ≡ false → (r ≡ b) × (after ≡ before)
+
+-- A search of k steps goes on in the state s, where the first h bytes of the trail lead.
+pub record Setting (m used q : Bytes) (depths truth cone : List ℕ) (start : ℕ) (trail : List ℕ) (gains : List ℤ) (v : List ℕ) (h s k : ℕ) : Type 0 where
+  pub ready : Ready m q start depths truth cone
+  pub counted : Used m used
+  pub roomy : Roomy trail gains v
+  pub knows : Knows m q start cone (take h trail) gains v
+  pub state : state-after m start (take h trail) ≡ s
+  pub deep : depth (formula q (root-of cone)) ≤ h + k
+  pub few : h + k ≤ 6
+
+-- The trail is as it was up to h, and all is known on it that was.
+pub record Back (m q : Bytes) (start : ℕ) (cone : List ℕ) (h : ℕ) (trail trail′ : List ℕ) (gains′ : List ℤ) (v′ : List ℕ) : Type 0 where
+  pub kept : take h trail′ ≡ take h trail
+  pub knows : Knows m q start cone (take h trail) gains′ v′
+
+-- The best plan of k steps from s after the trail t, its choices written from `at` on.
+pub record Picked (least : Bool) (m q : Bytes) (start : ℕ) (cone t : List ℕ) (s k at : ℕ) (before after : List ℕ) (b : Best) : Type 0 where
+  pub value : b .value ≡ greatest (weights (order least)) (model-of m) k s (on-path m q start cone t)
+  pub wrote : Wrote (best-choices least (model-of m) k s (on-path m q start cone t)) at before after (b .end)
+
+-- The best plans of k steps below the outcomes of the choice a.
+pub record Walks (least : Bool) (m q : Bytes) (start : ℕ) (cone t : List ℕ) (s a k at : ℕ) (before after : List ℕ) (w : Walked) : Type 0 where
+  pub value : w .value ≡ worth least (model-of m) k (on-path m q start cone t) (outcomes (model-of m) s a)
+  pub wrote : Wrote (below least (model-of m) k (on-path m q start cone t) (outcomes (model-of m) s a)) at before after (w .end)

@@ -1,0 +1,39 @@
+-- What a search looks for: of the plans for the steps left after a trail, the first of those of greatest total, or of least.
+use Prim.Native.Nat.{ℕ, _*_, _≤_}
+use mathlib.Core.Path.{_≡_}
+use mathlib.Core.Bool.{Bool}
+use mathlib.Core.List.{List, _∷_, _++_, flatMap}
+use lib.ListN.{take}
+use Rattle.logic.specs.Model.{Model, Step}
+use Rattle.logic.specs.Quantity.{sum, weights, order}
+use Rattle.logic.specs.Plan.{choices}
+use Rattle.logic.specs.Recursion.{greatest, best-plan}
+use Rattle.logic.specs.Total.{value-of}
+use Rattle.blocks.specs.Bytes.{Bytes}
+use Rattle.models.specs.Layout.{model-of}
+use Rattle.evaluation.specs.Path.{steps-of}
+use Rattle.evaluation.specs.Reached.{formula, root-of}
+use Rattle.search.specs.declared.Found.{Found}
+
+-- The value of the condition at the cone's root on the path that begins with the trail t and goes on with r.
+unfoldable pub on-path : (m q : Bytes) (start : ℕ) (cone t : List ℕ) → List Step → ℕ
+on-path m q start cone t r = value-of (model-of m) (formula q (root-of cone)) start (steps-of m start t ++ r)
+
+module _ (least : Bool) (M : Model) (k : ℕ) where
+  -- The choices of the best plan of k steps; f is the value of its steps.
+  unfoldable pub best-choices : ℕ → (List Step → ℕ) → List ℕ
+  best-choices s f = choices k (best-plan (weights (order least)) M k s f)
+
+  module _ (f : List Step → ℕ) where
+    -- The best totals below some outcomes of a choice, weighed and summed, and the choices of the best plans there.
+    unfoldable pub worth : List Step → ℕ
+    worth l = sum (weights (order least)) (λ o. o .weight * greatest (weights (order least)) M k (o .target) (λ r. f (o ∷ r))) l
+
+    unfoldable pub below : List Step → List ℕ
+    below l = flatMap (λ o. best-choices (o .target) (λ r. f (o ∷ r))) l
+
+-- What is found for the condition at the cone's root: the greatest total of d steps, or the least, and the choices of the first plan that has it.
+pub record Finds (least : Bool) (m q : Bytes) (start : ℕ) (cone : List ℕ) (d : ℕ) (after : List ℕ) (r : Found) : Type 0 where
+  pub value : r .value ≡ greatest (weights (order least)) (model-of m) d start (value-of (model-of m) (formula q (root-of cone)) start)
+  pub chosen : take (r .count) after ≡ choices d (best-plan (weights (order least)) (model-of m) d start (value-of (model-of m) (formula q (root-of cone)) start))
+  pub few : r .count ≤ 1365

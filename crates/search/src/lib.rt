@@ -1,0 +1,299 @@
+// The search for the plan of greatest or of least weight: one pass over the tree of paths, which meets each path once.
+ghost use mathlib.Core.Path.{_≡_};
+ghost use mathlib.Core.Bool.{not};
+ghost use mathlib.Core.List.{_++_};
+ghost use Prim.Native.Nat.{_+_, _*_, _<_, _≤_, _^_};
+ghost use lib.ListN.{length, take, drop, getD};
+ghost use Rattle.logic.specs.Formula.{depth};
+ghost use Rattle.logic.specs.Quantity.{order};
+ghost use Rattle.models.specs.Used.{Used};
+ghost use Rattle.extension.specs.Choices.{room};
+ghost use Rattle.evaluation.specs.Reached.{formula, root-of, Ready};
+ghost use Rattle.search.specs.Greatest.{Finds};
+ghost use Rattle.search.specs.Buffers.{Keeps, Setting, Back, Picked, Walks};
+ghost use Rattle.search.specs.Buffers as spec;
+use blocks::byte;
+use evaluation::known;
+use evaluation::learn;
+use evaluation::step;
+use models::weight;
+
+// What was found: the best plan's total, and the number of its choices.
+pub struct Found {
+    pub value: u64,
+    pub count: usize,
+}
+
+// The best of the choices tried so far: whether there is one, its total, and where its plan's choices end.
+pub struct Best {
+    found: bool,
+    value: u64,
+    end: usize,
+}
+
+// What an action's outcomes come to: their total, and where the choices below them end.
+pub struct Walked {
+    value: u64,
+    end: usize,
+}
+
+// Whether a total is better than another, and not as good.
+fn exceeds(value: u64, other: u64, least: bool) -> bool
+    ensures { λ r. ⌜ r ≡ not (order least value other) ⌝ }
+{
+    if least {
+        return value < other;
+    }
+    other < value
+}
+
+fn wins(b: Best, value: u64, least: bool) -> bool
+    ensures { λ r. ⌜ r ≡ spec.wins b value least ⌝ }
+{
+    let found = b.found;
+    let other = b.value;
+    if found {
+        return exceeds(value, other, least);
+    }
+    true
+}
+
+// Moves n bytes down to a place, which they may overlap.
+fn move_down(choices: &mut [u8], at: usize, from: usize, n: usize)
+    requires { ⌜ (at ≤ from) × (from + n ≤ length (now choices)) ⌝ }
+    ensures { λ _. ⌜ take (at + n) (now (choices .exit)) ≡ take at (now (choices .entry)) ++ take n (drop from (now (choices .entry))) ⌝ }
+{
+    let mut i: usize = 0;
+    while i < n {
+        choices[at + i] = choices[from + i];
+        i += 1;
+    }
+}
+
+// Keeps the better of the best so far, whose choices stand from `at` on, and the candidate behind it.
+fn keep(choices: &mut [u8], b: Best, w: Walked, at: usize, least: bool) -> Best
+    requires { ⌜ (at ≤ b .end) × (b .end ≤ w .end) × (w .end ≤ length (now choices)) ⌝ }
+    ensures { λ r. ⌜ Keeps b w at least (now (choices .entry)) (now (choices .exit)) r ⌝ }
+{
+    let value = w.value;
+    let from = b.end;
+    let n = w.end - from;
+    if wins(b, value, least) {
+        move_down(choices, at, from, n);
+        return Best {
+            found: true,
+            value: value,
+            end: at + n,
+        };
+    }
+    b
+}
+
+fn add_mul(sum: u64, w: usize, v: u64) -> u64
+    requires { ⌜ sum + w * v < 2 ^ 64 ⌝ }
+    ensures { λ r. ⌜ r ≡ sum + w * v ⌝ }
+{
+    sum + w as u64 * v
+}
+
+// The condition's own node, the last of its cone.
+fn root(cone: &[u8]) -> u8
+    requires { ⌜ 0 < length (now cone) ⌝ }
+    ensures { λ r. ⌜ r ≡ root-of (now (cone .entry)) ⌝ }
+{
+    cone[cone.len() - 1]
+}
+
+// How many outcomes an action has in a state; 0 where it is not enabled.
+fn count(used: &[u8; 264], s: u8, a: u8) -> u8
+    requires { ⌜ (s < 32) × (a < 8) ⌝ }
+    ensures { λ r. ⌜ r ≡ getD (now (used .entry)) (8 * s + a) 0 ⌝ }
+{
+    used[8 * s as usize + a as usize]
+}
+
+// Picks the best choice in the state s, with k steps left, and writes its plan's choices from `at` on.
+fn pick(
+    m: &[u8],
+    used: &[u8; 264],
+    q: &[u8],
+    depths: &[u32],
+    truth: &[u8],
+    cone: &[u8],
+    trail: &mut [u8],
+    gains: &mut [i32],
+    v: &mut [u8],
+    choices: &mut [u8],
+    start: u8,
+    h: u8,
+    s: u8,
+    k: u8,
+    at: usize,
+    least: bool,
+) -> Best
+    requires { ⌜ Setting (now m) (now used) (now q) (now depths) (now truth) (now cone) start (now trail) (now gains) (now v) h s k ⌝ }
+    requires { ⌜ at + 3 * room k ≤ length (now choices) ⌝ }
+    ensures { λ r. ⌜ Picked least (now (m .entry)) (now (q .entry)) start (now (cone .entry)) (take h (now (trail .entry))) s k at (now (choices .entry)) (now (choices .exit)) r ⌝ }
+    ensures { λ r. ⌜ Back (now (m .entry)) (now (q .entry)) start (now (cone .entry)) h (now (trail .entry)) (now (trail .exit)) (now (gains .exit)) (now (v .exit)) ⌝ }
+{
+    if k == 0 {
+        return Best {
+            found: true,
+            value: known(v, root(cone), 0) as u64,
+            end: at,
+        };
+    }
+    let n = byte(m, 3);
+    let mut best = Best {
+        found: false,
+        value: 0,
+        end: at,
+    };
+    let mut a: u8 = 0;
+    while a < n {
+        if count(used, s, a) != 0 {
+            let from = best.end;
+            choices[from] = a;
+            let w = walk(
+                m,
+                used,
+                q,
+                depths,
+                truth,
+                cone,
+                trail,
+                gains,
+                v,
+                choices,
+                start,
+                h,
+                s,
+                a,
+                k - 1,
+                from + 1,
+                least,
+            );
+            best = keep(choices, best, w, at, least);
+        }
+        a += 1;
+    }
+    best
+}
+
+// Walks the outcomes of an action, with k steps left after it: sums their weights times the best totals below, and writes the choices there.
+fn walk(
+    m: &[u8],
+    used: &[u8; 264],
+    q: &[u8],
+    depths: &[u32],
+    truth: &[u8],
+    cone: &[u8],
+    trail: &mut [u8],
+    gains: &mut [i32],
+    v: &mut [u8],
+    choices: &mut [u8],
+    start: u8,
+    h: u8,
+    s: u8,
+    a: u8,
+    k: u8,
+    at: usize,
+    least: bool,
+) -> Walked
+    requires { ⌜ Setting (now m) (now used) (now q) (now depths) (now truth) (now cone) start (now trail) (now gains) (now v) h s (k + 1) ⌝ }
+    requires { ⌜ (a < 8) × (at + 6 * room k ≤ length (now choices)) ⌝ }
+    ensures { λ r. ⌜ Walks least (now (m .entry)) (now (q .entry)) start (now (cone .entry)) (take h (now (trail .entry))) s a k at (now (choices .entry)) (now (choices .exit)) r ⌝ }
+    ensures { λ r. ⌜ Back (now (m .entry)) (now (q .entry)) start (now (cone .entry)) h (now (trail .entry)) (now (trail .exit)) (now (gains .exit)) (now (v .exit)) ⌝ }
+{
+    let n = count(used, s, a);
+    let mut sum: u64 = 0;
+    let mut end = at;
+    let mut o: u8 = 0;
+    while o < n {
+        let t = step(
+            m,
+            q,
+            depths,
+            truth,
+            cone,
+            trail,
+            gains,
+            v,
+            start,
+            h,
+            s,
+            a,
+            o,
+        );
+        let b = pick(
+            m,
+            used,
+            q,
+            depths,
+            truth,
+            cone,
+            trail,
+            gains,
+            v,
+            choices,
+            start,
+            h + 1,
+            t,
+            k,
+            end,
+            least,
+        );
+        sum = add_mul(sum, weight(m, s as usize, a as usize, o as usize), b.value);
+        end = b.end;
+        o += 1;
+    }
+    Walked {
+        value: sum,
+        end: end,
+    }
+}
+
+// Finds the plan of d steps, as many as the condition looks ahead, that has the greatest weight, or the least.
+pub fn find(
+    m: &[u8],
+    used: &[u8; 264],
+    q: &[u8],
+    depths: &[u32],
+    truth: &[u8],
+    cone: &[u8],
+    choices: &mut [u8],
+    start: u8,
+    d: u8,
+    least: bool,
+) -> Found
+    requires { ⌜ Ready (now m) (now q) start (now depths) (now truth) (now cone) × Used (now m) (now used) ⌝ }
+    requires { ⌜ (d ≡ depth (formula (now q) (root-of (now cone)))) × (d ≤ 6) × (4095 ≤ length (now choices)) ⌝ }
+    ensures { λ r. ⌜ Finds least (now (m .entry)) (now (q .entry)) start (now (cone .entry)) d (now (choices .exit)) r ⌝ }
+{
+    let mut trail = [0u8; 6];
+    let mut gains = [0i32; 7];
+    let mut v = [0u8; 280];
+    learn(q, depths, truth, &trail, &gains, cone, &mut v, 0, start);
+    let b = pick(
+        m,
+        used,
+        q,
+        depths,
+        truth,
+        cone,
+        &mut trail,
+        &mut gains,
+        &mut v,
+        choices,
+        start,
+        0,
+        start,
+        d,
+        0,
+        least,
+    );
+    Found {
+        value: b.value,
+        count: b.end,
+    }
+}

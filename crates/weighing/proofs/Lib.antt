@@ -1,0 +1,3 @@
+pub mod Plans
+pub mod Fits
+pub mod Turns

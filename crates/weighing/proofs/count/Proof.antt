@@ -1,0 +1,25 @@
+-- `count`: the table has 8 places for a state, and no action from 8 on.
+use Rattle.weighing.proofs.Turns.{count-some, count-none}
+use borrow.Author.Needs.{needs}
+use Rattle.weighing.proofs.count.Statement.{statement}
+use Rattle.weighing.proofs.count.Tie as tie
+
+mul-result : tie.Need-mul-result
+mul-result c = search needs
+
+add-result : tie.Need-add-result
+add-result c = search needs
+
+element-copy-out-result : tie.Need-element-copy-out-result
+element-copy-out-result c = search needs
+
+returns : tie.Need-returns
+returns c = let S = c .before .before in
+    count-some (S .args .used .now) (S .args .s) (S .args .a) (c .before .if1 .taken)
+
+returns-2 : tie.Need-returns-2
+returns-2 c = let S = c .before in
+    count-none (S .args .used .now) (S .args .s) (S .args .a) (c .if1 .left)
+
+pub count-spec : {M : Type 1} → statement M
+count-spec = tie.close (tie.spec mul-result add-result element-copy-out-result returns returns-2)

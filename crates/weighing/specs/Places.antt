@@ -1,0 +1,36 @@
+-- A place on a path, with what is known there, and what a sum over the paths through it promises.
+use Prim.Native.Nat.{ℕ, _+_, _≤_}
+use mathlib.Core.Path.{_≡_}
+use mathlib.Core.List.{List, _++_}
+use lib.IntN.{ℤ}
+use lib.ListN.{length, take, drop}
+use Rattle.logic.specs.Model.{Step}
+use Rattle.logic.specs.Formula.{depth}
+use Rattle.logic.specs.Total.{value-of}
+use Rattle.blocks.specs.Bytes.{Bytes}
+use Rattle.models.specs.Layout.{model-of}
+use Rattle.evaluation.specs.Path.{steps-of, state-after}
+use Rattle.evaluation.specs.Reached.{formula, root-of}
+use Rattle.evaluation.specs.Known.{Knows, Roomy}
+use Rattle.weighing.specs.Sums.{Run}
+
+-- The value of the condition at the cone's root on the path that begins with the trail t and goes on with r.
+abbrev pub onward : (m q : Bytes) (start : ℕ) (cone t : List ℕ) → List Step → ℕ
+onward m q start cone t r = value-of (model-of m) (formula q (root-of cone)) start (steps-of m start t ++ r)
+
+-- After h steps from the start, in the state s, with k steps to go.
+pub record Here (m q : Bytes) (start : ℕ) (cone trail : List ℕ) (gains : List ℤ) (v : List ℕ) (h s k : ℕ) : Type 0 where
+  pub steps : h + k ≤ 6
+  pub deep : depth (formula q (root-of cone)) ≤ h + k
+  pub state : state-after m start (take h trail) ≡ s
+  pub roomy : Roomy trail gains v
+  pub knows : Knows m q start cone (take h trail) gains v
+
+-- The sum x was made, and the choices are read up to `next`; the path's first h steps stayed, and so did what is known of them.
+pub record Ran (x : Run) (m q : Bytes) (start : ℕ) (cone : List ℕ) (h : ℕ) (trail trail′ : List ℕ) (gains′ : List ℤ) (v′ choices : List ℕ)
+    (value next : ℕ) : Type 0 where
+  pub sum : value ≡ x .0
+  pub left : drop next choices ≡ x .1
+  pub inside : next ≤ length choices
+  pub kept : take h trail′ ≡ take h trail
+  pub knows : Knows m q start cone (take h trail) gains′ v′
