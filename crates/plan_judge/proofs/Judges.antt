@@ -50,6 +50,15 @@ module _ (d : Desk) where
   abbrev pub turned-away : ℕ → Judging
   turned-away k = record { answer = Refused k; choices = replicate 1365 0; desk = d }
 
+  -- A verdict is answered and held, with its choices beside it.
+  abbrev pub announced : Bytes → Verdict → Judging
+  announced cs v =
+      record {
+        answer = Judged v;
+        choices = cs;
+        desk = record { blocks = d .blocks; model = d .model; asked = d .asked; question = d .question; judged = true; verdict = v; choices = cs };
+      }
+
   pub judge-refused : (k : ℕ) → k ≡ refusal (do-judge (view d)) → (k ≡ 0 → ⊥) → turned-away k ≡ judged-by d
   unfolding judged-by
   judge-refused k e h = by (do-judge (view d)) e
@@ -97,10 +106,9 @@ module _ (d : Desk) where
     unfolding question-of
     served = record { model-accepted = both-judged .passed; question-accepted = both-judged .asked; within = ground-limits both-judged ∙ e }
 
-    -- The verdict, as it is told in an outcome with the choices beside it.
     pub judge-done : (cs : Bytes) → cs ≡ choices-code (root-verdict (said-bytes d) (d .question)) → (v : Verdict) → v ≡ verdict-code (root-verdict (said-bytes d) (d .question))
-        → record { answer = Judged v; choices = cs; desk = record { blocks = d .blocks; model = d .model; asked = d .asked; question = d .question; judged = true; verdict = v; choices = cs } } ≡ judged-by d
+        → announced cs v ≡ judged-by d
     unfolding judged-by settling question-of
     judge-done cs i v j =
-        ap₂ (λ z w. record { answer = Judged w; choices = z; desk = record { blocks = d .blocks; model = d .model; asked = d .asked; question = d .question; judged = true; verdict = w; choices = z } }) i j
+        ap₂ announced i j
         ∙ sym (ap (judging d) (judge-is both-judged ∙ ap (λ c. c >> ok (root-verdict (said-bytes d) (d .question))) (limits-passed _ _ (served .within))))

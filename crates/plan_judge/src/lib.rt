@@ -252,11 +252,11 @@ fn verdict_of(o: judging::Outcome) -> Verdict
 pub fn judge(d: Desk) -> Judging
     ensures { λ r. ⌜ r ≡ judged-by d ⌝ }
 {
-    let k = judge_ground(d);
+    let ground = judge_ground(d);
     let mut choices = [0u8; 1365];
-    if k != 0 {
+    if ground != 0 {
         return Judging {
-            answer: Judgement::Refused(k),
+            answer: Judgement::Refused(ground),
             choices: choices,
             desk: d,
         };
