@@ -15,11 +15,10 @@ use borrow.Author.Tests.{eq-eqb, ne-eqb, eqb-true, leb-true, le-leb, ltb-true, l
 use Rattle.logic.specs.Lists.{every}
 use Rattle.logic.specs.Checked.{refusal, guard}
 use Rattle.logic.specs.Model.{Model}
-use Rattle.logic.specs.Quantity.{naturals, reversed, Relation, less, equal, greater, related, weights, order}
+use Rattle.logic.specs.Quantity.{naturals, reversed, Relation, less, equal, greater, related}
 use Rattle.logic.specs.Plan.{Plan, plans, paths, choices}
 use Rattle.logic.specs.Formula.{Formula, plan, Node, sat, W, meets, depth, relation, nonnegative}
 use Rattle.logic.specs.Total.{total, value-of}
-use Rattle.logic.specs.Recursion.{greatest, best-plan}
 use Rattle.logic.specs.Extension.{first-plan}
 use Rattle.logic.specs.Verdict.{plan-goal, goal, shown, announced, verdict, yes, no, yes-plan, is-equal}
 use Rattle.logic.specs.Accepted.{Accepted}

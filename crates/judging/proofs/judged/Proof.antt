@@ -45,9 +45,10 @@ slice-aggregate-at-root-4 c = search needs
 
 at-root-requires : tie.Need-at-root-requires
 at-root-requires c κs = let S = c .before .before .before .before .before .before .before .before .before .before .before .before .before .before .before .before .before .before .before .before .before .before in
-    let k = c .before .before .before .before .before .before .before .before .before .root-truth .kept .1 .1 .1 .1 .1 in
-    ((asked-at (S .pre .0) (c .before .before .before .before .before .before .before .before .before .before .before .before .before .before .before .before .before .before .used-entries .ensures) (c .before .before .before .before .before .before .before .before .before .before .before .before .before .before .before .before .plan-totals .ensures) (c .before .before .before .before .before .before .before .before .before .before .before .before .before .before .before .depth-table .ensures), c .before .before .before .before .before .before .before .before .before .root-truth .ensures),
-    ((le-of-eq (sym (k .0 ∙ length-replicate {A = ℕ} 65818 0)), le-of-eq (sym (k .1 .0 ∙ length-replicate {A = ℕ} 4095 0))), S .pre .1))
+    let k = c .before .before .before .before .before .before .before .before .before .root-truth .kept .1 .1 .1 .1 .1 in (
+      (asked-at (S .pre .0) (c .before .before .before .before .before .before .before .before .before .before .before .before .before .before .before .before .before .before .used-entries .ensures) (c .before .before .before .before .before .before .before .before .before .before .before .before .before .before .before .before .plan-totals .ensures) (c .before .before .before .before .before .before .before .before .before .before .before .before .before .before .before .depth-table .ensures), c .before .before .before .before .before .before .before .before .before .root-truth .ensures),
+      ((le-of-eq (sym (k .0 ∙ length-replicate {A = ℕ} 65818 0)), le-of-eq (sym (k .1 .0 ∙ length-replicate {A = ℕ} 4095 0))), S .pre .1),
+    )
 
 same-length : tie.Need-same-length
 same-length c = search needs

@@ -56,9 +56,10 @@ plan-weight-requires c κs = let S = c .before .before .before .before .before .
     let k = c .before .before .before .before .cone .ensures in
     let top = k .2 ∙ at-root S (c .before .before .before .before .before .before .before .node-count .ensures) (c .before .before .before .before .before .before .left .ensures) in
     let l : List ℕ = take (c .before .before .before .before .cone .result) (c .before .before .before .before .cone .last .1 .1 .1 .0) in
-    let n = c .steps .ensures ∙ ap (λ (i : ℕ). (node-of (S .args .q .now) (i - 1)) .n) (c .before .before .before .before .before .before .before .node-count .ensures) in
-    ((subst (λ (s : ℕ). Ready (S .args .m .now) (S .args .q .now) s (S .args .depths .now) (S .args .truth .now) l) (sym (c .before .start .ensures)) (ready G (S .pre .1) (S .pre .0 .1) (k .1) top), G .used-right),
-    (omega (arith, planned G (S .pre .1) .deep, ap (λ (i : ℕ). depth (formula (S .args .q .now) i)) top), omega (arith, planned G (S .pre .1) .few)))
+    let n = c .steps .ensures ∙ ap (λ (i : ℕ). (node-of (S .args .q .now) (i - 1)) .n) (c .before .before .before .before .before .before .before .node-count .ensures) in (
+      (subst (λ (s : ℕ). Ready (S .args .m .now) (S .args .q .now) s (S .args .depths .now) (S .args .truth .now) l) (sym (c .before .start .ensures)) (ready G (S .pre .1) (S .pre .0 .1) (k .1) top), G .used-right),
+      (omega (arith, planned G (S .pre .1) .deep, ap (λ (i : ℕ). depth (formula (S .args .q .now) i)) top), omega (arith, planned G (S .pre .1) .few)),
+    )
 
 returns : tie.Need-returns
 returns c = let S = c .before .before .before .before .before .before .before .before .before .before .before .before .before .before in

@@ -74,14 +74,20 @@ first-equal-requires c κs = let S = c .before .before .before .before .before .
     let top = k .2 ∙ c .before .before .before .before .before .before .left .ensures in
     let d = looks (P .0 .given) (P .1) (P .0 .deep) (c .before .before .before .before .before .before .left .ensures) (c .before .before .before .before .before .depth-at .ensures) in
     let n = c .before .before .before .before .before .before .before .before .before .before .before .steps .ensures in
-    let few = few-plans (P .0) (S .args .j) (S .args .s) (P .1 .node) (P .1 .is-plan) (S .pre .1 .0) (P .1 .state) in
-    (record {
-      ready = ready (P .0 .given) (P .1) (P .0 .deep) (k .1) top;
-      uses = P .0 .given .used-right;
-      counts = counts-right (S .args .m .now) (S .args .counts .now) (P .0 .counted);
-      looks = d ∙ ap (λ (i : ℕ). depth (formula (S .args .q .now) i)) (sym top);
-    }, (omega (arith, planned (P .0 .given) (P .1) .deep), omega (arith, planned (P .0 .given) (P .1) .few),
-    subst (λ (i : ℕ). plan-total (model-of (S .args .m .now)) i (S .args .s) ≤ 65536) (sym n) few, S .pre .1 .1))
+    let few = few-plans (P .0) (S .args .j) (S .args .s) (P .1 .node) (P .1 .is-plan) (S .pre .1 .0) (P .1 .state) in (
+      record {
+        ready = ready (P .0 .given) (P .1) (P .0 .deep) (k .1) top;
+        uses = P .0 .given .used-right;
+        counts = counts-right (S .args .m .now) (S .args .counts .now) (P .0 .counted);
+        looks = d ∙ ap (λ (i : ℕ). depth (formula (S .args .q .now) i)) (sym top);
+      },
+      (
+        omega (arith, planned (P .0 .given) (P .1) .deep),
+        omega (arith, planned (P .0 .given) (P .1) .few),
+        subst (λ (i : ℕ). plan-total (model-of (S .args .m .now)) i (S .args .s) ≤ 65536) (sym n) few,
+        S .pre .1 .1,
+      ),
+    )
 
 same-length : tie.Need-same-length
 same-length c = search needs
