@@ -193,6 +193,11 @@ module _ {m q : Bytes} {used : List ℕ} (given : Given m q used) where
   pub root-posed : {truth : Bytes} → Supplied m q truth (root q) (start-of q) → (node-of q (root q)) .operator ≡ 8 → Posed m q truth (root q) (start-of q)
   root-posed x o = record { node = root-node; is-plan = o; state = given-question given .starts; told = x .under-plan o }
 
+-- The verdict on the root is that on the question read from the bytes.
+pub root-asked : (m q : Bytes) → root-verdict m q ≡ verdict (model-of m) ((question-of q) .start) ((question-of q) .root)
+unfolding question-of
+root-asked m q = refl
+
 pub root-announces : (m q : Bytes) {j s : ℕ} {x : Outcome} (before after : List ℕ) → j ≡ root q → s ≡ start-of q
     → Announces (verdict (model-of m) s (formula q j)) x before after → Announces (root-verdict m q) x before after
 root-announces m q {x = x} before after e f =
