@@ -1,20 +1,72 @@
 -- The bytes of a question whose children are replaced: the cells of the children change, and the last word with them; no other byte does.
 use Prim.Native.Nat.{ℕ, zero, suc, _+_, _*_, _-_, _%_, _/_, _≤_, _<_}
-use native.Mathlib.Decide.{ℕ-discrete}
 use native.Mathlib.Nat.{eq-or-lt-of-le, le-of-suc-le-suc, not-suc-le-zero}
 use native.Mathlib.Omega.{arith}
 use mathlib.Core.Path.{_≡_, refl, sym, ap, ap₂, _∙_}
-use mathlib.Core.Logic.{⊎-elim}
+use mathlib.Core.Logic.{_⊎_, inl, inr, ⊎-elim}
 use mathlib.Core.Bool.{true, false, cond}
 use mathlib.Core.List.{List}
 use lib.Dec.{eqb}
 use lib.ListN.{length, getD, set, length-set}
 use lib.Seq.{getD-set-same, getD-set-other}
+use borrow.Author.Tests.{eq-eqb, ne-eqb}
 use Rattle.blocks.specs.Bytes.{Bytes, byte, u16, u32, i32, zeros}
 use Rattle.blocks.specs.Block.{sum-below, word-sum}
 use Rattle.questions.specs.Layout.{node-at, node-of}
-use Rattle.questions.proofs.Laws.{every-same}
-use Rattle.sharing.specs.Replaced.{left-for, right-for, repointed, replaced, Sealed}
+use Rattle.questions.proofs.Laws.{by-operator, every-same}
+use Rattle.sharing.specs.Replaced.{has-left, left-for, right-for, repointed, replaced, Sealed}
+
+-- ---- the new cells
+
+-- The operators with a child in the left cell, as the code has them, and the others.
+pub with-left : (op : ℕ) → ((op ≡ 6) ⊎ (op ≡ 8)) ⊎ ((3 ≤ op) × (op < 5)) → has-left op ≡ true
+unfolding has-left
+with-left op =
+    ⊎-elim
+    (⊎-elim (λ e. ap has-left e) (λ e. ap has-left e))
+    (λ h. ⊎-elim (λ (e : 3 ≡ op). ap has-left (sym e)) (λ (l : 3 < op). let e : op ≡ 4 = omega arith in ap has-left e) (eq-or-lt-of-le (h .0)))
+
+pub without-left : (op : ℕ) → ((op ≡ 6) ⊎ (op ≡ 8) → ⊥) → (op ≡ 3 → ⊥) → (op ≡ 4 → ⊥) → has-left op ≡ false
+unfolding has-left
+without-left =
+    by-operator
+    (λ n. ((n ≡ 6) ⊎ (n ≡ 8) → ⊥) → (n ≡ 3 → ⊥) → (n ≡ 4 → ⊥) → has-left n ≡ false)
+    (λ _ _ _. refl)
+    (λ _ _ _. refl)
+    (λ _ _ _. refl)
+    (λ _ h _. absurd (h refl))
+    (λ _ _ h. absurd (h refl))
+    (λ _ _ _. refl)
+    (λ h _ _. absurd (h (inl refl)))
+    (λ _ _ _. refl)
+    (λ h _ _. absurd (h (inr refl)))
+    (λ k _ _ _. refl)
+
+module _ (q reps : Bytes) (i : ℕ) where
+  pub left-replaced : has-left (node-of q i .operator) ≡ true → getD reps (node-of q i .left) 0 ≡ left-for q reps i
+  unfolding left-for
+  left-replaced e = ap (λ t. cond t (getD reps (node-of q i .left) 0) (node-of q i .left)) (sym e)
+
+  pub left-kept : has-left (node-of q i .operator) ≡ false → node-of q i .left ≡ left-for q reps i
+  unfolding left-for
+  left-kept e = ap (λ t. cond t (getD reps (node-of q i .left) 0) (node-of q i .left)) (sym e)
+
+  pub right-replaced : node-of q i .operator ≡ 4 → getD reps (node-of q i .right) 0 ≡ right-for q reps i
+  unfolding right-for
+  right-replaced e = ap (λ t. cond t (getD reps (node-of q i .right) 0) (node-of q i .right)) (sym (eq-eqb (node-of q i .operator) 4 e))
+
+  pub right-kept : (node-of q i .operator ≡ 4 → ⊥) → node-of q i .right ≡ right-for q reps i
+  unfolding right-for
+  right-kept e = ap (λ t. cond t (getD reps (node-of q i .right) 0) (node-of q i .right)) (sym (ne-eqb (node-of q i .operator) 4 e))
+
+-- ---- the copy
+
+pub copied-more : (q b : Bytes) (i : ℕ) → i < length b → ((k : ℕ) → k < i → byte b k ≡ byte q k) → (k : ℕ) → k < i + 1 → byte (set b i (byte q i)) k ≡ byte q k
+copied-more q b i h f k l =
+    ⊎-elim
+    (λ (e : k ≡ i). rw e (getD-set-same b i (byte q i) 0 h))
+    (λ (g : k < i). getD-set-other b i k (byte q i) 0 (λ e. omega arith) ∙ f k g)
+    (eq-or-lt-of-le (le-of-suc-le-suc {n = k} {m = i} (omega arith)))
 
 -- ---- one node
 
@@ -46,7 +98,7 @@ abbrev Elsewhere : ℕ → ℕ → Type 0
 Elsewhere n k = (i : ℕ) → i < n → (k ≡ node-at i + 2 → ⊥) × (k ≡ node-at i + 3 → ⊥)
 
 module _ (q reps : List ℕ) (size : length q ≡ 512) where
-  pub replaced-length : (n : ℕ) → n ≤ 40 → length (replaced q reps n) ≡ 512
+  replaced-length : (n : ℕ) → n ≤ 40 → length (replaced q reps n) ≡ 512
   unfolding replaced
   replaced-length zero h = size
   replaced-length (suc n) h = repointed-length q reps (replaced q reps n) n (replaced-length n (omega arith)) h
@@ -166,11 +218,11 @@ module _ {q reps q′ : Bytes} (n : ℕ) (few : n ≤ 40) (c : Cells q reps q′
   pub cell-same : (i a k : ℕ) → k ≡ 8 + 12 * i + a → i < n → a < 12 → (a ≡ 2 → ⊥) → (a ≡ 3 → ⊥) → byte q′ k ≡ byte q k
   cell-same i a k e h g f₂ f₃ = c .others k (omega arith) (λ j l. (λ x. f₂ (omega arith), λ x. f₃ (omega arith)))
 
-zeros-same : (b r : Bytes) (from n : ℕ) → ((i : ℕ) → i < n → byte r (from + i) ≡ byte b (from + i)) → zeros r from n ≡ zeros b from n
+pub zeros-same : (b r : Bytes) (from n : ℕ) → ((i : ℕ) → i < n → byte r (from + i) ≡ byte b (from + i)) → zeros r from n ≡ zeros b from n
 unfolding zeros
 zeros-same b r from n h = every-same n (λ i l. ap (λ x. eqb x 0) (h i l))
 
-u32-same : (b r : Bytes) (k : ℕ) → ((i a : ℕ) → i ≡ k + a → a < 4 → byte r i ≡ byte b i) → u32 r k ≡ u32 b k
+pub u32-same : (b r : Bytes) (k : ℕ) → ((i a : ℕ) → i ≡ k + a → a < 4 → byte r i ≡ byte b i) → u32 r k ≡ u32 b k
 unfolding u32 u16
 u32-same b r k h =
     ap₂ (λ x y. x + 65536 * y)

@@ -1,50 +1,48 @@
+-- Two halves for which one node stands mean what it does, and so does their "and"; any node stands for itself.
+use native.Mathlib.Omega.{arith}
+use mathlib.Core.Path.{_≡_, sym, ap, subst, _∙_}
+use lib.ListN.{getD}
+use Rattle.questions.specs.Layout.{node-of}
+use Rattle.sharing.specs.Replaced.{Replaces}
+use Rattle.sharing.proofs.Nodes.{half-replaces}
 use borrow.Author.Needs.{needs}
 use Rattle.sharing.proofs.replacement.Statement.{statement}
 use Rattle.sharing.proofs.replacement.Tie as tie
-use Rattle.sharing.proofs.replacement.Reads as reads
-use Rattle.sharing.proofs.replacement.Lts as lts
-use Rattle.blocks.proofs.byte.Reads as byte-reads
-use Rattle.questions.proofs.left.Reads as left-reads
-use Rattle.questions.proofs.operator.Reads as operator-reads
-use Rattle.questions.proofs.right.Reads as right-reads
 
--- src/lib.rt:22:8
 operator-requires : tie.Need-operator-requires
 operator-requires c κs = search needs
 
--- src/lib.rt:23:9
 returns : tie.Need-returns
 returns c = search needs
 
--- src/lib.rt:25:24
 left-requires : tie.Need-left-requires
 left-requires c κs = search needs
 
--- src/lib.rt:25:24
 cast-byte : tie.Need-cast-byte
 cast-byte c = search needs
 
--- src/lib.rt:25:9
 byte-requires : tie.Need-byte-requires
 byte-requires c κs = search needs
 
--- src/lib.rt:26:24
 right-requires : tie.Need-right-requires
 right-requires c κs = search needs
 
--- src/lib.rt:26:24
 cast-byte-2 : tie.Need-cast-byte-2
 cast-byte-2 c = search needs
 
--- src/lib.rt:26:9
 byte-requires-2 : tie.Need-byte-requires-2
 byte-requires-2 c κs = search needs
 
--- src/lib.rt:28:9
 returns-2 : tie.Need-returns-2
-returns-2 c = ?
+returns-2 c = let S = c .before .before .before .before .before .before .before .before .before .before in
+    let q = S .args .q .now in
+    let reps = S .args .reps .now in
+    let i = S .args .i in
+    let l : c .before .before .before .before .byte .result ≡ getD reps (node-of q i .left) 0 = c .before .before .before .before .byte .ensures ∙ ap (λ j. getD reps j 0) (c .before .before .before .before .before .left .ensures) in
+    let r : c .before .byte2 .result ≡ getD reps (node-of q i .right) 0 = c .before .byte2 .ensures ∙ ap (λ j. getD reps j 0) (c .before .before .right .ensures) in
+    let o : node-of q i .operator ≡ 4 = sym (c .before .before .before .before .before .before .before .before .operator .ensures) ∙ omega (arith, c .before .before .before .before .before .before .before .if1 .left) in
+    subst (λ k. Replaces q i k) (sym l) (half-replaces q reps i (S .pre .0) (S .pre .1) o (S .pre .2) (sym l ∙ c .if2 .taken ∙ r))
 
--- src/lib.rt:18:1
 returns-3 : tie.Need-returns-3
 returns-3 c = search needs
 

@@ -1,39 +1,34 @@
+-- "and" alone has a child in the right cell.
+use mathlib.Core.Path.{_≡_, sym, ap, _∙_}
+use lib.ListN.{getD}
+use Rattle.sharing.proofs.Cells.{right-replaced, right-kept}
 use borrow.Author.Needs.{needs}
 use Rattle.sharing.proofs.right_for.Statement.{statement}
 use Rattle.sharing.proofs.right_for.Tie as tie
-use Rattle.sharing.proofs.right_for.Reads as reads
-use Rattle.sharing.proofs.right_for.Lts as lts
-use Rattle.blocks.proofs.byte.Reads as byte-reads
-use Rattle.questions.proofs.operator.Reads as operator-reads
-use Rattle.questions.proofs.right.Reads as right-reads
 
--- src/lib.rt:72:8
 operator-requires : tie.Need-operator-requires
 operator-requires c κs = search needs
 
--- src/lib.rt:73:27
 right-requires : tie.Need-right-requires
 right-requires c κs = search needs
 
--- src/lib.rt:73:27
 cast-byte : tie.Need-cast-byte
 cast-byte c = search needs
 
--- src/lib.rt:73:9
 byte-requires : tie.Need-byte-requires
 byte-requires c κs = search needs
 
--- src/lib.rt:73:9
 returns : tie.Need-returns
-returns c = ?
+returns c = let S = c .before .before .before .before .before .before in
+    c .byte .ensures ∙ ap (λ j. getD (S .args .reps .now) j 0) (c .before .right .ensures)
+    ∙ right-replaced (S .args .q .now) (S .args .reps .now) (S .args .i) (sym (c .before .before .before .before .operator .ensures) ∙ c .before .before .before .if1 .taken)
 
--- src/lib.rt:75:5
 right-requires-2 : tie.Need-right-requires-2
 right-requires-2 c κs = search needs
 
--- src/lib.rt:69:1
 returns-2 : tie.Need-returns-2
-returns-2 c = ?
+returns-2 c = let S = c .before .before .before .before in
+    c .right2 .ensures ∙ right-kept (S .args .q .now) (S .args .reps .now) (S .args .i) (λ e. c .before .if1 .left (c .before .before .operator .ensures ∙ e))
 
 pub right-for-spec : {M : Type 1} → statement M
 right-for-spec =
