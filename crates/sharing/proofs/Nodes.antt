@@ -24,9 +24,9 @@ use Rattle.questions.specs.Tables.{formulas-before}
 use Rattle.questions.proofs.Laws.{passed, by-operator, every-same, before-at, formula-at, formula-here}
 use Rattle.questions.proofs.Rows.{row-4, all-shallow}
 use Rattle.questions.proofs.Accepted.{accepted}
-use Rattle.sharing.specs.Shared.{formula, Same, Alike, Shared}
-use Rattle.sharing.specs.Replaced.{has-left, Ordered, Replaces, Replacements, left-for, right-for, replaced, Sealed}
-use Rattle.sharing.proofs.Meanings.{same-then, same-both, node, alike-node}
+use Rattle.sharing.specs.Shared.{formula, Same, Alike, Shared, has-left, Doubled}
+use Rattle.sharing.specs.Replaced.{Ordered, Replaces, Replacements, left-for, right-for, replaced, Sealed}
+use Rattle.sharing.proofs.Meanings.{same-refl, same-then, same-both, node, alike-node}
 use Rattle.sharing.proofs.Cells.{Cells, cells, head-same, rest-same, cell-same, zeros-same, u32-same}
 
 -- ---- what the pass asks of a question
@@ -72,7 +72,7 @@ module _ (q reps : Bytes) (i : ℕ) (o : Ordered q) (h : i < node-count q) (and 
       child : (j : ℕ) → j < i → getD (formulas-before q i) j never ≡ formula q j
       child j l = before-at q j i l ∙ sym (formula-here q j (omega arith))
 
-  pub half-replaces : Replacements q i reps → getD reps (node-of q i .left) 0 ≡ getD reps (node-of q i .right) 0 → Replaces q i (getD reps (node-of q i .left) 0)
+  pub half-replaces : Replacements q i reps → getD reps (node-of q i .left) 0 ≡ getD reps (node-of q i .right) 0 → Replaces q reps i (getD reps (node-of q i .left) 0)
   half-replaces r e =
       let L = getD reps (node-of q i .left) 0 in
       let a = r (node-of q i .left) left-below in
@@ -80,15 +80,39 @@ module _ (q reps : Bytes) (i : ℕ) (o : Ordered q) (h : i < node-count q) (and 
       record {
         before = omega (arith, a .before, left-below);
         same = subst (λ φ. Same φ (formula q L)) (sym both-here) (same-both (a .same) (subst (λ j. Same (formula q (node-of q i .right)) (formula q j)) (sym e) (b .same)));
+        apart = a .apart;
       }
 
--- One node more.
-pub replacements-more : (q reps : Bytes) (i x : ℕ) → i < length reps → Replacements q i reps → Replaces q i x → Replacements q (suc i) (set reps i x)
-replacements-more q reps i x h r w j l =
-    ⊎-elim
-    (λ (e : j ≡ i). subst (Replaces q j) (sym (ap (λ k. getD (set reps i x) k 0) e ∙ getD-set-same reps i x 0 h)) (subst (λ k. Replaces q k x) (sym e) w))
-    (λ (g : j < i). subst (Replaces q j) (sym (getD-set-other reps i j x 0 (λ e. omega arith))) (r j g))
-    (eq-or-lt-of-le (le-of-suc-le-suc l))
+-- Any other node stands for itself.
+pub self-replaces : (q reps : Bytes) (i : ℕ) → (node-of q i .operator ≡ 4 → getD reps (node-of q i .left) 0 ≡ getD reps (node-of q i .right) 0 → ⊥) → Replaces q reps i i
+self-replaces q reps i a = record { before = omega arith; same = same-refl (formula q i); apart = a }
+
+-- One node more: it is no child of the nodes up to it.
+module _ (q reps : Bytes) (i x : ℕ) (o : Ordered q) (h : i < node-count q) where
+  apart-kept : (j k : ℕ) → j ≤ i → Replaces q reps j k → Replaces q (set reps i x) j k
+  unfolding has-left
+  apart-kept j k l w =
+      let n : k < node-count q = omega (arith, w .before, h, l) in
+      record {
+        before = w .before;
+        same = w .same;
+        apart = λ e f. w .apart e
+            (sym (kept (node-of q k .left) (omega (arith, w .before, l, o .left k n (ap has-left e)))) ∙ f
+            ∙ kept (node-of q k .right) (omega (arith, w .before, l, o .right k n e)));
+      }
+    where
+      kept : (c : ℕ) → c < i → getD (set reps i x) c 0 ≡ getD reps c 0
+      kept c g = getD-set-other reps i c x 0 (λ e. omega arith)
+
+  pub replacements-more : i < length reps → Replacements q i reps → Replaces q reps i x → Replacements q (suc i) (set reps i x)
+  replacements-more g r w j l =
+      ⊎-elim
+      (λ (e : j ≡ i).
+      subst (Replaces q (set reps i x) j) (sym (ap (λ k. getD (set reps i x) k 0) e ∙ getD-set-same reps i x 0 g))
+      (subst (λ k. Replaces q (set reps i x) k x) (sym e) (apart-kept i x (omega arith) w)))
+      (λ (d : j < i).
+      subst (Replaces q (set reps i x) j) (sym (getD-set-other reps i j x 0 (λ e. omega arith))) (apart-kept j (getD reps j 0) (omega arith) (r j d)))
+      (eq-or-lt-of-le (le-of-suc-le-suc l))
 
 -- ---- ground 5 of one node
 
@@ -246,6 +270,37 @@ module _ {q reps q′ : Bytes} (o : Ordered q) (reps-right : Replacements q (nod
   alike : (j : ℕ) → j < n → Alike (formula q j) (formula q′ j)
   alike j h = alike-below n (omega arith) j h
 
+  -- ---- no child is an "and" of one node with itself
+
+  module _ (i : ℕ) (h : i < n) where
+    operator-same : node-of q′ i .operator ≡ node-of q i .operator
+    operator-same = ap (λ (z : Node). z .operator) (node-same i h)
+
+    left-cell : has-left (node-of q i .operator) ≡ true → node-of q′ i .left ≡ getD reps (node-of q i .left) 0
+    left-cell e = ap (λ (z : Node). z .left) (node-same i h) ∙ ap (λ t. cond t (getD reps (node-of q i .left) 0) (node-of q i .left)) e
+
+    right-cell : node-of q i .operator ≡ 4 → node-of q′ i .right ≡ getD reps (node-of q i .right) 0
+    right-cell e = ap (λ (z : Node). z .right) (node-same i h) ∙ ap (λ t. cond (eqb t 4) (getD reps (node-of q i .right) 0) (node-of q i .right)) e
+
+  -- Node k, which stands for node l.
+  not-doubled : (l k : ℕ) → l < n → k ≡ getD reps l 0 → Doubled q′ k → ⊥
+  unfolding has-left
+  not-doubled l k h e d =
+      let w = subst (Replaces q reps l) (sym e) (reps-right l h) in
+      let g : k < n = omega (arith, h, w .before) in
+      let and : node-of q k .operator ≡ 4 = sym (operator-same k g) ∙ d .0 in
+      w .apart and (sym (left-cell k g (ap has-left and)) ∙ d .1 ∙ right-cell k g and)
+
+  past-left : (j : ℕ) → j < n → has-left (node-of q′ j .operator) ≡ true → Doubled q′ (node-of q′ j .left) → ⊥
+  past-left j h e =
+      let f : has-left (node-of q j .operator) ≡ true = ap has-left (sym (operator-same j h)) ∙ e in
+      not-doubled (node-of q j .left) (node-of q′ j .left) (omega (arith, h, o .left j h f)) (left-cell j h f)
+
+  past-right : (j : ℕ) → j < n → node-of q′ j .operator ≡ 4 → Doubled q′ (node-of q′ j .right) → ⊥
+  past-right j h e =
+      let f : node-of q j .operator ≡ 4 = sym (operator-same j h) ∙ e in
+      not-doubled (node-of q j .right) (node-of q′ j .right) (omega (arith, h, o .right j h f)) (right-cell j h f)
+
   -- ---- the grounds
 
   whole : whole-blocks 1 1 q′ ≡ whole-blocks 1 1 q
@@ -301,7 +356,7 @@ module _ {q reps q′ : Bytes} (o : Ordered q) (reps-right : Replacements q (nod
         rw (h1, sums, h3, h4, h5, h6, h9) refl
 
     shared-again : Shared S A N q q′
-    shared-again = record { accepted = accepted-again; count = count-same; start = start-same; alike = alike }
+    shared-again = record { accepted = accepted-again; count = count-same; start = start-same; alike = alike; past-left = past-left; past-right = past-right }
 
 pub shared-question : {q q′ b : Bytes} (reps : Bytes) → Ordered q → Replacements q (node-count q) reps → b ≡ replaced q reps (node-count q) → Sealed b q′
     → (S A N : ℕ) → refusal (read-question S A N q) ≡ 0 → Shared S A N q q′

@@ -1,18 +1,14 @@
 -- The children of a question's nodes replaced by nodes that come before them and mean the same.
 use Prim.Native.Nat.{ℕ, zero, suc, _+_, _%_, _<_, _≤_}
 use mathlib.Core.Path.{_≡_}
-use mathlib.Core.Bool.{Bool, true, false, cond}
-use mathlib.Core.List.{List, [], _∷_}
+use mathlib.Core.Bool.{true, cond}
+use mathlib.Core.List.{List}
 use lib.Dec.{eqb}
 use lib.ListN.{getD, set, length}
 use Rattle.blocks.specs.Bytes.{Bytes, byte}
 use Rattle.blocks.specs.Block.{word-sum}
 use Rattle.questions.specs.Layout.{node-count, node-at, node-of}
-use Rattle.sharing.specs.Shared.{Same, formula}
-
--- "not", "and", "next" and "plan" have a child in the left cell.
-unfoldable pub has-left : ℕ → Bool
-has-left op = getD (false ∷ false ∷ false ∷ true ∷ true ∷ false ∷ true ∷ false ∷ true ∷ []) op false
+use Rattle.sharing.specs.Shared.{Same, formula, has-left}
 
 -- One block of few nodes, and the children of a node have smaller numbers than its own.
 pub record Ordered (q : Bytes) : Type 0 where
@@ -21,16 +17,17 @@ pub record Ordered (q : Bytes) : Type 0 where
   pub left : (i : ℕ) → i < node-count q → has-left ((node-of q i) .operator) ≡ true → (node-of q i) .left < i
   pub right : (i : ℕ) → i < node-count q → (node-of q i) .operator ≡ 4 → (node-of q i) .right < i
 
--- Node j can stand for node i.
-pub record Replaces (q : Bytes) (i j : ℕ) : Type 0 where
+-- Node j can stand for node i, and is no "and" whose halves come down to one node.
+pub record Replaces (q : Bytes) (reps : List ℕ) (i j : ℕ) : Type 0 where
   pub before : j ≤ i
   pub same : Same (formula q i) (formula q j)
+  pub apart : (node-of q j) .operator ≡ 4 → getD reps ((node-of q j) .left) 0 ≡ getD reps ((node-of q j) .right) 0 → ⊥
 
 -- `reps` has, for each of the first k nodes, one that can stand for it.
 abbrev pub Replacements : Bytes → ℕ → List ℕ → Type 0
-Replacements q k reps = (i : ℕ) → i < k → Replaces q i (getD reps i 0)
+Replacements q k reps = (i : ℕ) → i < k → Replaces q reps i (getD reps i 0)
 
--- The cells of node i once its children are replaced: "and" alone has a child in the right cell.
+-- The cells of node i once its children are replaced.
 unfoldable pub left-for : Bytes → List ℕ → ℕ → ℕ
 left-for q reps i = cond (has-left ((node-of q i) .operator)) (getD reps ((node-of q i) .left) 0) ((node-of q i) .left)
 

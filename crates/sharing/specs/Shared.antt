@@ -2,8 +2,8 @@
 -- node asks for the same. So the verdict and the limits are the same (`Judged`).
 use Prim.Native.Nat.{ℕ, _<_}
 use mathlib.Core.Path.{_≡_}
-use mathlib.Core.Bool.{Bool}
-use mathlib.Core.List.{List}
+use mathlib.Core.Bool.{Bool, true, false}
+use mathlib.Core.List.{List, [], _∷_}
 use mathlib.Core.Option.{Option, none, some}
 use lib.ListN.{getD}
 use Rattle.logic.specs.Checked.{refusal}
@@ -11,7 +11,7 @@ use Rattle.logic.specs.Model.{Model, Step}
 use Rattle.logic.specs.Quantity.{Relation}
 use Rattle.logic.specs.Formula.{Formula, never, prop, neg, both, does, next, gain, plan, sat, depth, is-path, shallow}
 use Rattle.blocks.specs.Bytes.{Bytes}
-use Rattle.questions.specs.Layout.{start-of, node-count, formulas-of}
+use Rattle.questions.specs.Layout.{start-of, node-count, node-of, formulas-of}
 use Rattle.questions.specs.Grounds.{read-question}
 
 -- The formula of node j.
@@ -49,9 +49,20 @@ pub record Alike (φ ψ : Formula) : Type 0 where
   pub ground-9 : shallow φ ≡ shallow ψ
   pub asks : asked φ ≡ asked ψ
 
--- q′ is accepted for a model of S states, A actions and N propositions, and is q node by node.
+-- "not", "and", "next" and "plan" have a child in the left cell; "and" alone has one in the right cell.
+unfoldable pub has-left : ℕ → Bool
+has-left op = getD (false ∷ false ∷ false ∷ true ∷ true ∷ false ∷ true ∷ false ∷ true ∷ []) op false
+
+-- Node j is an "and" of one node with itself.
+abbrev pub Doubled : Bytes → ℕ → Type 0
+Doubled q j = ((node-of q j) .operator ≡ 4) × ((node-of q j) .left ≡ (node-of q j) .right)
+
+-- q′ is accepted for a model of S states, A actions and N propositions, and is q node by node; no node points to an "and" of one
+-- node with itself.
 pub record Shared (S A N : ℕ) (q q′ : Bytes) : Type 0 where
   pub accepted : refusal (read-question S A N q′) ≡ 0
   pub count : node-count q′ ≡ node-count q
   pub start : start-of q′ ≡ start-of q
   pub alike : (j : ℕ) → j < node-count q → Alike (formula q j) (formula q′ j)
+  pub past-left : (j : ℕ) → j < node-count q → has-left ((node-of q′ j) .operator) ≡ true → Doubled q′ ((node-of q′ j) .left) → ⊥
+  pub past-right : (j : ℕ) → j < node-count q → (node-of q′ j) .operator ≡ 4 → Doubled q′ ((node-of q′ j) .right) → ⊥

@@ -17,7 +17,7 @@ use questions::right;
 // The node that stands for node i: of an "and" whose halves come down to one node, that node.
 fn replacement(q: &[u8], reps: &[u8; 40], i: u8) -> u8
     requires { ⌜ Ordered (now q) × (i < layout.node-count (now q)) × Replacements (now q) i (now reps) ⌝ }
-    ensures { λ r. ⌜ Replaces (now (q .entry)) i r ⌝ }
+    ensures { λ r. ⌜ Replaces (now (q .entry)) (now (reps .entry)) i r ⌝ }
 {
     if operator(q, i) != 4 {
         return i;

@@ -4,7 +4,7 @@ use mathlib.Core.Path.{_≡_, sym, ap, subst, _∙_}
 use lib.ListN.{getD}
 use Rattle.questions.specs.Layout.{node-of}
 use Rattle.sharing.specs.Replaced.{Replaces}
-use Rattle.sharing.proofs.Nodes.{half-replaces}
+use Rattle.sharing.proofs.Nodes.{half-replaces, self-replaces}
 use borrow.Author.Needs.{needs}
 use Rattle.sharing.proofs.replacement.Statement.{statement}
 use Rattle.sharing.proofs.replacement.Tie as tie
@@ -13,7 +13,8 @@ operator-requires : tie.Need-operator-requires
 operator-requires c κs = search needs
 
 returns : tie.Need-returns
-returns c = search needs
+returns c = let S = c .before .before .before in
+    self-replaces (S .args .q .now) (S .args .reps .now) (S .args .i) (λ e f. c .if1 .taken (c .before .operator .ensures ∙ e))
 
 left-requires : tie.Need-left-requires
 left-requires c κs = search needs
@@ -41,10 +42,16 @@ returns-2 c = let S = c .before .before .before .before .before .before .before 
     let l : c .before .before .before .before .byte .result ≡ getD reps (node-of q i .left) 0 = c .before .before .before .before .byte .ensures ∙ ap (λ j. getD reps j 0) (c .before .before .before .before .before .left .ensures) in
     let r : c .before .byte2 .result ≡ getD reps (node-of q i .right) 0 = c .before .byte2 .ensures ∙ ap (λ j. getD reps j 0) (c .before .before .right .ensures) in
     let o : node-of q i .operator ≡ 4 = sym (c .before .before .before .before .before .before .before .before .operator .ensures) ∙ omega (arith, c .before .before .before .before .before .before .before .if1 .left) in
-    subst (λ k. Replaces q i k) (sym l) (half-replaces q reps i (S .pre .0) (S .pre .1) o (S .pre .2) (sym l ∙ c .if2 .taken ∙ r))
+    subst (Replaces q reps i) (sym l) (half-replaces q reps i (S .pre .0) (S .pre .1) o (S .pre .2) (sym l ∙ c .if2 .taken ∙ r))
 
 returns-3 : tie.Need-returns-3
-returns-3 c = search needs
+returns-3 c = let S = c .before .before .before .before .before .before .before .before .before .before in
+    let q = S .args .q .now in
+    let reps = S .args .reps .now in
+    let i = S .args .i in
+    let l : c .before .before .before .before .byte .result ≡ getD reps (node-of q i .left) 0 = c .before .before .before .before .byte .ensures ∙ ap (λ j. getD reps j 0) (c .before .before .before .before .before .left .ensures) in
+    let r : c .before .byte2 .result ≡ getD reps (node-of q i .right) 0 = c .before .byte2 .ensures ∙ ap (λ j. getD reps j 0) (c .before .before .right .ensures) in
+    self-replaces q reps i (λ e f. c .if2 .left (l ∙ f ∙ sym r))
 
 pub replacement-spec : {M : Type 1} → statement M
 replacement-spec =
