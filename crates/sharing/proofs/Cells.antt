@@ -10,7 +10,7 @@ use lib.Dec.{eqb}
 use lib.ListN.{length, getD, set, length-set}
 use lib.Seq.{getD-set-same, getD-set-other}
 use borrow.Author.Tests.{eq-eqb, ne-eqb}
-use Rattle.blocks.specs.Bytes.{Bytes, byte, u16, u32, i32, zeros}
+use Rattle.blocks.specs.Bytes.{Bytes, byte, u16, u32, zeros}
 use Rattle.blocks.specs.Block.{sum-below, word-sum}
 use Rattle.questions.specs.Layout.{node-at, node-of}
 use Rattle.questions.proofs.Laws.{by-operator, every-same}
@@ -54,15 +54,18 @@ module _ (q reps : Bytes) (i : ℕ) where
 
   pub right-replaced : node-of q i .operator ≡ 4 → getD reps (node-of q i .right) 0 ≡ right-for q reps i
   unfolding right-for
-  right-replaced e = ap (λ t. cond t (getD reps (node-of q i .right) 0) (node-of q i .right)) (sym (eq-eqb (node-of q i .operator) 4 e))
+  right-replaced e =
+      ap (λ t. cond t (getD reps (node-of q i .right) 0) (node-of q i .right)) (sym (eq-eqb (node-of q i .operator) 4 e))
 
   pub right-kept : (node-of q i .operator ≡ 4 → ⊥) → node-of q i .right ≡ right-for q reps i
   unfolding right-for
-  right-kept e = ap (λ t. cond t (getD reps (node-of q i .right) 0) (node-of q i .right)) (sym (ne-eqb (node-of q i .operator) 4 e))
+  right-kept e =
+      ap (λ t. cond t (getD reps (node-of q i .right) 0) (node-of q i .right)) (sym (ne-eqb (node-of q i .operator) 4 e))
 
 -- ---- the copy
 
-pub copied-more : (q b : Bytes) (i : ℕ) → i < length b → ((k : ℕ) → k < i → byte b k ≡ byte q k) → (k : ℕ) → k < i + 1 → byte (set b i (byte q i)) k ≡ byte q k
+pub copied-more : (q b : Bytes) (i : ℕ) → i < length b → ((k : ℕ) → k < i → byte b k ≡ byte q k) → (k : ℕ) → k < i + 1
+    → byte (set b i (byte q i)) k ≡ byte q k
 copied-more q b i h f k l =
     ⊎-elim
     (λ (e : k ≡ i). rw e (getD-set-same b i (byte q i) 0 h))
@@ -74,7 +77,9 @@ copied-more q b i h f k l =
 module _ (q reps b : List ℕ) (i : ℕ) (size : length b ≡ 512) (few : i < 40) where
   pub repointed-length : length (repointed q reps b i) ≡ 512
   unfolding repointed
-  repointed-length = length-set (set b (node-at i + 2) (left-for q reps i)) (node-at i + 3) (right-for q reps i) ∙ length-set b (node-at i + 2) (left-for q reps i) ∙ size
+  repointed-length =
+      length-set (set b (node-at i + 2) (left-for q reps i)) (node-at i + 3) (right-for q reps i)
+      ∙ length-set b (node-at i + 2) (left-for q reps i) ∙ size
 
   repointed-left : byte (repointed q reps b i) (node-at i + 2) ≡ left-for q reps i
   unfolding repointed
@@ -84,7 +89,9 @@ module _ (q reps b : List ℕ) (i : ℕ) (size : length b ≡ 512) (few : i < 40
 
   repointed-right : byte (repointed q reps b i) (node-at i + 3) ≡ right-for q reps i
   unfolding repointed
-  repointed-right = getD-set-same (set b (node-at i + 2) (left-for q reps i)) (node-at i + 3) (right-for q reps i) 0 (omega (arith, length-set b (node-at i + 2) (left-for q reps i)))
+  repointed-right =
+      getD-set-same (set b (node-at i + 2) (left-for q reps i)) (node-at i + 3) (right-for q reps i) 0
+      (omega (arith, length-set b (node-at i + 2) (left-for q reps i)))
 
   repointed-other : (k : ℕ) → (k ≡ node-at i + 2 → ⊥) → (k ≡ node-at i + 3 → ⊥) → byte (repointed q reps b i) k ≡ byte b k
   unfolding repointed
@@ -145,7 +152,8 @@ unfolding sum-below
 sum-last n f = refl
 
 -- Two blocks that differ in the last word alone.
-words-same : (b r : Bytes) → ((i : ℕ) → i < 510 → byte r i ≡ byte b i) → sum-below 255 (λ j. u16 r (512 * 0 + 2 * j)) ≡ sum-below 255 (λ j. u16 b (512 * 0 + 2 * j))
+words-same : (b r : Bytes) → ((i : ℕ) → i < 510 → byte r i ≡ byte b i)
+    → sum-below 255 (λ j. u16 r (512 * 0 + 2 * j)) ≡ sum-below 255 (λ j. u16 b (512 * 0 + 2 * j))
 unfolding u16
 words-same b r h =
     sum-same 255 (λ j. u16 r (512 * 0 + 2 * j)) (λ j. u16 b (512 * 0 + 2 * j))

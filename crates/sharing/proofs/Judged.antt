@@ -1,5 +1,5 @@
 -- A question that is another one node by node has its verdict and its limits: both turn on what each node asks of plans.
-use Prim.Native.Nat.{ℕ, _-_, _<_, _≤_}
+use Prim.Native.Nat.{ℕ, _-_, _≤_}
 use native.Mathlib.Omega.{arith}
 use mathlib.Core.Path.{_≡_, refl, sym, ap, ap₂, _∙_}
 use mathlib.Core.Bool.{Bool, true, not, _&&_, _||_, and-true}
@@ -7,7 +7,7 @@ use mathlib.Core.List.{List, [], _∷_}
 use mathlib.Core.Option.{Option, none, some}
 use lib.Dec.{leb}
 use lib.IntN.{pos}
-use lib.ListN.{length, getD}
+use lib.ListN.{length}
 use Rattle.logic.specs.Lists.{all, every, keep}
 use Rattle.logic.specs.Checked.{Checked, ok, refused, refusal, guard, _>>_}
 use Rattle.logic.specs.Model.{Model}

@@ -13,8 +13,8 @@ use Rattle.logic.specs.Lists.{any, keep}
 use Rattle.logic.specs.Model.{Model, Step}
 use Rattle.logic.specs.Quantity.{Relation, naturals, sum}
 use Rattle.logic.specs.Plan.{plans, paths, weight}
-use Rattle.logic.specs.Formula.{Formula, never, prop, neg, both, does, next, gain, plan, sat, depth, is-path, shallow, meets, Node, formula-of}
-use Rattle.sharing.specs.Shared.{Same, Asked, asked, Alike, has-left}
+use Rattle.logic.specs.Formula.{Formula, never, prop, neg, both, does, next, plan, sat, depth, is-path, shallow, meets, Node, formula-of}
+use Rattle.sharing.specs.Shared.{Same, asked, Alike, has-left}
 
 -- ---- one meaning
 
@@ -57,13 +57,23 @@ alike-refl φ = record { same = same-refl φ; ground-9 = refl; asks = refl }
 module _ {φ ψ : Formula} (e : Same φ ψ) where
   alike-neg : Alike (neg φ) (neg ψ)
   unfolding depth is-path sat shallow asked
-  alike-neg = record { same = record { depths = e .depths; paths = e .paths; truths = λ M s r. ap not (e .truths M s r) }; ground-9 = refl; asks = refl }
+  alike-neg =
+      record {
+        same = record { depths = e .depths; paths = e .paths; truths = λ M s r. ap not (e .truths M s r) };
+        ground-9 = refl;
+        asks = refl;
+      }
 
   alike-both : {φ′ ψ′ : Formula} → Same φ′ ψ′ → Alike (both φ φ′) (both ψ ψ′)
   unfolding depth is-path sat shallow asked
   alike-both f =
       record {
-        same = record { depths = ap₂ max (e .depths) (f .depths); paths = ap₂ _||_ (e .paths) (f .paths); truths = λ M s r. ap₂ _&&_ (e .truths M s r) (f .truths M s r) };
+        same =
+            record {
+              depths = ap₂ max (e .depths) (f .depths);
+              paths = ap₂ _||_ (e .paths) (f .paths);
+              truths = λ M s r. ap₂ _&&_ (e .truths M s r) (f .truths M s r);
+            };
         ground-9 = refl;
         asks = refl;
       }
@@ -80,7 +90,8 @@ module _ {φ ψ : Formula} (e : Same φ ψ) where
   plan-truth : (n : ℕ) (b : Relation) (p q : ℕ) (M : Model) (s : ℕ) (r : List Step) → sat M (plan n φ b p q) s r ≡ sat M (plan n ψ b p q) s r
   unfolding sat
   plan-truth n b p q M s r =
-      ap (λ (f : ℕ → List Step → Bool). any (λ π. meets naturals M n b p q (sum naturals weight (keep (f s) (paths M n s π)))) (plans M n s)) (truth e M)
+      ap (λ (f : ℕ → List Step → Bool). any (λ π. meets naturals M n b p q (sum naturals weight (keep (f s) (paths M n s π)))) (plans M n s))
+      (truth e M)
 
   alike-plan : (n : ℕ) (b : Relation) (p q : ℕ) → Alike (plan n φ b p q) (plan n ψ b p q)
   unfolding depth is-path shallow asked

@@ -6,19 +6,19 @@ use native.Mathlib.Omega.{arith}
 use mathlib.Core.Path.{_≡_, refl, sym, ap, ap₂, subst, _∙_}
 use mathlib.Core.Logic.{⊎-elim}
 use mathlib.Core.Bool.{Bool, true, false, not, cond, _&&_, false≢true}
-use mathlib.Core.List.{List, [], _∷_}
+use mathlib.Core.List.{[], _∷_}
 use lib.Dec.{eqb, ltb}
 use lib.IntN.{ℤ}
 use lib.ListN.{length, getD, set}
 use lib.Seq.{getD-set-same, getD-set-other}
-use borrow.Author.Tests.{ltb-true, lt-ltb, eqb-true, eq-eqb}
-use Rattle.logic.specs.Lists.{all, every}
+use borrow.Author.Tests.{ltb-true, lt-ltb, eq-eqb}
+use Rattle.logic.specs.Lists.{every}
 use Rattle.logic.specs.Checked.{refusal}
 use Rattle.logic.specs.Formula.{never, both, Node, formula-of, is-path, shallow}
 use Rattle.logic.proofs.Tests.{and-left, and-right, every-at, every-intro}
 use Rattle.blocks.specs.Bytes.{Bytes, byte, i32, signed, zeros, within}
 use Rattle.blocks.specs.Block.{whole-blocks, block-count, word-sum, sums-right, headed}
-use Rattle.questions.specs.Layout.{start-of, node-count, node-at, node-of, formulas-of, question-of}
+use Rattle.questions.specs.Layout.{start-of, node-count, node-at, node-of, question-of}
 use Rattle.questions.specs.Grounds.{compares, plan-bound, plan-in-range, node-in-range, node-spare, spare-zero, formed, read-question}
 use Rattle.questions.specs.Tables.{formulas-before}
 use Rattle.questions.proofs.Laws.{passed, by-operator, every-same, before-at, formula-at, formula-here}
@@ -67,24 +67,30 @@ module _ (q reps : Bytes) (i : ℕ) (o : Ordered q) (h : i < node-count q) (and 
   left-below = o .left i h (ap has-left and)
 
   both-here : formula q i ≡ both (formula q (node-of q i .left)) (formula q (node-of q i .right))
-  both-here = formula-here q i h ∙ row-4 (formulas-before q i) (node-of q i) and ∙ ap₂ both (child (node-of q i .left) left-below) (child (node-of q i .right) (o .right i h and))
+  both-here =
+      formula-here q i h ∙ row-4 (formulas-before q i) (node-of q i) and
+      ∙ ap₂ both (child (node-of q i .left) left-below) (child (node-of q i .right) (o .right i h and))
     where
       child : (j : ℕ) → j < i → getD (formulas-before q i) j never ≡ formula q j
       child j l = before-at q j i l ∙ sym (formula-here q j (omega arith))
 
-  pub half-replaces : Replacements q i reps → getD reps (node-of q i .left) 0 ≡ getD reps (node-of q i .right) 0 → Replaces q reps i (getD reps (node-of q i .left) 0)
+  pub half-replaces : Replacements q i reps → getD reps (node-of q i .left) 0 ≡ getD reps (node-of q i .right) 0
+      → Replaces q reps i (getD reps (node-of q i .left) 0)
   half-replaces r e =
-      let L = getD reps (node-of q i .left) 0 in
+      let k = getD reps (node-of q i .left) 0 in
       let a = r (node-of q i .left) left-below in
       let b = r (node-of q i .right) (o .right i h and) in
       record {
         before = omega (arith, a .before, left-below);
-        same = subst (λ φ. Same φ (formula q L)) (sym both-here) (same-both (a .same) (subst (λ j. Same (formula q (node-of q i .right)) (formula q j)) (sym e) (b .same)));
+        same =
+            subst (λ φ. Same φ (formula q k)) (sym both-here)
+            (same-both (a .same) (subst (λ j. Same (formula q (node-of q i .right)) (formula q j)) (sym e) (b .same)));
         apart = a .apart;
       }
 
 -- Any other node stands for itself.
-pub self-replaces : (q reps : Bytes) (i : ℕ) → (node-of q i .operator ≡ 4 → getD reps (node-of q i .left) 0 ≡ getD reps (node-of q i .right) 0 → ⊥) → Replaces q reps i i
+pub self-replaces : (q reps : Bytes) (i : ℕ)
+    → (node-of q i .operator ≡ 4 → getD reps (node-of q i .left) 0 ≡ getD reps (node-of q i .right) 0 → ⊥) → Replaces q reps i i
 self-replaces q reps i a = record { before = omega arith; same = same-refl (formula q i); apart = a }
 
 -- One node more: it is no child of the nodes up to it.
@@ -130,13 +136,15 @@ module _ (A N i n l r L R : ℕ) (p : ℤ) (q : ℕ) (down : l < i → L ≤ l) 
       let f : (t && ltb l i) ≡ true = and-left (t && ltb l i) (plan-bound p q) e in
       ap₂ _&&_ (ap₂ _&&_ (and-left t (ltb l i) f) (below (and-right t (ltb l i) f))) (and-right (t && ltb l i) (plan-bound p q) e)
 
-  in-range-node : (op : ℕ) → node-in-range A N i (node op n l r p q) ≡ true → node-in-range A N i (node op n (cond (has-left op) L l) (cond (eqb op 4) R r) p q) ≡ true
+  in-range-node : (op : ℕ) → node-in-range A N i (node op n l r p q) ≡ true
+      → node-in-range A N i (node op n (cond (has-left op) L l) (cond (eqb op 4) R r) p q) ≡ true
   unfolding node-in-range has-left
   in-range-node zero e = e
   in-range-node (suc zero) e = e
   in-range-node (suc (suc zero)) e = e
   in-range-node (suc (suc (suc zero))) e = below e
-  in-range-node (suc (suc (suc (suc zero)))) e = ap₂ _&&_ (below (and-left (ltb l i) (ltb r i) e)) (below′ (and-right (ltb l i) (ltb r i) e))
+  in-range-node (suc (suc (suc (suc zero)))) e =
+      ap₂ _&&_ (below (and-left (ltb l i) (ltb r i) e)) (below′ (and-right (ltb l i) (ltb r i) e))
   in-range-node (suc (suc (suc (suc (suc zero))))) e = e
   in-range-node (suc (suc (suc (suc (suc (suc zero)))))) e = below e
   in-range-node (suc (suc (suc (suc (suc (suc (suc zero))))))) e = e
@@ -162,7 +170,8 @@ spare-by n left right pq op =
     true
 
 -- The cells that hold a child are not spare.
-spare-node : (n l r l′ r′ pq : Bool) (op : ℕ) → (has-left op ≡ false → l′ ≡ l) → (eqb op 4 ≡ false → r′ ≡ r) → spare-by n l′ r′ pq op ≡ spare-by n l r pq op
+spare-node : (n l r l′ r′ pq : Bool) (op : ℕ) → (has-left op ≡ false → l′ ≡ l) → (eqb op 4 ≡ false → r′ ≡ r)
+    → spare-by n l′ r′ pq op ≡ spare-by n l r pq op
 unfolding has-left
 spare-node n l r l′ r′ pq zero f g = refl
 spare-node n l r l′ r′ pq (suc zero) f g = ap₂ (λ x y. n && x && y && pq) (f refl) (g refl)
@@ -193,22 +202,26 @@ module _ {q reps q′ : Bytes} (o : Ordered q) (reps-right : Replacements q (nod
 
     -- Node i of the new question.
     abbrev y : Node
-    y = node (x .operator) (x .n) (cond (has-left (x .operator)) (getD reps (x .left) 0) (x .left)) (cond (eqb (x .operator) 4) (getD reps (x .right) 0) (x .right)) (x .p) (x .q)
+    y =
+        node (x .operator) (x .n) (cond (has-left (x .operator)) (getD reps (x .left) 0) (x .left))
+        (cond (eqb (x .operator) 4) (getD reps (x .right) 0) (x .right)) (x .p) (x .q)
 
-    cell : (k a : ℕ) → k ≡ 8 + 12 * i + a → a < 12 → (a ≡ 2 → ⊥) → (a ≡ 3 → ⊥) → byte q′ k ≡ byte q k
-    cell k a e l f g = cell-same n (o .few) c i a k e h l f g
+    cell : (a k : ℕ) → k ≡ 8 + 12 * i + a → a < 12 → (a ≡ 2 → ⊥) → (a ≡ 3 → ⊥) → byte q′ k ≡ byte q k
+    cell a k e l f g = cell-same n (o .few) c i a k e h l f g
+
+    cell-0 : byte q′ (node-at i) ≡ byte q (node-at i)
+    cell-0 = cell 0 (node-at i) (omega arith) (omega arith) (λ w. omega arith) (λ w. omega arith)
 
     word : (a : ℕ) → 4 ≤ a → a ≤ 8 → (k b : ℕ) → k ≡ node-at i + a + b → b < 4 → byte q′ k ≡ byte q k
-    word a f g k b e l = cell k (a + b) (omega arith) (omega arith) (λ w. omega arith) (λ w. omega arith)
+    word a f g k b e l = cell (a + b) k (omega arith) (omega arith) (λ w. omega arith) (λ w. omega arith)
 
     node-same : node-of q′ i ≡ y
     unfolding node-of left-for right-for i32
     node-same =
-        let e₀ : byte q′ (node-at i) ≡ byte q (node-at i) = cell (node-at i) 0 (omega arith) (omega arith) (λ w. omega arith) (λ w. omega arith) in
-        let e₁ : byte q′ (node-at i + 1) ≡ byte q (node-at i + 1) = cell (node-at i + 1) 1 (omega arith) (omega arith) (λ w. omega arith) (λ w. omega arith) in
+        let e₁ = cell 1 (node-at i + 1) (omega arith) (omega arith) (λ w. omega arith) (λ w. omega arith) in
         let e₄ = u32-same q q′ (node-at i + 4) (word 4 (omega arith) (omega arith)) in
         let e₈ = u32-same q q′ (node-at i + 8) (word 8 (omega arith) (omega arith)) in
-        λ j. node (e₀ j) (e₁ j) (c .left i h j) (c .right i h j) (signed 31 (e₄ j)) (e₈ j)
+        λ j. node (cell-0 j) (e₁ j) (c .left i h j) (c .right i h j) (signed 31 (e₄ j)) (e₈ j)
 
     -- A child in the range of the nodes, and the node that stands for it.
     down : (l : ℕ) → l < i → getD reps l 0 ≤ l
@@ -217,24 +230,24 @@ module _ {q reps q′ : Bytes} (o : Ordered q) (reps-right : Replacements q (nod
     in-range-same : (A N : ℕ) → node-in-range A N i x ≡ true → node-in-range A N i (node-of q′ i) ≡ true
     in-range-same A N e =
         ap (node-in-range A N i) node-same
-        ∙ in-range-node A N i (x .n) (x .left) (x .right) (getD reps (x .left) 0) (getD reps (x .right) 0) (x .p) (x .q) (down (x .left)) (down (x .right)) (x .operator) e
+        ∙ in-range-node A N i (x .n) (x .left) (x .right) (getD reps (x .left) 0) (getD reps (x .right) 0) (x .p) (x .q)
+        (down (x .left)) (down (x .right)) (x .operator) e
 
     spare-same : node-spare q′ i ≡ node-spare q i
     unfolding node-spare node-of left-for right-for
     spare-same =
-        let op = byte q (node-at i) in
         let zs : (k m : ℕ) → Bool = λ k m. zeros q (node-at i + k) m in
-        let e₁ = zeros-same q q′ (node-at i + 1) 1 (λ j l. cell (node-at i + 1 + j) 1 (omega arith) (omega arith) (λ w. omega arith) (λ w. omega arith)) in
-        let e₄ = zeros-same q q′ (node-at i + 4) 8 (λ j l. cell (node-at i + 4 + j) (4 + j) (omega arith) (omega arith) (λ w. omega arith) (λ w. omega arith)) in
+        let e₁ = zeros-same q q′ (node-at i + 1) 1 (λ j l. cell (1 + j) (node-at i + 1 + j) (omega arith) (omega arith) (λ w. omega arith) (λ w. omega arith)) in
+        let e₄ = zeros-same q q′ (node-at i + 4) 8 (λ j l. cell (4 + j) (node-at i + 4 + j) (omega arith) (omega arith) (λ w. omega arith) (λ w. omega arith)) in
         let l′ = zeros q′ (node-at i + 2) 1 in
         let r′ = zeros q′ (node-at i + 3) 1 in
-        (λ j. spare-by (e₁ j) l′ r′ (e₄ j) (cell (node-at i) 0 (omega arith) (omega arith) (λ w. omega arith) (λ w. omega arith) j))
-        ∙ spare-node (zs 1 1) (zs 2 1) (zs 3 1) l′ r′ (zs 4 8) op
-        (λ f. zeros-same q q′ (node-at i + 2) 1 (λ j l. one (node-at i + 2) j l (c .left i h ∙ ap (λ t. cond t (getD reps (x .left) 0) (x .left)) f)))
-        (λ f. zeros-same q q′ (node-at i + 3) 1 (λ j l. one (node-at i + 3) j l (c .right i h ∙ ap (λ t. cond t (getD reps (x .right) 0) (x .right)) f)))
+        (λ j. spare-by (e₁ j) l′ r′ (e₄ j) (cell-0 j))
+        ∙ spare-node (zs 1 1) (zs 2 1) (zs 3 1) l′ r′ (zs 4 8) (byte q (node-at i))
+        (λ f. one (node-at i + 2) (c .left i h ∙ ap (λ t. cond t (getD reps (x .left) 0) (x .left)) f))
+        (λ f. one (node-at i + 3) (c .right i h ∙ ap (λ t. cond t (getD reps (x .right) 0) (x .right)) f))
       where
-        one : (k j : ℕ) → j < 1 → byte q′ k ≡ byte q k → byte q′ (k + j) ≡ byte q (k + j)
-        one k j l e = let z : k + j ≡ k = omega arith in ap (byte q′) z ∙ e ∙ sym (ap (byte q) z)
+        one : (k : ℕ) → byte q′ k ≡ byte q k → zeros q′ k 1 ≡ zeros q k 1
+        one k e = zeros-same q q′ k 1 (λ j l. let z : k + j ≡ k = omega arith in ap (byte q′) z ∙ e ∙ sym (ap (byte q) z))
 
   -- A child of node i in the old question and the one that stands for it in the new one, where the nodes before i are alike.
   child-same : (i l : ℕ) → i < n → l < i → ((j : ℕ) → j < i → Alike (formula q j) (formula q′ j))
@@ -244,7 +257,8 @@ module _ {q reps q′ : Bytes} (o : Ordered q) (reps-right : Replacements q (nod
       let w = reps-right l (omega arith) in
       let d : L < i = omega (arith, w .before) in
       let e : getD (formulas-before q i) l never ≡ formula q l = before-at q l i g ∙ sym (formula-here q l (omega arith)) in
-      let e′ : getD (formulas-before q′ i) L never ≡ formula q′ L = before-at q′ L i d ∙ sym (formula-here q′ L (omega (arith, d, count-same))) in
+      let e′ : getD (formulas-before q′ i) L never ≡ formula q′ L =
+      before-at q′ L i d ∙ sym (formula-here q′ L (omega (arith, d, count-same))) in
       subst (λ φ. Same φ (getD (formulas-before q′ i) L never)) (sym e) (subst (λ φ. Same (formula q l) φ) (sym e′) (same-then (w .same) (a L d .same)))
 
   alike-next-node : (i : ℕ) → i < n → ((j : ℕ) → j < i → Alike (formula q j) (formula q′ j)) → Alike (formula q i) (formula q′ i)
@@ -358,6 +372,9 @@ module _ {q reps q′ : Bytes} (o : Ordered q) (reps-right : Replacements q (nod
     shared-again : Shared S A N q q′
     shared-again = record { accepted = accepted-again; count = count-same; start = start-same; alike = alike; past-left = past-left; past-right = past-right }
 
-pub shared-question : {q q′ b : Bytes} (reps : Bytes) → Ordered q → Replacements q (node-count q) reps → b ≡ replaced q reps (node-count q) → Sealed b q′
+-- What `shared` makes of an accepted question.
+pub shared-question : {q q′ b : Bytes} (reps : Bytes) → Ordered q → Replacements q (node-count q) reps
+    → b ≡ replaced q reps (node-count q) → Sealed b q′
     → (S A N : ℕ) → refusal (read-question S A N q) ≡ 0 → Shared S A N q q′
-shared-question {q} {q′} reps o r e s S A N g = shared-again o r (cells (node-count q) (o .size) (o .few) (subst (λ b. Sealed b q′) e s)) S A N g
+shared-question {q} {q′} reps o r e s =
+    shared-again o r (cells (node-count q) (o .size) (o .few) (subst (λ b. Sealed b q′) e s))

@@ -41,10 +41,13 @@ loop-less c = omega arith
 
 loop-again : tie.Need-loop-again Inv-loop μ-loop
 loop-again c = let L = c .before .before .before .loop in
-    let q = c .before .before .before .before .before .before .args .q .now in
-    (omega arith, L .inv .1, length-set (L .reps) (L .i) (c .replacement .result) ∙ L .inv .2,
-    subst (λ k. Replacements q k (set (L .reps) (L .i) (c .replacement .result))) (sym (add-one (L .i)))
-    (replacements-more q (L .reps) (L .i) (c .replacement .result) (c .before .before .before .before .before .before .pre) (omega (arith, L .inv .1)) (omega (arith, L .inv .1, L .inv .2, c .before .before .before .before .before .before .pre .few)) (L .inv .3) (c .replacement .ensures)))
+    let q = c .before .before .before .before .before .before .args .q .now in (
+      omega arith,
+      L .inv .1,
+      length-set (L .reps) (L .i) (c .replacement .result) ∙ L .inv .2,
+      subst (λ k. Replacements q k (set (L .reps) (L .i) (c .replacement .result))) (sym (add-one (L .i)))
+          (replacements-more q (L .reps) (L .i) (c .replacement .result) (c .before .before .before .before .before .before .pre) (omega (arith, L .inv .1)) (omega (arith, L .inv .1, L .inv .2, c .before .before .before .before .before .before .pre .few)) (L .inv .3) (c .replacement .ensures)),
+    )
 
 returns : tie.Need-returns Inv-loop μ-loop
 returns c = let L = c .before .loop in

@@ -1,7 +1,7 @@
 -- The two stores are the two cells.
 use Prim.Native.Nat.{_+_, _*_}
 use native.Mathlib.Omega.{arith}
-use mathlib.Core.Path.{_≡_, ap₂}
+use mathlib.Core.Path.{ap₂}
 use lib.ListN.{set, length-set}
 use Rattle.sharing.specs.Replaced.{repointed}
 use borrow.Author.Needs.{needs}

@@ -1,5 +1,5 @@
 -- "and" alone has a child in the right cell.
-use mathlib.Core.Path.{_≡_, sym, ap, _∙_}
+use mathlib.Core.Path.{sym, ap, _∙_}
 use lib.ListN.{getD}
 use Rattle.sharing.proofs.Cells.{right-replaced, right-kept}
 use borrow.Author.Needs.{needs}

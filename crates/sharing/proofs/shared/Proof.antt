@@ -49,9 +49,12 @@ loop-again c = let S = c .before .before .before .before .before .before .before
     let L = c .before .before .before .before .before .loop in
     let q = S .args .q .now in
     let reps = c .before .before .before .before .before .before .before .before .replacements .result in
-    let e = c .before .repoint .ensures in
-    (omega arith, L .inv .1, ap length e ∙ repointed-length q reps (L .out) (L .i) (L .inv .2) (omega (arith, L .inv .1, S .pre .few)),
-    e ∙ ap (λ b. repointed q reps b (L .i)) (L .inv .3) ∙ ap (replaced q reps) (sym (add-one (L .i))))
+    let e = c .before .repoint .ensures in (
+      omega arith,
+      L .inv .1,
+      ap length e ∙ repointed-length q reps (L .out) (L .i) (L .inv .2) (omega (arith, L .inv .1, S .pre .few)),
+      e ∙ ap (λ b. repointed q reps b (L .i)) (L .inv .3) ∙ ap (replaced q reps) (sym (add-one (L .i))),
+    )
 
 slice-aggregate-seal : tie.Need-slice-aggregate-seal Inv-loop μ-loop
 slice-aggregate-seal c = sym (c .before .before .loop .inv .2)
