@@ -2,3 +2,4 @@ pub mod Truths
 pub mod Deciding
 pub mod Posing
 pub mod Announcing
+pub mod Alike

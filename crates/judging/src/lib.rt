@@ -35,6 +35,7 @@ use questions::right;
 use questions::start;
 use questions::steps;
 use ranking::nth;
+use sharing::shared;
 use tables::cone;
 use tables::needed;
 use weighing::plan_weight;
@@ -193,8 +194,8 @@ fn at_root(
     )
 }
 
-// Judges a question: the verdict, and the choices of a shown plan from the beginning of `choices` on.
-pub fn judged(m: &[u8], q: &[u8], choices: &mut [u8]) -> Outcome
+// The verdict on a question, by tables made for it.
+fn judged_as_shared(m: &[u8], q: &[u8], choices: &mut [u8]) -> Outcome
     requires { ⌜ Served (now m) (now q) ⌝ }
     requires { ⌜ 1365 ≤ length (now choices) ⌝ }
     ensures { λ r. ⌜ Announces (root-verdict (now (m .entry)) (now (q .entry))) r (now (choices .entry)) (now (choices .exit)) ⌝ }
@@ -216,6 +217,17 @@ pub fn judged(m: &[u8], q: &[u8], choices: &mut [u8]) -> Outcome
         &mut scratch,
         choices,
     )
+}
+
+// Judges a question: the verdict, and the choices of a shown plan from the beginning of `choices` on. Every "and" of a node with itself is
+// pointed past first, so that a tower of them costs no more than what stands under it.
+pub fn judged(m: &[u8], q: &[u8], choices: &mut [u8]) -> Outcome
+    requires { ⌜ Served (now m) (now q) ⌝ }
+    requires { ⌜ 1365 ≤ length (now choices) ⌝ }
+    ensures { λ r. ⌜ Announces (root-verdict (now (m .entry)) (now (q .entry))) r (now (choices .entry)) (now (choices .exit)) ⌝ }
+{
+    let alike = shared(q);
+    judged_as_shared(m, &alike, choices)
 }
 
 // The total of the plan with these choices, by the tables.

@@ -1,83 +1,37 @@
--- The tables are those of the question and the model.
-use Prim.Native.Nat.{ℕ}
-use native.Mathlib.Nat.{le-of-eq}
-use mathlib.Core.Path.{sym, _∙_}
-use lib.ListN.{length-replicate}
-use Rattle.models.proofs.Readable.{readable}
-use Rattle.judging.proofs.Announcing.{asked-at}
+-- The question that is judged in its place has the same verdict.
 use borrow.Author.Needs.{needs}
+use Rattle.models.specs.Layout.{state-count, action-count, prop-count}
+use Rattle.judging.proofs.Alike.{served-ordered, served-alike, announces-alike}
 use Rattle.judging.proofs.judged.Statement.{statement}
 use Rattle.judging.proofs.judged.Tie as tie
 
-used-entries-requires : tie.Need-used-entries-requires
-used-entries-requires c κs = search needs
+shared-requires : tie.Need-shared-requires
+shared-requires c κs = served-ordered (c .before .before .before .pre .0)
 
-plan-totals-requires : tie.Need-plan-totals-requires
-plan-totals-requires c κs = let U = c .before in
-    let S = U .before .before .before .before in
-    (readable (S .args .m .now) (S .pre .0 .model-accepted), U .used-entries .ensures)
+slice-aggregate-judged-as-shared : tie.Need-slice-aggregate-judged-as-shared
+slice-aggregate-judged-as-shared c = search needs
 
-depth-table-requires : tie.Need-depth-table-requires
-depth-table-requires c κs = search needs
-
-slice-aggregate-root-truth : tie.Need-slice-aggregate-root-truth
-slice-aggregate-root-truth c = search needs
-
-slice-aggregate-root-truth-2 : tie.Need-slice-aggregate-root-truth-2
-slice-aggregate-root-truth-2 c = search needs
-
-slice-aggregate-root-truth-3 : tie.Need-slice-aggregate-root-truth-3
-slice-aggregate-root-truth-3 c = search needs
-
-root-truth-requires : tie.Need-root-truth-requires
-root-truth-requires c κs = let D = c .before .before .before .before .before in
-    let S = D .before .before .before .before .before .before .before in
-    let a = asked-at (S .pre .0) (D .before .before .before .used-entries .ensures) (D .before .plan-totals .ensures) (D .depth-table .ensures) in
-    (a, (le-of-eq (sym (length-replicate {A = ℕ} 65818 0)), le-of-eq (sym (length-replicate {A = ℕ} 4095 0))))
-
-slice-aggregate-at-root : tie.Need-slice-aggregate-at-root
-slice-aggregate-at-root c = search needs
-
-slice-aggregate-at-root-2 : tie.Need-slice-aggregate-at-root-2
-slice-aggregate-at-root-2 c = search needs
-
-slice-aggregate-at-root-3 : tie.Need-slice-aggregate-at-root-3
-slice-aggregate-at-root-3 c = search needs
-
-slice-aggregate-at-root-4 : tie.Need-slice-aggregate-at-root-4
-slice-aggregate-at-root-4 c = search needs
-
-at-root-requires : tie.Need-at-root-requires
-at-root-requires c κs = let R = c .before .before .before .before .before .before .before .before .before in
-    let D = R .before .before .before .before .before .before in
-    let S = D .before .before .before .before .before .before .before in
-    let a = asked-at (S .pre .0) (D .before .before .before .used-entries .ensures) (D .before .plan-totals .ensures) (D .depth-table .ensures) in
-    let k = R .root-truth .kept .1 .1 .1 .1 .1 in
-    let l = le-of-eq (sym (k .0 ∙ length-replicate {A = ℕ} 65818 0)) in
-    let c = le-of-eq (sym (k .1 .0 ∙ length-replicate {A = ℕ} 4095 0)) in
-    ((a, R .root-truth .ensures), ((l, c), S .pre .1))
+judged-as-shared-requires : tie.Need-judged-as-shared-requires
+judged-as-shared-requires c κs =
+    let S = c .before .before .before .before .before .before in
+    let h = c .before .before .shared .ensures (state-count (S .args .m .now)) (action-count (S .args .m .now)) (prop-count (S .args .m .now)) (S .pre .0 .question-accepted) in
+    (served-alike (S .args .m .now) h (S .pre .0), S .pre .1)
 
 same-length : tie.Need-same-length
 same-length c = search needs
 
 returns : tie.Need-returns
-returns c = search needs
+returns c =
+    let S = c .before .before .before .before .before .before .before .before .before in
+    let h = c .before .before .before .before .before .shared .ensures (state-count (S .args .m .now)) (action-count (S .args .m .now)) (prop-count (S .args .m .now)) (S .pre .0 .question-accepted) in
+    announces-alike (S .args .m .now) h _ _ _ (c .before .before .judged-as-shared .ensures)
 
 pub judged-spec : {M : Type 1} → statement M
 judged-spec =
     tie.close
     (tie.spec
-    used-entries-requires
-    plan-totals-requires
-    depth-table-requires
-    slice-aggregate-root-truth
-    slice-aggregate-root-truth-2
-    slice-aggregate-root-truth-3
-    root-truth-requires
-    slice-aggregate-at-root
-    slice-aggregate-at-root-2
-    slice-aggregate-at-root-3
-    slice-aggregate-at-root-4
-    at-root-requires
+    shared-requires
+    slice-aggregate-judged-as-shared
+    judged-as-shared-requires
     same-length
     returns)
