@@ -3,27 +3,23 @@
 use Prim.Native.Nat.{ℕ, _+_, _≤_}
 use native.Mathlib.Omega.{arith}
 use mathlib.Core.Path.{_≡_, refl, sym, ap, ap₂, subst, _∙_}
-use mathlib.Core.Bool.{Bool, true, false, not, _&&_, _||_}
-use mathlib.Core.List.{List, [], _++_}
+use mathlib.Core.Bool.{Bool, true, false}
+use mathlib.Core.List.{List, []}
 use mathlib.Core.Option.{Option, none, some}
-use lib.Dec.{leb, ltb}
+use lib.Dec.{leb}
 use lib.IntN.{ℤ}
-use lib.ListN.{length, drop}
+use lib.ListN.{length}
 use Rattle.logic.specs.Checked.{Checked, ok, refused, _>>=_, _>>_, held, guard, refusal}
 use Rattle.logic.specs.Model.{Model}
 use Rattle.logic.specs.Plan.{Plan}
-use Rattle.logic.specs.Formula.{Formula, nonnegative, sat, never, prop, neg, both, does, next, gain, plan}
-use Rattle.logic.specs.Lists.{every}
-use Rattle.logic.specs.Limits.{path-total, plan-total, every-plan, limits}
-use Rattle.logic.specs.Verdict.{is-equal, Goal, goal, shown, announced, verdict-by, verdict}
+use Rattle.logic.specs.Formula.{Formula, nonnegative, sat}
+use Rattle.logic.specs.Limits.{limits}
+use Rattle.logic.specs.Verdict.{Goal, goal, shown, announced, verdict-by, verdict}
 use Rattle.logic.specs.Verdict as logic
 use Rattle.logic.proofs.Checked.{not-ok, ok-same}
-use Rattle.blocks.specs.Bytes.{Bytes, within}
-use Rattle.blocks.specs.Block.{whole-blocks, sums-right, headed}
-use Rattle.models.specs.Layout.{model-of}
-use Rattle.models.specs.Grounds.{kinds-right, sizes-right, fields-right, head-spare, rows-spare, cells-spare, consistent, no-dead-ends, read-model}
-use Rattle.questions.specs.Layout.{Question, start-of, node-count, node-of, question-of}
-use Rattle.questions.specs.Grounds.{node-in-range, spare-zero, formed, read-question}
+use Rattle.blocks.specs.Bytes.{Bytes}
+use Rattle.models.specs.Grounds.{read-model}
+use Rattle.questions.specs.Layout.{Question}
 use Rattle.sheets.specs.Layout.{sheet-bytes}
 use Rattle.calls.specs.Calls.{Held, question-for, do-put, do-judge, do-write, shown-sheet}
 use Rattle.plan_judge.specs.declared.Desk.{Desk}
@@ -39,108 +35,9 @@ use Rattle.plan_judge.specs.declared.Written.{Written}
 use Rattle.plan_judge.specs.declared.Written.the-variants.{Bytes as Filled}
 use Rattle.plan_judge.specs.View.{view}
 use Rattle.plan_judge.specs.Values.{taking, holding, loaded-by, asking, put-by, verdict-code, settling, judging, judged-by, writing, written-by, filling, filled-by}
-use Rattle.plan_judge.specs.CCall.{Told, told-of, told-on, c-call, c-number, c-buffer, told-put, told-judge, told-write}
+use Rattle.plan_judge.specs.CCall.{Told, told-of, told-on, c-call, Tells, told-put, told-judge, told-write}
 use Rattle.plan_judge.proofs.Kept.{view-holding, view-asking, view-settling}
-
--- What a number and a buffer tell.
-abbrev pub Tells : Checked Told → (found left : Bytes) → ℕ → Type 0
-Tells c found left r = (r ≡ c-number c) × (left ≡ c-buffer found c)
-
--- ---- refusals have the listed numbers, at most 25
-
-record Listed {A : Type 0} (c : Checked A) : Type 0 where
-  few : refusal c ≤ 25
-
-value : {A : Type 0} (a : A) → Listed (ok a)
-value a = record { few = omega arith }
-
-number : {A : Type 0} (k : ℕ) → k ≤ 25 → Listed {A = A} (refused k)
-number k h = record { few = h }
-
-listed-bind : {A B : Type 0} (c : Checked A) (f : A → Checked B) → Listed c → ((a : A) → Listed (f a)) → Listed (c >>= f)
-listed-bind (ok a) f h g = g a
-listed-bind (refused k) f h g = number k (h .few)
-
-listed-then : {A B : Type 0} (c : Checked A) (d : Checked B) → Listed c → Listed d → Listed (c >> d)
-listed-then (ok a) d h g = g
-listed-then (refused k) d h g = number k (h .few)
-
-listed-guard : {B : Type 0} (k : ℕ) (t : Bool) (c : Checked B) → k ≤ 25 → Listed c → Listed (guard k t >> c)
-listed-guard k true c h g = g
-listed-guard k false c h g = number k h
-
-listed-held : {A : Type 0} (k : ℕ) (o : Option A) → k ≤ 25 → Listed (held k o)
-listed-held k none h = number k h
-listed-held k (some a) h = value a
-
-listed-model : (b : Bytes) → Listed (read-model b)
-unfolding read-model
-listed-model b =
-    listed-guard 1 (whole-blocks 2 12 b) _ (omega arith)
-    (listed-guard 2 (sums-right b) _ (omega arith)
-    (listed-guard 3 (kinds-right b) _ (omega arith)
-    (listed-guard 4 (sizes-right b) _ (omega arith)
-    (listed-guard 5 (fields-right b) _ (omega arith)
-    (listed-guard 6 (head-spare b && rows-spare b && cells-spare b) _ (omega arith)
-    (listed-guard 7 (consistent b) _ (omega arith) (listed-guard 8 (no-dead-ends b) _ (omega arith) (value (model-of b)))))))))
-
-listed-question : (S A N : ℕ) (b : Bytes) → Listed (read-question S A N b)
-unfolding read-question
-listed-question S A N b =
-    listed-guard 1 (whole-blocks 1 1 b) _ (omega arith)
-    (listed-guard 2 (sums-right b) _ (omega arith)
-    (listed-guard 3 (headed b 0 3 0) _ (omega arith)
-    (listed-guard 4 (ltb (start-of b) S && within 1 40 (node-count b)) _ (omega arith)
-    (listed-guard 5 (every (node-count b) (λ i. node-in-range A N i (node-of b i))) _ (omega arith)
-    (listed-guard 6 (spare-zero b) _ (omega arith) (listed-guard 9 (formed (question-of b)) _ (omega arith) (value (question-of b))))))))
-
-listed-limits : (m : Model) (fs : List Formula) → Listed (limits m fs)
-unfolding limits
-listed-limits m fs =
-    by (every-plan (λ n r s. leb (path-total m n s) 1000000) m fs) (every-plan (λ n r s. not (is-equal r) || leb (plan-total m n s) 65536) m fs)
-  where
-    by : (t u : Bool) → Listed (guard 24 t >> guard 25 u)
-    by true true = value tt
-    by true false = number 25 (omega arith)
-    by false u = number 24 (omega arith)
-
-listed-goal : (m : Model) (s : ℕ) (φ : Formula) → Listed (goal m s φ)
-unfolding goal
-listed-goal m s never = number 22 (omega arith)
-listed-goal m s (prop i) = number 22 (omega arith)
-listed-goal m s (neg φ) = number 22 (omega arith)
-listed-goal m s (both φ ψ) = number 22 (omega arith)
-listed-goal m s (does a) = number 22 (omega arith)
-listed-goal m s (next φ) = number 22 (omega arith)
-listed-goal m s (gain n r p) = number 22 (omega arith)
-listed-goal m s (plan n φ r p q) = value _
-
-listed-sheet : (v : logic.Verdict) → Listed (shown-sheet v)
-unfolding shown-sheet
-listed-sheet (logic.no k) = number 23 (omega arith)
-listed-sheet logic.yes = number 23 (omega arith)
-listed-sheet (logic.yes-plan w n k cs) = value _
-
-listed-put : (h : Held) (b : Bytes) → Listed (do-put h b)
-unfolding do-put
-listed-put h b = listed-bind (held 20 (h .model)) _ (listed-held 20 (h .model) (omega arith)) (λ m. listed-question _ _ _ b)
-
-listed-judge : (h : Held) → Listed (do-judge h)
-unfolding do-judge
-listed-judge h =
-    listed-bind (held 20 (h .model)) _ (listed-held 20 (h .model) (omega arith))
-    (λ m. listed-bind (held 21 (h .question)) _ (listed-held 21 (h .question) (omega arith)) (λ q. listed-then (limits m (q .nodes)) _ (listed-limits m (q .nodes)) (value _)))
-
-listed-write : (h : Held) (size : ℕ) → Listed (do-write h size)
-unfolding do-write
-listed-write h size =
-    listed-bind (held 20 (h .model)) _ (listed-held 20 (h .model) (omega arith))
-    (λ m. listed-bind (held 21 (h .question)) _ (listed-held 21 (h .question) (omega arith))
-    (λ q. listed-bind (goal m (q .start) (q .root)) _ (listed-goal m (q .start) (q .root))
-    (λ g. listed-bind (held 23 (h .verdict)) _ (listed-held 23 (h .verdict) (omega arith))
-    (λ v. listed-bind (shown-sheet v) _ (listed-sheet v) (λ x.
-        listed-guard 12 (leb (length (sheet-bytes (g .steps) (q .start) (nonnegative (x .weight)) (x .choices))) size) _ (omega arith)
-        (value (sheet-bytes (g .steps) (q .start) (nonnegative (x .weight)) (x .choices))))))))
+use Rattle.plan_judge.proofs.Listed.{listed-model, listed-put, listed-judge, listed-write}
 
 -- ---- load and put, by their answers
 
@@ -163,8 +60,8 @@ module _ {A : Type 0} (d e : Desk) (c : Checked A) (r : Taking) (i : r ≡ takin
       by (refused j) z y = let w : _≡_ {A = ℕ} 0 1 = cc in absurd (omega arith)
 
 -- The same is told of what is the same.
-told-same : (found left : Bytes) (r : ℕ) {c e : Checked Told} → c ≡ e → Tells c found left r → Tells e found left r
-told-same found left r i t = subst (λ z. Tells z found left r) i t
+told-same : {c e : Checked Told} {found left : Bytes} {r : ℕ} → c ≡ e → Tells c found left r → Tells e found left r
+told-same {found = found} {left = left} {r = r} i t = subst (λ z. Tells z found left r) i t
 
 module _ (d : Desk) (model : Bytes) (r : Taking) (i : r ≡ loaded-by d model) where
   load-refused : (k : ℕ) → r .answer ≡ Refused k → read-model model ≡ refused k
@@ -176,14 +73,16 @@ module _ (d : Desk) (model : Bytes) (r : Taking) (i : r ≡ loaded-by d model) w
 
   pub load-tells : (k : ℕ) → r .answer ≡ Refused k → (question found : Bytes) → Tells (c-call model question (length found)) found found (100 + k)
   unfolding c-call
-  load-tells k a question found = told-same found found (100 + k) (sym (ap (λ c. c >>= (λ m. question-for m question >>= told-on (length found) m)) (load-refused k a))) (refl, refl)
+  load-tells k a question found =
+      told-same (sym (ap (λ c. c >>= (λ m. question-for m question >>= told-on (length found) m)) (load-refused k a))) (record { number = refl; buffer = refl })
 
-  pub loaded-tells : r .answer ≡ Done → (question found left : Bytes) (n : ℕ) → Tells (told-put (view (r .desk)) question (length found)) found left n
+  pub loaded-tells : r .answer ≡ Done → (question found left : Bytes) (n : ℕ)
+      → Tells (told-put (view (r .desk)) question (length found)) found left n
       → Tells (c-call model question (length found)) found left n
   unfolding loaded-by c-call told-put
   loaded-tells a question found left n t =
       let x = taken-done d (holding model) (read-model model) r i a in
-      told-same found left n
+      told-same
       (ap (λ h. told-put h question (length found)) (ap view (x .2) ∙ view-holding model (x .0) (x .1))
       ∙ sym (ap (λ c. c >>= (λ m. question-for m question >>= told-on (length found) m)) (x .1)))
       t
@@ -198,7 +97,7 @@ module _ (d : Desk) (question : Bytes) (r : Taking) (i : r ≡ put-by d question
 
   pub put-tells : (k : ℕ) → r .answer ≡ Refused k → (found : Bytes) → Tells (told-put (view d) question (length found)) found found (100 + k)
   unfolding told-put do-put
-  put-tells k a found = told-same found found (100 + k) (sym (by ((view d) .model) (put-refused k a))) (refl, refl)
+  put-tells k a found = told-same (sym (by ((view d) .model) (put-refused k a))) (record { number = refl; buffer = refl })
     where
       by : (o : Option Model) → (held 20 o >>= (λ m. question-for m question)) ≡ refused k
           → (held 20 o >>= (λ m. question-for m question >>= told-on (length found) m)) ≡ refused k
@@ -210,7 +109,7 @@ module _ (d : Desk) (question : Bytes) (r : Taking) (i : r ≡ put-by d question
   unfolding put-by told-put told-judge do-put
   asked-tells a found left n t =
       let x = taken-done d (asking d question) (do-put (view d) question) r i a in
-      told-same found left n (ap (λ h. told-judge h (length found)) (ap view (x .2) ∙ view-asking d question (x .0) (x .1)) ∙ by ((view d) .model) (x .0) (x .1)) t
+      told-same (ap (λ h. told-judge h (length found)) (ap view (x .2) ∙ view-asking d question (x .0) (x .1)) ∙ by ((view d) .model) (x .0) (x .1)) t
     where
       by : (o : Option Model) (q : Question) → (held 20 o >>= (λ m. question-for m question)) ≡ ok q
           → (held 20 o >>= (λ m. told-on (length found) m q)) ≡ (held 20 o >>= (λ m. question-for m question >>= told-on (length found) m))
@@ -220,7 +119,8 @@ module _ (d : Desk) (question : Bytes) (r : Taking) (i : r ≡ put-by d question
 -- ---- judge
 
 -- A verdict with a plan is that of a goal with the plan's steps.
-verdict-goal : (m : Model) (s : ℕ) (φ : Formula) (w : ℤ) (n k : ℕ) (cs : List ℕ) → logic.yes-plan w n k cs ≡ verdict m s φ → (g : Goal) × (goal m s φ ≡ ok g) × (g .steps ≡ n)
+verdict-goal : (m : Model) (s : ℕ) (φ : Formula) (w : ℤ) (n k : ℕ) (cs : List ℕ) → logic.yes-plan w n k cs ≡ verdict m s φ
+    → (g : Goal) × (goal m s φ ≡ ok g) × (g .steps ≡ n)
 unfolding verdict
 verdict-goal m s φ w n k cs e = by (goal m s φ) refl (sat m φ s []) e
   where
@@ -228,7 +128,8 @@ verdict-goal m s φ w n k cs e = by (goal m s φ) refl (sat m φ s []) e
     by-shown g none z = let y : _≡_ {A = ℕ} 0 1 = cc in absurd (omega arith)
     by-shown g (some x) z = cc
 
-    by : (c : Checked Goal) → goal m s φ ≡ c → (t : Bool) → logic.yes-plan w n k cs ≡ verdict-by m s t c → (g : Goal) × (goal m s φ ≡ ok g) × (g .steps ≡ n)
+    by : (c : Checked Goal) → goal m s φ ≡ c → (t : Bool) → logic.yes-plan w n k cs ≡ verdict-by m s t c
+        → (g : Goal) × (goal m s φ ≡ ok g) × (g .steps ≡ n)
     by (ok g) i t z = (g, i, by-shown g (shown m s g) z)
     by (refused j) i true z = let y : _≡_ {A = ℕ} 0 1 = cc in absurd (omega arith)
     by (refused j) i false z = let y : _≡_ {A = ℕ} 0 1 = cc in absurd (omega arith)
@@ -245,7 +146,8 @@ module _ (size : ℕ) (m : Model) (q : Question) (w : ℤ) (n k : ℕ) (cs : Lis
   yes-with b = ok (record { answer = true; sheet = b })
 
   told-plan : (g : Goal) → goal m (q .start) (q .root) ≡ ok g → g .steps ≡ n
-      → told-write (record { model = some m; question = some q; verdict = some (logic.yes-plan w n k cs) }) size ≡ told-of (q .start) size (logic.yes-plan w n k cs)
+      → told-write (record { model = some m; question = some q; verdict = some (logic.yes-plan w n k cs) }) size
+      ≡ told-of (q .start) size (logic.yes-plan w n k cs)
   unfolding told-write do-write shown-sheet told-of
   told-plan g i j = ap (λ c. c >>= (λ g. fitted (g .steps)) >>= yes-with) i ∙ ap (λ s. fitted s >>= yes-with) j ∙ by (leb (length (sheet n)) size)
     where
@@ -308,7 +210,8 @@ told-refused h size k e = by (h .model) (h .question) e
     last (ok u) x y z = absurd (not-ok (sym z))
     last (refused j) x y z = ap refused (refused-same z)
 
-    by : (o : Option Model) (p : Option Question) → (held 20 o >>= (λ m. held 21 p >>= (λ q. limits m (q .nodes) >> ok (verdict m (q .start) (q .root))))) ≡ refused k
+    by : (o : Option Model) (p : Option Question)
+        → (held 20 o >>= (λ m. held 21 p >>= (λ q. limits m (q .nodes) >> ok (verdict m (q .start) (q .root))))) ≡ refused k
         → (held 20 o >>= (λ m. held 21 p >>= told-on size m)) ≡ refused k
     by none p z = ap refused (refused-same z)
     by (some m) none z = ap refused (refused-same z)
@@ -327,10 +230,11 @@ module _ (d : Desk) (r : Judging) (i : r ≡ judged-by d) where
   judge-few k a = subst (λ c. refusal c ≤ 25) (judge-refused k a) ((listed-judge (view d)) .few)
 
   pub judge-tells : (k : ℕ) → r .answer ≡ Judgement.Refused k → (found : Bytes) → Tells (told-judge (view d) (length found)) found found (100 + k)
-  judge-tells k a found = told-same found found (100 + k) (sym (told-refused (view d) (length found) k (judge-refused k a))) (refl, refl)
+  judge-tells k a found = told-same (sym (told-refused (view d) (length found) k (judge-refused k a))) (record { number = refl; buffer = refl })
 
   -- The verdict that was said.
-  judge-said : (v : Verdict) → r .answer ≡ Judged v → (l : logic.Verdict) × (do-judge (view d) ≡ ok l) × (v ≡ verdict-code l) × (r .desk ≡ settling d l)
+  judge-said : (v : Verdict) → r .answer ≡ Judged v
+      → (l : logic.Verdict) × (do-judge (view d) ≡ ok l) × (v ≡ verdict-code l) × (r .desk ≡ settling d l)
   unfolding judged-by
   judge-said v a = by (do-judge (view d)) refl (ap (λ (x : Judging). x .answer) (sym i) ∙ a) (ap (λ (x : Judging). x .desk) i)
     where
@@ -344,10 +248,10 @@ module _ (d : Desk) (r : Judging) (i : r ≡ judged-by d) where
   no-tells v a k e found =
       let x = judge-said v a in
       let j = judged-from (view d) (length found) (x .0) (x .1) in
-      told-same found found 0 (sym (j .told)) (by (j .question .start) (x .0) (sym (x .2) ∙ e))
+      told-same (sym (j .told)) (by (j .question .start) (x .0) (sym (x .2) ∙ e))
     where
       by : (s : ℕ) (l : logic.Verdict) → verdict-code l ≡ No k → Tells (told-of s (length found) l) found found 0
-      by s (logic.no c) z = (refl, refl)
+      by s (logic.no c) z = record { number = refl; buffer = refl }
       by s logic.yes z = let y : _≡_ {A = ℕ} 0 1 = cc in absurd (omega arith)
       by s (logic.yes-plan w n c cs) z = let y : _≡_ {A = ℕ} 0 1 = cc in absurd (omega arith)
 
@@ -356,11 +260,11 @@ module _ (d : Desk) (r : Judging) (i : r ≡ judged-by d) where
   yes-tells v a e found =
       let x = judge-said v a in
       let j = judged-from (view d) (length found) (x .0) (x .1) in
-      told-same found found 1 (sym (j .told)) (by (j .question .start) (x .0) (sym (x .2) ∙ e))
+      told-same (sym (j .told)) (by (j .question .start) (x .0) (sym (x .2) ∙ e))
     where
       by : (s : ℕ) (l : logic.Verdict) → verdict-code l ≡ Yes → Tells (told-of s (length found) l) found found 1
       by s (logic.no c) z = let y : _≡_ {A = ℕ} 0 1 = cc in absurd (omega arith)
-      by s logic.yes z = (refl, refl)
+      by s logic.yes z = record { number = refl; buffer = refl }
       by s (logic.yes-plan w n c cs) z = let y : _≡_ {A = ℕ} 0 1 = cc in absurd (omega arith)
 
   pub plan-tells : (v : Verdict) → r .answer ≡ Judged v → (p : PlanRecord) → v ≡ YesPlan p → (found left : Bytes) (n : ℕ)
@@ -368,10 +272,11 @@ module _ (d : Desk) (r : Judging) (i : r ≡ judged-by d) where
   unfolding verdict-code
   plan-tells v a p e found left n t =
       let x = judge-said v a in
-      told-same found left n (ap (λ h. told-write h (length found)) (ap view (x .3) ∙ view-settling d (x .0) (x .1)) ∙ by (x .0) (x .1) (sym (x .2) ∙ e)) t
+      told-same (ap (λ h. told-write h (length found)) (ap view (x .3) ∙ view-settling d (x .0) (x .1)) ∙ by (x .0) (x .1) (sym (x .2) ∙ e)) t
     where
       by : (l : logic.Verdict) → do-judge (view d) ≡ ok l → verdict-code l ≡ YesPlan p
-          → told-write (record { model = (view d) .model; question = (view d) .question; verdict = some l }) (length found) ≡ told-judge (view d) (length found)
+          → told-write (record { model = (view d) .model; question = (view d) .question; verdict = some l }) (length found)
+          ≡ told-judge (view d) (length found)
       by (logic.no c) j z = let y : _≡_ {A = ℕ} 0 1 = cc in absurd (omega arith)
       by logic.yes j z = let y : _≡_ {A = ℕ} 0 1 = cc in absurd (omega arith)
       by (logic.yes-plan w n c cs) j z = told-written (view d) (length found) (logic.yes-plan w n c cs) j w n c cs refl
@@ -394,12 +299,13 @@ module _ (d : Desk) (found left : Bytes) (r : Written) (i : r ≡ written-by d (
   unfolding told-write filled-by
   write-tells k a =
       let e = write-refused k a in
-      told-same found left (100 + k) (sym (ap (λ c. c >>= (λ b. ok (record { answer = true; sheet = b }))) e)) (refl, j ∙ ap (filling found) e)
+      told-same (sym (ap (λ c. c >>= (λ b. ok (record { answer = true; sheet = b }))) e)) (record { number = refl; buffer = j ∙ ap (filling found) e })
 
   pub written-tells : (n : ℕ) → r ≡ Filled n → Tells (told-write (view d) (length found)) found left 1
   unfolding told-write written-by filled-by
   written-tells n a = by (do-write (view d) (length found)) (sym i ∙ a) j
     where
-      by : (c : Checked Bytes) → writing c ≡ Filled n → left ≡ filling found c → Tells (c >>= (λ b. ok (record { answer = true; sheet = b }))) found left 1
-      by (ok b) z y = (refl, y)
+      by : (c : Checked Bytes) → writing c ≡ Filled n → left ≡ filling found c
+          → Tells (c >>= (λ b. ok (record { answer = true; sheet = b }))) found left 1
+      by (ok b) z y = record { number = refl; buffer = y }
       by (refused k) z y = let w : _≡_ {A = ℕ} 0 1 = cc in absurd (omega arith)

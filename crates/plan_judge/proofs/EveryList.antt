@@ -47,15 +47,18 @@ pub every-ran : {cs : List Call} {rs : List Reply} {d : Desk} → Ran cs rs d �
 every-ran {cs} h = ap view (ran-desk h) ∙ desk-holds cs
 
 -- A call made then is answered as described by that history: its answer and its buffer.
-pub every-answer : {cs : List Call} {rs : List Reply} {d e : Desk} {c : Call} {r : Reply} → Ran cs rs d → Answered d c r e → r ≡ yields (after cs) c
+pub every-answer : {cs : List Call} {rs : List Reply} {d e : Desk} {c : Call} {r : Reply} → Ran cs rs d → Answered d c r e
+    → r ≡ yields (after cs) c
 every-answer {d = d} {c = c} h a = stepped a .0 ∙ replies d c ∙ ap (λ k. yields k c) (every-ran h)
 
-replies-more : (before cs : List Call) (c : Call) → replies-after before (cs ++ (c ∷ [])) ≡ replies-after before cs ++ (yields (after (before ++ cs)) c ∷ [])
+replies-more : (before cs : List Call) (c : Call)
+    → replies-after before (cs ++ (c ∷ [])) ≡ replies-after before cs ++ (yields (after (before ++ cs)) c ∷ [])
 unfolding replies-after
 replies-more before [] c = ap (λ l. yields (after l) c ∷ []) (sym (append-nil before))
 replies-more before (b ∷ cs) c =
     ap (λ l. yields (after before) b ∷ l)
-    (replies-more (before ++ (b ∷ [])) cs c ∙ ap (λ l. replies-after (before ++ (b ∷ [])) cs ++ (yields (after l) c ∷ [])) (append-assoc before (b ∷ []) cs))
+    (replies-more (before ++ (b ∷ [])) cs c
+    ∙ ap (λ l. replies-after (before ++ (b ∷ [])) cs ++ (yields (after l) c ∷ [])) (append-assoc before (b ∷ []) cs))
 
 -- All of a list's replies are the described ones.
 pub every-reply : {cs : List Call} {rs : List Reply} {d : Desk} → Ran cs rs d → rs ≡ replies-to cs
@@ -89,7 +92,8 @@ unfolding slice
 answer-there d (load b) = record { reply = _; desk = _; answered = loads ([], tt) (slice b) (loaded-by d b) refl }
 answer-there d (put b) = record { reply = _; desk = _; answered = puts ([], tt) (slice b) (put-by d b) refl }
 answer-there d judge = record { reply = _; desk = _; answered = judges (judged-by d) refl }
-answer-there d (write a) = record { reply = _; desk = _; answered = writes ([], tt) (slice a) (slice (filled-by d a)) (written-by d (length a)) (refl, refl) }
+answer-there d (write a) =
+    record { reply = _; desk = _; answered = writes ([], tt) (slice a) (slice (filled-by d a)) (written-by d (length a)) (refl, refl) }
 answer-there d (check b) = record { reply = _; desk = _; answered = checks ([], tt) (slice b) (checked-by d b) refl }
 
 -- What a list of calls leads to.

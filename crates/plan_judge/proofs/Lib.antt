@@ -9,4 +9,5 @@ pub mod Demand3
 pub mod Ran
 pub mod EveryList
 pub mod CodeDemand3
+pub mod Listed
 pub mod CSteps

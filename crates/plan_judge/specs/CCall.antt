@@ -3,6 +3,7 @@
 -- for no, 1 for yes, or 100 plus the refusal: it loads, puts, judges and, on yes with a "plan" root, writes, on an empty desk, stopping at
 -- the first refusal. The buffer changes only in that last step."
 use Prim.Native.Nat.{ℕ, _+_}
+use mathlib.Core.Path.{_≡_}
 use mathlib.Core.Bool.{Bool, true, false, cond}
 use mathlib.Core.List.{[], _++_}
 use lib.Dec.{leb}
@@ -53,6 +54,11 @@ c-number (refused k) = 100 + k
 abbrev pub c-buffer : Bytes → Checked Told → Bytes
 c-buffer found (ok t) = t .sheet ++ drop (length (t .sheet)) found
 c-buffer found (refused k) = found
+
+-- The call gives the number r and leaves the buffer, which it found so, as told.
+pub record Tells (c : Checked Told) (found left : Bytes) (r : ℕ) : Type 0 where
+  pub number : r ≡ c-number c
+  pub buffer : left ≡ c-buffer found c
 
 -- ---- the same from the middle of the call, by what the desk then holds
 

@@ -1,10 +1,8 @@
 // The call for the arm's controller, which is in C: it loads, puts, judges and, on yes to a "plan" root, writes, on an empty desk, and
 // stops at the first refusal. Each function makes one call and hands the desk on.
-ghost use mathlib.Core.Path.{_≡_};
 ghost use lib.ListN.{length};
 ghost use Rattle.plan_judge.specs.View.{view};
-ghost use Rattle.plan_judge.specs.CCall.{c-call, c-number, c-buffer, told-put, told-judge, told-write};
-
+ghost use Rattle.plan_judge.specs.CCall.{c-call, Tells, told-put, told-judge, told-write};
 use crate::Desk;
 use crate::Judgement;
 use crate::Taken;
@@ -14,7 +12,7 @@ use crate::Written;
 // Gives 0 for no, 1 for yes, or 100 plus the refusal. The sheet buffer changes only by the write.
 #[no_mangle]
 pub extern "C" fn plan_judge(model: &[u8], question: &[u8], sheet: &mut [u8]) -> u32
-    ensures { λ r. ⌜ (r ≡ c-number (c-call (now (model .entry)) (now (question .entry)) (length (now (sheet .entry))))) × (now (sheet .exit) ≡ c-buffer (now (sheet .entry)) (c-call (now (model .entry)) (now (question .entry)) (length (now (sheet .entry))))) ⌝ }
+    ensures { λ r. ⌜ Tells (c-call (now (model .entry)) (now (question .entry)) (length (now (sheet .entry)))) (now (sheet .entry)) (now (sheet .exit)) r ⌝ }
 {
     let loaded = crate::load(crate::empty(), model);
     let a = loaded.answer;
@@ -26,7 +24,7 @@ pub extern "C" fn plan_judge(model: &[u8], question: &[u8], sheet: &mut [u8]) ->
 
 // From the desk that load gave.
 fn then_put(d: Desk, question: &[u8], sheet: &mut [u8]) -> u32
-    ensures { λ r. ⌜ (r ≡ c-number (told-put (view d) (now (question .entry)) (length (now (sheet .entry))))) × (now (sheet .exit) ≡ c-buffer (now (sheet .entry)) (told-put (view d) (now (question .entry)) (length (now (sheet .entry))))) ⌝ }
+    ensures { λ r. ⌜ Tells (told-put (view d) (now (question .entry)) (length (now (sheet .entry)))) (now (sheet .entry)) (now (sheet .exit)) r ⌝ }
 {
     let asked = crate::put(d, question);
     let a = asked.answer;
@@ -38,7 +36,7 @@ fn then_put(d: Desk, question: &[u8], sheet: &mut [u8]) -> u32
 
 // From the desk that put gave.
 fn then_judge(d: Desk, sheet: &mut [u8]) -> u32
-    ensures { λ r. ⌜ (r ≡ c-number (told-judge (view d) (length (now (sheet .entry))))) × (now (sheet .exit) ≡ c-buffer (now (sheet .entry)) (told-judge (view d) (length (now (sheet .entry))))) ⌝ }
+    ensures { λ r. ⌜ Tells (told-judge (view d) (length (now (sheet .entry)))) (now (sheet .entry)) (now (sheet .exit)) r ⌝ }
 {
     let judged = crate::judge(d);
     let a = judged.answer;
@@ -54,7 +52,7 @@ fn then_judge(d: Desk, sheet: &mut [u8]) -> u32
 
 // From the desk that judge gave, with a shown plan.
 fn then_write(d: Desk, sheet: &mut [u8]) -> u32
-    ensures { λ r. ⌜ (r ≡ c-number (told-write (view d) (length (now (sheet .entry))))) × (now (sheet .exit) ≡ c-buffer (now (sheet .entry)) (told-write (view d) (length (now (sheet .entry))))) ⌝ }
+    ensures { λ r. ⌜ Tells (told-write (view d) (length (now (sheet .entry)))) (now (sheet .entry)) (now (sheet .exit)) r ⌝ }
 {
     let w = crate::write(d, sheet);
     match w {
