@@ -20,15 +20,15 @@ use Rattle.plan_judge.proofs.Ran.{Slice, Answered, loads, puts, judges,
 
 -- ---- one call
 
--- The contracts give the values of `Session`'s step.
+-- The contracts ask nothing and give the values of `Session`'s step.
 stepped : {d : Desk} {c : Call} {r : Reply} {e : Desk} → Answered d c r e → (r ≡ (step d c) .reply) × (e ≡ (step d c) .desk)
 unfolding step
-stepped (loads κ b r p) = (ap (λ (x : Taking). record { answer = said-taken (x .answer); buffer = [] }) p, ap (λ (x : Taking). x .desk) p)
-stepped (puts κ b r p) = (ap (λ (x : Taking). record { answer = said-taken (x .answer); buffer = [] }) p, ap (λ (x : Taking). x .desk) p)
+stepped (loads κ b r p) = (ap (λ (x : Taking). record { answer = said-taken (x .answer); buffer = [] }) (p tt), ap (λ (x : Taking). x .desk) (p tt))
+stepped (puts κ b r p) = (ap (λ (x : Taking). record { answer = said-taken (x .answer); buffer = [] }) (p tt), ap (λ (x : Taking). x .desk) (p tt))
 stepped {d} (judges r p) =
-    (ap (λ (x : Judging). record { answer = said-judgement (view d) (x .answer) (x .choices); buffer = [] }) p, ap (λ (x : Judging). x .desk) p)
-stepped (writes κ a b r p) = (ap₂ (λ (x : Written) (y : Bytes). record { answer = said-written x; buffer = y }) (p .0) (p .1), refl)
-stepped (checks κ b r p) = (ap (λ (x : Checking). record { answer = said-checking x; buffer = [] }) p, refl)
+    (ap (λ (x : Judging). record { answer = said-judgement (view d) (x .answer) (x .choices); buffer = [] }) (p tt), ap (λ (x : Judging). x .desk) (p tt))
+stepped (writes κ a b r p) = (ap₂ (λ (x : Written) (y : Bytes). record { answer = said-written x; buffer = y }) (p tt .0) (p tt .1), refl)
+stepped (checks κ b r p) = (ap (λ (x : Checking). record { answer = said-checking x; buffer = [] }) (p tt), refl)
 
 -- ---- the lists
 
@@ -39,7 +39,7 @@ desk-more d (b ∷ cs) c = desk-more ((step d b) .desk) cs c
 
 ran-desk : {cs : List Call} {rs : List Reply} {d : Desk} → Ran cs rs d → d ≡ desk-after nothing cs
 unfolding desk-after
-ran-desk (began p) = p
+ran-desk (began p) = p tt
 ran-desk (further {cs = cs} {c = c} h a) = stepped a .1 ∙ ap (λ d. (step d c) .desk) (ran-desk h) ∙ sym (desk-more nothing cs c)
 
 -- The desk after a list of calls holds what the list's history says.
@@ -86,15 +86,15 @@ pub record Next (d : Desk) (c : Call) : Type 0 where
   pub desk : Desk
   pub answered : Answered d c reply desk
 
--- Every call is answered: no contract asks for anything, and each has a value.
+-- Every call is answered.
 pub answer-there : (d : Desk) (c : Call) → Next d c
 unfolding slice
-answer-there d (load b) = record { reply = _; desk = _; answered = loads ([], tt) (slice b) (loaded-by d b) refl }
-answer-there d (put b) = record { reply = _; desk = _; answered = puts ([], tt) (slice b) (put-by d b) refl }
-answer-there d judge = record { reply = _; desk = _; answered = judges (judged-by d) refl }
+answer-there d (load b) = record { reply = _; desk = _; answered = loads ([], tt) (slice b) (loaded-by d b) (λ _. refl) }
+answer-there d (put b) = record { reply = _; desk = _; answered = puts ([], tt) (slice b) (put-by d b) (λ _. refl) }
+answer-there d judge = record { reply = _; desk = _; answered = judges (judged-by d) (λ _. refl) }
 answer-there d (write a) =
-    record { reply = _; desk = _; answered = writes ([], tt) (slice a) (slice (filled-by d a)) (written-by d (length a)) (refl, refl) }
-answer-there d (check b) = record { reply = _; desk = _; answered = checks ([], tt) (slice b) (checked-by d b) refl }
+    record { reply = _; desk = _; answered = writes ([], tt) (slice a) (slice (filled-by d a)) (written-by d (length a)) (λ _. (refl, refl)) }
+answer-there d (check b) = record { reply = _; desk = _; answered = checks ([], tt) (slice b) (checked-by d b) (λ _. refl) }
 
 -- What a list of calls leads to.
 pub record There (cs : List Call) : Type 0 where
@@ -110,4 +110,4 @@ there-after before t (c ∷ cs) =
     (there-after (before ++ (c ∷ [])) (record { replies = t .replies ++ (n .reply ∷ []); desk = n .desk; ran = further (t .ran) (n .answered) }) cs)
 
 pub ran-there : (cs : List Call) → There cs
-ran-there cs = there-after [] (record { replies = []; desk = nothing; ran = began refl }) cs
+ran-there cs = there-after [] (record { replies = []; desk = nothing; ran = began (λ _. refl) }) cs

@@ -1,7 +1,7 @@
 -- Lists of calls of the code. Document 01: "In every list of calls .. from the empty desk, each call gets any bytes and the desk that the
--- last one returned, altered by nobody". What a call returns is here whatever the function's own contract allows: `F.Post` is the plain
--- reading of what the source says after `ensures`, of the arguments, the result and the arguments at the return. So a contract that says
--- less allows more lists, and the claims of `EveryList` fail.
+-- last one returned, altered by nobody". What a call returns is here whatever the function's own contract allows: `F.Pre` and `F.Post` are
+-- the plain readings of what the source says after `requires` and `ensures`, of the arguments, the result and the arguments at the return.
+-- So a contract that asks something or says less allows more lists, and the claims of `EveryList` fail.
 use mathlib.Core.List.{List, [], _∷_, _++_}
 use contract.Lifetimes.{Lfts}
 use denote.Ref.{RefT}
@@ -30,24 +30,24 @@ Slice = RefT Bytes
 -- are among these: the contracts cover them.
 pub data Answered : Desk → Call → Reply → Desk → Type 0 where
   loads : {d : Desk} (κ : Lfts 1) (b : Slice) (r : Taking)
-      → load-reads.Post κ (d, (b, tt)) r (d, (b, tt))
+      → (load-reads.Pre κ (d, (b, tt)) → load-reads.Post κ (d, (b, tt)) r (d, (b, tt)))
       → Answered d (load (b .now)) (record { answer = said-taken (r .answer); buffer = [] }) (r .desk)
   puts : {d : Desk} (κ : Lfts 1) (b : Slice) (r : Taking)
-      → put-reads.Post κ (d, (b, tt)) r (d, (b, tt))
+      → (put-reads.Pre κ (d, (b, tt)) → put-reads.Post κ (d, (b, tt)) r (d, (b, tt)))
       → Answered d (put (b .now)) (record { answer = said-taken (r .answer); buffer = [] }) (r .desk)
   judges : {d : Desk} (r : Judging)
-      → judge-reads.Post tt (d, tt) r (d, tt)
+      → (judge-reads.Pre tt (d, tt) → judge-reads.Post tt (d, tt) r (d, tt))
       → Answered d judge (record { answer = said-judgement (view d) (r .answer) (r .choices); buffer = [] }) (r .desk)
   writes : {d : Desk} (κ : Lfts 1) (found left : Slice) (r : Written)
-      → write-reads.Post κ (d, (found, tt)) r (d, (left, tt))
+      → (write-reads.Pre κ (d, (found, tt)) → write-reads.Post κ (d, (found, tt)) r (d, (left, tt)))
       → Answered d (write (found .now)) (record { answer = said-written r; buffer = left .now }) d
   checks : {d : Desk} (κ : Lfts 1) (b : Slice) (r : Checking)
-      → check-reads.Post κ (d, (b, tt)) r (d, (b, tt))
+      → (check-reads.Pre κ (d, (b, tt)) → check-reads.Post κ (d, (b, tt)) r (d, (b, tt)))
       → Answered d (check (b .now)) (record { answer = said-checking r; buffer = [] }) d
 
 -- The calls cs, made one after the other from the desk that `empty` returns, each on the desk that the last one gave back, are answered
 -- rs and end with the desk d.
 pub data Ran : List Call → List Reply → Desk → Type 0 where
-  began : {d : Desk} → empty-reads.Post tt tt d tt → Ran [] [] d
+  began : {d : Desk} → (empty-reads.Pre tt tt → empty-reads.Post tt tt d tt) → Ran [] [] d
   further : {cs : List Call} {rs : List Reply} {d e : Desk} {c : Call} {r : Reply}
       → Ran cs rs d → Answered d c r e → Ran (cs ++ (c ∷ [])) (rs ++ (r ∷ [])) e
