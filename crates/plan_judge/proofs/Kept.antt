@@ -198,12 +198,12 @@ view-nothing : view nothing ≡ record { model = none; question = none; verdict 
 unfolding view model-bytes nothing got read-model whole-blocks within block-count question-in
 view-nothing = refl
 
-view-holding : (b : Bytes) (m : Model) → read-model b ≡ ok m → view (holding b) ≡ record { model = some m; question = none; verdict = none }
+pub view-holding : (b : Bytes) (m : Model) → read-model b ≡ ok m → view (holding b) ≡ record { model = some m; question = none; verdict = none }
 unfolding view question-in holding got
 view-holding b m e = ap (viewed (holding b)) (ap got (ap read-model (holding-bytes b e) ∙ e))
 
 module _ (d : Desk) (b : Bytes) where
-  view-asking : (q : Question) → do-put (view d) b ≡ ok q → view (asking d b) ≡ record { model = (view d) .model; question = some q; verdict = none }
+  pub view-asking : (q : Question) → do-put (view d) b ≡ ok q → view (asking d b) ≡ record { model = (view d) .model; question = some q; verdict = none }
   unfolding do-put view asking question-in got model-bytes padded
   view-asking q e =
       let u = bind-ok (held 20 ((view d) .model)) _ e in
@@ -212,7 +212,7 @@ module _ (d : Desk) (b : Bytes) where
       ap₂ (λ o c. record { model = (view d) .model; question = question-in true c o; verdict = none }) m p
       ∙ ap (λ r. record { model = (view d) .model; question = got r; verdict = none }) (u .2)
 
-view-settling : (d : Desk) (v : logic.Verdict) → do-judge (view d) ≡ ok v → view (settling d v) ≡ record { model = (view d) .model; question = (view d) .question; verdict = some v }
+pub view-settling : (d : Desk) (v : logic.Verdict) → do-judge (view d) ≡ ok v → view (settling d v) ≡ record { model = (view d) .model; question = (view d) .question; verdict = some v }
 unfolding view settling question-in model-bytes
 view-settling d v e = ap (λ o. record { model = (view d) .model; question = (view d) .question; verdict = o }) (verdict-back (view d) v e)
 

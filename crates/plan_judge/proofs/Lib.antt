@@ -6,3 +6,8 @@ pub mod Writes
 pub mod Checks
 pub mod Judges
 pub mod Demand3
+pub mod Ran
+pub mod EveryList
+pub mod CodeDemand3
+pub mod Listed
+pub mod CSteps

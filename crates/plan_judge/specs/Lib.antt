@@ -2,3 +2,5 @@ pub mod View
 pub mod Values
 pub mod Session
 pub mod State
+pub mod CCall
+pub mod Replies

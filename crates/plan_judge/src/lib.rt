@@ -21,6 +21,8 @@ ghost use Rattle.plan_judge.specs.View.{held-size, choices-in, view};
 ghost use Rattle.plan_judge.specs.Values.{nothing, loaded-by, put-by, judged-by, written-by, filled-by, checking, checked-by};
 ghost use Rattle.plan_judge.specs.State.{held-both, held-goal, plan-size, size-in, shown-size, shown-weight, PlanRoot, plan-on, check-on, verdict-from};
 
+pub mod c_call;
+
 // The record of a shown plan: its total W, its steps, and its place in dictionary order for "equal", else 0.
 pub struct PlanRecord {
     pub weight: u64,

@@ -1,0 +1,113 @@
+-- One claim about every list of calls of the code: its answers, its buffers and what the desk then holds are those told by the history
+-- (`calls`, `History.after`). By the exact values of the contracts each call is a step of `Session`, and `Kept` has the rest.
+use mathlib.Core.Path.{_≡_, refl, sym, ap, ap₂, subst, _∙_}
+use mathlib.Core.List.{List, [], _∷_, _++_, append-nil, append-assoc}
+use lib.ListN.{length}
+use Rattle.blocks.specs.Bytes.{Bytes}
+use Rattle.calls.specs.Calls.{Call, load, put, check, write, judge, Reply, yields}
+use Rattle.calls.specs.History.{after}
+use Rattle.plan_judge.specs.declared.Desk.{Desk}
+use Rattle.plan_judge.specs.declared.Taking.{Taking}
+use Rattle.plan_judge.specs.declared.Judging.{Judging}
+use Rattle.plan_judge.specs.declared.Written.{Written}
+use Rattle.plan_judge.specs.declared.Checking.{Checking}
+use Rattle.plan_judge.specs.View.{view}
+use Rattle.plan_judge.specs.Values.{nothing, loaded-by, put-by, judged-by, written-by, filled-by, checked-by}
+use Rattle.plan_judge.specs.Session.{said-taken, said-judgement, said-written, said-checking, step, desk-after}
+use Rattle.plan_judge.specs.Replies.{replies-after, replies-to}
+use Rattle.plan_judge.proofs.Kept.{replies, desk-holds}
+use Rattle.plan_judge.proofs.Ran.{Slice, Answered, loads, puts, judges, writes, checks, Ran, began, further}
+
+-- ---- one call
+
+-- The contracts ask nothing and give the values of `Session`'s step.
+stepped : {d : Desk} {c : Call} {r : Reply} {e : Desk} → Answered d c r e → (r ≡ (step d c) .reply) × (e ≡ (step d c) .desk)
+unfolding step
+stepped (loads κ b r p) = (ap (λ (x : Taking). record { answer = said-taken (x .answer); buffer = [] }) (p tt), ap (λ (x : Taking). x .desk) (p tt))
+stepped (puts κ b r p) = (ap (λ (x : Taking). record { answer = said-taken (x .answer); buffer = [] }) (p tt), ap (λ (x : Taking). x .desk) (p tt))
+stepped {d} (judges r p) =
+    (ap (λ (x : Judging). record { answer = said-judgement (view d) (x .answer) (x .choices); buffer = [] }) (p tt), ap (λ (x : Judging). x .desk) (p tt))
+stepped (writes κ a b r p) = (ap₂ (λ (x : Written) (y : Bytes). record { answer = said-written x; buffer = y }) (p tt .0) (p tt .1), refl)
+stepped (checks κ b r p) = (ap (λ (x : Checking). record { answer = said-checking x; buffer = [] }) (p tt), refl)
+
+-- ---- the lists
+
+desk-more : (d : Desk) (cs : List Call) (c : Call) → desk-after d (cs ++ (c ∷ [])) ≡ (step (desk-after d cs) c) .desk
+unfolding desk-after
+desk-more d [] c = refl
+desk-more d (b ∷ cs) c = desk-more ((step d b) .desk) cs c
+
+ran-desk : {cs : List Call} {rs : List Reply} {d : Desk} → Ran cs rs d → d ≡ desk-after nothing cs
+unfolding desk-after
+ran-desk (began p) = p tt
+ran-desk (further {cs = cs} {c = c} h a) = stepped a .1 ∙ ap (λ d. (step d c) .desk) (ran-desk h) ∙ sym (desk-more nothing cs c)
+
+-- The desk after a list of calls holds what the list's history says.
+pub every-ran : {cs : List Call} {rs : List Reply} {d : Desk} → Ran cs rs d → view d ≡ after cs
+every-ran {cs} h = ap view (ran-desk h) ∙ desk-holds cs
+
+-- A call made then is answered as described by that history: its answer and its buffer.
+pub every-answer : {cs : List Call} {rs : List Reply} {d e : Desk} {c : Call} {r : Reply} → Ran cs rs d → Answered d c r e
+    → r ≡ yields (after cs) c
+every-answer {d = d} {c = c} h a = stepped a .0 ∙ replies d c ∙ ap (λ k. yields k c) (every-ran h)
+
+replies-more : (before cs : List Call) (c : Call)
+    → replies-after before (cs ++ (c ∷ [])) ≡ replies-after before cs ++ (yields (after (before ++ cs)) c ∷ [])
+unfolding replies-after
+replies-more before [] c = ap (λ l. yields (after l) c ∷ []) (sym (append-nil before))
+replies-more before (b ∷ cs) c =
+    ap (λ l. yields (after before) b ∷ l)
+    (replies-more (before ++ (b ∷ [])) cs c
+    ∙ ap (λ l. replies-after (before ++ (b ∷ [])) cs ++ (yields (after l) c ∷ [])) (append-assoc before (b ∷ []) cs))
+
+-- All of a list's replies are the described ones.
+pub every-reply : {cs : List Call} {rs : List Reply} {d : Desk} → Ran cs rs d → rs ≡ replies-to cs
+unfolding replies-after
+every-reply (began p) = refl
+every-reply (further {cs = cs} {c = c} h a) = ap₂ (λ x y. x ++ (y ∷ [])) (every-reply h) (every-answer h a) ∙ sym (replies-more [] cs c)
+
+-- The claim. Of each list of calls of the code: the answers, the buffer bytes and the desk contents are those described.
+pub record Described (cs : List Call) (rs : List Reply) (d : Desk) : Type 0 where
+  pub answers : rs ≡ replies-to cs
+  pub contents : view d ≡ after cs
+
+pub every-list : {cs : List Call} {rs : List Reply} {d : Desk} → Ran cs rs d → Described cs rs d
+every-list h = record { answers = every-reply h; contents = every-ran h }
+
+-- ---- no list is left out
+
+-- A slice with these bytes.
+slice : Bytes → Slice
+slice b = record { ptr = (0, 0); name = 0; now = b }
+
+-- What a call leads to.
+pub record Next (d : Desk) (c : Call) : Type 0 where
+  pub reply : Reply
+  pub desk : Desk
+  pub answered : Answered d c reply desk
+
+-- Every call is answered.
+pub answer-there : (d : Desk) (c : Call) → Next d c
+unfolding slice
+answer-there d (load b) = record { reply = _; desk = _; answered = loads ([], tt) (slice b) (loaded-by d b) (λ _. refl) }
+answer-there d (put b) = record { reply = _; desk = _; answered = puts ([], tt) (slice b) (put-by d b) (λ _. refl) }
+answer-there d judge = record { reply = _; desk = _; answered = judges (judged-by d) (λ _. refl) }
+answer-there d (write a) =
+    record { reply = _; desk = _; answered = writes ([], tt) (slice a) (slice (filled-by d a)) (written-by d (length a)) (λ _. (refl, refl)) }
+answer-there d (check b) = record { reply = _; desk = _; answered = checks ([], tt) (slice b) (checked-by d b) (λ _. refl) }
+
+-- What a list of calls leads to.
+pub record There (cs : List Call) : Type 0 where
+  pub replies : List Reply
+  pub desk : Desk
+  pub ran : Ran cs replies desk
+
+there-after : (before : List Call) → There before → (cs : List Call) → There (before ++ cs)
+there-after before t [] = subst There (sym (append-nil before)) t
+there-after before t (c ∷ cs) =
+    let n = answer-there (t .desk) c in
+    subst There (append-assoc before (c ∷ []) cs)
+    (there-after (before ++ (c ∷ [])) (record { replies = t .replies ++ (n .reply ∷ []); desk = n .desk; ran = further (t .ran) (n .answered) }) cs)
+
+pub ran-there : (cs : List Call) → There cs
+ran-there cs = there-after [] (record { replies = []; desk = nothing; ran = began (λ _. refl) }) cs

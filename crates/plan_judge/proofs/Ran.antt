@@ -1,0 +1,53 @@
+-- Lists of calls of the code. Document 01: "In every list of calls .. from the empty desk, each call gets any bytes and the desk that the
+-- last one returned, altered by nobody". What a call returns is here whatever the function's own contract allows: `F.Pre` and `F.Post` are
+-- the plain readings of what the source says after `requires` and `ensures`, of the arguments, the result and the arguments at the return.
+-- So a contract that asks something or says less allows more lists, and the claims of `EveryList` fail.
+use mathlib.Core.List.{List, [], _∷_, _++_}
+use contract.Lifetimes.{Lfts}
+use denote.Ref.{RefT}
+use Rattle.blocks.specs.Bytes.{Bytes}
+use Rattle.calls.specs.Calls.{Call, load, put, check, write, judge, Reply}
+use Rattle.plan_judge.specs.declared.Desk.{Desk}
+use Rattle.plan_judge.specs.declared.Taking.{Taking}
+use Rattle.plan_judge.specs.declared.Judging.{Judging}
+use Rattle.plan_judge.specs.declared.Written.{Written}
+use Rattle.plan_judge.specs.declared.Checking.{Checking}
+use Rattle.plan_judge.specs.View.{view}
+use Rattle.plan_judge.specs.Session.{said-taken, said-judgement, said-written, said-checking}
+use Rattle.plan_judge.proofs.empty.Reads as empty-reads
+use Rattle.plan_judge.proofs.load.Reads as load-reads
+use Rattle.plan_judge.proofs.put.Reads as put-reads
+use Rattle.plan_judge.proofs.judge.Reads as judge-reads
+use Rattle.plan_judge.proofs.write.Reads as write-reads
+use Rattle.plan_judge.proofs.check.Reads as check-reads
+
+-- A slice of bytes that is lent to a call, wherever it lies and for however long.
+abbrev pub Slice : Type 0
+Slice = RefT Bytes
+
+-- The call c on the desk d is answered r and gives back the desk e, as the contract of its function says: the answer in document 01's
+-- words, the lent buffer's bytes at the return, and the desk. Write and check give none back, so the caller goes on with d. Refused calls
+-- are among these: the contracts cover them.
+pub data Answered : Desk → Call → Reply → Desk → Type 0 where
+  loads : {d : Desk} (κ : Lfts 1) (b : Slice) (r : Taking)
+      → (load-reads.Pre κ (d, (b, tt)) → load-reads.Post κ (d, (b, tt)) r (d, (b, tt)))
+      → Answered d (load (b .now)) (record { answer = said-taken (r .answer); buffer = [] }) (r .desk)
+  puts : {d : Desk} (κ : Lfts 1) (b : Slice) (r : Taking)
+      → (put-reads.Pre κ (d, (b, tt)) → put-reads.Post κ (d, (b, tt)) r (d, (b, tt)))
+      → Answered d (put (b .now)) (record { answer = said-taken (r .answer); buffer = [] }) (r .desk)
+  judges : {d : Desk} (r : Judging)
+      → (judge-reads.Pre tt (d, tt) → judge-reads.Post tt (d, tt) r (d, tt))
+      → Answered d judge (record { answer = said-judgement (view d) (r .answer) (r .choices); buffer = [] }) (r .desk)
+  writes : {d : Desk} (κ : Lfts 1) (found left : Slice) (r : Written)
+      → (write-reads.Pre κ (d, (found, tt)) → write-reads.Post κ (d, (found, tt)) r (d, (left, tt)))
+      → Answered d (write (found .now)) (record { answer = said-written r; buffer = left .now }) d
+  checks : {d : Desk} (κ : Lfts 1) (b : Slice) (r : Checking)
+      → (check-reads.Pre κ (d, (b, tt)) → check-reads.Post κ (d, (b, tt)) r (d, (b, tt)))
+      → Answered d (check (b .now)) (record { answer = said-checking r; buffer = [] }) d
+
+-- The calls cs, made one after the other from the desk that `empty` returns, each on the desk that the last one gave back, are answered
+-- rs and end with the desk d.
+pub data Ran : List Call → List Reply → Desk → Type 0 where
+  began : {d : Desk} → (empty-reads.Pre tt tt → empty-reads.Post tt tt d tt) → Ran [] [] d
+  further : {cs : List Call} {rs : List Reply} {d e : Desk} {c : Call} {r : Reply}
+      → Ran cs rs d → Answered d c r e → Ran (cs ++ (c ∷ [])) (rs ++ (r ∷ [])) e

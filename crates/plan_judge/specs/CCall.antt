@@ -1,0 +1,80 @@
+-- The call for the arm's controller, which is in C: what it gives and what it leaves in the sheet buffer, for every model, question and
+-- buffer, by the logic and the formats alone. Document 01: "One call takes the model, question and sheet buffer as byte slices and gives 0
+-- for no, 1 for yes, or 100 plus the refusal: it loads, puts, judges and, on yes with a "plan" root, writes, on an empty desk, stopping at
+-- the first refusal. The buffer changes only in that last step."
+use Prim.Native.Nat.{ℕ, _+_}
+use mathlib.Core.Path.{_≡_}
+use mathlib.Core.Bool.{Bool, true, false, cond}
+use mathlib.Core.List.{[], _++_}
+use lib.Dec.{leb}
+use lib.ListN.{length, drop}
+use Rattle.logic.specs.Checked.{Checked, ok, refused, _>>=_, _>>_, held, guard}
+use Rattle.logic.specs.Model.{Model}
+use Rattle.logic.specs.Formula.{nonnegative}
+use Rattle.logic.specs.Limits.{limits}
+use Rattle.logic.specs.Verdict.{Verdict, no, yes, yes-plan, verdict}
+use Rattle.blocks.specs.Bytes.{Bytes}
+use Rattle.models.specs.Grounds.{read-model}
+use Rattle.questions.specs.Layout.{Question}
+use Rattle.sheets.specs.Layout.{sheet-bytes}
+use Rattle.calls.specs.Calls.{Held, question-for, do-write}
+
+-- What is told of a question that is not refused: yes or no, and the bytes of the sheet that is written; none where no plan is shown.
+pub record Told : Type 0 where
+  pub answer : Bool
+  pub sheet : Bytes
+
+-- A verdict, told with a buffer of this size: a shown plan's sheet fits it, or ground 12.
+unfoldable pub told-of : (start size : ℕ) → Verdict → Checked Told
+told-of start size (no k) = ok (record { answer = false; sheet = [] })
+told-of start size yes = ok (record { answer = true; sheet = [] })
+told-of start size (yes-plan w n k cs) = do
+  guard 12 (leb (length (sheet-bytes n start (nonnegative w) cs)) size)
+  ok (record { answer = true; sheet = sheet-bytes n start (nonnegative w) cs })
+
+-- A question on a model: grounds 24 and 25, then its verdict.
+unfoldable pub told-on : (size : ℕ) → Model → Question → Checked Told
+told-on size m q = do
+  limits m (q .nodes)
+  told-of (q .start) size (verdict m (q .start) (q .root))
+
+-- The whole: grounds 1 to 8 of the model, 1 to 6 and 9 of the question, 24 and 25, and 12 last.
+unfoldable pub c-call : (model question : Bytes) (size : ℕ) → Checked Told
+c-call model question size = do
+  m ← read-model model
+  q ← question-for m question
+  told-on size m q
+
+-- 0 for no, 1 for yes, or 100 plus the refusal.
+abbrev pub c-number : Checked Told → ℕ
+c-number (ok t) = cond (t .answer) 1 0
+c-number (refused k) = 100 + k
+
+-- The buffer afterwards: the sheet in its first bytes, and every other byte as found.
+abbrev pub c-buffer : Bytes → Checked Told → Bytes
+c-buffer found (ok t) = t .sheet ++ drop (length (t .sheet)) found
+c-buffer found (refused k) = found
+
+-- The call gives the number r and leaves the buffer, which it found so, as told.
+pub record Tells (c : Checked Told) (found left : Bytes) (r : ℕ) : Type 0 where
+  pub number : r ≡ c-number c
+  pub buffer : left ≡ c-buffer found c
+
+-- ---- the same from the middle of the call, by what the desk then holds
+
+unfoldable pub told-put : Held → Bytes → ℕ → Checked Told
+told-put h b size = do
+  m ← held 20 (h .model)
+  q ← question-for m b
+  told-on size m q
+
+unfoldable pub told-judge : Held → ℕ → Checked Told
+told-judge h size = do
+  m ← held 20 (h .model)
+  q ← held 21 (h .question)
+  told-on size m q
+
+unfoldable pub told-write : Held → ℕ → Checked Told
+told-write h size = do
+  b ← do-write h size
+  ok (record { answer = true; sheet = b })
