@@ -1,41 +1,47 @@
 -- What check returns, at each of its returns: the grounds of the state, of the limits and of the sheet in their order, then whether the
 -- weight of the plan on the sheet is the sheet's and meets the bound.
-use Prim.Native.Nat.{ℕ}
+use Prim.Native.Nat.{ℕ, _-_, _^_, _≤_}
 use native.Mathlib.Omega.{arith}
-use mathlib.Core.Path.{_≡_, refl, sym, ap, ap₂, _∙_}
-use mathlib.Core.Bool.{Bool, true, false, not, _&&_, _||_}
+use mathlib.Core.Path.{_≡_, refl, sym, ap, ap₂, subst, _∙_}
+use mathlib.Core.Bool.{Bool, true, false, _&&_}
 use mathlib.Core.List.{List, _++_}
 use lib.Dec.{leb}
 use lib.IntN.{ℤ, pos}
-use lib.ListN.{length, take, drop}
+use lib.ListN.{take, drop}
 use lib.Seq.{take-append-seam}
 use borrow.Author.Tests.{le-leb, leb-true}
 use Rattle.logic.specs.Checked.{Checked, ok, refused, refusal, _>>=_, _>>_, guard}
 use Rattle.logic.specs.Model.{Model}
-use Rattle.logic.specs.Quantity.{naturals}
 use Rattle.logic.specs.Plan.{Plan}
-use Rattle.logic.specs.Formula.{Formula, relation, nonnegative, W, meets}
-use Rattle.logic.specs.Verdict.{Goal, is-equal}
-use Rattle.logic.specs.Limits.{path-total, plan-total, every-plan, limits}
+use Rattle.logic.specs.Formula.{W}
+use Rattle.logic.specs.Verdict.{Goal}
+use Rattle.logic.specs.Limits.{limits}
 use Rattle.logic.specs.Choices.{plan-of}
 use Rattle.blocks.specs.Bytes.{Bytes}
-use Rattle.models.specs.Layout.{model-of}
-use Rattle.questions.specs.Layout.{Question, start-of, question-of}
+use Rattle.models.specs.Layout.{denominator-of, model-of}
+use Rattle.questions.specs.Layout.{Question, start-of, node-count, node-of, question-of}
+use Rattle.questions.proofs.Accepted.{accepted}
 use Rattle.sheets.specs.Layout.{Sheet, weight-of, sheet-of}
 use Rattle.sheets.specs.Grounds.{read-sheet}
 use Rattle.sheets.specs.Reader.{Blocks, Gathered}
 use Rattle.sheets.proofs.Laws.{sheet-passed}
 use Rattle.calls.specs.Calls.{same, do-check}
+use Rattle.bounds.specs.Bounded.{Bounded, meets-at}
+use Rattle.weighing.proofs.Plans.{plan-there, weight-most}
+use Rattle.judging.specs.Asked.{Served}
+use Rattle.judging.specs.Announced.{Weighs}
 use Rattle.plan_judge.specs.declared.Desk.{Desk}
 use Rattle.plan_judge.specs.declared.Checking.the-variants.{Accepted, Refused}
 use Rattle.plan_judge.specs.View.{view}
 use Rattle.plan_judge.specs.Values.{checking, checked-by}
-use Rattle.plan_judge.specs.State.{held-goal, plan-on}
+use Rattle.plan_judge.specs.State.{held-goal, PlanRoot, plan-on, check-on}
 use Rattle.plan_judge.proofs.Returns.{said-bytes}
-use Rattle.plan_judge.proofs.Grounds.{bind-refused, bind-passed, then-refused, limits-passed, goal-refused, root-node, condition, asked-goal, goal-passed}
-use Rattle.plan_judge.proofs.Sizes.{plan-there}
+use Rattle.plan_judge.proofs.Grounds.{bind-refused, bind-passed, then-refused, limits-passed, both-asked, both-held, both-passed, goal-refused, root-node, condition, asked-goal, goal-is}
 
 -- ---- the plan on a sheet
+
+pub gathered-are : (cs out out′ : Bytes) (r : ℕ) → Gathered cs out out′ r → take r out′ ≡ cs
+gathered-are cs out out′ r g = ap₂ take (g .count) (g .front) ∙ take-append-seam cs (drop r out)
 
 module _ (M : Model) (n s : ℕ) (b : Bytes) where
   pub sheet-refused : (k : ℕ) → k ≡ refusal (read-sheet n s b) → (k ≡ 0 → ⊥) → k ≡ refusal (plan-on M n s b)
@@ -49,10 +55,7 @@ module _ (M : Model) (n s : ℕ) (b : Bytes) where
 
     -- The choices that were gathered are the sheet's.
     pub gathered : (out out′ : Bytes) (r : ℕ) → Gathered (sheet-of b .choices) out out′ r → refusal (plan-of M n s (take r out′)) ≡ refusal (plan-on M n s b)
-    gathered out out′ r g = ap (λ l. refusal (plan-of M n s l)) (front r out out′ (g .front) (g .count)) ∙ sym (ap refusal plan-is)
-      where
-        front : (r : ℕ) (out out′ : Bytes) → out′ ≡ sheet-of b .choices ++ drop r out → r ≡ length (sheet-of b .choices) → take r out′ ≡ sheet-of b .choices
-        front r out out′ f c = ap₂ take c f ∙ take-append-seam (sheet-of b .choices) (drop r out)
+    gathered out out′ r g = ap (λ l. refusal (plan-of M n s l)) (gathered-are (sheet-of b .choices) out out′ r g) ∙ sym (ap refusal plan-is)
 
   -- A sheet that is not refused has a plan.
   pub record OnSheet : Type 0 where
@@ -71,6 +74,16 @@ module _ (M : Model) (n s : ℕ) (b : Bytes) where
 
 -- ---- each return
 
+refused-by : (c : Checked Bool) (k : ℕ) → k ≡ refusal c → (k ≡ 0 → ⊥) → Refused k ≡ checking c
+refused-by (ok t) k i h = absurd (h i)
+refused-by (refused j) k i h = ap Refused i
+
+-- What check does with a goal.
+abbrev check-for : Bytes → Model → Question → Goal → Checked Bool
+check-for b m q g =
+    limits m (q .nodes)
+    >> (read-sheet (g .steps) (q .start) b >>= (λ x. plan-of m (g .steps) (q .start) (x .choices) >>= (λ π. guard 11 (same (x .weight) (g .total π)) >> ok (g .met π))))
+
 same-weight : (a b : ℕ) → a ≡ b → same (pos a) (pos b) ≡ true
 unfolding same
 same-weight a b e = ap₂ (λ x y. x && y) (le-leb a b (omega arith)) (le-leb b a (omega arith))
@@ -84,78 +97,89 @@ other-weight a b h = by (leb a b) (leb b a) refl refl
     by true false i j = ap₂ (λ x y. x && y) i j
     by true true i j = absurd (h (omega (arith, leb-true a b i, leb-true b a j)))
 
+-- The grounds of the state, and what is left past them.
 module _ (d : Desk) (b : Bytes) where
+  pub check-state : (k : ℕ) → k ≡ refusal (held-goal (view d)) → (k ≡ 0 → ⊥) → Refused k ≡ checked-by d b
+  unfolding do-check checked-by
+  check-state k e h = refused-by (do-check (view d) b) k (goal-refused (view d) (check-for b) k e h) h
+
+  pub check-past : refusal (held-goal (view d)) ≡ 0 → checking (check-on (model-of (said-bytes d)) (question-of (d .question)) b) ≡ checked-by d b
+  unfolding do-check check-on checked-by
+  check-past e = sym (ap checking (both-passed (view d) (model-of (said-bytes d)) (question-of (d .question)) (both-held d (both-asked d e)) (λ m q. check-on m q b)))
+
+-- The bytes of a model and of a question with a "plan" root.
+module _ (m q : Bytes) (r : PlanRoot m q) (b : Bytes) where
   abbrev M : Model
-  M = model-of (said-bytes d)
+  M = model-of m
 
   abbrev n : ℕ
-  n = root-node d .n
+  n = root-node q .n
 
   abbrev s : ℕ
-  s = start-of (d .question)
-
-  -- Whether a weight meets the root's bound.
-  abbrev pub met-by : ℕ → Bool
-  met-by w = meets naturals M n (relation (root-node d .right)) (nonnegative (root-node d .p)) (root-node d .q) w
+  s = start-of q
 
   -- What check does with the plan on a sheet that claims a weight.
   abbrev weighed : ℤ → Plan n → Checked Bool
-  weighed w π = guard 11 (same w (pos (W M (condition d) n s π))) >> ok (met-by (W M (condition d) n s π))
+  weighed w π = guard 11 (same w (pos (W M (condition q) n s π))) >> ok (meets-at m q (node-count q - 1) (W M (condition q) n s π))
 
-  -- What it does with a goal.
-  abbrev check-for : Model → Question → Goal → Checked Bool
-  check-for m q g =
-      limits m (q .nodes)
-      >> (read-sheet (g .steps) (q .start) b >>= (λ x. plan-of m (g .steps) (q .start) (x .choices) >>= (λ π. guard 11 (same (x .weight) (g .total π)) >> ok (g .met π))))
+  check-is : check-on M (question-of q) b ≡ check-for b M (question-of q) (asked-goal m q)
+  unfolding check-on
+  check-is = ap (λ c. c >>= check-for b M (question-of q)) (goal-is m q r)
 
-  refused-by : (k : ℕ) → k ≡ refusal (do-check (view d) b) → (k ≡ 0 → ⊥) → Refused k ≡ checked-by d b
-  unfolding checked-by
-  refused-by k e h = by (do-check (view d) b) e
-    where
-      by : (c : Checked Bool) → k ≡ refusal c → Refused k ≡ checking c
-      by (ok t) i = absurd (h i)
-      by (refused j) i = ap Refused i
+  pub check-limited : (k : ℕ) → k ≡ refusal (limits M (question-of q .nodes)) → (k ≡ 0 → ⊥) → Refused k ≡ checking (check-on M (question-of q) b)
+  check-limited k i h = refused-by (check-on M (question-of q) b) k (then-refused (limits M (question-of q .nodes)) _ k i h ∙ sym (ap refusal check-is)) h
 
-  pub check-state : (k : ℕ) → k ≡ refusal (held-goal (view d)) → (k ≡ 0 → ⊥) → Refused k ≡ checked-by d b
-  unfolding do-check
-  check-state k e h = refused-by k (goal-refused (view d) check-for k e h) h
+  pub root-bounded : (j : ℕ) → j ≡ node-count q - 1 → Bounded m q j
+  root-bounded j i =
+      record { model-accepted = r .passed; question-accepted = r .asked; node = omega (arith, accepted _ _ _ q (r .asked) .some-node); is-plan = ap (λ k. node-of q k .operator) i ∙ r .is-plan }
 
-  module _ (e : refusal (held-goal (view d)) ≡ 0) where
-    check-is : do-check (view d) b ≡ check-for M (question-of (d .question)) (asked-goal d)
-    unfolding do-check
-    check-is = goal-passed d e check-for
+  module _ (l : refusal (limits M (question-of q .nodes)) ≡ 0) where
+    pub sheet-served : Served m q
+    unfolding question-of
+    sheet-served = record { model-accepted = r .passed; question-accepted = r .asked; within = l }
 
-    pub check-limited : (k : ℕ) → k ≡ refusal (limits M (question-of (d .question) .nodes)) → (k ≡ 0 → ⊥) → Refused k ≡ checked-by d b
-    check-limited k i h = refused-by k (then-refused (limits M (question-of (d .question) .nodes)) _ k i h ∙ sym (ap refusal check-is)) h
+    -- What is left past the limits.
+    past-limits : check-on M (question-of q) b ≡ (read-sheet n s b >>= (λ x. plan-of M n s (x .choices) >>= weighed (x .weight)))
+    unfolding question-of
+    past-limits = check-is ∙ ap (λ c. c >> (read-sheet n s b >>= (λ x. plan-of M n s (x .choices) >>= weighed (x .weight)))) (limits-passed M _ l)
 
-    module _ (l : refusal (limits M (question-of (d .question) .nodes)) ≡ 0) where
-      -- What is left past the limits.
-      past-limits : do-check (view d) b ≡ (read-sheet n s b >>= (λ x. plan-of M n s (x .choices) >>= weighed (x .weight)))
-      unfolding question-of
-      past-limits = check-is ∙ ap (λ c. c >> (read-sheet n s b >>= (λ x. plan-of M n s (x .choices) >>= weighed (x .weight)))) (limits-passed M _ l)
+    pub check-sheet : (k : ℕ) → k ≡ refusal (plan-on M n s b) → (k ≡ 0 → ⊥) → Refused k ≡ checking (check-on M (question-of q) b)
+    unfolding plan-on
+    check-sheet k i h = refused-by (check-on M (question-of q) b) k (by (read-sheet n s b) i ∙ sym (ap refusal past-limits)) h
+      where
+        by : (c : Checked Sheet) → k ≡ refusal (c >>= (λ x. plan-of M n s (x .choices)))
+            → k ≡ refusal (c >>= (λ x. plan-of M n s (x .choices) >>= weighed (x .weight)))
+        by (ok x) z = bind-refused (plan-of M n s (x .choices)) _ k z h
+        by (refused j) z = z
 
-      pub check-sheet : (k : ℕ) → k ≡ refusal (plan-on M n s b) → (k ≡ 0 → ⊥) → Refused k ≡ checked-by d b
-      unfolding plan-on
-      check-sheet k i h = refused-by k (by (read-sheet n s b) i ∙ sym (ap refusal past-limits)) h
-        where
-          by : (c : Checked Sheet) → k ≡ refusal (c >>= (λ x. plan-of M n s (x .choices)))
-              → k ≡ refusal (c >>= (λ x. plan-of M n s (x .choices) >>= weighed (x .weight)))
-          by (ok x) z = bind-refused (plan-of M n s (x .choices)) _ k z h
-          by (refused j) z = z
+    -- The weight of the plan on the sheet decides.
+    module _ (e : refusal (plan-on M n s b) ≡ 0) (w : ℕ) (g : Weighs m q (sheet-of b .choices) w) where
+      o : OnSheet M n s b
+      o = on-sheet M n s b e
 
-      -- The weight of the plan on the sheet decides.
-      module _ (o : OnSheet M n s b) (w : ℕ) (i : w ≡ W M (condition d) n s (o .plan)) where
-        past-sheet : do-check (view d) b ≡ (guard 11 (same (pos (weight-of b 0)) (pos w)) >> ok (met-by w))
-        unfolding sheet-of
-        past-sheet =
-            past-limits
-            ∙ ap (λ c. c >>= (λ x. plan-of M n s (x .choices) >>= weighed (x .weight))) (o .sheet)
-            ∙ ap (λ c. c >>= weighed (pos (weight-of b 0))) (o .read)
-            ∙ ap (λ z. guard 11 (same (pos (weight-of b 0)) (pos z)) >> ok (met-by z)) (sym i)
+      weight-is : w ≡ W M (condition q) n s (o .plan)
+      weight-is = g (o .plan) (o .read)
 
-        pub check-weight : (weight-of b 0 ≡ w → ⊥) → Refused 11 ≡ checked-by d b
-        check-weight h = refused-by 11 (sym (ap refusal (past-sheet ∙ ap (λ t. guard 11 t >> ok (met-by w)) (other-weight (weight-of b 0) w h)))) (λ z. omega arith)
+      -- It is at most D to the n, so that it can be put to the bound of the root.
+      pub weight-fits : (j : ℕ) → j ≡ node-count q - 1 → w ≤ denominator-of m ^ (node-of q j .n)
+      weight-fits j i =
+          let l : w ≤ denominator-of m ^ n = omega (arith, weight-is, weight-most m (r .passed) (condition q) n s (accepted _ _ _ q (r .asked) .starts) (sheet-of b .choices) (o .plan) (o .read)) in
+          subst (λ k. w ≤ denominator-of m ^ (node-of q k .n)) (sym i) l
 
-        pub check-met : weight-of b 0 ≡ w → (t : Bool) → t ≡ met-by w → Accepted t ≡ checked-by d b
-        unfolding checked-by
-        check-met h t j = ap Accepted j ∙ sym (ap checking (past-sheet ∙ ap (λ t. guard 11 t >> ok (met-by w)) (same-weight (weight-of b 0) w h)))
+      past-sheet : check-on M (question-of q) b ≡ (guard 11 (same (pos (weight-of b 0)) (pos w)) >> ok (meets-at m q (node-count q - 1) w))
+      unfolding sheet-of
+      past-sheet =
+          past-limits
+          ∙ ap (λ c. c >>= (λ x. plan-of M n s (x .choices) >>= weighed (x .weight))) (o .sheet)
+          ∙ ap (λ c. c >>= weighed (pos (weight-of b 0))) (o .read)
+          ∙ ap (λ z. guard 11 (same (pos (weight-of b 0)) (pos z)) >> ok (meets-at m q (node-count q - 1) z)) (sym weight-is)
+
+      pub check-weight : (weight-of b 0 ≡ w → ⊥) → Refused 11 ≡ checking (check-on M (question-of q) b)
+      check-weight h =
+          refused-by (check-on M (question-of q) b) 11
+          (sym (ap refusal (past-sheet ∙ ap (λ t. guard 11 t >> ok (meets-at m q (node-count q - 1) w)) (other-weight (weight-of b 0) w h))))
+          (λ z. omega arith)
+
+      pub check-met : weight-of b 0 ≡ w → (t : Bool) → t ≡ meets-at m q (node-count q - 1) w → Accepted t ≡ checking (check-on M (question-of q) b)
+      check-met h t j =
+          ap Accepted j ∙ sym (ap checking (past-sheet ∙ ap (λ t. guard 11 t >> ok (meets-at m q (node-count q - 1) w)) (same-weight (weight-of b 0) w h)))

@@ -221,22 +221,23 @@ module _ {B : Type 0} (h : Held) where
   pub both-passed : (m : Model) (q : Question) → held-both h ≡ ok (m, q) → (f : Model → Question → Checked B) → both-then h f ≡ f m q
   both-passed m q e f = then-by f ∙ ap (λ c. c >>= (λ x. f (x .0) (x .1))) e
 
-module _ (d : Desk) where
-  -- The root's node, its condition, and the goal.
-  abbrev pub root-node : Node
-  root-node = node-of (d .question) (node-count (d .question) - 1)
+-- The root's node, its condition, and the goal.
+abbrev pub root-node : Bytes → Node
+root-node q = node-of q (node-count q - 1)
 
-  abbrev pub condition : Formula
-  condition = getD (formulas-of (d .question)) (root-node .left) never
+abbrev pub condition : Bytes → Formula
+condition q = getD (formulas-of q) (root-node q .left) never
 
-  abbrev pub asked-goal : Goal
-  asked-goal = plan-goal (model-of (said-bytes d)) (start-of (d .question)) (root-node .n) condition (relation (root-node .right)) (nonnegative (root-node .p)) (root-node .q)
+abbrev pub asked-goal : (m q : Bytes) → Goal
+asked-goal m q = plan-goal (model-of m) (start-of q) (root-node q .n) (condition q) (relation (root-node q .right)) (nonnegative (root-node q .p)) (root-node q .q)
 
-  pub goal-passed : {B : Type 0} → refusal (held-goal (view d)) ≡ 0 → (f : Model → Question → Goal → Checked B)
-      → goal-then (view d) f ≡ f (model-of (said-bytes d)) (question-of (d .question)) asked-goal
-  unfolding question-of
-  goal-passed e f =
-      let b = both-asked d e in
-      let m : Model = model-of (said-bytes d) in
-      both-passed (view d) m (question-of (d .question)) (both-held d b) (λ m q. goal m (q .start) (q .root) >>= f m q)
-      ∙ ap (λ c. c >>= f m (question-of (d .question))) (root-goal (accepted _ _ _ (d .question) (b .asked)) m (start-of (d .question)) (plan-asked d e .is-plan))
+pub goal-is : (m q : Bytes) → PlanRoot m q → goal (model-of m) (question-of q .start) (question-of q .root) ≡ ok (asked-goal m q)
+unfolding question-of
+goal-is m q r = root-goal (accepted _ _ _ q (r .asked)) (model-of m) (start-of q) (r .is-plan)
+
+pub goal-passed : {B : Type 0} (d : Desk) → refusal (held-goal (view d)) ≡ 0 → (f : Model → Question → Goal → Checked B)
+    → goal-then (view d) f ≡ f (model-of (said-bytes d)) (question-of (d .question)) (asked-goal (said-bytes d) (d .question))
+goal-passed d e f =
+    let m : Model = model-of (said-bytes d) in
+    both-passed (view d) m (question-of (d .question)) (both-held d (both-asked d e)) (λ m q. goal m (q .start) (q .root) >>= f m q)
+    ∙ ap (λ c. c >>= f m (question-of (d .question))) (goal-is (said-bytes d) (d .question) (plan-asked d e))

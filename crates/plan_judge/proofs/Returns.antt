@@ -100,6 +100,14 @@ module _ (d : Desk) where
   abbrev pub said-bytes : Bytes
   said-bytes = take (512 * d .blocks) (d .model)
 
+  -- The part of the desk's array that is cut is what it says.
+  module _ (k : length (d .model) ≡ 6144) (n : ℕ) (e : n ≡ min (512 * d .blocks) 6144) where
+    pub cut-inside : n ≤ length (d .model)
+    cut-inside = omega arith
+
+    pub cut-said : take n (d .model) ≡ said-bytes
+    cut-said = said-cut (d .model) (d .blocks) n (e ∙ ap (λ l. min (512 * d .blocks) l) (sym k))
+
   pub model-none : held-size (d .model) (d .blocks) ≡ 0 → (view d) .model ≡ none
   unfolding view model-bytes held-size got
   model-none e = by (read-model said-bytes) refl

@@ -15,7 +15,7 @@ use Rattle.logic.specs.Checked.{Checked, ok, refused, refusal, _>>=_, _>>_, hel
 use Rattle.logic.specs.Model.{Model}
 use Rattle.logic.specs.Plan.{Plan, choices}
 use Rattle.logic.specs.Formula.{nonnegative}
-use Rattle.logic.specs.Verdict.{Goal}
+use Rattle.logic.specs.Verdict.{Goal, goal}
 use Rattle.logic.specs.Verdict as logic
 use Rattle.logic.specs.Choices.{read-plan}
 use Rattle.logic.proofs.Checked.{bind-ok, ok-same}
@@ -34,9 +34,9 @@ use Rattle.plan_judge.specs.declared.Verdict.the-variants.{No, Yes, YesP
 use Rattle.plan_judge.specs.declared.Written.the-variants.{Bytes as Filled, Refused}
 use Rattle.plan_judge.specs.View.{choices-in, verdict-in, verdict-on, view}
 use Rattle.plan_judge.specs.Values.{writing, written-by, filling, filled-by}
-use Rattle.plan_judge.specs.State.{held-goal, PlanRoot, plan-size, size-in, shown-size, shown-weight}
+use Rattle.plan_judge.specs.State.{held-both, held-goal, PlanRoot, plan-size, size-in, shown-size, shown-weight}
 use Rattle.plan_judge.proofs.Returns.{said-bytes}
-use Rattle.plan_judge.proofs.Grounds.{root-goal, both-asked, plan-asked, goal-refused, root-node, goal-passed}
+use Rattle.plan_judge.proofs.Grounds.{root-goal, both-of, both-asked, plan-asked, goal-refused, root-node, goal-passed}
 
 -- ---- the choices of a "plan" root
 
@@ -128,6 +128,24 @@ module _ (d : Desk) (e : refusal (held-goal (view d)) ≡ 0) where
                 ∙ ap₂ (λ x z. ok (record { weight = pos x; choices = z })) (sym (ap shown-weight j)) (w .2 ∙ ap (λ k. take k (d .choices)) (sym y));
           }
 
+-- Where a ground of the state applies, no plan is shown.
+pub not-shown : (d : Desk) → (refusal (held-goal (view d)) ≡ 0 → ⊥) → 0 ≡ shown-size ((view d) .verdict)
+unfolding view held-goal held-both verdict-on verdict-in shown-size choices-in
+not-shown d h = by (d .judged) ((view d) .model) ((view d) .question) (d .verdict) h
+  where
+    none-found : (c : Checked Goal) (f : Goal → Checked (List ℕ)) (p : PlanRecord) → (refusal c ≡ 0 → ⊥) → 0 ≡ shown-size (verdict-in (c >>= f) (YesPlan p))
+    none-found (ok g) f p i = absurd (i refl)
+    none-found (refused k) f p i = refl
+
+    by : (t : Bool) (o : Option Model) (p : Option Question) (v : Verdict) → (refusal (both-of o p >>= (λ x. goal (x .0) (x .1 .start) (x .1 .root))) ≡ 0 → ⊥)
+        → 0 ≡ shown-size (cond t (verdict-on o p (d .choices) v) none)
+    by false o p v i = refl
+    by true none p v i = refl
+    by true (some m) none v i = refl
+    by true (some m) (some q) (No k) i = refl
+    by true (some m) (some q) Yes i = refl
+    by true (some m) (some q) (YesPlan x) i = none-found (goal m (q .start) (q .root)) _ x i
+
 -- ---- what is written
 
 -- The sheet for a goal with these steps, or ground 12.
@@ -158,7 +176,7 @@ module _ (d : Desk) (a : Bytes) where
 
   module _ (e : refusal (held-goal (view d)) ≡ 0) where
     abbrev steps : ℕ
-    steps = root-node d .n
+    steps = root-node (d .question) .n
 
     abbrev start : ℕ
     start = start-of (d .question)

@@ -5,16 +5,21 @@ ghost use Prim.Native.Nat.{_*_, _-_, _≤_, _<_, min};
 ghost use lib.Dec.{eqb};
 ghost use lib.ListN.{length, take};
 ghost use Rattle.logic.specs.Checked.{refusal};
+ghost use Rattle.logic.specs.Limits.{limits};
 ghost use Rattle.logic.specs.Choices.{read-plan};
 ghost use Rattle.blocks.specs.Bytes.{byte};
-ghost use Rattle.models.specs.Layout.{state-count, model-of};
+ghost use Rattle.models.specs.Layout.{state-count, action-count, prop-count, model-of};
 ghost use Rattle.models.specs.Grounds.{read-model};
 ghost use Rattle.questions.specs.Layout.{start-of, node-of, node-count, question-of};
 ghost use Rattle.questions.specs.Grounds.{read-question};
-ghost use Rattle.sheets.specs.Layout.{blocks-for};
+ghost use Rattle.sheets.specs.Layout.{blocks-for, sheet-of};
+ghost use Rattle.sheets.specs.Reader.{Blocks};
+ghost use Rattle.calls.specs.Calls.{do-judge};
+ghost use Rattle.judging.specs.Asked.{Served};
+ghost use Rattle.judging.specs.Announced.{Weighs};
 ghost use Rattle.plan_judge.specs.View.{held-size, choices-in, view};
-ghost use Rattle.plan_judge.specs.Values.{nothing, loaded-by, put-by, written-by, filled-by};
-ghost use Rattle.plan_judge.specs.State.{held-both, held-goal, plan-size, size-in, shown-size, shown-weight, PlanRoot, plan-on};
+ghost use Rattle.plan_judge.specs.Values.{nothing, loaded-by, put-by, judged-by, written-by, filled-by, checking, checked-by};
+ghost use Rattle.plan_judge.specs.State.{held-both, held-goal, plan-size, size-in, shown-size, shown-weight, PlanRoot, plan-on, check-on, verdict-from};
 
 // The record of a shown plan: its total W, its steps, and its place in dictionary order for "equal", else 0.
 pub struct PlanRecord {
@@ -202,6 +207,80 @@ fn state_ground(d: Desk) -> u32
     0
 }
 
+// The ground, 24 or 25, on which a question is not judged on a model; 0 where there is none.
+fn limit_ground(m: &[u8], q: &[u8]) -> u32
+    requires { ⌜ refusal (read-model (now m)) ≡ 0 ⌝ }
+    requires { ⌜ refusal (read-question (state-count (now m)) (action-count (now m)) (prop-count (now m)) (now q)) ≡ 0 ⌝ }
+    ensures { λ r. ⌜ r ≡ refusal (limits (model-of (now (m .entry))) ((question-of (now (q .entry))) .nodes)) ⌝ }
+{
+    let used = models::used_entries(m);
+    limits::limit_refusal(m, &used, q)
+}
+
+// The first ground on which judge is refused: no model, no question, too many paths, too many plans; 0 where there is none.
+fn judge_ground(d: Desk) -> u32
+    ensures { λ r. ⌜ r ≡ refusal (do-judge (view d)) ⌝ }
+{
+    let k = state_ground(d);
+    if k != 0 {
+        return k;
+    }
+    let m = d.model;
+    let q = d.question;
+    let n = blocks_end(6144, d.blocks);
+    limit_ground(&m[..n], &q)
+}
+
+// The verdict that an outcome tells.
+fn verdict_of(o: judging::Outcome) -> Verdict
+    ensures { λ r. ⌜ r ≡ verdict-from o ⌝ }
+{
+    if !o.yes {
+        return Verdict::No(o.count);
+    }
+    if !o.plan {
+        return Verdict::Yes;
+    }
+    Verdict::YesPlan(PlanRecord {
+        weight: o.weight,
+        steps: o.steps,
+        count: o.count,
+    })
+}
+
+// Judges the question that is held and sets the verdict; or refuses by grounds 20, 21, 24, 25.
+pub fn judge(d: Desk) -> Judging
+    ensures { λ r. ⌜ r ≡ judged-by d ⌝ }
+{
+    let ground = judge_ground(d);
+    let mut choices = [0u8; 1365];
+    if ground != 0 {
+        return Judging {
+            answer: Judgement::Refused(ground),
+            choices: choices,
+            desk: d,
+        };
+    }
+    let m = d.model;
+    let q = d.question;
+    let n = blocks_end(6144, d.blocks);
+    let o = judging::judged(&m[..n], &q, &mut choices);
+    let v = verdict_of(o);
+    Judging {
+        answer: Judgement::Judged(v),
+        choices: choices,
+        desk: Desk {
+            blocks: d.blocks,
+            model: m,
+            asked: d.asked,
+            question: q,
+            judged: true,
+            verdict: v,
+            choices: choices,
+        },
+    }
+}
+
 // The number of a question's root, its last node.
 fn root(q: &[u8]) -> u8
     ensures { λ r. ⌜ r ≡ node-count (now (q .entry)) - 1 ⌝ }
@@ -284,6 +363,16 @@ fn shown_size(d: Desk) -> usize
     }
 }
 
+// How many choices the plan has that is held as shown; 0 where there is none.
+pub fn shown_choices(d: Desk) -> usize
+    ensures { λ r. ⌜ r ≡ shown-size ((view d) .verdict) ⌝ }
+{
+    if plan_ground(d) != 0 {
+        return 0;
+    }
+    shown_size(d)
+}
+
 // The weight in the record of a shown plan.
 fn shown_weight(v: Verdict) -> u64
     ensures { λ r. ⌜ r ≡ shown-weight v ⌝ }
@@ -339,4 +428,49 @@ fn sheet_ground(m: &[u8], q: &[u8], b: &[u8]) -> u32
     let mut choices = [0u8; 1470];
     let count = sheets::gather(b, &mut choices);
     sheets::plans::plan_refusal(m, &choices[..count], n, s)
+}
+
+// The total of the plan on a sheet, for a question with a "plan" root.
+fn sheet_weight(m: &[u8], q: &[u8], b: &[u8]) -> u64
+    requires { ⌜ Served (now m) (now q) × PlanRoot (now m) (now q) × Blocks 6 (now b) ⌝ }
+    ensures { λ r. ⌜ Weighs (now (m .entry)) (now (q .entry)) ((sheet-of (now (b .entry))) .choices) r ⌝ }
+{
+    let mut choices = [0u8; 1470];
+    let count = sheets::gather(b, &mut choices);
+    judging::sheet_weight(m, q, &choices[..count])
+}
+
+// Checks a sheet for a question with a "plan" root: grounds 24 and 25, those of the sheet, then 11.
+fn check_on(m: &[u8], q: &[u8], b: &[u8]) -> Checking
+    requires { ⌜ PlanRoot (now m) (now q) ⌝ }
+    ensures { λ r. ⌜ r ≡ checking (check-on (model-of (now (m .entry))) (question-of (now (q .entry))) (now (b .entry))) ⌝ }
+{
+    let l = limit_ground(m, q);
+    if l != 0 {
+        return Checking::Refused(l);
+    }
+    let k = sheet_ground(m, q, b);
+    if k != 0 {
+        return Checking::Refused(k);
+    }
+    let w = sheet_weight(m, q, b);
+    if sheets::weight_at(b, 0) != w {
+        return Checking::Refused(11);
+    }
+    Checking::Accepted(bounds::meets(m, q, root(q), w))
+}
+
+// Checks a sheet for the question that is held, and says whether its weight meets the bound; or refuses it by grounds 20, 21, 22, 24, 25,
+// then 1 to 6, 10, 11.
+pub fn check(d: Desk, b: &[u8]) -> Checking
+    ensures { λ r. ⌜ r ≡ checked-by d (now (b .entry)) ⌝ }
+{
+    let k = plan_ground(d);
+    if k != 0 {
+        return Checking::Refused(k);
+    }
+    let m = d.model;
+    let q = d.question;
+    let n = blocks_end(6144, d.blocks);
+    check_on(&m[..n], &q, b)
 }

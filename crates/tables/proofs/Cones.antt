@@ -1,11 +1,11 @@
 -- The nodes of a condition are marked from the condition downwards, as the pairs of `Marks` are, and listed upwards: the list rises, so that
 -- a marked child, whose number is smaller, stands before its parent, and the condition, the largest, stands last.
-use Prim.Native.Nat.{ℕ, zero, suc, _+_, _*_, _-_, _≤_, _<_}
+use Prim.Native.Nat.{ℕ, suc, _+_, _-_, _≤_, _<_}
 use native.Mathlib.Omega.{arith}
 use native.Mathlib.Decide.{decLt, ℕ-discrete}
-use mathlib.Core.Path.{_≡_, refl, sym, ap, ap₂, subst, _∙_}
+use mathlib.Core.Path.{_≡_, refl, sym, ap, subst, _∙_}
 use mathlib.Core.Logic.{_⊎_, inl, inr, ⊎-elim}
-use mathlib.Core.Bool.{true, false, false≢true}
+use mathlib.Core.Bool.{true, false≢true}
 use mathlib.Core.List.{List}
 use lib.ListN.{getD, length, set, take, length-set}
 use lib.Seq.{getD-set-same, getD-set-other, getD-take, length-take-le}
@@ -41,9 +41,9 @@ given-ordered {m} {q} given =
     record {
       few = a .few-nodes;
       left = λ j h e. ⊎-elim
-        (⊎-elim (λ o. a .in-range j h .of-neg o) (λ o. a .in-range j h .of-next o))
-        (λ o. a .in-range j h .of-both o .0)
-        (reads-cases ((node-of q j) .operator) e);
+          (⊎-elim (λ o. a .in-range j h .of-neg o) (λ o. a .in-range j h .of-next o))
+          (λ o. a .in-range j h .of-both o .0)
+          (reads-cases ((node-of q j) .operator) e);
       right = λ j h o. a .in-range j h .of-both o .1;
     }
 
@@ -99,9 +99,10 @@ module _ (q : Bytes) (j : ℕ) (marks : List ℕ) (o : Ordered q) (h : j < node-
       let b = o .right j h e in
       let l : List ℕ = set marks (node .left) 1 in
       let s : length l ≡ 40 = length-set marks (node .left) 1 ∙ z in
-      let g = child-grown l (node .right) s b in
-      ( grown-then _ _ _ j (omega arith) (omega arith) (child-grown marks (node .left) z a) g
-      , λ _. entered-both (g .stays _ (child-marked marks (node .left) z a)) (child-marked l (node .right) s b) )
+      let g = child-grown l (node .right) s b in (
+        grown-then _ _ _ j (omega arith) (omega arith) (child-grown marks (node .left) z a) g,
+        λ _. entered-both (g .stays _ (child-marked marks (node .left) z a)) (child-marked l (node .right) s b),
+      )
 
 -- ---- the pass from the condition downwards
 
@@ -210,17 +211,18 @@ module _ {marks out : List ℕ} {i n : ℕ} (p : Listed marks i n out) where
 
 pub listed-cone : {q : Bytes} {c n : ℕ} {marks out : List ℕ} → Ordered q → Chosen q c marks → c < node-count q → Listed marks (c + 1) n out → length out ≡ 40
     → (n ≤ 40) × Cone q (take n out) × (root-of (take n out) ≡ c)
-listed-cone {q} {c} {n} {marks} {out} o chosen h p z =
-    ( fits
-    , record {
-        some = rw size (omega (arith, top .1));
-        nodes = λ i l. subst (λ x. x < node-count q) (sym (at i (inside i l))) (omega (arith, p .nodes i (inside i l) .0));
-        lefts = λ i l d e. child i (inside i l) ((node-of q (getD (take n out) i 0)) .left)
-          (o .left (getD (take n out) i 0) (node i (inside i l)) e) (marked i (inside i l) .left d e);
-        rights = λ i l d e. child i (inside i l) ((node-of q (getD (take n out) i 0)) .right)
-          (o .right (getD (take n out) i 0) (node i (inside i l)) e) (marked i (inside i l) .right d e);
-      }
-    , ap (λ k. getD (take n out) (k - 1) 0) size ∙ at (n - 1) (omega (arith, top .1)) ∙ sym (ap (λ k. getD out k 0) last) ∙ top .2 )
+listed-cone {q} {c} {n} {marks} {out} o chosen h p z = (
+  fits,
+  record {
+    some = rw size (omega (arith, top .1));
+    nodes = λ i l. subst (λ x. x < node-count q) (sym (at i (inside i l))) (omega (arith, p .nodes i (inside i l) .0));
+    lefts = λ i l d e. child i (inside i l) ((node-of q (getD (take n out) i 0)) .left)
+        (o .left (getD (take n out) i 0) (node i (inside i l)) e) (marked i (inside i l) .left d e);
+    rights = λ i l d e. child i (inside i l) ((node-of q (getD (take n out) i 0)) .right)
+        (o .right (getD (take n out) i 0) (node i (inside i l)) e) (marked i (inside i l) .right d e);
+  },
+  ap (λ k. getD (take n out) (k - 1) 0) size ∙ at (n - 1) (omega (arith, top .1)) ∙ sym (ap (λ k. getD out k 0) last) ∙ top .2,
+)
   where
     fits : n ≤ 40
     fits = omega (arith, p .few, o .few)

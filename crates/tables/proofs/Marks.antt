@@ -1,10 +1,10 @@
 -- Marks are only added, and a pair passes its mark on to pairs of smaller nodes only. So a pass from the last pair to the first leaves every
 -- marked pair with all that it turns on marked; and with a pair every pair that its truth can turn on is marked, by induction on the steps
 -- that lead there.
-use Prim.Native.Nat.{ℕ, zero, suc, _+_, _*_, _-_, _/_, _%_, _≤_, _<_}
+use Prim.Native.Nat.{ℕ, suc, _+_, _*_, _-_, _/_, _%_, _≤_, _<_}
 use native.Mathlib.Omega.{arith}
 use native.Mathlib.Decide.{decLt, ℕ-discrete}
-use mathlib.Core.Path.{_≡_, refl, sym, ap, ap₂, subst, _∙_}
+use mathlib.Core.Path.{_≡_, sym, ap, ap₂, subst, _∙_}
 use mathlib.Core.Logic.{_⊎_, inl, inr, ⊎-elim}
 use mathlib.Core.List.{List}
 use lib.ListN.{getD, length, set, length-set, replicate, length-replicate, getD-replicate, List·getD-eq-default}
@@ -43,9 +43,9 @@ grown-then S a b c h g p q =
     record {
       stays = λ k e. q .stays k (p .stays k e);
       new = λ k e. ⊎-elim
-        (λ w. ⊎-elim (λ u. inl u) (λ v. inr (omega (arith, v .0), v .1)) (p .new k w))
-        (λ v. inr (omega (arith, v .0), v .1))
-        (q .new k e);
+          (λ w. ⊎-elim (λ u. inl u) (λ v. inr (omega (arith, v .0), v .1)) (p .new k w))
+          (λ v. inr (omega (arith, v .0), v .1))
+          (q .new k e);
     }
 
 pub grown-wider : (S a c : ℕ) {x y : List ℕ} → a ≤ c → Grown S a x y → Grown S c x y
@@ -116,9 +116,10 @@ module _ (m used need : List ℕ) (child s k : ℕ) (r : Readable m) (u : Used m
       let b : target-of < state-count m = r .inside s (k / 4) (subst (λ n. k % 4 < n) entries-at l) in
       let f : state-count m ≤ 32 = r .states in
       let x : (32 * child + target-of) % 32 ≡ target-of = omega arith in
-      subst (λ y. Outcome-done m need child s k (set need (32 * child + y) 1)) (sym e)
-      ( grown-mark (state-count m) (32 * child + 32) need (32 * child + target-of) (omega arith) (omega arith) (omega arith)
-      , λ _. getD-set-same need (32 * child + target-of) 1 0 (omega arith) )
+      subst (λ y. Outcome-done m need child s k (set need (32 * child + y) 1)) (sym e) (
+        grown-mark (state-count m) (32 * child + 32) need (32 * child + target-of) (omega arith) (omega arith) (omega arith),
+        λ _. getD-set-same need (32 * child + target-of) 1 0 (omega arith),
+      )
 
   pub outcome-skipped : getD used (8 * s + k / 4) 0 ≤ k % 4 → Outcome-done m need child s k need
   outcome-skipped l = (grown-none _ _ need, λ g. absurd (omega (arith, entries-at)))
@@ -217,9 +218,10 @@ module _ {m q : Bytes} {used : List ℕ} (given : Given m q used) where
         let w = range .of-both o in
         let l : List ℕ = set need (32 * node .left + k % 32) 1 in
         let e : length l ≡ 1280 = length-set need (32 * node .left + k % 32) 1 ∙ z in
-        let g = child-grown l (node .right) e (w .1) in
-        ( grown-then _ _ _ (32 * (k / 32)) (omega arith) (omega arith) (child-grown need (node .left) z (w .0)) g
-        , λ _. passed-both o (g .stays _ (child-marked need (node .left) z (w .0))) (child-marked l (node .right) e (w .1)) )
+        let g = child-grown l (node .right) e (w .1) in (
+          grown-then _ _ _ (32 * (k / 32)) (omega arith) (omega arith) (child-grown need (node .left) z (w .0)) g,
+          λ _. passed-both o (g .stays _ (child-marked need (node .left) z (w .0))) (child-marked l (node .right) e (w .1)),
+        )
 
     pub next-marked : {need′ : List ℕ} → node .operator ≡ 6 → Grown (state-count m) (32 * node .left + 32) need need′
         → ((a i : ℕ) → i < entries m (k % 32) a → Marked need′ (node .left) ((outcome-of m (k % 32) a i) .target)) → Pair-done m q need k need′

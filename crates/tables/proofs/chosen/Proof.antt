@@ -1,8 +1,7 @@
 -- The invariant: the marked nodes from j on have been entered.
-use Prim.Native.Nat.{ℕ, _+_, _-_, _≤_}
+use Prim.Native.Nat.{_+_, _-_, _≤_}
 use native.Mathlib.Omega.{arith}
-use mathlib.Core.Path.{_≡_, sym, subst, _∙_}
-use borrow.Author.Needs.{needs}
+use mathlib.Core.Path.{sym, subst}
 use Rattle.tables.proofs.Cones.{Choosing, choosing-start, choosing-more, choosing-end}
 use Rattle.tables.proofs.chosen.Statement.{statement}
 use Rattle.tables.proofs.chosen.Tie as tie

@@ -3,7 +3,6 @@ use Prim.Native.Nat.{ℕ, _-_, _≤_}
 use native.Mathlib.Omega.{arith}
 use mathlib.Core.Path.{_≡_, sym, subst, _∙_}
 use lib.ListN.{length}
-use borrow.Author.Needs.{needs}
 use Rattle.tables.specs.Chosen.{Listed}
 use Rattle.tables.proofs.Cones.{listed-none, listed-cone}
 use Rattle.tables.proofs.cone.Statement.{statement}

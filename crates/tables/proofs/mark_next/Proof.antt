@@ -3,7 +3,6 @@ use Prim.Native.Nat.{ℕ, _+_, _*_, _-_, _/_, _%_, _≤_, _<_}
 use native.Mathlib.Omega.{arith}
 use mathlib.Core.Path.{_≡_, sym, _∙_}
 use lib.ListN.{length}
-use borrow.Author.Needs.{needs}
 use borrow.Author.Count.{below-more}
 use Rattle.models.specs.Layout.{state-count, entries, outcome-of}
 use Rattle.tables.specs.Need.{Marked, Grown}
@@ -36,12 +35,13 @@ loop-again c = let S = c .before .before .before .before .before .before .before
     let L = c .before .before .before .before .before .loop in
     let n = c .before .before .mark-outcome in
     let m = S .args .m .now in
-    let s = S .args .s in
-    ( omega arith
-    , n .kept .1 .1 .0 ∙ L .inv .1
-    , grown-then _ _ _ _ (omega arith) (omega arith) (L .inv .2) (n .ensures .0)
-    , below-more (λ (x : ℕ). x % 4 < entries m s (x / 4) → Marked (n .last .1 .1 .0) (S .args .child) ((outcome-of m s (x / 4) (x % 4)) .target)) (L .k)
-      (λ x h e. n .ensures .0 .stays _ (L .inv .3 x h e)) (n .ensures .1) )
+    let s = S .args .s in (
+      omega arith,
+      n .kept .1 .1 .0 ∙ L .inv .1,
+      grown-then _ _ _ _ (omega arith) (omega arith) (L .inv .2) (n .ensures .0),
+      below-more (λ (x : ℕ). x % 4 < entries m s (x / 4) → Marked (n .last .1 .1 .0) (S .args .child) ((outcome-of m s (x / 4) (x % 4)) .target)) (L .k)
+          (λ x h e. n .ensures .0 .stays _ (L .inv .3 x h e)) (n .ensures .1),
+    )
 
 same-length : tie.Need-same-length Inv-loop μ-loop
 same-length c = c .before .loop .inv .1 ∙ sym (c .before .before .before .before .pre .0 .2)

@@ -1,7 +1,7 @@
 -- The invariant: the pairs from place k on have passed their marks on.
-use Prim.Native.Nat.{ℕ, suc, _+_, _*_, _-_, _≤_}
+use Prim.Native.Nat.{ℕ, _+_, _*_, _-_, _≤_}
 use native.Mathlib.Omega.{arith}
-use mathlib.Core.Path.{_≡_, sym, subst, _∙_}
+use mathlib.Core.Path.{_≡_, sym, subst}
 use lib.ListN.{set}
 use borrow.Author.Needs.{needs}
 use Rattle.questions.specs.Layout.{start-of, node-count}
@@ -42,10 +42,11 @@ loop-holds c = let G = c .before .before .before .before .before .before .pre in
     let q = c .before .before .before .before .before .before .args .q .now in
     let n = (given-question G) .some-node in
     let p : c .before .place .result ≡ 32 * (node-count q - 1) + start-of q = omega (arith, c .before .place .ensures, c .before .before .start .ensures, c .before .before .before .node-count .ensures) in
-    let r : c .place2 .result + 32 ≡ 32 * node-count q = omega (arith, c .place2 .ensures, c .before .before .before .node-count .ensures) in
-    ( omega arith
-    , subst (λ (x : ℕ). Passing m q (set (blank 1280) x 1) (c .place2 .result + 32)) (sym p)
-      (subst (λ (y : ℕ). Passing m q (set (blank 1280) (32 * (node-count q - 1) + start-of q) 1) y) (sym r) (passing-start G)) )
+    let r : c .place2 .result + 32 ≡ 32 * node-count q = omega (arith, c .place2 .ensures, c .before .before .before .node-count .ensures) in (
+      omega arith,
+      subst (λ (x : ℕ). Passing m q (set (blank 1280) x 1) (c .place2 .result + 32)) (sym p)
+          (subst (λ (y : ℕ). Passing m q (set (blank 1280) (32 * (node-count q - 1) + start-of q) 1) y) (sym r) (passing-start G)),
+    )
 
 sub-k : tie.Need-sub-k Inv-loop μ-loop
 sub-k c = omega arith

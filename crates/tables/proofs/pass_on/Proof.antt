@@ -1,7 +1,7 @@
 -- Each operator marks what it reads; a pair that is not marked passes nothing on.
 use Prim.Native.Nat.{ℕ, _+_, _*_, _/_, _%_, _<_}
 use native.Mathlib.Omega.{arith}
-use mathlib.Core.Path.{_≡_, sym, ap, ap₂, subst, _∙_}
+use mathlib.Core.Path.{sym, ap, ap₂, subst, _∙_}
 use mathlib.Core.Logic.{inl, inr, ⊎-elim}
 use mathlib.Core.List.{List}
 use lib.ListN.{set}
@@ -92,7 +92,7 @@ returns-4 c = let S = c .before .before .before .before .before .before .before 
     let k = S .args .k in
     let n = c .before .before .mark-next in
     let w = subst (λ (l : ℕ). Grown (state-count m) (32 * l + 32) need (n .last .1 .1 .0) × ((a i : ℕ) → i < entries m (k % 32) a → Marked (n .last .1 .1 .0) l ((outcome-of m (k % 32) a i) .target)))
-        (c .before .before .before .left3 .ensures) (n .ensures) in
+    (c .before .before .before .left3 .ensures) (n .ensures) in
     next-marked (S .pre .0 .0) need k (S .pre .0 .1) (S .pre .0 .2) (S .pre .1 (sym (c .before .before .before .before .before .before .before .before .byte .ensures) ∙ c .before .before .before .before .before .before .before .if1 .left))
     (sym (c .before .before .before .before .before .before .operator .ensures) ∙ c .before .before .before .before .before .match .keys3) (w .0) (w .1)
 

@@ -1,0 +1,203 @@
+-- How the verdict follows from what a search decided, and how it is told: the plan that a search found, extended or looked up by its place,
+-- is the shown plan.
+use Prim.Native.Nat.{ℕ, _+_, _-_, _≤_, _<_}
+use native.Mathlib.Omega.{arith}
+use native.Mathlib.Nat.{le-antisymm, le-max-left, le-max-right}
+use native.Mathlib.Decide.{ℕ-discrete}
+use mathlib.Core.Path.{_≡_, refl, sym, ap, ap₂, subst, _∙_}
+use mathlib.Core.Bool.{Bool, true, false, cond, _||_, false≢true}
+use mathlib.Core.List.{List, [], _++_}
+use lib.Dec.{eqb, ltb}
+use lib.IntN.{pos}
+use lib.ListN.{length, take, drop, take-append-drop}
+use borrow.Author.Tests.{ltb-true, ltb-false}
+use Rattle.logic.specs.Formula.{Formula, never, prop, neg, both, does, next, gain, plan, sat, depth, is-path, nonnegative, W}
+use Rattle.logic.specs.Quantity.{weights, order}
+use Rattle.logic.specs.Checked.{ok}
+use Rattle.logic.specs.Plan.{Plan, plans, choices}
+use Rattle.logic.specs.Choices.{plan-of}
+use Rattle.logic.specs.Limits.{plan-total}
+use Rattle.logic.specs.Order.{Is-plan}
+use Rattle.logic.specs.Total.{one-if, total, value-of}
+use Rattle.logic.specs.Verdict.{Verdict, yes-plan, verdict}
+use Rattle.logic.specs.Verdict as verdicts
+use Rattle.logic.proofs.Best.{best-member}
+use Rattle.logic.proofs.Recursion.{best-plan-first}
+use Rattle.logic.proofs.Dictionary.{plans-are}
+use Rattle.blocks.specs.Bytes.{Bytes}
+use Rattle.models.specs.Layout.{state-count, model-of}
+use Rattle.models.specs.Used.{Used}
+use Rattle.questions.specs.Layout.{start-of, node-count, node-of, formulas-of, question-of}
+use Rattle.questions.specs.Tables.{table}
+use Rattle.limits.specs.Totals.{Totals}
+use Rattle.evaluation.specs.Reached.{formula, root-of}
+use Rattle.extension.specs.Choices.{extend, splice}
+use Rattle.extension.proofs.Choices.{extend-choices}
+use Rattle.search.proofs.Orders.{ordered, additive}
+use Rattle.tables.specs.Need.{Given}
+use Rattle.tables.proofs.Marks.{given-question}
+use Rattle.judging.specs.declared.Outcome.{Outcome}
+use Rattle.judging.specs.declared.plans.Decision.{Decision}
+use Rattle.judging.specs.Asked.{Asked, Served}
+use Rattle.judging.specs.Truth.{Supplied}
+use Rattle.judging.specs.Decided.{condition, best, led-plan, plan-at, Posed, Led, Placed, Decided}
+use Rattle.judging.specs.Announced.{root, root-verdict, told, shown-choices, Announces, Weighs}
+use Rattle.judging.proofs.Deciding.{plan-here, given-model, given-states, led-yes, led-no, equal-yes, equal-no, few-plans, led-met}
+
+-- ---- telling
+
+splice-none : (l : List ℕ) → l ≡ splice l 0 []
+unfolding splice
+splice-none l = refl
+
+pub announces-plan : {v : Verdict} {w n k i : ℕ} {cs after : List ℕ} {x : Outcome} (before : List ℕ) → v ≡ yes-plan (pos w) n k cs → i ≡ n
+    → x ≡ record { yes = true; plan = true; weight = w; steps = i; count = k } → after ≡ splice before 0 cs → Announces v x before after
+unfolding told shown-choices nonnegative
+announces-plan {w = w} {k = k} before e f g h =
+    (g ∙ ap (λ i. record { yes = true; plan = true; weight = w; steps = i; count = k }) f ∙ ap told (sym e), h ∙ ap (λ u. splice before 0 (shown-choices u)) (sym e))
+
+pub announces-no : {v : Verdict} {k : ℕ} {x : Outcome} (before : List ℕ) → v ≡ verdicts.no k
+    → x ≡ record { yes = false; plan = false; weight = 0; steps = 0; count = k } → Announces v x before before
+unfolding told shown-choices
+announces-no before e f = (f ∙ ap told (sym e), splice-none before ∙ ap (λ u. splice before 0 (shown-choices u)) (sym e))
+
+pub announces-truth : {v : Verdict} {y : ℕ} {x : Outcome} (t : Bool) (before : List ℕ) → v ≡ cond t verdicts.yes (verdicts.no 0) → y ≡ one-if t
+    → x ≡ record { yes = eqb y 1; plan = false; weight = 0; steps = 0; count = 0 } → Announces v x before before
+unfolding told shown-choices one-if
+announces-truth true before e f g =
+    (g ∙ ap (λ y. record { yes = eqb y 1; plan = false; weight = 0; steps = 0; count = 0 }) f ∙ ap told (sym e),
+    splice-none before ∙ ap (λ u. splice before 0 (shown-choices u)) (sym e))
+announces-truth false before e f g =
+    announces-no before e (g ∙ ap (λ y. record { yes = eqb y 1; plan = false; weight = 0; steps = 0; count = 0 }) f)
+
+-- ---- a state formula looks at no step
+
+or-left : (a b : Bool) → (a || b) ≡ false → a ≡ false
+or-left true b e = e
+or-left false b e = refl
+
+or-right : (a b : Bool) → (a || b) ≡ false → b ≡ false
+or-right true b e = absurd (false≢true (sym e))
+or-right false b e = e
+
+pub state-depth : (φ : Formula) → is-path φ ≡ false → depth φ ≡ 0
+unfolding is-path depth
+state-depth never e = refl
+state-depth (prop i) e = refl
+state-depth (neg φ) e = state-depth φ e
+state-depth (both φ ψ) e = rw (state-depth φ (or-left (is-path φ) (is-path ψ) e), state-depth ψ (or-right (is-path φ) (is-path ψ) e)) refl
+state-depth (does a) e = absurd (false≢true (sym e))
+state-depth (next φ) e = absurd (false≢true (sym e))
+state-depth (gain n b p) e = absurd (false≢true (sym e))
+state-depth (plan n φ b p q) e = refl
+
+-- ---- the verdict on a "plan" node
+
+module _ {m q : Bytes} {used counts depths : List ℕ} (asked : Asked m q used counts depths) (j s : ℕ) (h : j < node-count q)
+    (o : (node-of q j) .operator ≡ 8) (inside : s < state-count m) {scratch : List ℕ} {r : Decision} (x : Decided m q j s scratch r) where
+  -- "equal"
+  pub equal-few : (node-of q j) .right ≡ 2 → (plan-total (model-of m) ((node-of q j) .n) s ≤ 65536) × (r .place ≤ 65536)
+  equal-few e = let f = few-plans asked j s h o e inside in let w = x .placed e .within in (f, omega arith)
+
+  pub equal-inside : (node-of q j) .right ≡ 2 → r .met ≡ true → r .place < plan-total (model-of m) ((node-of q j) .n) s
+  equal-inside e t = ltb-true (r .place) (plan-total (model-of m) ((node-of q j) .n) s) (sym (x .placed e .bounds) ∙ t)
+
+  pub equal-verdict : (node-of q j) .right ≡ 2 → r .met ≡ true
+      → verdict (model-of m) s (formula q j)
+      ≡ yes-plan (pos (r .weight)) ((node-of q j) .n) (1 + r .place) (choices ((node-of q j) .n) (plan-at (model-of m) ((node-of q j) .n) s (r .place)))
+  equal-verdict e t = equal-yes (asked .given) j s h o e (x .placed e .first) (equal-inside e t)
+
+  pub led-verdict : ((node-of q j) .right ≡ 2 → ⊥) → r .met ≡ true
+      → verdict (model-of m) s (formula q j)
+      ≡ yes-plan (pos (r .weight)) ((node-of q j) .n) 0
+          (choices ((node-of q j) .n) (led-plan (model-of m) (condition q j) (depth (condition q j)) ((node-of q j) .n) s (eqb ((node-of q j) .right) 1)))
+  led-verdict e t =
+      let p = x .led e in
+      let cs : List ℕ = choices ((node-of q j) .n) (led-plan (model-of m) (condition q j) (depth (condition q j)) ((node-of q j) .n) s (eqb ((node-of q j) .right) 1)) in
+      led-yes (asked .given) j s h o e inside (sym (led-met (asked .given) j s h o e inside p) ∙ t)
+      ∙ ap (λ w. yes-plan (pos w) ((node-of q j) .n) 0 cs) (sym (p .weighs))
+
+  pub no-verdict : r .met ≡ false → verdict (model-of m) s (formula q j) ≡ verdicts.no (r .place)
+  no-verdict t = go (ℕ-discrete ((node-of q j) .right) 2)
+    where
+      go : Dec ((node-of q j) .right ≡ 2) → verdict (model-of m) s (formula q j) ≡ verdicts.no (r .place)
+      go (yes e) =
+          let p = x .placed e in
+          let l = ltb-false (r .place) (plan-total (model-of m) ((node-of q j) .n) s) (sym (p .bounds) ∙ t) in
+          equal-no (asked .given) j s h o e (p .first) l ∙ ap verdicts.no (le-antisymm l (p .within))
+      go (no e) =
+          let p = x .led e in
+          led-no (asked .given) j s h o e inside (sym (led-met (asked .given) j s h o e inside p) ∙ t) ∙ ap verdicts.no (sym (p .unplaced))
+
+  pub place-few : r .place ≤ 65536
+  place-few = go (ℕ-discrete ((node-of q j) .right) 2)
+    where
+      go : Dec ((node-of q j) .right ≡ 2) → r .place ≤ 65536
+      go (yes e) = equal-few e .1
+      go (no e) = omega (arith, x .led e .unplaced)
+
+  -- ---- the choices of the plan found, extended
+
+  best-is-plan : (least : Bool) → Is-plan (model-of m) (depth (condition q j)) s (best (model-of m) (condition q j) (depth (condition q j)) s least)
+  best-is-plan least =
+      let d : ℕ = depth (condition q j) in
+      plans-are (model-of m) d s (best (model-of m) (condition q j) d s least) .0
+      (best-member (weights (order least)) (ordered least) (λ p. total (weights (order least)) (model-of m) d s p (value-of (model-of m) (condition q j) s))
+      (best-plan-first (weights (order least)) (additive (order least)) (ordered least) (model-of m) (given-model (asked .given)) d s
+      (value-of (model-of m) (condition q j) s) (subst (λ k. s < k) (sym (given-states (asked .given))) inside)))
+
+  pub led-choices : {d n : ℕ} → ((node-of q j) .right ≡ 2 → ⊥) → d ≡ depth (condition q j) → n ≡ (node-of q j) .n
+      → extend (model-of m) d n s scratch .0
+      ≡ choices ((node-of q j) .n) (led-plan (model-of m) (condition q j) (depth (condition q j)) ((node-of q j) .n) s (eqb ((node-of q j) .right) 1))
+  led-choices e f g =
+      let p = x .led e in
+      let d : ℕ = depth (condition q j) in
+      let n : ℕ = (node-of q j) .n in
+      let b = best (model-of m) (condition q j) d s (eqb ((node-of q j) .right) 1) in
+      ap₂ (λ d n. extend (model-of m) d n s scratch .0) f g
+      ∙ ap (λ l. extend (model-of m) d n s l .0) (sym (take-append-drop (r .count) scratch) ∙ ap (λ l. l ++ drop (r .count) scratch) (p .chosen))
+      ∙ ap (λ z. z .0) (extend-choices (model-of m) d n s b (drop (r .count) scratch) (plan-here (asked .given) j h o .deep) (best-is-plan (eqb ((node-of q j) .right) 1)))
+
+-- ---- the root
+
+pub asked-at : {m q : Bytes} {used counts depths : List ℕ} → Served m q → Used m used → Totals true (model-of m) counts → depths ≡ table depth (formulas-of q)
+    → Asked m q used counts depths
+asked-at x u c d =
+    record {
+      given = record { model-accepted = x .model-accepted; question-accepted = x .question-accepted; used-right = u };
+      counted = c;
+      within = x .within;
+      deep = d;
+    }
+
+-- What is asked of a node that is judged.
+abbrev pub Judged-at : (m q truth : Bytes) → ℕ → ℕ → Type 0
+Judged-at m q truth j s = (j < node-count q) × (s < state-count m) × Supplied m q truth j s × (depth (formula q j) ≡ 0)
+
+module _ {m q : Bytes} {used : List ℕ} (given : Given m q used) where
+  root-node : root q < node-count q
+  root-node = let n : 1 ≤ node-count q = given-question given .some-node in omega arith
+
+  root-depth : depth (formula q (root q)) ≡ 0
+  unfolding question-of
+  root-depth = state-depth (formula q (root q)) (given-question given .root-state)
+
+  pub root-judged : {truth : Bytes} → Supplied m q truth (root q) (start-of q) → {j s : ℕ} → j ≡ root q → s ≡ start-of q → Judged-at m q truth j s
+  root-judged {truth} x {s = s} e f =
+      subst (λ j. Judged-at m q truth j s) (sym e)
+      (subst (λ s. Judged-at m q truth (root q) s) (sym f) (root-node, given-question given .starts, x, root-depth))
+
+  pub root-posed : {truth : Bytes} → Supplied m q truth (root q) (start-of q) → (node-of q (root q)) .operator ≡ 8 → Posed m q truth (root q) (start-of q)
+  root-posed x o = record { node = root-node; is-plan = o; state = given-question given .starts; told = x .under-plan o }
+
+pub root-announces : (m q : Bytes) {j s : ℕ} {x : Outcome} (before : List ℕ) {after : List ℕ} → j ≡ root q → s ≡ start-of q
+    → Announces (verdict (model-of m) s (formula q j)) x before after → Announces (root-verdict m q) x before after
+root-announces m q {x = x} before {after} e f =
+    subst (λ v. Announces v x before after) (ap₂ (λ s j. verdict (model-of m) s (formula q j)) f e)
+
+pub root-weighs : (m q cs l : Bytes) (r n s : ℕ) → n ≡ (node-of q (root q)) .n → s ≡ start-of q → root-of l ≡ (node-of q (root q)) .left
+    → ((π : Plan n) → plan-of (model-of m) n s cs ≡ ok π → r ≡ W (model-of m) (formula q (root-of l)) n s π) → Weighs m q cs r
+root-weighs m q cs l r n s e f g h =
+    subst (λ n. (π : Plan n) → plan-of (model-of m) n (start-of q) cs ≡ ok π → r ≡ W (model-of m) (condition q (root q)) n (start-of q) π) e
+    (subst (λ s. (π : Plan n) → plan-of (model-of m) n s cs ≡ ok π → r ≡ W (model-of m) (condition q (root q)) n s π) f
+    (subst (λ c. (π : Plan n) → plan-of (model-of m) n s cs ≡ ok π → r ≡ W (model-of m) (formula q c) n s π) g h))

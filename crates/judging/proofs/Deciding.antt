@@ -1,0 +1,385 @@
+-- What a search's result decides. The search for "less" or "greater" goes as deep as the condition looks; the plan that it finds, gone on
+-- with first enabled actions, is the shown plan or none is. The search for "equal" finds the first place of the totals of all plans that
+-- has the one number that meets the bound, if there is such a number.
+use Prim.Native.Nat.{ℕ, zero, suc, _+_, _*_, _-_, _^_, _/_, _%_, _≤_, _<_}
+use native.Mathlib.Omega.{arith}
+use native.Mathlib.Nat.{le-refl, le-antisymm, le-of-eq, eq-of-mul-eq-mul-left, mul-mod-right, div-add-mod, min-eq-right}
+use mathlib.Core.Path.{_≡_, refl, sym, ap, ap₂, subst, _∙_}
+use mathlib.Core.Bool.{Bool, true, false, not, cond, _&&_, _||_}
+use mathlib.Core.List.{List, [], _∷_, map}
+use mathlib.Core.Option.{none, some}
+use lib.Dec.{eqb, leb, ltb}
+use lib.IntN.{pos}
+use lib.ListN.{getD, length, length-map, List·getD-map}
+use borrow.Author.Tests.{eq-eqb, ne-eqb, eqb-true, leb-true, le-leb, ltb-true, ltb-false}
+use Rattle.logic.specs.Lists.{every}
+use Rattle.logic.specs.Checked.{refusal, guard}
+use Rattle.logic.specs.Model.{Model}
+use Rattle.logic.specs.Quantity.{naturals, reversed, Relation, less, equal, greater, related, weights, order}
+use Rattle.logic.specs.Plan.{Plan, plans, paths, choices}
+use Rattle.logic.specs.Formula.{Formula, plan, Node, sat, W, meets, depth, relation, nonnegative}
+use Rattle.logic.specs.Total.{total, value-of}
+use Rattle.logic.specs.Recursion.{greatest, best-plan}
+use Rattle.logic.specs.Extension.{first-plan}
+use Rattle.logic.specs.Verdict.{plan-goal, goal, shown, announced, verdict, yes, no, yes-plan, is-equal}
+use Rattle.logic.specs.Accepted.{Accepted}
+use Rattle.logic.specs.Limits.{plan-total, every-plan, limits}
+use Rattle.logic.proofs.Tests.{same-test, not-true, none≢some, every-at, and-left, and-right}
+use Rattle.logic.proofs.Checked.{guard-passed}
+use Rattle.logic.proofs.Sums.{naturals-additive, reversed-additive, sum-reversed}
+use Rattle.logic.proofs.PathWeights.{W-total}
+use Rattle.logic.proofs.Recursion.{best-plan-total}
+use Rattle.logic.proofs.Lengthening.{weight-longer, best-longer}
+use Rattle.logic.proofs.Search.{most, fewest, greater-shown, greater-none, less-shown, less-none, equal-shown, equal-none}
+use Rattle.logic.proofs.Shown.{sat-shown}
+use Rattle.logic.proofs.Dictionary.{plan-count}
+use Rattle.blocks.specs.Bytes.{Bytes, within}
+use Rattle.models.specs.Layout.{state-count, action-count, prop-count, denominator-of, model-of}
+use Rattle.models.specs.Grounds.{sizes-right}
+use Rattle.models.proofs.Passed.{passed-all}
+use Rattle.models.proofs.Held as held
+use Rattle.models.proofs.Laws.{at-least}
+use Rattle.questions.specs.Layout.{node-count, node-of, formulas-of}
+use Rattle.questions.proofs.Laws.{by-operator}
+use Rattle.questions.proofs.Accepted as questions
+use Rattle.limits.specs.Totals.{fits}
+use Rattle.limits.specs.Totals as totals
+use Rattle.limits.proofs.Nodes.{nodes-all}
+use Rattle.evaluation.specs.Reached.{formula}
+use Rattle.tables.specs.Need.{Given}
+use Rattle.tables.proofs.Marks.{given-question}
+use Rattle.judging.specs.Asked.{Asked}
+use Rattle.judging.specs.Decided.{led-weight, led-plan, plan-at, First, Led}
+use Rattle.judging.specs.declared.plans.Decision.{Decision}
+
+-- ---- a goal's shown plan and its truth
+
+module _ (M : Model) (φ : Formula) (n s : ℕ) (r : Relation) (p q : ℕ) where
+  -- By a test that says whether there is a shown plan.
+  by-shown : (t : Bool) → (t ≡ true → (x : ℕ × Plan n) × (shown M s (plan-goal M s n φ r p q) ≡ some x))
+      → (t ≡ false → shown M s (plan-goal M s n φ r p q) ≡ none) → sat M (plan n φ r p q) s [] ≡ t
+  by-shown true f g = sat-shown M s n φ r p q [] .1 (f refl)
+  by-shown false f g = not-true _ (λ h. none≢some (sym (g refl) ∙ sat-shown M s n φ r p q [] .0 h .1))
+
+  verdict-plan : verdict M s (plan n φ r p q) ≡ announced M s (plan-goal M s n φ r p q) (shown M s (plan-goal M s n φ r p q))
+  unfolding verdict goal
+  verdict-plan = refl
+
+  -- The plan π, of the total w, decides: where w meets the bound π is the shown plan, and where not there is none.
+  pub record Decides (w : ℕ) (π : Plan n) : Type 0 where
+    pub weighs : W M φ n s π ≡ w
+    pub met : meets naturals M n r p q w ≡ true → (k : ℕ) × (shown M s (plan-goal M s n φ r p q) ≡ some (k, π))
+    pub missed : meets naturals M n r p q w ≡ false → shown M s (plan-goal M s n φ r p q) ≡ none
+
+  module _ {w : ℕ} {π : Plan n} (x : Decides w π) where
+    pub decides-truth : sat M (plan n φ r p q) s [] ≡ meets naturals M n r p q w
+    decides-truth = by-shown (meets naturals M n r p q w) (λ e. let k = x .met e in ((k .0, π), k .1)) (x .missed)
+
+    pub decides-yes : is-equal r ≡ false → meets naturals M n r p q w ≡ true → verdict M s (plan n φ r p q) ≡ yes-plan (pos w) n 0 (choices n π)
+    decides-yes f e =
+        let k = x .met e in
+        verdict-plan ∙ ap (announced M s (plan-goal M s n φ r p q)) (k .1)
+        ∙ ap₂ (λ v t. yes-plan (pos v) n (cond t (k .0) 0) (choices n π)) (x .weighs) f
+
+    pub decides-no : is-equal r ≡ false → meets naturals M n r p q w ≡ false → verdict M s (plan n φ r p q) ≡ no 0
+    decides-no f e =
+        verdict-plan ∙ ap (announced M s (plan-goal M s n φ r p q)) (x .missed e)
+        ∙ ap (λ t. no (cond t (length (plans M n s)) 0)) f
+
+-- ---- "less" and "greater"
+
+-- The relation that the search for the least weight is for, and that for the greatest.
+abbrev pub extreme : (least : Bool) → Relation
+extreme true = less
+extreme false = greater
+
+pub extreme-counts-not : (least : Bool) → is-equal (extreme least) ≡ false
+unfolding is-equal
+extreme-counts-not true = refl
+extreme-counts-not false = refl
+
+pub extreme-numbered : (k : ℕ) → 1 ≤ k → k ≤ 3 → (k ≡ 2 → ⊥) → relation k ≡ extreme (eqb k 1)
+unfolding relation
+extreme-numbered zero h g n = absurd (omega arith)
+extreme-numbered (suc zero) h g n = refl
+extreme-numbered (suc (suc zero)) h g n = absurd (n refl)
+extreme-numbered (suc (suc (suc k))) h g n = ap extreme (sym (ne-eqb (suc (suc (suc k))) 1 (λ e. omega arith)))
+
+module _ (M : Model) (accepted : Accepted M) (some-weight : 0 < M .denominator) (φ : Formula) (d n s : ℕ) (deep : depth φ ≤ d) (more : d ≤ n)
+    (inside : s < length (M .states)) where
+  most-weighs : W M φ n s (most M φ n s) ≡ led-weight M φ d n s false
+  most-weighs =
+      W-total M φ n s (most M φ n s)
+      ∙ best-plan-total naturals naturals-additive M n s (value-of M φ s)
+      ∙ weight-longer M accepted some-weight false φ d n s deep more inside
+
+  fewest-weighs : W M φ n s (fewest M φ n s) ≡ led-weight M φ d n s true
+  unfolding total
+  fewest-weighs =
+      W-total M φ n s (fewest M φ n s)
+      ∙ sym (sum-reversed naturals _ (paths M n s (fewest M φ n s)))
+      ∙ best-plan-total (reversed naturals) (reversed-additive naturals naturals-additive) M n s (value-of M φ s)
+      ∙ weight-longer M accepted some-weight true φ d n s deep more inside
+
+  module _ (p q : ℕ) where
+    pub led : (least : Bool) → Decides M φ n s (extreme least) p q (led-weight M φ d n s least) (led-plan M φ d n s least)
+    led true =
+        let e = fewest-weighs in
+        subst (Decides M φ n s less p q (led-weight M φ d n s true)) (best-longer M accepted some-weight true φ d n s deep more inside)
+        (record {
+          weighs = e;
+          met = λ h. less-shown M φ n s accepted inside p q (ap (meets naturals M n less p q) e ∙ h);
+          missed = λ h. less-none M φ n s accepted inside p q (ap (meets naturals M n less p q) e ∙ h);
+        })
+    led false =
+        let e = most-weighs in
+        subst (Decides M φ n s greater p q (led-weight M φ d n s false)) (best-longer M accepted some-weight false φ d n s deep more inside)
+        (record {
+          weighs = e;
+          met = λ h. greater-shown M φ n s accepted inside p q (ap (meets naturals M n greater p q) e ∙ h);
+          missed = λ h. greater-none M φ n s accepted inside p q (ap (meets naturals M n greater p q) e ∙ h);
+        })
+
+-- ---- "equal"
+
+module _ (M : Model) (n p q : ℕ) (some-part : 1 ≤ q) where
+  abbrev bound : ℕ
+  bound = M .denominator ^ n * p
+
+  meets-equal : (w : ℕ) → meets naturals M n equal p q w ≡ eqb (q * w) bound
+  unfolding meets related
+  meets-equal w =
+      same-test _ _
+      (λ e. eq-eqb (q * w) bound (le-antisymm (leb-true (q * w) bound (and-left _ _ e)) (leb-true bound (q * w) (and-right (leb (q * w) bound) _ e))))
+      (λ e. let f = eqb-true (q * w) bound e in ap₂ _&&_ (le-leb (q * w) bound (le-of-eq f)) (le-leb bound (q * w) (le-of-eq (sym f))))
+
+  -- Where q divides the bound, the quotient alone meets it, and else no number does.
+  pub meets-quotient : bound % q ≡ 0 → (w : ℕ) → meets naturals M n equal p q w ≡ eqb w (bound / q)
+  meets-quotient z w =
+      let d : q * (bound / q) ≡ bound = omega (arith, z, div-add-mod bound q) in
+      meets-equal w
+      ∙ same-test _ _
+      (λ e. eq-eqb w (bound / q) (eq-of-mul-eq-mul-left q some-part w (bound / q) (eqb-true (q * w) bound e ∙ sym d)))
+      (λ e. eq-eqb (q * w) bound (ap (λ x. q * x) (eqb-true w (bound / q) e) ∙ d))
+
+  pub meets-none : (bound % q ≡ 0 → ⊥) → (w : ℕ) → meets naturals M n equal p q w ≡ false
+  meets-none z w = meets-equal w ∙ ne-eqb (q * w) bound (λ e. z (ap (λ x. x % q) (sym e) ∙ mul-mod-right q w))
+
+-- What stands past the end does not matter inside.
+inside-same : {A : Type 0} (l : List A) (i : ℕ) (d e : A) → i < length l → getD l i d ≡ getD l i e
+inside-same [] i d e h = absurd (omega arith)
+inside-same (x ∷ l) zero d e h = refl
+inside-same (x ∷ l) (suc i) d e h = inside-same l i d e (omega arith)
+
+-- The totals of all plans, in dictionary order.
+abbrev pub all-totals : Model → Formula → (n s : ℕ) → List ℕ
+all-totals M φ n s = map (λ π. total naturals M n s π (value-of M φ s)) (plans M n s)
+
+module _ (M : Model) (φ : Formula) (n s p q : ℕ) where
+  total-at : (i : ℕ) → i < plan-total M n s → W M φ n s (plan-at M n s i) ≡ getD (all-totals M φ n s) i 0
+  total-at i h =
+      W-total M φ n s (plan-at M n s i)
+      ∙ sym (List·getD-map (λ π. total naturals M n s π (value-of M φ s)) (plans M n s) i (first-plan M n s))
+      ∙ inside-same (all-totals M φ n s) i _ 0 (subst (λ k. i < k) (sym (length-map (plans M n s) (λ π. total naturals M n s π (value-of M φ s)) ∙ plan-count M n s)) h)
+
+  pub first-led : (x : ℕ) → ((w : ℕ) → meets naturals M n equal p q w ≡ eqb w x) → (r : ℕ)
+      → ((i : ℕ) → i < r → getD (all-totals M φ n s) i 0 ≡ x → ⊥) → (r < plan-total M n s → getD (all-totals M φ n s) r 0 ≡ x) → First M φ n s p q x r
+  first-led x same r before here =
+      record {
+        weighs = λ h. total-at r h ∙ here h;
+        found = λ h. equal-shown M φ n s p q (first-plan M n s) r (subst (λ k. r < k) (sym (plan-count M n s)) h)
+            (same _ ∙ eq-eqb _ x (total-at r h ∙ here h)) (λ j i. other j (omega arith) i);
+        missed = λ h. equal-none M φ n s p q (first-plan M n s) (λ j i. let l = subst (λ k. j < k) (plan-count M n s) i in other j l (omega arith));
+      }
+    where
+      other : (j : ℕ) → j < plan-total M n s → j < r → meets naturals M n equal p q (W M φ n s (plan-at M n s j)) ≡ false
+      other j l i = same _ ∙ ne-eqb _ x (λ e. before j i (sym (total-at j l) ∙ e))
+
+  -- Where no number meets the bound.
+  pub never-led : ((w : ℕ) → meets naturals M n equal p q w ≡ false) → (x : ℕ) → First M φ n s p q x (plan-total M n s)
+  never-led g x =
+      record {
+        weighs = λ h. absurd (omega arith);
+        found = λ h. absurd (omega arith);
+        missed = λ h. equal-none M φ n s p q (first-plan M n s) (λ j i. g _);
+      }
+
+  module _ {x r : ℕ} (f : First M φ n s p q x r) where
+    pub first-truth : sat M (plan n φ equal p q) s [] ≡ ltb r (plan-total M n s)
+    first-truth =
+        by-shown M φ n s equal p q (ltb r (plan-total M n s))
+        (λ e. ((1 + r, plan-at M n s r), f .found (ltb-true r (plan-total M n s) e)))
+        (λ e. f .missed (ltb-false r (plan-total M n s) e))
+
+    pub first-yes : r < plan-total M n s → verdict M s (plan n φ equal p q) ≡ yes-plan (pos x) n (1 + r) (choices n (plan-at M n s r))
+    unfolding is-equal
+    first-yes h =
+        verdict-plan M φ n s equal p q ∙ ap (announced M s (plan-goal M s n φ equal p q)) (f .found h)
+        ∙ ap (λ v. yes-plan (pos v) n (1 + r) (choices n (plan-at M n s r))) (f .weighs h)
+
+    pub first-no : plan-total M n s ≤ r → verdict M s (plan n φ equal p q) ≡ no (plan-total M n s)
+    unfolding is-equal
+    first-no h =
+        verdict-plan M φ n s equal p q ∙ ap (announced M s (plan-goal M s n φ equal p q)) (f .missed h)
+        ∙ ap no (plan-count M n s)
+
+-- ---- the nodes of a question
+
+-- The "plan" node j.
+pub record Planned (q : Bytes) (j : ℕ) : Type 0 where
+  pub here : formula q j ≡ plan ((node-of q j) .n) (formula q ((node-of q j) .left)) (relation ((node-of q j) .right)) (nonnegative ((node-of q j) .p)) ((node-of q j) .q)
+  pub deep : depth (formula q ((node-of q j) .left)) ≤ (node-of q j) .n
+  pub few : (node-of q j) .n ≤ 6
+  pub range : questions.PlanRange j (node-of q j)
+
+module _ {m q : Bytes} {used : List ℕ} (given : Given m q used) where
+  abbrev asks : questions.Accepted (state-count m) (action-count m) (prop-count m) q
+  asks = given-question given
+
+  pub plan-here : (j : ℕ) → j < node-count q → (node-of q j) .operator ≡ 8 → Planned q j
+  plan-here j h o =
+      let r = asks .in-range j h .of-plan o in
+      record {
+        here = questions.at-plan (state-count m) (action-count m) (prop-count m) q asks j h o;
+        deep = questions.plan-depth (state-count m) (action-count m) (prop-count m) q asks j h o;
+        few = r .compares .few-steps;
+        range = r;
+      }
+
+  -- ---- the model
+
+  pub given-model : Accepted (model-of m)
+  given-model = held.accepted m (passed-all m (given .model-accepted))
+
+  pub given-states : length (model-of m .states) ≡ state-count m
+  given-states = held.states-held m
+
+  pub given-weight : 0 < model-of m .denominator
+  unfolding sizes-right
+  given-weight =
+      let e = passed-all m (given .model-accepted) .sizes in
+      let three : Bool = within 1 32 (state-count m) && within 1 8 (action-count m) && within 1 32 (prop-count m) in
+      subst (λ d. 0 < d) (sym (held.denominator-held m))
+      (at-least 1 100 (denominator-of m) (and-right three (within 1 100 (denominator-of m)) (and-left (three && within 1 100 (denominator-of m)) _ e)))
+
+  module _ (j s : ℕ) (h : j < node-count q) (o : (node-of q j) .operator ≡ 8) where
+    abbrev node : Node
+    node = node-of q j
+
+    abbrev child : Formula
+    child = formula q (node .left)
+
+    abbrev M : Model
+    M = model-of m
+
+    -- The node is "less" or "greater": the search as deep as its child looks decides.
+    module _ (e : node .right ≡ 2 → ⊥) (inside : s < state-count m) where
+      abbrev least : Bool
+      least = eqb (node .right) 1
+
+      abbrev weight : ℕ
+      weight = led-weight M child (depth child) (node .n) s least
+
+      abbrev best : Plan (node .n)
+      best = led-plan M child (depth child) (node .n) s least
+
+      here-extreme : formula q j ≡ plan (node .n) child (extreme least) (nonnegative (node .p)) (node .q)
+      here-extreme =
+          let x = plan-here j h o in
+          let c = x .range .compares in
+          x .here
+          ∙ ap (λ r. plan (node .n) child r (nonnegative (node .p)) (node .q)) (extreme-numbered (node .right) (c .relation-from) (c .relation-to) e)
+
+      pub node-led : Decides M child (node .n) s (extreme least) (nonnegative (node .p)) (node .q) weight best
+      node-led =
+          led M given-model given-weight child (depth child) (node .n) s (le-refl (depth child)) (plan-here j h o .deep) (subst (λ k. s < k) (sym given-states) inside)
+          (nonnegative (node .p)) (node .q) least
+
+      pub led-truth : sat M (formula q j) s [] ≡ meets naturals M (node .n) (extreme least) (nonnegative (node .p)) (node .q) weight
+      led-truth = ap (λ φ. sat M φ s []) here-extreme ∙ decides-truth M child (node .n) s (extreme least) (nonnegative (node .p)) (node .q) node-led
+
+      pub led-yes : meets naturals M (node .n) (extreme least) (nonnegative (node .p)) (node .q) weight ≡ true
+          → verdict M s (formula q j) ≡ yes-plan (pos weight) (node .n) 0 (choices (node .n) best)
+      led-yes t =
+          ap (verdict M s) here-extreme
+          ∙ decides-yes M child (node .n) s (extreme least) (nonnegative (node .p)) (node .q) node-led (extreme-counts-not least) t
+
+      pub led-no : meets naturals M (node .n) (extreme least) (nonnegative (node .p)) (node .q) weight ≡ false → verdict M s (formula q j) ≡ no 0
+      led-no t =
+          ap (verdict M s) here-extreme
+          ∙ decides-no M child (node .n) s (extreme least) (nonnegative (node .p)) (node .q) node-led (extreme-counts-not least) t
+
+      pub led-met : {scratch : List ℕ} {d : Decision} → Led m q j s scratch d
+          → d .met ≡ meets naturals M (node .n) (extreme least) (nonnegative (node .p)) (node .q) weight
+      led-met p =
+          let c = plan-here j h o .range .compares in
+          p .bounds
+          ∙ ap₂ (λ r w. meets naturals M (node .n) r (nonnegative (node .p)) (node .q) w)
+          (extreme-numbered (node .right) (c .relation-from) (c .relation-to) e) (p .weighs)
+
+    -- The node is "equal": the first place of the one total that meets the bound decides.
+    module _ (e : node .right ≡ 2) {x r : ℕ} (f : First M child (node .n) s (nonnegative (node .p)) (node .q) x r) where
+      here-equal : formula q j ≡ plan (node .n) child equal (nonnegative (node .p)) (node .q)
+      unfolding relation
+      here-equal = plan-here j h o .here ∙ ap (λ k. plan (node .n) child (relation k) (nonnegative (node .p)) (node .q)) e
+
+      pub equal-truth : sat M (formula q j) s [] ≡ ltb r (plan-total M (node .n) s)
+      equal-truth = ap (λ φ. sat M φ s []) here-equal ∙ first-truth M child (node .n) s (nonnegative (node .p)) (node .q) f
+
+      pub equal-yes : r < plan-total M (node .n) s → verdict M s (formula q j) ≡ yes-plan (pos x) (node .n) (1 + r) (choices (node .n) (plan-at M (node .n) s r))
+      equal-yes l = ap (verdict M s) here-equal ∙ first-yes M child (node .n) s (nonnegative (node .p)) (node .q) f l
+
+      pub equal-no : plan-total M (node .n) s ≤ r → verdict M s (formula q j) ≡ no (plan-total M (node .n) s)
+      equal-no l = ap (verdict M s) here-equal ∙ first-no M child (node .n) s (nonnegative (node .p)) (node .q) f l
+
+  -- A root that is no "plan" is yes or no.
+  pub other-verdict : (j s : ℕ) → j < node-count q → ((node-of q j) .operator ≡ 8 → ⊥)
+      → verdict (model-of m) s (formula q j) ≡ cond (sat (model-of m) (formula q j) s []) yes (no 0)
+  unfolding verdict goal
+  other-verdict j s h n =
+      by-operator (λ op. (node-of q j) .operator ≡ op → verdict (model-of m) s (formula q j) ≡ cond (sat (model-of m) (formula q j) s []) yes (no 0))
+      (λ o. absurd (omega (arith, asks .in-range j h .operator-from)))
+      (λ o. rw (questions.at-never (state-count m) (action-count m) (prop-count m) q asks j h o) refl)
+      (λ o. rw (questions.at-prop (state-count m) (action-count m) (prop-count m) q asks j h o) refl)
+      (λ o. rw (questions.at-neg (state-count m) (action-count m) (prop-count m) q asks j h o) refl)
+      (λ o. rw (questions.at-both (state-count m) (action-count m) (prop-count m) q asks j h o) refl)
+      (λ o. rw (questions.at-does (state-count m) (action-count m) (prop-count m) q asks j h o) refl)
+      (λ o. rw (questions.at-next (state-count m) (action-count m) (prop-count m) q asks j h o) refl)
+      (λ o. rw (questions.at-gain (state-count m) (action-count m) (prop-count m) q asks j h o) refl)
+      (λ o. absurd (n o))
+      (λ k o. absurd (omega (arith, asks .in-range j h .operator-to)))
+      ((node-of q j) .operator) refl
+
+-- ---- the limits
+
+module _ {m q : Bytes} {used counts depths : List ℕ} (asked : Asked m q used counts depths) (j s : ℕ) (h : j < node-count q)
+    (o : (node-of q j) .operator ≡ 8) (e : (node-of q j) .right ≡ 2) (inside : s < state-count m) where
+  inside-model : s < length (model-of m .states)
+  inside-model = subst (λ k. s < k) (sym (given-states (asked .given))) inside
+
+  within-limits : every-plan (fits true (model-of m)) (model-of m) (formulas-of q) ≡ true
+  unfolding limits fits
+  within-limits =
+      let a = guard-passed 23 (every-plan (fits false (model-of m)) (model-of m) (formulas-of q)) (guard 25 (every-plan (fits true (model-of m)) (model-of m) (formulas-of q))) (asked .within) in
+      guarded (every-plan (fits true (model-of m)) (model-of m) (formulas-of q)) (a .1)
+    where
+      guarded : (t : Bool) → refusal (guard 25 t) ≡ 0 → t ≡ true
+      guarded true f = refl
+      guarded false f = absurd (omega arith)
+
+  -- An "equal" node has few plans in every state, and the table has their number.
+  pub few-plans : plan-total (model-of m) ((node-of q j) .n) s ≤ 65536
+  unfolding fits is-equal relation
+  few-plans =
+      let x : Node = node-of q j in
+      let here : Bool = every (length (model-of m .states)) (fits true (model-of m) (x .n) (relation (x .right))) in
+      let a = every-at _ (node-count q) (sym (nodes-all (fits true (model-of m)) (model-of m) q) ∙ within-limits) h in
+      let b : here ≡ true = ap (λ t. not t || here) (sym (eq-eqb (x .operator) 8 o)) ∙ a in
+      let c = every-at (fits true (model-of m) (x .n) (relation (x .right))) (length (model-of m .states)) b inside-model in
+      leb-true (plan-total (model-of m) (x .n) s) 65536 (ap (λ k. not (is-equal (relation k)) || leb (plan-total (model-of m) (x .n) s) 65536) (sym e) ∙ c)
+
+  pub counted-plans : getD counts (32 * (node-of q j) .n + s) 0 ≡ plan-total (model-of m) ((node-of q j) .n) s
+  unfolding totals.total totals.limit
+  counted-plans =
+      asked .counted .at ((node-of q j) .n) s (plan-here (asked .given) j h o .few) inside-model
+      ∙ min-eq-right {n = plan-total (model-of m) ((node-of q j) .n) s} {m = 65537} (omega (arith, few-plans))

@@ -1,0 +1,4 @@
+pub mod Truths
+pub mod Deciding
+pub mod Posing
+pub mod Announcing

@@ -1,0 +1,107 @@
+-- A "plan" is decided by its search, and any other state formula by its truth.
+use native.Mathlib.Omega.{arith}
+use mathlib.Core.Path.{sym, _∙_}
+use mathlib.Core.List.{[]}
+use Rattle.logic.specs.Formula.{sat}
+use Rattle.models.specs.Layout.{model-of}
+use Rattle.evaluation.specs.Reached.{formula}
+use Rattle.judging.proofs.Deciding.{other-verdict}
+use Rattle.judging.proofs.Posing.{posed-at}
+use Rattle.judging.proofs.Announcing.{announces-truth, announces-no, no-verdict, place-few}
+use borrow.Author.Needs.{needs}
+use Rattle.judging.proofs.at_node.Statement.{statement}
+use Rattle.judging.proofs.at_node.Tie as tie
+
+operator-requires : tie.Need-operator-requires
+operator-requires c κs = search needs
+
+truth-at-requires : tie.Need-truth-at-requires
+truth-at-requires c κs = search needs
+
+plain-requires : tie.Need-plain-requires
+plain-requires c κs = search needs
+
+same-length : tie.Need-same-length
+same-length c = search needs
+
+same-length-2 : tie.Need-same-length-2
+same-length-2 c = search needs
+
+returns : tie.Need-returns
+returns c = let S = c .before .before .before .before .before .before .before .before .before .before .before .before .before .before .before .before .before in
+    let P = S .pre .0 in
+    let N = S .pre .1 in
+    let x = c .before .before .before .before .before .truth-at in
+    announces-truth (sat (model-of (S .args .m .now)) (formula (S .args .q .now) (S .args .j)) (S .args .s) []) (S .args .choices .now)
+    (other-verdict (P .0 .given) (S .args .j) (S .args .s) (P .1) (λ o. c .before .before .before .before .before .before .before .before .if1 .taken (c .before .before .before .before .before .before .before .before .before .operator .ensures ∙ o))) (x .ensures (N .0 .1)) (c .plain .ensures)
+
+decide-requires : tie.Need-decide-requires
+decide-requires c κs = let S = c .before .before .before .before .before .before .before .before .before .before .before in
+    let P = S .pre .0 in
+    let N = S .pre .1 in
+    let o = sym (c .before .before .before .operator .ensures) ∙ c .before .before .if1 .left in
+    ((P .0, posed-at (P .0) (P .1) o (P .2) (N .0 .0 .under-plan o)), N .1 .0)
+
+show-requires : tie.Need-show-requires
+show-requires c κs = let S = c .before .before .before .before .before .before .before .before .before .before .before .before .before .before .before .before .before .before .before in
+    let P = S .pre .0 in
+    let N = S .pre .1 in
+    let o = sym (c .before .before .before .before .before .before .before .before .before .before .before .operator .ensures) ∙ c .before .before .before .before .before .before .before .before .before .before .if1 .left in
+    ((P .0, c .before .before .before .before .before .before .before .decide .ensures, c .before .before .if2 .taken), (P .1, o, P .2, N .1 .1))
+
+same-length-3 : tie.Need-same-length-3
+same-length-3 c = search needs
+
+same-length-4 : tie.Need-same-length-4
+same-length-4 c = search needs
+
+same-length-5 : tie.Need-same-length-5
+same-length-5 c = search needs
+
+returns-2 : tie.Need-returns-2
+returns-2 c = search needs
+
+cast-plain : tie.Need-cast-plain
+cast-plain c = let S = c .before .before .before .before .before .before .before .before .before .before .before .before .before .before .before .before .before in
+    let P = S .pre .0 in
+    let N = S .pre .1 in
+    let o = sym (c .before .before .before .before .before .before .before .before .before .operator .ensures) ∙ c .before .before .before .before .before .before .before .before .if1 .left in
+    record { fits = omega (arith, place-few (P .0) (S .args .j) (S .args .s) (P .1) o (P .2) (c .before .before .before .before .before .decide .ensures)) }
+
+plain-requires-2 : tie.Need-plain-requires-2
+plain-requires-2 c κs = search needs
+
+same-length-6 : tie.Need-same-length-6
+same-length-6 c = search needs
+
+same-length-7 : tie.Need-same-length-7
+same-length-7 c = search needs
+
+returns-3 : tie.Need-returns-3
+returns-3 c = let S = c .before .before .before .before .before .before .before .before .before .before .before .before .before .before .before .before .before .before in
+    let P = S .pre .0 in
+    let N = S .pre .1 in
+    let o = sym (c .before .before .before .before .before .before .before .before .before .before .operator .ensures) ∙ c .before .before .before .before .before .before .before .before .before .if1 .left in
+    announces-no (S .args .choices .now) (no-verdict (P .0) (S .args .j) (S .args .s) (P .1) o (P .2) (c .before .before .before .before .before .before .decide .ensures) (c .before .if2 .left)) (c .plain2 .ensures)
+
+pub at-node-spec : {M : Type 1} → statement M
+at-node-spec =
+    tie.close
+    (tie.spec
+    operator-requires
+    truth-at-requires
+    plain-requires
+    same-length
+    same-length-2
+    returns
+    decide-requires
+    show-requires
+    same-length-3
+    same-length-4
+    same-length-5
+    returns-2
+    cast-plain
+    plain-requires-2
+    same-length-6
+    same-length-7
+    returns-3)

@@ -1,0 +1,75 @@
+use native.Mathlib.Nat.{le-of-eq}
+use mathlib.Core.Path.{sym, _∙_}
+-- The tables are those of the question and the model.
+use Prim.Native.Nat.{ℕ}
+use lib.ListN.{length-replicate}
+use Rattle.models.proofs.Readable.{readable}
+use Rattle.judging.proofs.Announcing.{asked-at}
+use borrow.Author.Needs.{needs}
+use Rattle.judging.proofs.judged.Statement.{statement}
+use Rattle.judging.proofs.judged.Tie as tie
+
+used-entries-requires : tie.Need-used-entries-requires
+used-entries-requires c κs = search needs
+
+plan-totals-requires : tie.Need-plan-totals-requires
+plan-totals-requires c κs = (readable (c .before .before .before .before .before .args .m .now) (c .before .before .before .before .before .pre .0 .model-accepted), c .before .used-entries .ensures)
+
+depth-table-requires : tie.Need-depth-table-requires
+depth-table-requires c κs = search needs
+
+slice-aggregate-root-truth : tie.Need-slice-aggregate-root-truth
+slice-aggregate-root-truth c = search needs
+
+slice-aggregate-root-truth-2 : tie.Need-slice-aggregate-root-truth-2
+slice-aggregate-root-truth-2 c = search needs
+
+slice-aggregate-root-truth-3 : tie.Need-slice-aggregate-root-truth-3
+slice-aggregate-root-truth-3 c = search needs
+
+root-truth-requires : tie.Need-root-truth-requires
+root-truth-requires c κs = let S = c .before .before .before .before .before .before .before .before .before .before .before .before in
+    (asked-at (S .pre .0) (c .before .before .before .before .before .before .before .before .used-entries .ensures) (c .before .before .before .before .before .before .plan-totals .ensures) (c .before .before .before .before .before .depth-table .ensures), (le-of-eq (sym (length-replicate {A = ℕ} 65818 0)), le-of-eq (sym (length-replicate {A = ℕ} 4095 0))))
+
+slice-aggregate-at-root : tie.Need-slice-aggregate-at-root
+slice-aggregate-at-root c = search needs
+
+slice-aggregate-at-root-2 : tie.Need-slice-aggregate-at-root-2
+slice-aggregate-at-root-2 c = search needs
+
+slice-aggregate-at-root-3 : tie.Need-slice-aggregate-at-root-3
+slice-aggregate-at-root-3 c = search needs
+
+slice-aggregate-at-root-4 : tie.Need-slice-aggregate-at-root-4
+slice-aggregate-at-root-4 c = search needs
+
+at-root-requires : tie.Need-at-root-requires
+at-root-requires c κs = let S = c .before .before .before .before .before .before .before .before .before .before .before .before .before .before .before .before .before .before .before .before .before .before in
+    let k = c .before .before .before .before .before .before .before .before .before .root-truth .kept .1 .1 .1 .1 .1 in
+    ((asked-at (S .pre .0) (c .before .before .before .before .before .before .before .before .before .before .before .before .before .before .before .before .before .before .used-entries .ensures) (c .before .before .before .before .before .before .before .before .before .before .before .before .before .before .before .before .plan-totals .ensures) (c .before .before .before .before .before .before .before .before .before .before .before .before .before .before .before .depth-table .ensures), c .before .before .before .before .before .before .before .before .before .root-truth .ensures),
+    ((le-of-eq (sym (k .0 ∙ length-replicate {A = ℕ} 65818 0)), le-of-eq (sym (k .1 .0 ∙ length-replicate {A = ℕ} 4095 0))), S .pre .1))
+
+same-length : tie.Need-same-length
+same-length c = search needs
+
+returns : tie.Need-returns
+returns c = search needs
+
+pub judged-spec : {M : Type 1} → statement M
+judged-spec =
+    tie.close
+    (tie.spec
+    used-entries-requires
+    plan-totals-requires
+    depth-table-requires
+    slice-aggregate-root-truth
+    slice-aggregate-root-truth-2
+    slice-aggregate-root-truth-3
+    root-truth-requires
+    slice-aggregate-at-root
+    slice-aggregate-at-root-2
+    slice-aggregate-at-root-3
+    slice-aggregate-at-root-4
+    at-root-requires
+    same-length
+    returns)

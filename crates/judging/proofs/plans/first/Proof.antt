@@ -1,0 +1,112 @@
+-- Where the one total that meets the bound is whole, its first place decides; else no plan meets it.
+use Prim.Native.Nat.{ℕ, _+_, _*_, _≤_}
+use native.Mathlib.Omega.{arith}
+use mathlib.Core.Path.{_≡_, refl, sym, ap, subst, _∙_}
+use lib.ListN.{getD, take}
+use lib.Seq.{length-take-le}
+use borrow.Author.Tests.{not-true, not-false}
+use Rattle.logic.specs.Formula.{depth}
+use Rattle.logic.specs.Limits.{plan-total}
+use Rattle.models.specs.Layout.{model-of}
+use Rattle.questions.specs.Layout.{node-of}
+use Rattle.evaluation.specs.Reached.{formula}
+use Rattle.equal.proofs.Serving.{counts-right}
+use Rattle.tables.proofs.Marks.{given-readable}
+use Rattle.tables.proofs.Cones.{given-ordered}
+use Rattle.judging.proofs.Deciding.{few-plans, counted-plans}
+use Rattle.judging.proofs.Posing.{planned, bounded, before, looks, ready, placed-never, placed-at}
+use borrow.Author.Needs.{needs}
+use Rattle.judging.proofs.plans.first.Statement.{statement}
+use Rattle.judging.proofs.plans.first.Tie as tie
+
+-- The table's number of plans is their number.
+number : (S : tie.Start) {x n : ℕ} → x ≡ getD (S .args .counts .now) (32 * n + S .args .s) 0 → n ≡ (node-of (S .args .q .now) (S .args .j)) .n
+    → x ≡ plan-total (model-of (S .args .m .now)) ((node-of (S .args .q .now) (S .args .j)) .n) (S .args .s)
+number S e f = let P = S .pre .0 in
+    e ∙ ap (λ (i : ℕ). getD (S .args .counts .now) (32 * i + S .args .s) 0) f
+    ∙ counted-plans (P .0) (S .args .j) (S .args .s) (P .1 .node) (P .1 .is-plan) (S .pre .1 .0) (P .1 .state)
+
+steps-requires : tie.Need-steps-requires
+steps-requires c κs = search needs
+
+plans-requires : tie.Need-plans-requires
+plans-requires c κs = let P = c .before .before .before .before .before .before .pre .0 in
+    (omega (arith, planned (P .0 .given) (P .1) .few, c .steps .ensures), omega (arith, P .1 .state, given-readable (P .0 .given) .states))
+
+exact-total-requires : tie.Need-exact-total-requires
+exact-total-requires c κs = let P = c .before .before .before .before .before .before .before .pre .0 in bounded (P .0 .given) (P .1)
+
+returns : tie.Need-returns
+returns c = let S = c .before .before .before .before .before .before .before .before .before .before in
+    let P = S .pre .0 in
+    placed-never (P .0 .given) (P .1) (c .before .before .exact-total .ensures)
+    (number S (c .before .before .before .plans .ensures) (c .before .before .before .before .steps .ensures)) (not-true _ (c .if1 .taken))
+
+left-requires : tie.Need-left-requires
+left-requires c κs = search needs
+
+depth-at-requires : tie.Need-depth-at-requires
+depth-at-requires c κs = search needs
+
+cast-d : tie.Need-cast-d
+cast-d c = let P = c .before .before .before .before .before .before .before .before .before .before .before .before .pre .0 in
+    let d = looks (P .0 .given) (P .1) (P .0 .deep) (c .before .left .ensures) (c .depth-at .ensures) in
+    record { fits = omega (arith, planned (P .0 .given) (P .1) .deep, planned (P .0 .given) (P .1) .few) }
+
+slice-aggregate-cone : tie.Need-slice-aggregate-cone
+slice-aggregate-cone c = search needs
+
+cone-requires : tie.Need-cone-requires
+cone-requires c κs = let P = c .before .before .before .before .before .before .before .before .before .before .before .before .before .pre .0 in
+    let l = before (P .0 .given) (P .1) .0 in
+    (given-ordered (P .0 .given), P .0 .deep, omega (arith, c .before .before .left .ensures), refl)
+
+array-share-prefix-nodes : tie.Need-array-share-prefix-nodes
+array-share-prefix-nodes c = search needs
+
+slice-aggregate-first-equal : tie.Need-slice-aggregate-first-equal
+slice-aggregate-first-equal c = sym (length-take-le _ _ (omega (arith, c .before .before .cone .ensures .0, c .before .before .cone .kept .1 .1 .1 .0)))
+
+first-equal-requires : tie.Need-first-equal-requires
+first-equal-requires c κs = let S = c .before .before .before .before .before .before .before .before .before .before .before .before .before .before .before .before .before in
+    let P = S .pre .0 in
+    let k = c .before .before .before .cone .ensures in
+    let top = k .2 ∙ c .before .before .before .before .before .before .left .ensures in
+    let d = looks (P .0 .given) (P .1) (P .0 .deep) (c .before .before .before .before .before .before .left .ensures) (c .before .before .before .before .before .depth-at .ensures) in
+    let n = c .before .before .before .before .before .before .before .before .before .before .before .steps .ensures in
+    let few = few-plans (P .0) (S .args .j) (S .args .s) (P .1 .node) (P .1 .is-plan) (S .pre .1 .0) (P .1 .state) in
+    (record {
+      ready = ready (P .0 .given) (P .1) (P .0 .deep) (k .1) top;
+      uses = P .0 .given .used-right;
+      counts = counts-right (S .args .m .now) (S .args .counts .now) (P .0 .counted);
+      looks = d ∙ ap (λ (i : ℕ). depth (formula (S .args .q .now) i)) (sym top);
+    }, (omega (arith, planned (P .0 .given) (P .1) .deep), omega (arith, planned (P .0 .given) (P .1) .few),
+    subst (λ (i : ℕ). plan-total (model-of (S .args .m .now)) i (S .args .s) ≤ 65536) (sym n) few, S .pre .1 .1))
+
+same-length : tie.Need-same-length
+same-length c = search needs
+
+returns-2 : tie.Need-returns-2
+returns-2 c = let S = c .before .before .before .before .before .before .before .before .before .before .before .before .before .before .before .before .before .before .before .before in
+    let P = S .pre .0 in
+    placed-at (P .0 .given) (P .1) (c .before .before .before .before .before .before .before .before .before .before .before .before .exact-total .ensures) (number S (c .before .before .before .before .before .before .before .before .before .before .before .before .before .plans .ensures) (c .before .before .before .before .before .before .before .before .before .before .before .before .before .before .steps .ensures))
+    (take (c .before .before .before .before .before .before .cone .result) (c .before .before .before .before .before .before .cone .last .1 .1 .1 .0)) (not-false _ (c .before .before .before .before .before .before .before .before .before .before .if1 .left)) (c .before .before .before .before .before .before .before .before .before .before .before .before .before .before .steps .ensures) (c .before .before .before .before .before .before .cone .ensures .2 ∙ c .before .before .before .before .before .before .before .before .before .left .ensures) (c .before .before .first-equal .ensures)
+
+pub first-spec : {M : Type 1} → statement M
+first-spec =
+    tie.close
+    (tie.spec
+    steps-requires
+    plans-requires
+    exact-total-requires
+    returns
+    left-requires
+    depth-at-requires
+    cast-d
+    slice-aggregate-cone
+    cone-requires
+    array-share-prefix-nodes
+    slice-aggregate-first-equal
+    first-equal-requires
+    same-length
+    returns-2)

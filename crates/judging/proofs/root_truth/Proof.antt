@@ -1,0 +1,35 @@
+-- The table is right at all needed places before the root.
+use native.Mathlib.Nat.{le-refl}
+use Rattle.judging.proofs.Truths.{root-supplied}
+use borrow.Author.Needs.{needs}
+use Rattle.judging.proofs.root_truth.Statement.{statement}
+use Rattle.judging.proofs.root_truth.Tie as tie
+
+needed-requires : tie.Need-needed-requires
+needed-requires c κs = search needs
+
+slice-aggregate-truth-table : tie.Need-slice-aggregate-truth-table
+slice-aggregate-truth-table c = search needs
+
+truth-table-requires : tie.Need-truth-table-requires
+truth-table-requires c κs = search needs
+
+same-length : tie.Need-same-length
+same-length c = search needs
+
+same-length-2 : tie.Need-same-length-2
+same-length-2 c = search needs
+
+returns : tie.Need-returns
+returns c = root-supplied (c .before .before .before .before .before .before .before .before .before .before .before .before .before .before .pre .0 .given) (c .before .before .before .before .before .before .before .before .needed .ensures) _ (c .before .before .before .before .truth-table .ensures) (le-refl _)
+
+pub root-truth-spec : {M : Type 1} → statement M
+root-truth-spec =
+    tie.close
+    (tie.spec
+    needed-requires
+    slice-aggregate-truth-table
+    truth-table-requires
+    same-length
+    same-length-2
+    returns)

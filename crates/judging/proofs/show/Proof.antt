@@ -1,0 +1,121 @@
+-- The plan at the place found, or the plan found, extended, is the shown plan.
+use Prim.Native.Nat.{ℕ, _≤_, _<_}
+use native.Mathlib.Omega.{arith}
+use mathlib.Core.Path.{_≡_, sym, ap, subst, _∙_}
+use mathlib.Core.List.{List}
+use Rattle.logic.specs.Plan.{choices}
+use Rattle.logic.specs.Limits.{plan-total}
+use Rattle.models.specs.Layout.{model-of}
+use Rattle.questions.specs.Layout.{node-of}
+use Rattle.extension.specs.Choices.{splice}
+use Rattle.tables.proofs.Marks.{given-readable}
+use Rattle.judging.specs.Decided.{plan-at}
+use Rattle.judging.proofs.Deciding.{plan-here}
+use Rattle.judging.proofs.Posing.{depth-there}
+use Rattle.judging.proofs.Announcing.{announces-plan, equal-few, equal-inside, equal-verdict, place-few, led-verdict, led-choices}
+use borrow.Author.Needs.{needs}
+use Rattle.judging.proofs.show.Statement.{statement}
+use Rattle.judging.proofs.show.Tie as tie
+
+steps-requires : tie.Need-steps-requires
+steps-requires c κs = search needs
+
+right-requires : tie.Need-right-requires
+right-requires c κs = search needs
+
+nth-requires : tie.Need-nth-requires
+nth-requires c κs = let S = c .before .before .before .before .before .before .before .before .before in
+    let P = S .pre .0 in
+    let N = S .pre .1 in
+    let e = sym (c .before .before .right .ensures) ∙ c .before .if1 .taken in
+    let n = c .before .before .before .steps .ensures in
+    let few = equal-few (P .0) (S .args .j) (S .args .s) (N .0) (N .1) (N .2) (P .1) e .0 in
+    let here = equal-inside (P .0) (S .args .j) (S .args .s) (N .0) (N .1) (N .2) (P .1) e (P .2) in
+    ((P .0 .given .model-accepted, P .0 .given .used-right, P .0 .counted),
+    (N .2, omega (arith, plan-here (P .0 .given) (S .args .j) (N .0) (N .1) .few),
+    subst (λ (i : ℕ). plan-total (model-of (S .args .m .now)) i (S .args .s) ≤ 65536) (sym n) few,
+    subst (λ (i : ℕ). S .args .r .place < plan-total (model-of (S .args .m .now)) i (S .args .s)) (sym n) here, N .3))
+
+cast-with-plan : tie.Need-cast-with-plan
+cast-with-plan c = let S = c .before .before .before .before .before .before .before .before .before .before .before .before in
+    let P = S .pre .0 in
+    let N = S .pre .1 in
+    record { fits = omega (arith, place-few (P .0) (S .args .j) (S .args .s) (N .0) (N .1) (N .2) (P .1)) }
+
+add-with-plan : tie.Need-add-with-plan
+add-with-plan c = let S = c .before .before .before .before .before .before .before .before .before .before .before .before in
+    let P = S .pre .0 in
+    let N = S .pre .1 in
+    record { fits = omega (arith, place-few (P .0) (S .args .j) (S .args .s) (N .0) (N .1) (N .2) (P .1)) }
+
+with-plan-requires : tie.Need-with-plan-requires
+with-plan-requires c κs = search needs
+
+same-length : tie.Need-same-length
+same-length c = search needs
+
+returns : tie.Need-returns
+returns c = let S = c .before .before .before .before .before .before .before .before .before .before .before .before .before in
+    let P = S .pre .0 in
+    let N = S .pre .1 in
+    let e = sym (c .before .before .before .before .before .before .right .ensures) ∙ c .before .before .before .before .before .if1 .taken in
+    let n = c .before .before .before .before .before .before .before .steps .ensures in
+    announces-plan (S .args .choices .now) (equal-verdict (P .0) (S .args .j) (S .args .s) (N .0) (N .1) (N .2) (P .1) e (P .2)) n (c .with-plan .ensures)
+    (c .before .before .before .nth .ensures .0
+    ∙ ap (λ (i : ℕ). splice (S .args .choices .now) 0 (choices i (plan-at (model-of (S .args .m .now)) i (S .args .s) (S .args .r .place)))) n)
+
+left-requires : tie.Need-left-requires
+left-requires c κs = search needs
+
+depth-at-requires : tie.Need-depth-at-requires
+depth-at-requires c κs = search needs
+
+cast-extend : tie.Need-cast-extend
+cast-extend c = search needs
+
+cast-extend-2 : tie.Need-cast-extend-2
+cast-extend-2 c = search needs
+
+extend-requires : tie.Need-extend-requires
+extend-requires c κs = let S = c .before .before .before .before .before .before .before .before .before .before .before in
+    let P = S .pre .0 in
+    let N = S .pre .1 in
+    ((given-readable (P .0 .given), P .0 .given .used-right, N .2), (omega (arith, plan-here (P .0 .given) (S .args .j) (N .0) (N .1) .few, c .before .before .before .before .before .steps .ensures), N .3))
+
+with-plan-requires-2 : tie.Need-with-plan-requires-2
+with-plan-requires-2 c κs = search needs
+
+same-length-2 : tie.Need-same-length-2
+same-length-2 c = search needs
+
+returns-2 : tie.Need-returns-2
+returns-2 c = let S = c .before .before .before .before .before .before .before .before .before .before .before .before .before .before .before in
+    let P = S .pre .0 in
+    let N = S .pre .1 in
+    let e : (node-of (S .args .q .now) (S .args .j)) .right ≡ 2 → ⊥ = λ z. c .before .before .before .before .before .before .before .if1 .left (c .before .before .before .before .before .before .before .before .right .ensures ∙ z) in
+    let n = c .before .before .before .before .before .before .before .before .before .steps .ensures in
+    let d = depth-there (P .0) (N .0) (N .1) (c .before .before .before .before .before .before .left .ensures) (c .before .before .before .before .before .depth-at .ensures) in
+    announces-plan (S .args .choices .now) (led-verdict (P .0) (S .args .j) (S .args .s) (N .0) (N .1) (N .2) (P .1) e (P .2)) n (c .with-plan2 .ensures)
+    (c .before .before .before .extend .ensures .0
+    ∙ ap (λ (l : List ℕ). splice (S .args .choices .now) 0 l) (led-choices (P .0) (S .args .j) (S .args .s) (N .0) (N .1) (N .2) (P .1) e d n))
+
+pub show-spec : {M : Type 1} → statement M
+show-spec =
+    tie.close
+    (tie.spec
+    steps-requires
+    right-requires
+    nth-requires
+    cast-with-plan
+    add-with-plan
+    with-plan-requires
+    same-length
+    returns
+    left-requires
+    depth-at-requires
+    cast-extend
+    cast-extend-2
+    extend-requires
+    with-plan-requires-2
+    same-length-2
+    returns-2)

@@ -1,0 +1,36 @@
+-- What a judge is given: an accepted question for an accepted model, with the tables made for them.
+use Prim.Native.Nat.{ℕ, _≤_}
+use mathlib.Core.Path.{_≡_}
+use mathlib.Core.Bool.{true}
+use mathlib.Core.List.{List}
+use lib.ListN.{length}
+use Rattle.logic.specs.Checked.{refusal}
+use Rattle.logic.specs.Formula.{depth}
+use Rattle.logic.specs.Limits.{limits}
+use Rattle.blocks.specs.Bytes.{Bytes}
+use Rattle.models.specs.Layout.{state-count, action-count, prop-count, model-of}
+use Rattle.models.specs.Grounds.{read-model}
+use Rattle.questions.specs.Layout.{formulas-of}
+use Rattle.questions.specs.Grounds.{read-question}
+use Rattle.questions.specs.Tables.{table}
+use Rattle.limits.specs.Totals.{Totals}
+use Rattle.tables.specs.Need.{Given}
+
+-- What is judged: an accepted question for an accepted model, within the limits, with the tables of used outcomes, of the numbers of plans
+-- and of the depths.
+pub record Asked (m q : Bytes) (used counts depths : List ℕ) : Type 0 where
+  pub given : Given m q used
+  pub counted : Totals true (model-of m) counts
+  pub within : refusal (limits (model-of m) (formulas-of q)) ≡ 0
+  pub deep : depths ≡ table depth (formulas-of q)
+
+-- An accepted question for an accepted model, within the limits.
+pub record Served (m q : Bytes) : Type 0 where
+  pub model-accepted : refusal (read-model m) ≡ 0
+  pub question-accepted : refusal (read-question (state-count m) (action-count m) (prop-count m) q) ≡ 0
+  pub within : refusal (limits (model-of m) (formulas-of q)) ≡ 0
+
+-- The scratch of the searches is long enough: for a list of the totals of all plans, and for the choices of three plans. What is left in it
+-- is never promised.
+abbrev pub Scratch : List ℕ → List ℕ → Type 0
+Scratch lists scratch = (65818 ≤ length lists) × (4095 ≤ length scratch)

@@ -1,0 +1,4 @@
+pub mod Asked
+pub mod Truth
+pub mod Decided
+pub mod Announced

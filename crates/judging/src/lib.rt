@@ -1,0 +1,212 @@
+// Judging an accepted question on an accepted model: the truth of the nodes from the first to the last, where it matters, and the verdict
+// on the root.
+ghost use mathlib.Core.Path.{_≡_};
+ghost use Prim.Native.Nat.{_≤_, _<_};
+ghost use mathlib.Core.Bool.{true, false};
+ghost use lib.ListN.{length};
+ghost use Rattle.logic.specs.Formula.{depth};
+ghost use Rattle.logic.specs.Verdict.{verdict};
+ghost use Rattle.models.specs.Layout.{state-count, model-of};
+ghost use Rattle.questions.specs.Layout.{start-of, node-count, node-of, formulas-of};
+ghost use Rattle.questions.specs.Tables.{table};
+ghost use Rattle.evaluation.specs.Reached.{formula};
+ghost use Rattle.tables.specs.Need.{Given};
+ghost use Rattle.judging.specs.Asked.{Asked, Served, Scratch};
+ghost use Rattle.judging.specs.Truth.{Supplied};
+ghost use Rattle.judging.specs.Decided.{Posed, Decided};
+ghost use Rattle.judging.specs.Announced.{root, root-verdict, Announces, Weighs};
+mod plans;
+mod truth;
+use crate::plans::Decision;
+use crate::plans::decide;
+use crate::truth::truth_at;
+use crate::truth::truth_table;
+use evaluation::depth_at;
+use extension::extend;
+use limits::plan_totals;
+use models::used_entries;
+use questions::depth_table;
+use questions::left;
+use questions::node_count;
+use questions::operator;
+use questions::right;
+use questions::start;
+use questions::steps;
+use ranking::nth;
+use tables::cone;
+use tables::needed;
+use weighing::plan_weight;
+
+// What judging came to. `plan`: the root is "plan" and true, and then weight, steps and count are the shown plan's; on no, count is the
+// number of all plans for "equal", else 0.
+pub struct Outcome {
+    pub yes: bool,
+    pub plan: bool,
+    pub weight: u64,
+    pub steps: u32,
+    pub count: u32,
+}
+
+// An outcome without a plan.
+fn plain(yes: bool, count: u32) -> Outcome
+    ensures { λ r. ⌜ r ≡ record { yes = yes; plan = false; weight = 0; steps = 0; count = count } ⌝ }
+{
+    Outcome {
+        yes: yes,
+        plan: false,
+        weight: 0,
+        steps: 0,
+        count: count,
+    }
+}
+
+// An outcome with a plan: yes.
+fn with_plan(weight: u64, steps: u8, count: u32) -> Outcome
+    ensures { λ r. ⌜ r ≡ record { yes = true; plan = true; weight = weight; steps = steps; count = count } ⌝ }
+{
+    Outcome {
+        yes: true,
+        plan: true,
+        weight: weight,
+        steps: steps as u32,
+        count: count,
+    }
+}
+
+// The truth that the root in the start state turns on.
+fn root_truth(
+    m: &[u8],
+    q: &[u8],
+    used: &[u8; 264],
+    counts: &[u64; 224],
+    depths: &[u32],
+    lists: &mut [u64],
+    scratch: &mut [u8],
+) -> [u8; 1280]
+    requires { ⌜ Asked (now m) (now q) (now used) (now counts) (now depths) × Scratch (now lists) (now scratch) ⌝ }
+    ensures { λ r. ⌜ Supplied (now (m .entry)) (now (q .entry)) r (root (now (q .entry))) (start-of (now (q .entry))) ⌝ }
+{
+    let need = needed(m, q, used);
+    truth_table(m, q, used, counts, depths, &need, lists, scratch)
+}
+
+// Writes the choices of the plan that a search found for node j in s, and tells of it.
+fn show(
+    m: &[u8],
+    q: &[u8],
+    used: &[u8; 264],
+    counts: &[u64; 224],
+    depths: &[u32],
+    scratch: &[u8],
+    choices: &mut [u8],
+    j: u8,
+    s: u8,
+    r: Decision,
+) -> Outcome
+    requires { ⌜ Asked (now m) (now q) (now used) (now counts) (now depths) × Decided (now m) (now q) j s (now scratch) r × (r .met ≡ true) ⌝ }
+    requires { ⌜ (j < node-count (now q)) × (node-of (now q) j .operator ≡ 8) × (s < state-count (now m)) × (1365 ≤ length (now choices)) ⌝ }
+    ensures { λ x. ⌜ Announces (verdict (model-of (now (m .entry))) s (formula (now (q .entry)) j)) x (now (choices .entry)) (now (choices .exit)) ⌝ }
+{
+    let n = steps(q, j);
+    let weight = r.weight;
+    let place = r.place;
+    if right(q, j) == 2 {
+        nth(m, used, counts, choices, s, n, place as u64);
+        return with_plan(weight, n, 1 + place as u32);
+    }
+    let d = depth_at(depths, left(q, j));
+    extend(m, used, scratch, choices, s as usize, d as usize, n as usize);
+    with_plan(weight, n, 0)
+}
+
+// The verdict on node j, a state formula, in s.
+fn at_node(
+    m: &[u8],
+    q: &[u8],
+    used: &[u8; 264],
+    counts: &[u64; 224],
+    depths: &[u32],
+    truth: &[u8],
+    lists: &mut [u64],
+    scratch: &mut [u8],
+    choices: &mut [u8],
+    j: u8,
+    s: u8,
+) -> Outcome
+    requires { ⌜ Asked (now m) (now q) (now used) (now counts) (now depths) × (j < node-count (now q)) × (s < state-count (now m)) ⌝ }
+    requires { ⌜ Supplied (now m) (now q) (now truth) j s × (depth (formula (now q) j) ≡ 0) ⌝ }
+    requires { ⌜ Scratch (now lists) (now scratch) × (1365 ≤ length (now choices)) ⌝ }
+    ensures { λ r. ⌜ Announces (verdict (model-of (now (m .entry))) s (formula (now (q .entry)) j)) r (now (choices .entry)) (now (choices .exit)) ⌝ }
+{
+    if operator(q, j) != 8 {
+        let x = truth_at(m, q, used, counts, depths, truth, lists, scratch, j, s);
+        return plain(x == 1, 0);
+    }
+    let r = decide(m, q, used, counts, depths, truth, lists, scratch, j, s);
+    let met = r.met;
+    let place = r.place;
+    if met {
+        return show(m, q, used, counts, depths, scratch, choices, j, s, r);
+    }
+    plain(false, place as u32)
+}
+
+// The verdict on the root in the start state.
+fn at_root(
+    m: &[u8],
+    q: &[u8],
+    used: &[u8; 264],
+    counts: &[u64; 224],
+    depths: &[u32],
+    truth: &[u8],
+    lists: &mut [u64],
+    scratch: &mut [u8],
+    choices: &mut [u8],
+) -> Outcome
+    requires { ⌜ Asked (now m) (now q) (now used) (now counts) (now depths) × Supplied (now m) (now q) (now truth) (root (now q)) (start-of (now q)) ⌝ }
+    requires { ⌜ Scratch (now lists) (now scratch) × (1365 ≤ length (now choices)) ⌝ }
+    ensures { λ r. ⌜ Announces (root-verdict (now (m .entry)) (now (q .entry))) r (now (choices .entry)) (now (choices .exit)) ⌝ }
+{
+    let j = node_count(q) - 1;
+    at_node(m, q, used, counts, depths, truth, lists, scratch, choices, j, start(q))
+}
+
+// Judges a question: the verdict, and the choices of a shown plan from the beginning of `choices` on.
+pub fn judged(m: &[u8], q: &[u8], choices: &mut [u8]) -> Outcome
+    requires { ⌜ Served (now m) (now q) ⌝ }
+    requires { ⌜ 1365 ≤ length (now choices) ⌝ }
+    ensures { λ r. ⌜ Announces (root-verdict (now (m .entry)) (now (q .entry))) r (now (choices .entry)) (now (choices .exit)) ⌝ }
+{
+    let used = used_entries(m);
+    let counts = plan_totals(m, &used);
+    let depths = depth_table(q);
+    let mut lists = [0u64; 65818];
+    let mut scratch = [0u8; 4095];
+    let truth = root_truth(m, q, &used, &counts, &depths, &mut lists, &mut scratch);
+    at_root(m, q, &used, &counts, &depths, &truth, &mut lists, &mut scratch, choices)
+}
+
+// The total of the plan with these choices, for the condition of the root, which is a "plan".
+fn root_weight(m: &[u8], q: &[u8], used: &[u8; 264], depths: &[u32], truth: &[u8], choices: &[u8]) -> u64
+    requires { ⌜ Given (now m) (now q) (now used) × (now depths ≡ table depth (formulas-of (now q))) ⌝ }
+    requires { ⌜ Posed (now m) (now q) (now truth) (root (now q)) (start-of (now q)) ⌝ }
+    ensures { λ r. ⌜ Weighs (now (m .entry)) (now (q .entry)) (now (choices .entry)) r ⌝ }
+{
+    let j = node_count(q) - 1;
+    let mut nodes = [0u8; 40];
+    let k = cone(q, depths, left(q, j), &mut nodes);
+    plan_weight(m, used, q, depths, truth, &nodes[..k], choices, start(q), steps(q, j))
+}
+
+pub fn sheet_weight(m: &[u8], q: &[u8], choices: &[u8]) -> u64
+    requires { ⌜ Served (now m) (now q) × (node-of (now q) (root (now q)) .operator ≡ 8) ⌝ }
+    ensures { λ r. ⌜ Weighs (now (m .entry)) (now (q .entry)) (now (choices .entry)) r ⌝ }
+{
+    let used = used_entries(m);
+    let counts = plan_totals(m, &used);
+    let depths = depth_table(q);
+    let mut lists = [0u64; 65818];
+    let mut scratch = [0u8; 4095];
+    let truth = root_truth(m, q, &used, &counts, &depths, &mut lists, &mut scratch);
+    root_weight(m, q, &used, &depths, &truth, choices)
+}

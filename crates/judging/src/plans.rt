@@ -1,0 +1,157 @@
+// The truth of "plan" nodes, by search: for "less" and "greater" as deep as the condition looks, for "equal" among all plans.
+ghost use mathlib.Core.Path.{_≡_};
+ghost use Prim.Native.Nat.{_+_, _*_, _≤_, _<_};
+ghost use mathlib.Core.List.{[]};
+ghost use lib.ListN.{getD, length};
+ghost use Rattle.logic.specs.Formula.{depth, sat};
+ghost use Rattle.models.specs.Layout.{state-count, model-of};
+ghost use Rattle.questions.specs.Layout.{node-count, node-of, formulas-of};
+ghost use Rattle.questions.specs.Tables.{table};
+ghost use Rattle.evaluation.specs.Reached.{formula};
+ghost use Rattle.tables.specs.Need.{Given};
+ghost use Rattle.judging.specs.Asked.{Asked, Scratch};
+ghost use Rattle.judging.specs.Truth.{Told};
+ghost use Rattle.judging.specs.Decided.{Posed, Led, Placed, Decided};
+use blocks::wide;
+use bounds::exact_total;
+use bounds::meets;
+use bounds::power;
+use equal::first_equal;
+use evaluation::depth_at;
+use questions::left;
+use questions::right;
+use questions::steps;
+use search::find;
+use tables::cone;
+
+// What deciding a "plan" node in a state came to: whether it is true, the weight of the plan found, its place for "equal" (from 0; the
+// number of all plans if there is none), and the number of choices that the search left in the scratch.
+pub struct Decision {
+    pub met: bool,
+    pub weight: u64,
+    pub place: usize,
+    pub count: usize,
+}
+
+// "less" and "greater": the plan of least or of greatest weight decides, and a search as deep as the condition looks finds it.
+fn led(
+    m: &[u8],
+    q: &[u8],
+    used: &[u8; 264],
+    depths: &[u32],
+    truth: &[u8],
+    scratch: &mut [u8],
+    j: u8,
+    s: u8,
+) -> Decision
+    requires { ⌜ Given (now m) (now q) (now used) × (now depths ≡ table depth (formulas-of (now q))) × Posed (now m) (now q) (now truth) j s ⌝ }
+    requires { ⌜ (node-of (now q) j .right ≡ 2 → ⊥) × (4095 ≤ length (now scratch)) ⌝ }
+    ensures { λ r. ⌜ Led (now (m .entry)) (now (q .entry)) j s (now (scratch .exit)) r ⌝ }
+{
+    let c = left(q, j);
+    let d = depth_at(depths, c) as u8;
+    let mut nodes = [0u8; 40];
+    let k = cone(q, depths, c, &mut nodes);
+    let r = find(m, used, q, depths, truth, &nodes[..k], scratch, s, d, right(q, j) == 1);
+    let weight = power(wide(m, 5), steps(q, j) - d) * r.value;
+    Decision {
+        met: meets(m, q, j, weight),
+        weight: weight,
+        place: 0,
+        count: r.count,
+    }
+}
+
+// How many plans of n steps there are from s, by the table.
+fn plans(counts: &[u64; 224], n: u8, s: u8) -> usize
+    requires { ⌜ (n ≤ 6) × (s < 32) ⌝ }
+    ensures { λ r. ⌜ r ≡ getD (now (counts .entry)) (32 * n + s) 0 ⌝ }
+{
+    counts[32 * n as usize + s as usize] as usize
+}
+
+// "equal": the first plan decides that has the one total that meets the bound, if there is such a total.
+fn first(
+    m: &[u8],
+    q: &[u8],
+    used: &[u8; 264],
+    counts: &[u64; 224],
+    depths: &[u32],
+    truth: &[u8],
+    lists: &mut [u64],
+    j: u8,
+    s: u8,
+) -> Decision
+    requires { ⌜ Asked (now m) (now q) (now used) (now counts) (now depths) × Posed (now m) (now q) (now truth) j s ⌝ }
+    requires { ⌜ (node-of (now q) j .right ≡ 2) × (65818 ≤ length (now lists)) ⌝ }
+    ensures { λ r. ⌜ Placed (now (m .entry)) (now (q .entry)) j s r ⌝ }
+{
+    let n = steps(q, j);
+    let all = plans(counts, n, s);
+    let x = exact_total(m, q, j);
+    let total = x.total;
+    if !x.whole {
+        return Decision {
+            met: false,
+            weight: total,
+            place: all,
+            count: 0,
+        };
+    }
+    let c = left(q, j);
+    let d = depth_at(depths, c) as u8;
+    let mut nodes = [0u8; 40];
+    let k = cone(q, depths, c, &mut nodes);
+    let place = first_equal(m, q, depths, truth, &nodes[..k], used, counts, lists, s, d, n, total);
+    Decision {
+        met: place < all,
+        weight: total,
+        place: place,
+        count: 0,
+    }
+}
+
+// Decides the "plan" node j in s.
+pub fn decide(
+    m: &[u8],
+    q: &[u8],
+    used: &[u8; 264],
+    counts: &[u64; 224],
+    depths: &[u32],
+    truth: &[u8],
+    lists: &mut [u64],
+    scratch: &mut [u8],
+    j: u8,
+    s: u8,
+) -> Decision
+    requires { ⌜ Asked (now m) (now q) (now used) (now counts) (now depths) × Posed (now m) (now q) (now truth) j s ⌝ }
+    requires { ⌜ Scratch (now lists) (now scratch) ⌝ }
+    ensures { λ r. ⌜ Decided (now (m .entry)) (now (q .entry)) j s (now (scratch .exit)) r ⌝ }
+{
+    if right(q, j) == 2 {
+        return first(m, q, used, counts, depths, truth, lists, j, s);
+    }
+    led(m, q, used, depths, truth, scratch, j, s)
+}
+
+// Whether the "plan" node j is true in s.
+pub fn plan_true(
+    m: &[u8],
+    q: &[u8],
+    used: &[u8; 264],
+    counts: &[u64; 224],
+    depths: &[u32],
+    truth: &[u8],
+    lists: &mut [u64],
+    scratch: &mut [u8],
+    j: u8,
+    s: u8,
+) -> bool
+    requires { ⌜ Asked (now m) (now q) (now used) (now counts) (now depths) × (j < node-count (now q)) × (s < state-count (now m)) ⌝ }
+    requires { ⌜ (node-of (now q) j .operator ≡ 8) × Told (now m) (now q) (now truth) (node-of (now q) j .left) s ⌝ }
+    requires { ⌜ Scratch (now lists) (now scratch) ⌝ }
+    ensures { λ r. ⌜ r ≡ sat (model-of (now (m .entry))) (formula (now (q .entry)) j) s [] ⌝ }
+{
+    let r = decide(m, q, used, counts, depths, truth, lists, scratch, j, s);
+    r.met
+}

@@ -1,0 +1,43 @@
+-- The choices that were gathered are the sheet's.
+use Prim.Native.Nat.{_≤_}
+use mathlib.Core.Path.{sym, subst}
+use lib.ListN.{length}
+use lib.Seq.{length-take-le}
+use Rattle.sheets.specs.Layout.{sheet-of}
+use Rattle.judging.specs.Announced.{Weighs}
+use Rattle.plan_judge.proofs.Checks.{gathered-are}
+use borrow.Author.Needs.{needs}
+use Rattle.plan_judge.proofs.sheet_weight.Statement.{statement}
+use Rattle.plan_judge.proofs.sheet_weight.Tie as tie
+
+slice-aggregate-gather : tie.Need-slice-aggregate-gather
+slice-aggregate-gather c = search needs
+
+gather-requires : tie.Need-gather-requires
+gather-requires c κs = search needs
+
+array-share-prefix-choices : tie.Need-array-share-prefix-choices
+array-share-prefix-choices c = search needs
+
+slice-aggregate-sheet-weight : tie.Need-slice-aggregate-sheet-weight
+slice-aggregate-sheet-weight c = let l : c .before .before .gather .result ≤ length (c .before .before .gather .last .1 .0) = search needs in
+    sym (length-take-le (c .before .before .gather .result) (c .before .before .gather .last .1 .0) l)
+
+sheet-weight-requires : tie.Need-sheet-weight-requires
+sheet-weight-requires c κs = search needs
+
+returns : tie.Need-returns
+returns c = let S = c .before .before .before .before .before .before .before .before in
+    subst (λ l. Weighs (S .args .m .now) (S .args .q .now) l (c .sheet-weight .result))
+    (gathered-are (sheet-of (S .args .b .now) .choices) _ (c .before .before .before .gather .last .1 .0) (c .before .before .before .gather .result) (c .before .before .before .gather .ensures)) (c .sheet-weight .ensures)
+
+pub sheet-weight-spec : {M : Type 1} → statement M
+sheet-weight-spec =
+    tie.close
+    (tie.spec
+    slice-aggregate-gather
+    gather-requires
+    array-share-prefix-choices
+    slice-aggregate-sheet-weight
+    sheet-weight-requires
+    returns)

@@ -1,0 +1,21 @@
+-- By the outcome's two answers.
+use mathlib.Core.Path.{refl}
+use borrow.Author.Tests.{not-true, not-false}
+use Rattle.plan_judge.specs.State.{verdict-from}
+use Rattle.plan_judge.proofs.verdict_of.Statement.{statement}
+use Rattle.plan_judge.proofs.verdict_of.Tie as tie
+
+returns : tie.Need-returns
+unfolding verdict-from
+returns c = rw (not-true (c .before .before .args .o .yes) (c .if1 .taken)) refl
+
+returns-2 : tie.Need-returns-2
+unfolding verdict-from
+returns-2 c = rw (not-false (c .before .before .before .before .args .o .yes) (c .before .before .if1 .left), not-true (c .before .before .before .before .args .o .plan) (c .if2 .taken)) refl
+
+returns-3 : tie.Need-returns-3
+unfolding verdict-from
+returns-3 c = rw (not-false (c .before .before .before .before .args .o .yes) (c .before .before .if1 .left), not-false (c .before .before .before .before .args .o .plan) (c .if2 .left)) refl
+
+pub verdict-of-spec : {M : Type 1} → statement M
+verdict-of-spec = tie.close (tie.spec returns returns-2 returns-3)
