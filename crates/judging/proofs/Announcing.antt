@@ -2,19 +2,19 @@
 -- is the shown plan.
 use Prim.Native.Nat.{ℕ, _+_, _-_, _≤_, _<_}
 use native.Mathlib.Omega.{arith}
-use native.Mathlib.Nat.{le-antisymm, le-max-left, le-max-right}
+use native.Mathlib.Nat.{le-antisymm}
 use native.Mathlib.Decide.{ℕ-discrete}
 use mathlib.Core.Path.{_≡_, refl, sym, ap, ap₂, subst, _∙_}
 use mathlib.Core.Bool.{Bool, true, false, cond, _||_, false≢true}
 use mathlib.Core.List.{List, [], _++_}
-use lib.Dec.{eqb, ltb}
+use lib.Dec.{eqb}
 use lib.IntN.{pos}
-use lib.ListN.{length, take, drop, take-append-drop}
+use lib.ListN.{drop, take-append-drop}
 use borrow.Author.Tests.{ltb-true, ltb-false}
-use Rattle.logic.specs.Formula.{Formula, never, prop, neg, both, does, next, gain, plan, sat, depth, is-path, nonnegative, W}
+use Rattle.logic.specs.Formula.{Formula, never, prop, neg, both, does, next, gain, plan, depth, is-path, nonnegative, W}
 use Rattle.logic.specs.Quantity.{weights, order}
 use Rattle.logic.specs.Checked.{ok}
-use Rattle.logic.specs.Plan.{Plan, plans, choices}
+use Rattle.logic.specs.Plan.{Plan, choices}
 use Rattle.logic.specs.Choices.{plan-of}
 use Rattle.logic.specs.Limits.{plan-total}
 use Rattle.logic.specs.Order.{Is-plan}
@@ -40,7 +40,7 @@ use Rattle.judging.specs.declared.Outcome.{Outcome}
 use Rattle.judging.specs.declared.plans.Decision.{Decision}
 use Rattle.judging.specs.Asked.{Asked, Served}
 use Rattle.judging.specs.Truth.{Supplied}
-use Rattle.judging.specs.Decided.{condition, best, led-plan, plan-at, Posed, Led, Placed, Decided}
+use Rattle.judging.specs.Decided.{condition, best, led-plan, plan-at, Posed, Decided}
 use Rattle.judging.specs.Announced.{root, root-verdict, told, shown-choices, Announces, Weighs}
 use Rattle.judging.proofs.Deciding.{plan-here, given-model, given-states, led-yes, led-no, equal-yes, equal-no, few-plans, led-met}
 
@@ -50,11 +50,13 @@ splice-none : (l : List ℕ) → l ≡ splice l 0 []
 unfolding splice
 splice-none l = refl
 
-pub announces-plan : {v : Verdict} {w n k i : ℕ} {cs after : List ℕ} {x : Outcome} (before : List ℕ) → v ≡ yes-plan (pos w) n k cs → i ≡ n
-    → x ≡ record { yes = true; plan = true; weight = w; steps = i; count = k } → after ≡ splice before 0 cs → Announces v x before after
+pub announces-plan : {v : Verdict} {w n k i : ℕ} {cs l after : List ℕ} {x : Outcome} (before : List ℕ) → v ≡ yes-plan (pos w) n k cs → i ≡ n → l ≡ cs
+    → x ≡ record { yes = true; plan = true; weight = w; steps = i; count = k } → after ≡ splice before 0 l → Announces v x before after
 unfolding told shown-choices nonnegative
-announces-plan {w = w} {k = k} before e f g h =
-    (g ∙ ap (λ i. record { yes = true; plan = true; weight = w; steps = i; count = k }) f ∙ ap told (sym e), h ∙ ap (λ u. splice before 0 (shown-choices u)) (sym e))
+announces-plan {w = w} {k = k} before e f same g h = (
+  g ∙ ap (λ i. record { yes = true; plan = true; weight = w; steps = i; count = k }) f ∙ ap told (sym e),
+  h ∙ ap (splice before 0) same ∙ ap (λ u. splice before 0 (shown-choices u)) (sym e),
+)
 
 pub announces-no : {v : Verdict} {k : ℕ} {x : Outcome} (before : List ℕ) → v ≡ verdicts.no k
     → x ≡ record { yes = false; plan = false; weight = 0; steps = 0; count = k } → Announces v x before before
@@ -64,9 +66,10 @@ announces-no before e f = (f ∙ ap told (sym e), splice-none before ∙ ap (λ 
 pub announces-truth : {v : Verdict} {y : ℕ} {x : Outcome} (t : Bool) (before : List ℕ) → v ≡ cond t verdicts.yes (verdicts.no 0) → y ≡ one-if t
     → x ≡ record { yes = eqb y 1; plan = false; weight = 0; steps = 0; count = 0 } → Announces v x before before
 unfolding told shown-choices one-if
-announces-truth true before e f g =
-    (g ∙ ap (λ y. record { yes = eqb y 1; plan = false; weight = 0; steps = 0; count = 0 }) f ∙ ap told (sym e),
-    splice-none before ∙ ap (λ u. splice before 0 (shown-choices u)) (sym e))
+announces-truth true before e f g = (
+  g ∙ ap (λ y. record { yes = eqb y 1; plan = false; weight = 0; steps = 0; count = 0 }) f ∙ ap told (sym e),
+  splice-none before ∙ ap (λ u. splice before 0 (shown-choices u)) (sym e),
+)
 announces-truth false before e f g =
     announces-no before e (g ∙ ap (λ y. record { yes = eqb y 1; plan = false; weight = 0; steps = 0; count = 0 }) f)
 
@@ -110,7 +113,7 @@ module _ {m q : Bytes} {used counts depths : List ℕ} (asked : Asked m q used c
   pub led-verdict : ((node-of q j) .right ≡ 2 → ⊥) → r .met ≡ true
       → verdict (model-of m) s (formula q j)
       ≡ yes-plan (pos (r .weight)) ((node-of q j) .n) 0
-          (choices ((node-of q j) .n) (led-plan (model-of m) (condition q j) (depth (condition q j)) ((node-of q j) .n) s (eqb ((node-of q j) .right) 1)))
+      (choices ((node-of q j) .n) (led-plan (model-of m) (condition q j) (depth (condition q j)) ((node-of q j) .n) s (eqb ((node-of q j) .right) 1)))
   led-verdict e t =
       let p = x .led e in
       let cs : List ℕ = choices ((node-of q j) .n) (led-plan (model-of m) (condition q j) (depth (condition q j)) ((node-of q j) .n) s (eqb ((node-of q j) .right) 1)) in
@@ -190,9 +193,14 @@ module _ {m q : Bytes} {used : List ℕ} (given : Given m q used) where
   pub root-posed : {truth : Bytes} → Supplied m q truth (root q) (start-of q) → (node-of q (root q)) .operator ≡ 8 → Posed m q truth (root q) (start-of q)
   root-posed x o = record { node = root-node; is-plan = o; state = given-question given .starts; told = x .under-plan o }
 
-pub root-announces : (m q : Bytes) {j s : ℕ} {x : Outcome} (before : List ℕ) {after : List ℕ} → j ≡ root q → s ≡ start-of q
+-- The verdict on the root is that on the question read from the bytes.
+pub root-asked : (m q : Bytes) → root-verdict m q ≡ verdict (model-of m) ((question-of q) .start) ((question-of q) .root)
+unfolding question-of
+root-asked m q = refl
+
+pub root-announces : (m q : Bytes) {j s : ℕ} {x : Outcome} (before after : List ℕ) → j ≡ root q → s ≡ start-of q
     → Announces (verdict (model-of m) s (formula q j)) x before after → Announces (root-verdict m q) x before after
-root-announces m q {x = x} before {after} e f =
+root-announces m q {x = x} before after e f =
     subst (λ v. Announces v x before after) (ap₂ (λ s j. verdict (model-of m) s (formula q j)) f e)
 
 pub root-weighs : (m q cs l : Bytes) (r n s : ℕ) → n ≡ (node-of q (root q)) .n → s ≡ start-of q → root-of l ≡ (node-of q (root q)) .left

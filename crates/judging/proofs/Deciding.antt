@@ -1,9 +1,9 @@
 -- What a search's result decides. The search for "less" or "greater" goes as deep as the condition looks; the plan that it finds, gone on
 -- with first enabled actions, is the shown plan or none is. The search for "equal" finds the first place of the totals of all plans that
 -- has the one number that meets the bound, if there is such a number.
-use Prim.Native.Nat.{ℕ, zero, suc, _+_, _*_, _-_, _^_, _/_, _%_, _≤_, _<_}
+use Prim.Native.Nat.{ℕ, zero, suc, _+_, _*_, _-_, _≤_, _<_}
 use native.Mathlib.Omega.{arith}
-use native.Mathlib.Nat.{le-refl, le-antisymm, le-of-eq, eq-of-mul-eq-mul-left, mul-mod-right, div-add-mod, min-eq-right}
+use native.Mathlib.Nat.{le-refl, min-eq-right}
 use mathlib.Core.Path.{_≡_, refl, sym, ap, ap₂, subst, _∙_}
 use mathlib.Core.Bool.{Bool, true, false, not, cond, _&&_, _||_}
 use mathlib.Core.List.{List, [], _∷_, map}
@@ -11,20 +11,19 @@ use mathlib.Core.Option.{none, some}
 use lib.Dec.{eqb, leb, ltb}
 use lib.IntN.{pos}
 use lib.ListN.{getD, length, length-map, List·getD-map}
-use borrow.Author.Tests.{eq-eqb, ne-eqb, eqb-true, leb-true, le-leb, ltb-true, ltb-false}
+use borrow.Author.Tests.{eq-eqb, ne-eqb, leb-true, ltb-true, ltb-false}
 use Rattle.logic.specs.Lists.{every}
 use Rattle.logic.specs.Checked.{refusal, guard}
 use Rattle.logic.specs.Model.{Model}
-use Rattle.logic.specs.Quantity.{naturals, reversed, Relation, less, equal, greater, related, weights, order}
+use Rattle.logic.specs.Quantity.{naturals, reversed, Relation, less, equal, greater}
 use Rattle.logic.specs.Plan.{Plan, plans, paths, choices}
 use Rattle.logic.specs.Formula.{Formula, plan, Node, sat, W, meets, depth, relation, nonnegative}
 use Rattle.logic.specs.Total.{total, value-of}
-use Rattle.logic.specs.Recursion.{greatest, best-plan}
 use Rattle.logic.specs.Extension.{first-plan}
 use Rattle.logic.specs.Verdict.{plan-goal, goal, shown, announced, verdict, yes, no, yes-plan, is-equal}
 use Rattle.logic.specs.Accepted.{Accepted}
 use Rattle.logic.specs.Limits.{plan-total, every-plan, limits}
-use Rattle.logic.proofs.Tests.{same-test, not-true, none≢some, every-at, and-left, and-right}
+use Rattle.logic.proofs.Tests.{not-true, none≢some, every-at, and-left, and-right}
 use Rattle.logic.proofs.Checked.{guard-passed}
 use Rattle.logic.proofs.Sums.{naturals-additive, reversed-additive, sum-reversed}
 use Rattle.logic.proofs.PathWeights.{W-total}
@@ -141,29 +140,6 @@ module _ (M : Model) (accepted : Accepted M) (some-weight : 0 < M .denominator) 
         })
 
 -- ---- "equal"
-
-module _ (M : Model) (n p q : ℕ) (some-part : 1 ≤ q) where
-  abbrev bound : ℕ
-  bound = M .denominator ^ n * p
-
-  meets-equal : (w : ℕ) → meets naturals M n equal p q w ≡ eqb (q * w) bound
-  unfolding meets related
-  meets-equal w =
-      same-test _ _
-      (λ e. eq-eqb (q * w) bound (le-antisymm (leb-true (q * w) bound (and-left _ _ e)) (leb-true bound (q * w) (and-right (leb (q * w) bound) _ e))))
-      (λ e. let f = eqb-true (q * w) bound e in ap₂ _&&_ (le-leb (q * w) bound (le-of-eq f)) (le-leb bound (q * w) (le-of-eq (sym f))))
-
-  -- Where q divides the bound, the quotient alone meets it, and else no number does.
-  pub meets-quotient : bound % q ≡ 0 → (w : ℕ) → meets naturals M n equal p q w ≡ eqb w (bound / q)
-  meets-quotient z w =
-      let d : q * (bound / q) ≡ bound = omega (arith, z, div-add-mod bound q) in
-      meets-equal w
-      ∙ same-test _ _
-      (λ e. eq-eqb w (bound / q) (eq-of-mul-eq-mul-left q some-part w (bound / q) (eqb-true (q * w) bound e ∙ sym d)))
-      (λ e. eq-eqb (q * w) bound (ap (λ x. q * x) (eqb-true w (bound / q) e) ∙ d))
-
-  pub meets-none : (bound % q ≡ 0 → ⊥) → (w : ℕ) → meets naturals M n equal p q w ≡ false
-  meets-none z w = meets-equal w ∙ ne-eqb (q * w) bound (λ e. z (ap (λ x. x % q) (sym e) ∙ mul-mod-right q w))
 
 -- What stands past the end does not matter inside.
 inside-same : {A : Type 0} (l : List A) (i : ℕ) (d e : A) → i < length l → getD l i d ≡ getD l i e

@@ -96,7 +96,7 @@ module _ {m q : Bytes} {used truth : List ℕ} {j s : ℕ} (given : Given m q us
       let n : ℕ = (node-of q j) .n in
       let D : ℕ = model-of m .denominator in
       let g = greatest-small least (model-of m) (given-model given) d s (value-of (model-of m) (condition q j) s)
-          (subst (λ k. s < k) (sym (given-states given)) (posed .state)) (λ r. one-small _) in
+      (subst (λ k. s < k) (sym (given-states given)) (posed .state)) (λ r. one-small _) in
       let e : D ^ (n - d) * D ^ d ≡ denominator-of m ^ n = sym (pow-add D (n - d) d) ∙ power-sum (denominator-held m) (planned .deep) in
       le-trans (mul-le-mul-left (D ^ (n - d)) g) (subst (λ z. D ^ (n - d) * D ^ d ≤ z) e (le-refl _))
     where
@@ -156,11 +156,11 @@ module _ {m q : Bytes} {used truth : List ℕ} {j s : ℕ} (given : Given m q us
     unfolding totals
     placed-at l {k} {r} e steps top f =
         let g : listing.First (all-totals (model-of m) (condition q j) ((node-of q j) .n) s) x r =
-            subst (λ i. listing.First (all-totals (model-of m) (condition q j) i s) x r) steps
-            (subst (λ c. listing.First (all-totals (model-of m) (formula q c) k s) x r) top f) in
+        subst (λ i. listing.First (all-totals (model-of m) (condition q j) i s) x r) steps
+        (subst (λ c. listing.First (all-totals (model-of m) (formula q c) k s) x r) top f) in
         let z : length (all-totals (model-of m) (condition q j) ((node-of q j) .n) s) ≡ plan-total (model-of m) ((node-of q j) .n) s =
-            length-map (plans (model-of m) ((node-of q j) .n) s) (λ π. total naturals (model-of m) ((node-of q j) .n) s π (value-of (model-of m) (condition q j) s))
-            ∙ plan-count (model-of m) ((node-of q j) .n) s in
+        length-map (plans (model-of m) ((node-of q j) .n) s) (λ π. total naturals (model-of m) ((node-of q j) .n) s π (value-of (model-of m) (condition q j) s))
+        ∙ plan-count (model-of m) ((node-of q j) .n) s in
         record {
           first = first-led (model-of m) (condition q j) ((node-of q j) .n) s (nonnegative ((node-of q j) .p)) ((node-of q j) .q) x (exact .one e) r
               (g .none-before) (λ h. g .there (subst (λ i. r < i) (sym z) h));

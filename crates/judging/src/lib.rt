@@ -15,8 +15,10 @@ ghost use Rattle.judging.specs.Asked.{Asked, Served, Scratch};
 ghost use Rattle.judging.specs.Truth.{Supplied};
 ghost use Rattle.judging.specs.Decided.{Posed, Decided};
 ghost use Rattle.judging.specs.Announced.{root, root-verdict, Announces, Weighs};
+
 mod plans;
 mod truth;
+
 use crate::plans::Decision;
 use crate::plans::decide;
 use crate::truth::truth_at;
@@ -115,7 +117,15 @@ fn show(
         return with_plan(weight, n, 1 + place as u32);
     }
     let d = depth_at(depths, left(q, j));
-    extend(m, used, scratch, choices, s as usize, d as usize, n as usize);
+    extend(
+        m,
+        used,
+        scratch,
+        choices,
+        s as usize,
+        d as usize,
+        n as usize,
+    );
     with_plan(weight, n, 0)
 }
 
@@ -168,7 +178,19 @@ fn at_root(
     ensures { λ r. ⌜ Announces (root-verdict (now (m .entry)) (now (q .entry))) r (now (choices .entry)) (now (choices .exit)) ⌝ }
 {
     let j = node_count(q) - 1;
-    at_node(m, q, used, counts, depths, truth, lists, scratch, choices, j, start(q))
+    at_node(
+        m,
+        q,
+        used,
+        counts,
+        depths,
+        truth,
+        lists,
+        scratch,
+        choices,
+        j,
+        start(q),
+    )
 }
 
 // Judges a question: the verdict, and the choices of a shown plan from the beginning of `choices` on.
@@ -183,11 +205,28 @@ pub fn judged(m: &[u8], q: &[u8], choices: &mut [u8]) -> Outcome
     let mut lists = [0u64; 65818];
     let mut scratch = [0u8; 4095];
     let truth = root_truth(m, q, &used, &counts, &depths, &mut lists, &mut scratch);
-    at_root(m, q, &used, &counts, &depths, &truth, &mut lists, &mut scratch, choices)
+    at_root(
+        m,
+        q,
+        &used,
+        &counts,
+        &depths,
+        &truth,
+        &mut lists,
+        &mut scratch,
+        choices,
+    )
 }
 
-// The total of the plan with these choices, for the condition of the root, which is a "plan".
-fn root_weight(m: &[u8], q: &[u8], used: &[u8; 264], depths: &[u32], truth: &[u8], choices: &[u8]) -> u64
+// The total of the plan with these choices, by the tables.
+fn root_weight(
+    m: &[u8],
+    q: &[u8],
+    used: &[u8; 264],
+    depths: &[u32],
+    truth: &[u8],
+    choices: &[u8],
+) -> u64
     requires { ⌜ Given (now m) (now q) (now used) × (now depths ≡ table depth (formulas-of (now q))) ⌝ }
     requires { ⌜ Posed (now m) (now q) (now truth) (root (now q)) (start-of (now q)) ⌝ }
     ensures { λ r. ⌜ Weighs (now (m .entry)) (now (q .entry)) (now (choices .entry)) r ⌝ }
@@ -195,9 +234,20 @@ fn root_weight(m: &[u8], q: &[u8], used: &[u8; 264], depths: &[u32], truth: &[u8
     let j = node_count(q) - 1;
     let mut nodes = [0u8; 40];
     let k = cone(q, depths, left(q, j), &mut nodes);
-    plan_weight(m, used, q, depths, truth, &nodes[..k], choices, start(q), steps(q, j))
+    plan_weight(
+        m,
+        used,
+        q,
+        depths,
+        truth,
+        &nodes[..k],
+        choices,
+        start(q),
+        steps(q, j),
+    )
 }
 
+// The total of the plan with these choices, for the condition of the root, which is a "plan".
 pub fn sheet_weight(m: &[u8], q: &[u8], choices: &[u8]) -> u64
     requires { ⌜ Served (now m) (now q) × (node-of (now q) (root (now q)) .operator ≡ 8) ⌝ }
     ensures { λ r. ⌜ Weighs (now (m .entry)) (now (q .entry)) (now (choices .entry)) r ⌝ }

@@ -52,7 +52,18 @@ fn led(
     let d = depth_at(depths, c) as u8;
     let mut nodes = [0u8; 40];
     let k = cone(q, depths, c, &mut nodes);
-    let r = find(m, used, q, depths, truth, &nodes[..k], scratch, s, d, right(q, j) == 1);
+    let r = find(
+        m,
+        used,
+        q,
+        depths,
+        truth,
+        &nodes[..k],
+        scratch,
+        s,
+        d,
+        right(q, j) == 1,
+    );
     let weight = power(wide(m, 5), steps(q, j) - d) * r.value;
     Decision {
         met: meets(m, q, j, weight),
@@ -102,7 +113,20 @@ fn first(
     let d = depth_at(depths, c) as u8;
     let mut nodes = [0u8; 40];
     let k = cone(q, depths, c, &mut nodes);
-    let place = first_equal(m, q, depths, truth, &nodes[..k], used, counts, lists, s, d, n, total);
+    let place = first_equal(
+        m,
+        q,
+        depths,
+        truth,
+        &nodes[..k],
+        used,
+        counts,
+        lists,
+        s,
+        d,
+        n,
+        total,
+    );
     Decision {
         met: place < all,
         weight: total,

@@ -1,16 +1,13 @@
 -- How many choices the plan has with which choices begin: the reader stands behind them.
-use Prim.Native.Nat.{ℕ, zero, suc, _-_}
+use Prim.Native.Nat.{ℕ, _-_}
 use native.Mathlib.Omega.{arith}
-use mathlib.Core.Path.{_≡_, refl, sym, ap, _∙_}
-use mathlib.Core.Bool.{Bool, true, false}
-use mathlib.Core.List.{List, [], _∷_, _++_}
-use lib.Dec.{eqb}
+use mathlib.Core.Path.{_≡_, refl, ap, _∙_}
+use mathlib.Core.List.{List}
 use lib.ListN.{length, length-append}
-use Rattle.logic.specs.Lists.{any, is-empty}
-use Rattle.logic.specs.Checked.{Checked, ok, refused, refusal, _>>=_, _>>_, guard}
-use Rattle.logic.specs.Model.{Model, enabled, outcomes}
+use Rattle.logic.specs.Checked.{Checked, ok, refused}
+use Rattle.logic.specs.Model.{Model}
 use Rattle.logic.specs.Plan.{Plan, choices}
-use Rattle.logic.specs.Choices.{read-each, read-plan, plan-of}
+use Rattle.logic.specs.Choices.{read-plan}
 use Rattle.logic.proofs.Reading.{read-sound}
 use Rattle.sheets.specs.declared.plans.End.the-variants.{At, Refused}
 use Rattle.sheets.specs.Ends.{end-of}

@@ -32,8 +32,10 @@ same-length-3 : tie.Need-same-length-3
 same-length-3 c = search needs
 
 returns : tie.Need-returns
-returns c = let S = c .before .before .before .before .before .before .before .before .before .before .before .before .before .before .before .before .before .before .before in
-    root-announces (S .args .m .now) (S .args .q .now) (S .args .choices .now) (ap (λ (n : ℕ). n - 1) (c .before .before .before .before .before .before .before .before .before .before .before .node-count .ensures)) (c .before .before .before .before .before .before .before .start .ensures) (c .before .before .before .before .before .before .at-node .ensures)
+returns c = let R = c .before .before .before .before .before .before in
+    let S = R .before .before .before .before .before .before .before .before .before .before .before .before .before in
+    root-announces (S .args .m .now) (S .args .q .now) (S .args .choices .now) (R .at-node .last .1 .1 .1 .1 .1 .1 .1 .1 .0)
+    (ap (λ (n : ℕ). n - 1) (R .before .before .before .before .before .node-count .ensures)) (R .before .start .ensures) (R .at-node .ensures)
 
 pub at-root-spec : {M : Type 1} → statement M
 at-root-spec =

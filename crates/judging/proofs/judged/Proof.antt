@@ -1,7 +1,7 @@
-use native.Mathlib.Nat.{le-of-eq}
-use mathlib.Core.Path.{sym, _∙_}
 -- The tables are those of the question and the model.
 use Prim.Native.Nat.{ℕ}
+use native.Mathlib.Nat.{le-of-eq}
+use mathlib.Core.Path.{sym, _∙_}
 use lib.ListN.{length-replicate}
 use Rattle.models.proofs.Readable.{readable}
 use Rattle.judging.proofs.Announcing.{asked-at}
@@ -13,7 +13,9 @@ used-entries-requires : tie.Need-used-entries-requires
 used-entries-requires c κs = search needs
 
 plan-totals-requires : tie.Need-plan-totals-requires
-plan-totals-requires c κs = (readable (c .before .before .before .before .before .args .m .now) (c .before .before .before .before .before .pre .0 .model-accepted), c .before .used-entries .ensures)
+plan-totals-requires c κs = let U = c .before in
+    let S = U .before .before .before .before in
+    (readable (S .args .m .now) (S .pre .0 .model-accepted), U .used-entries .ensures)
 
 depth-table-requires : tie.Need-depth-table-requires
 depth-table-requires c κs = search needs
@@ -28,8 +30,10 @@ slice-aggregate-root-truth-3 : tie.Need-slice-aggregate-root-truth-3
 slice-aggregate-root-truth-3 c = search needs
 
 root-truth-requires : tie.Need-root-truth-requires
-root-truth-requires c κs = let S = c .before .before .before .before .before .before .before .before .before .before .before .before in
-    (asked-at (S .pre .0) (c .before .before .before .before .before .before .before .before .used-entries .ensures) (c .before .before .before .before .before .before .plan-totals .ensures) (c .before .before .before .before .before .depth-table .ensures), (le-of-eq (sym (length-replicate {A = ℕ} 65818 0)), le-of-eq (sym (length-replicate {A = ℕ} 4095 0))))
+root-truth-requires c κs = let D = c .before .before .before .before .before in
+    let S = D .before .before .before .before .before .before .before in
+    let a = asked-at (S .pre .0) (D .before .before .before .used-entries .ensures) (D .before .plan-totals .ensures) (D .depth-table .ensures) in
+    (a, (le-of-eq (sym (length-replicate {A = ℕ} 65818 0)), le-of-eq (sym (length-replicate {A = ℕ} 4095 0))))
 
 slice-aggregate-at-root : tie.Need-slice-aggregate-at-root
 slice-aggregate-at-root c = search needs
@@ -44,10 +48,14 @@ slice-aggregate-at-root-4 : tie.Need-slice-aggregate-at-root-4
 slice-aggregate-at-root-4 c = search needs
 
 at-root-requires : tie.Need-at-root-requires
-at-root-requires c κs = let S = c .before .before .before .before .before .before .before .before .before .before .before .before .before .before .before .before .before .before .before .before .before .before in
-    let k = c .before .before .before .before .before .before .before .before .before .root-truth .kept .1 .1 .1 .1 .1 in
-    ((asked-at (S .pre .0) (c .before .before .before .before .before .before .before .before .before .before .before .before .before .before .before .before .before .before .used-entries .ensures) (c .before .before .before .before .before .before .before .before .before .before .before .before .before .before .before .before .plan-totals .ensures) (c .before .before .before .before .before .before .before .before .before .before .before .before .before .before .before .depth-table .ensures), c .before .before .before .before .before .before .before .before .before .root-truth .ensures),
-    ((le-of-eq (sym (k .0 ∙ length-replicate {A = ℕ} 65818 0)), le-of-eq (sym (k .1 .0 ∙ length-replicate {A = ℕ} 4095 0))), S .pre .1))
+at-root-requires c κs = let R = c .before .before .before .before .before .before .before .before .before in
+    let D = R .before .before .before .before .before .before in
+    let S = D .before .before .before .before .before .before .before in
+    let a = asked-at (S .pre .0) (D .before .before .before .used-entries .ensures) (D .before .plan-totals .ensures) (D .depth-table .ensures) in
+    let k = R .root-truth .kept .1 .1 .1 .1 .1 in
+    let l = le-of-eq (sym (k .0 ∙ length-replicate {A = ℕ} 65818 0)) in
+    let c = le-of-eq (sym (k .1 .0 ∙ length-replicate {A = ℕ} 4095 0)) in
+    ((a, R .root-truth .ensures), ((l, c), S .pre .1))
 
 same-length : tie.Need-same-length
 same-length c = search needs

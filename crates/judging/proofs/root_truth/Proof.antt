@@ -21,7 +21,9 @@ same-length-2 : tie.Need-same-length-2
 same-length-2 c = search needs
 
 returns : tie.Need-returns
-returns c = root-supplied (c .before .before .before .before .before .before .before .before .before .before .before .before .before .before .pre .0 .given) (c .before .before .before .before .before .before .before .before .needed .ensures) _ (c .before .before .before .before .truth-table .ensures) (le-refl _)
+returns c = let T = c .before .before .before .before in
+    let N = T .before .before .before .before in
+    root-supplied (N .before .before .before .before .before .before .pre .0 .given) (N .needed .ensures) _ (T .truth-table .ensures) (le-refl _)
 
 pub root-truth-spec : {M : Type 1} → statement M
 root-truth-spec =

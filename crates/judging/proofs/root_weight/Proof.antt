@@ -42,7 +42,8 @@ array-share-prefix-nodes : tie.Need-array-share-prefix-nodes
 array-share-prefix-nodes c = search needs
 
 slice-aggregate-plan-weight : tie.Need-slice-aggregate-plan-weight
-slice-aggregate-plan-weight c = sym (length-take-le _ _ (omega (arith, c .before .before .cone .ensures .0, c .before .before .cone .kept .1 .1 .1 .0)))
+slice-aggregate-plan-weight c = let K = c .before .before in
+    sym (length-take-le _ _ (omega (arith, K .cone .ensures .0, K .cone .kept .1 .1 .1 .0)))
 
 start-requires : tie.Need-start-requires
 start-requires c κs = search needs
@@ -51,20 +52,27 @@ steps-requires : tie.Need-steps-requires
 steps-requires c κs = search needs
 
 plan-weight-requires : tie.Need-plan-weight-requires
-plan-weight-requires c κs = let S = c .before .before .before .before .before .before .before .before .before .before .before .before .before in
+plan-weight-requires c κs = let K = c .before .before .before .before in
+    let S = K .before .before .before .before .before .before .before .before .before in
     let G = S .pre .0 .0 in
-    let k = c .before .before .before .before .cone .ensures in
-    let top = k .2 ∙ at-root S (c .before .before .before .before .before .before .before .node-count .ensures) (c .before .before .before .before .before .before .left .ensures) in
-    let l : List ℕ = take (c .before .before .before .before .cone .result) (c .before .before .before .before .cone .last .1 .1 .1 .0) in
-    let n = c .steps .ensures ∙ ap (λ (i : ℕ). (node-of (S .args .q .now) (i - 1)) .n) (c .before .before .before .before .before .before .before .node-count .ensures) in
-    ((subst (λ (s : ℕ). Ready (S .args .m .now) (S .args .q .now) s (S .args .depths .now) (S .args .truth .now) l) (sym (c .before .start .ensures)) (ready G (S .pre .1) (S .pre .0 .1) (k .1) top), G .used-right),
-    (omega (arith, planned G (S .pre .1) .deep, ap (λ (i : ℕ). depth (formula (S .args .q .now) i)) top), omega (arith, planned G (S .pre .1) .few)))
+    let top = K .cone .ensures .2 ∙ at-root S (K .before .before .before .node-count .ensures) (K .before .before .left .ensures) in
+    let l : List ℕ = take (K .cone .result) (K .cone .last .1 .1 .1 .0) in
+    let n = c .steps .ensures ∙ ap (λ (i : ℕ). (node-of (S .args .q .now) (i - 1)) .n) (K .before .before .before .node-count .ensures) in (
+      (
+        subst (λ (s : ℕ). Ready (S .args .m .now) (S .args .q .now) s (S .args .depths .now) (S .args .truth .now) l) (sym (c .before .start .ensures))
+            (ready G (S .pre .1) (S .pre .0 .1) (K .cone .ensures .1) top),
+        G .used-right,
+      ),
+      (omega (arith, planned G (S .pre .1) .deep, ap (λ (i : ℕ). depth (formula (S .args .q .now) i)) top), omega (arith, planned G (S .pre .1) .few)),
+    )
 
 returns : tie.Need-returns
-returns c = let S = c .before .before .before .before .before .before .before .before .before .before .before .before .before .before in
-    let n = c .before .steps .ensures ∙ ap (λ (i : ℕ). (node-of (S .args .q .now) (i - 1)) .n) (c .before .before .before .before .before .before .before .before .node-count .ensures) in
-    root-weighs (S .args .m .now) (S .args .q .now) (S .args .choices .now) (take (c .before .before .before .before .before .cone .result) (c .before .before .before .before .before .cone .last .1 .1 .1 .0)) (c .plan-weight .result) (c .before .steps .result) (c .before .before .start .result)
-    n (c .before .before .start .ensures) (c .before .before .before .before .before .cone .ensures .2 ∙ at-root S (c .before .before .before .before .before .before .before .before .node-count .ensures) (c .before .before .before .before .before .before .before .left .ensures)) (c .plan-weight .ensures)
+returns c = let K = c .before .before .before .before .before in
+    let S = K .before .before .before .before .before .before .before .before .before in
+    let n = c .before .steps .ensures ∙ ap (λ (i : ℕ). (node-of (S .args .q .now) (i - 1)) .n) (K .before .before .before .node-count .ensures) in
+    root-weighs (S .args .m .now) (S .args .q .now) (S .args .choices .now) (take (K .cone .result) (K .cone .last .1 .1 .1 .0))
+    (c .plan-weight .result) (c .before .steps .result) (c .before .before .start .result) n (c .before .before .start .ensures)
+    (K .cone .ensures .2 ∙ at-root S (K .before .before .before .node-count .ensures) (K .before .before .left .ensures)) (c .plan-weight .ensures)
 
 pub root-weight-spec : {M : Type 1} → statement M
 root-weight-spec =

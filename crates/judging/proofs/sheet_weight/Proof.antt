@@ -13,7 +13,9 @@ used-entries-requires : tie.Need-used-entries-requires
 used-entries-requires c κs = search needs
 
 plan-totals-requires : tie.Need-plan-totals-requires
-plan-totals-requires c κs = (readable (c .before .before .before .before .before .args .m .now) (c .before .before .before .before .before .pre .0 .model-accepted), c .before .used-entries .ensures)
+plan-totals-requires c κs = let U = c .before in
+    let S = U .before .before .before .before in
+    (readable (S .args .m .now) (S .pre .0 .model-accepted), U .used-entries .ensures)
 
 depth-table-requires : tie.Need-depth-table-requires
 depth-table-requires c κs = search needs
@@ -28,8 +30,10 @@ slice-aggregate-root-truth-3 : tie.Need-slice-aggregate-root-truth-3
 slice-aggregate-root-truth-3 c = search needs
 
 root-truth-requires : tie.Need-root-truth-requires
-root-truth-requires c κs = let S = c .before .before .before .before .before .before .before .before .before .before .before .before in
-    (asked-at (S .pre .0) (c .before .before .before .before .before .before .before .before .used-entries .ensures) (c .before .before .before .before .before .before .plan-totals .ensures) (c .before .before .before .before .before .depth-table .ensures), (le-of-eq (sym (length-replicate {A = ℕ} 65818 0)), le-of-eq (sym (length-replicate {A = ℕ} 4095 0))))
+root-truth-requires c κs = let D = c .before .before .before .before .before in
+    let S = D .before .before .before .before .before .before .before in
+    let a = asked-at (S .pre .0) (D .before .before .before .used-entries .ensures) (D .before .plan-totals .ensures) (D .depth-table .ensures) in
+    (a, (le-of-eq (sym (length-replicate {A = ℕ} 65818 0)), le-of-eq (sym (length-replicate {A = ℕ} 4095 0))))
 
 slice-aggregate-root-weight : tie.Need-slice-aggregate-root-weight
 slice-aggregate-root-weight c = search needs
@@ -38,9 +42,11 @@ slice-aggregate-root-weight-2 : tie.Need-slice-aggregate-root-weight-2
 slice-aggregate-root-weight-2 c = search needs
 
 root-weight-requires : tie.Need-root-weight-requires
-root-weight-requires c κs = let S = c .before .before .before .before .before .before .before .before .before .before .before .before .before .before .before .before .before .before in
-    let given = asked-at (S .pre .0) (c .before .before .before .before .before .before .before .before .before .before .before .before .before .before .used-entries .ensures) (c .before .before .before .before .before .before .before .before .before .before .before .before .plan-totals .ensures) (c .before .before .before .before .before .before .before .before .before .before .before .depth-table .ensures) .given in
-    ((given, c .before .before .before .before .before .before .before .before .before .before .before .depth-table .ensures), root-posed given (c .before .before .before .before .before .root-truth .ensures) (S .pre .1))
+root-weight-requires c κs = let R = c .before .before .before .before .before in
+    let D = R .before .before .before .before .before .before in
+    let S = D .before .before .before .before .before .before .before in
+    let a = asked-at (S .pre .0) (D .before .before .before .used-entries .ensures) (D .before .plan-totals .ensures) (D .depth-table .ensures) in
+    ((a .given, a .deep), root-posed (a .given) (R .root-truth .ensures) (S .pre .1))
 
 returns : tie.Need-returns
 returns c = search needs

@@ -2,12 +2,10 @@
 use Prim.Native.Nat.{ℕ, _≤_, _<_}
 use native.Mathlib.Omega.{arith}
 use mathlib.Core.Path.{_≡_, sym, ap, subst, _∙_}
-use mathlib.Core.List.{List}
 use Rattle.logic.specs.Plan.{choices}
 use Rattle.logic.specs.Limits.{plan-total}
 use Rattle.models.specs.Layout.{model-of}
 use Rattle.questions.specs.Layout.{node-of}
-use Rattle.extension.specs.Choices.{splice}
 use Rattle.tables.proofs.Marks.{given-readable}
 use Rattle.judging.specs.Decided.{plan-at}
 use Rattle.judging.proofs.Deciding.{plan-here}
@@ -24,17 +22,23 @@ right-requires : tie.Need-right-requires
 right-requires c κs = search needs
 
 nth-requires : tie.Need-nth-requires
-nth-requires c κs = let S = c .before .before .before .before .before .before .before .before .before in
+nth-requires c κs = let R = c .before .before in
+    let S = R .before .before .before .before .before .before .before in
     let P = S .pre .0 in
     let N = S .pre .1 in
-    let e = sym (c .before .before .right .ensures) ∙ c .before .if1 .taken in
-    let n = c .before .before .before .steps .ensures in
+    let e = sym (R .right .ensures) ∙ c .before .if1 .taken in
+    let n = R .before .steps .ensures in
     let few = equal-few (P .0) (S .args .j) (S .args .s) (N .0) (N .1) (N .2) (P .1) e .0 in
-    let here = equal-inside (P .0) (S .args .j) (S .args .s) (N .0) (N .1) (N .2) (P .1) e (P .2) in
-    ((P .0 .given .model-accepted, P .0 .given .used-right, P .0 .counted),
-    (N .2, omega (arith, plan-here (P .0 .given) (S .args .j) (N .0) (N .1) .few),
-    subst (λ (i : ℕ). plan-total (model-of (S .args .m .now)) i (S .args .s) ≤ 65536) (sym n) few,
-    subst (λ (i : ℕ). S .args .r .place < plan-total (model-of (S .args .m .now)) i (S .args .s)) (sym n) here, N .3))
+    let here = equal-inside (P .0) (S .args .j) (S .args .s) (N .0) (N .1) (N .2) (P .1) e (P .2) in (
+      (P .0 .given .model-accepted, P .0 .given .used-right, P .0 .counted),
+      (
+        N .2,
+        omega (arith, plan-here (P .0 .given) (S .args .j) (N .0) (N .1) .few),
+        subst (λ (i : ℕ). plan-total (model-of (S .args .m .now)) i (S .args .s) ≤ 65536) (sym n) few,
+        subst (λ (i : ℕ). S .args .r .place < plan-total (model-of (S .args .m .now)) i (S .args .s)) (sym n) here,
+        N .3,
+      ),
+    )
 
 cast-with-plan : tie.Need-cast-with-plan
 cast-with-plan c = let S = c .before .before .before .before .before .before .before .before .before .before .before .before in
@@ -55,14 +59,14 @@ same-length : tie.Need-same-length
 same-length c = search needs
 
 returns : tie.Need-returns
-returns c = let S = c .before .before .before .before .before .before .before .before .before .before .before .before .before in
+returns c = let R = c .before .before .before .before .before .before in
+    let S = R .before .before .before .before .before .before .before in
     let P = S .pre .0 in
     let N = S .pre .1 in
-    let e = sym (c .before .before .before .before .before .before .right .ensures) ∙ c .before .before .before .before .before .if1 .taken in
-    let n = c .before .before .before .before .before .before .before .steps .ensures in
-    announces-plan (S .args .choices .now) (equal-verdict (P .0) (S .args .j) (S .args .s) (N .0) (N .1) (N .2) (P .1) e (P .2)) n (c .with-plan .ensures)
-    (c .before .before .before .nth .ensures .0
-    ∙ ap (λ (i : ℕ). splice (S .args .choices .now) 0 (choices i (plan-at (model-of (S .args .m .now)) i (S .args .s) (S .args .r .place)))) n)
+    let e = sym (R .right .ensures) ∙ c .before .before .before .before .before .if1 .taken in
+    let n = R .before .steps .ensures in
+    announces-plan (S .args .choices .now) (equal-verdict (P .0) (S .args .j) (S .args .s) (N .0) (N .1) (N .2) (P .1) e (P .2)) n
+    (ap (λ (i : ℕ). choices i (plan-at (model-of (S .args .m .now)) i (S .args .s) (S .args .r .place))) n) (c .with-plan .ensures) (c .before .before .before .nth .ensures .0)
 
 left-requires : tie.Need-left-requires
 left-requires c κs = search needs
@@ -77,10 +81,12 @@ cast-extend-2 : tie.Need-cast-extend-2
 cast-extend-2 c = search needs
 
 extend-requires : tie.Need-extend-requires
-extend-requires c κs = let S = c .before .before .before .before .before .before .before .before .before .before .before in
+extend-requires c κs = let R = c .before .before .before .before in
+    let S = R .before .before .before .before .before .before .before in
     let P = S .pre .0 in
     let N = S .pre .1 in
-    ((given-readable (P .0 .given), P .0 .given .used-right, N .2), (omega (arith, plan-here (P .0 .given) (S .args .j) (N .0) (N .1) .few, c .before .before .before .before .before .steps .ensures), N .3))
+    let few = plan-here (P .0 .given) (S .args .j) (N .0) (N .1) .few in
+    ((given-readable (P .0 .given), P .0 .given .used-right, N .2), (omega (arith, R .before .steps .ensures), N .3))
 
 with-plan-requires-2 : tie.Need-with-plan-requires-2
 with-plan-requires-2 c κs = search needs
@@ -89,15 +95,15 @@ same-length-2 : tie.Need-same-length-2
 same-length-2 c = search needs
 
 returns-2 : tie.Need-returns-2
-returns-2 c = let S = c .before .before .before .before .before .before .before .before .before .before .before .before .before .before .before in
+returns-2 c = let R = c .before .before .before .before .before .before .before .before in
+    let S = R .before .before .before .before .before .before .before in
     let P = S .pre .0 in
     let N = S .pre .1 in
-    let e : (node-of (S .args .q .now) (S .args .j)) .right ≡ 2 → ⊥ = λ z. c .before .before .before .before .before .before .before .if1 .left (c .before .before .before .before .before .before .before .before .right .ensures ∙ z) in
-    let n = c .before .before .before .before .before .before .before .before .before .steps .ensures in
+    let e : (node-of (S .args .q .now) (S .args .j)) .right ≡ 2 → ⊥ = λ z. c .before .before .before .before .before .before .before .if1 .left (R .right .ensures ∙ z) in
+    let n = R .before .steps .ensures in
     let d = depth-there (P .0) (N .0) (N .1) (c .before .before .before .before .before .before .left .ensures) (c .before .before .before .before .before .depth-at .ensures) in
-    announces-plan (S .args .choices .now) (led-verdict (P .0) (S .args .j) (S .args .s) (N .0) (N .1) (N .2) (P .1) e (P .2)) n (c .with-plan2 .ensures)
-    (c .before .before .before .extend .ensures .0
-    ∙ ap (λ (l : List ℕ). splice (S .args .choices .now) 0 l) (led-choices (P .0) (S .args .j) (S .args .s) (N .0) (N .1) (N .2) (P .1) e d n))
+    announces-plan (S .args .choices .now) (led-verdict (P .0) (S .args .j) (S .args .s) (N .0) (N .1) (N .2) (P .1) e (P .2)) n
+    (led-choices (P .0) (S .args .j) (S .args .s) (N .0) (N .1) (N .2) (P .1) e d n) (c .with-plan2 .ensures) (c .before .before .before .extend .ensures .0)
 
 pub show-spec : {M : Type 1} → statement M
 show-spec =

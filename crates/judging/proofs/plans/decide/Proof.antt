@@ -1,5 +1,5 @@
 -- By the relation, one search or the other.
-use mathlib.Core.Path.{_≡_, sym, _∙_}
+use mathlib.Core.Path.{sym, _∙_}
 use borrow.Author.Needs.{needs}
 use Rattle.judging.proofs.plans.decide.Statement.{statement}
 use Rattle.judging.proofs.plans.decide.Tie as tie

@@ -65,32 +65,46 @@ array-share-prefix-nodes : tie.Need-array-share-prefix-nodes
 array-share-prefix-nodes c = search needs
 
 slice-aggregate-first-equal : tie.Need-slice-aggregate-first-equal
-slice-aggregate-first-equal c = sym (length-take-le _ _ (omega (arith, c .before .before .cone .ensures .0, c .before .before .cone .kept .1 .1 .1 .0)))
+slice-aggregate-first-equal c = let K = c .before .before in
+    sym (length-take-le _ _ (omega (arith, K .cone .ensures .0, K .cone .kept .1 .1 .1 .0)))
 
 first-equal-requires : tie.Need-first-equal-requires
-first-equal-requires c κs = let S = c .before .before .before .before .before .before .before .before .before .before .before .before .before .before .before .before .before in
-    let P = S .pre .0 in
-    let k = c .before .before .before .cone .ensures in
-    let top = k .2 ∙ c .before .before .before .before .before .before .left .ensures in
-    let d = looks (P .0 .given) (P .1) (P .0 .deep) (c .before .before .before .before .before .before .left .ensures) (c .before .before .before .before .before .depth-at .ensures) in
-    let n = c .before .before .before .before .before .before .before .before .before .before .before .steps .ensures in
-    let few = few-plans (P .0) (S .args .j) (S .args .s) (P .1 .node) (P .1 .is-plan) (S .pre .1 .0) (P .1 .state) in
-    (record {
-      ready = ready (P .0 .given) (P .1) (P .0 .deep) (k .1) top;
-      uses = P .0 .given .used-right;
-      counts = counts-right (S .args .m .now) (S .args .counts .now) (P .0 .counted);
-      looks = d ∙ ap (λ (i : ℕ). depth (formula (S .args .q .now) i)) (sym top);
-    }, (omega (arith, planned (P .0 .given) (P .1) .deep), omega (arith, planned (P .0 .given) (P .1) .few),
-    subst (λ (i : ℕ). plan-total (model-of (S .args .m .now)) i (S .args .s) ≤ 65536) (sym n) few, S .pre .1 .1))
+first-equal-requires c κs = let K = c .before .before .before in
+    let S = K .before .before .before .before .before .before .before .before .before .before .before .before .before .before in
+    let A = S .pre .0 .0 in
+    let P = S .pre .0 .1 in
+    let top = K .cone .ensures .2 ∙ K .before .before .before .left .ensures in
+    let d = looks (A .given) P (A .deep) (K .before .before .before .left .ensures) (K .before .before .depth-at .ensures) in
+    let n = K .before .before .before .before .before .before .before .before .steps .ensures in
+    let few = few-plans A (S .args .j) (S .args .s) (P .node) (P .is-plan) (S .pre .1 .0) (P .state) in (
+      record {
+        ready = ready (A .given) P (A .deep) (K .cone .ensures .1) top;
+        uses = A .given .used-right;
+        counts = counts-right (S .args .m .now) (S .args .counts .now) (A .counted);
+        looks = d ∙ ap (λ (i : ℕ). depth (formula (S .args .q .now) i)) (sym top);
+      },
+      (
+        omega (arith, planned (A .given) P .deep),
+        omega (arith, planned (A .given) P .few),
+        subst (λ (i : ℕ). plan-total (model-of (S .args .m .now)) i (S .args .s) ≤ 65536) (sym n) few,
+        S .pre .1 .1,
+      ),
+    )
 
 same-length : tie.Need-same-length
 same-length c = search needs
 
 returns-2 : tie.Need-returns-2
-returns-2 c = let S = c .before .before .before .before .before .before .before .before .before .before .before .before .before .before .before .before .before .before .before .before in
+returns-2 c = let F = c .before .before in
+    let K = F .before .before .before .before in
+    let X = K .before .before .before .before .before .before in
+    let S = X .before .before .before .before .before .before .before .before in
     let P = S .pre .0 in
-    placed-at (P .0 .given) (P .1) (c .before .before .before .before .before .before .before .before .before .before .before .before .exact-total .ensures) (number S (c .before .before .before .before .before .before .before .before .before .before .before .before .before .plans .ensures) (c .before .before .before .before .before .before .before .before .before .before .before .before .before .before .steps .ensures))
-    (take (c .before .before .before .before .before .before .cone .result) (c .before .before .before .before .before .before .cone .last .1 .1 .1 .0)) (not-false _ (c .before .before .before .before .before .before .before .before .before .before .if1 .left)) (c .before .before .before .before .before .before .before .before .before .before .before .before .before .before .steps .ensures) (c .before .before .before .before .before .before .cone .ensures .2 ∙ c .before .before .before .before .before .before .before .before .before .left .ensures) (c .before .before .first-equal .ensures)
+    let n = X .before .before .steps .ensures in
+    let all = number S (X .before .plans .ensures) n in
+    let top = K .cone .ensures .2 ∙ K .before .before .before .left .ensures in
+    placed-at (P .0 .given) (P .1) (X .exact-total .ensures) all (take (K .cone .result) (K .cone .last .1 .1 .1 .0))
+    (not-false _ (K .before .before .before .before .if1 .left)) n top (F .first-equal .ensures)
 
 pub first-spec : {M : Type 1} → statement M
 first-spec =

@@ -51,19 +51,22 @@ array-share-prefix-nodes : tie.Need-array-share-prefix-nodes
 array-share-prefix-nodes c = search needs
 
 slice-aggregate-find : tie.Need-slice-aggregate-find
-slice-aggregate-find c = sym (length-take-le _ _ (omega (arith, c .before .before .cone .ensures .0, c .before .before .cone .kept .1 .1 .1 .0)))
+slice-aggregate-find c = let K = c .before .before in
+    sym (length-take-le _ _ (omega (arith, K .cone .ensures .0, K .cone .kept .1 .1 .1 .0)))
 
 right-requires : tie.Need-right-requires
 right-requires c κs = search needs
 
 find-requires : tie.Need-find-requires
-find-requires c κs = let S = c .before .before .before .before .before .before .before .before .before .before .before .before .before in
+find-requires c κs = let K = c .before .before .before .before in
+    let S = K .before .before .before .before .before .before .before .before .before in
     let G = S .pre .0 .0 in
     let P = S .pre .0 .2 in
-    let k = c .before .before .before .before .cone .ensures in
-    let d = looks G P (S .pre .0 .1) (c .before .before .before .before .before .before .before .left .ensures) (c .before .before .before .before .before .before .depth-at .ensures) in
-    let top = k .2 ∙ c .before .before .before .before .before .before .before .left .ensures in
-    ((ready G P (S .pre .0 .1) (k .1) top, G .used-right), (d ∙ ap (λ (i : ℕ). depth (formula (S .args .q .now) i)) (sym top), omega (arith, planned G P .deep, planned G P .few), S .pre .1 .1))
+    let d = looks G P (S .pre .0 .1) (K .before .before .before .left .ensures) (K .before .before .depth-at .ensures) in
+    let top = K .cone .ensures .2 ∙ K .before .before .before .left .ensures in (
+      (ready G P (S .pre .0 .1) (K .cone .ensures .1) top, G .used-right),
+      (d ∙ ap (λ (i : ℕ). depth (formula (S .args .q .now) i)) (sym top), omega (arith, planned G P .deep, planned G P .few), S .pre .1 .1),
+    )
 
 wide-requires : tie.Need-wide-requires
 wide-requires c κs = search needs
@@ -72,34 +75,50 @@ steps-requires : tie.Need-steps-requires
 steps-requires c κs = search needs
 
 sub-power : tie.Need-sub-power
-sub-power c = let S = c .before .before .before .before .before .before .before .before .before .before .before .before .before .before .before .before .before .before in
-    let d = looks (S .pre .0 .0) (S .pre .0 .2) (S .pre .0 .1) (c .before .before .before .before .before .before .before .before .before .before .before .before .left .ensures) (c .before .before .before .before .before .before .before .before .before .before .before .depth-at .ensures) in
-    omega (arith, planned (S .pre .0 .0) (S .pre .0 .2) .deep, c .steps .ensures)
+sub-power c = let K = c .before .before .before .before .before .before .before .before .before in
+    let P = K .before .before .before .before .before .before .before .before .before .pre .0 in
+    let d = looks (P .0) (P .2) (P .1) (K .before .before .before .left .ensures) (K .before .before .depth-at .ensures) in
+    omega (arith, planned (P .0) (P .2) .deep, c .steps .ensures)
 
 power-requires : tie.Need-power-requires
-power-requires c κs = let S = c .before .before .before .before .before .before .before .before .before .before .before .before .before .before .before .before .before .before in
+power-requires c κs = let K = c .before .before .before .before .before .before .before .before .before in
+    let S = K .before .before .before .before .before .before .before .before .before in
     let P = S .pre .0 in
-    (omega (arith, small (S .args .m .now) (S .args .q .now) (S .args .j) (bounded (P .0) (P .2)), c .before .wide .ensures .0), omega (arith, planned (P .0) (P .2) .few, c .steps .ensures))
+    let D = small (S .args .m .now) (S .args .q .now) (S .args .j) (bounded (P .0) (P .2)) in
+    (omega (arith, c .before .wide .ensures .0), omega (arith, planned (P .0) (P .2) .few, c .steps .ensures))
 
 mul-weight : tie.Need-mul-weight
-mul-weight c = let S = c .before .before .before .before .before .before .before .before .before .before .before .before .before .before .before .before .before .before .before .before in
-    let P = S .pre .0 in
-    let w = weight-small S (c .before .before .before .before .before .before .before .before .before .before .before .cone .ensures .2) (c .before .before .before .before .before .before .before .before .before .before .before .before .before .before .left .ensures) (c .before .before .before .before .before .before .before .before .before .before .before .before .before .depth-at .ensures) (c .before .before .before .before .before .before .before .right .ensures) (c .before .before .before .before .before .before .find .ensures) (c .before .power .ensures) (c .before .before .before .wide .ensures .0) (c .before .before .steps .ensures) in
-    record { fits = lt-of-le-of-lt w (power-fits (P .0) (P .2)) }
+mul-weight c = let Q = c .before in
+    let F = Q .before .before .before .before .before in
+    let K = F .before .before .before .before .before in
+    let S = K .before .before .before .before .before .before .before .before .before in
+    let w =
+    weight-small S (K .cone .ensures .2) (K .before .before .before .left .ensures) (K .before .before .depth-at .ensures) (F .before .right .ensures) (F .find .ensures)
+    (Q .power .ensures) (Q .before .before .wide .ensures .0) (Q .before .steps .ensures) in
+    record { fits = lt-of-le-of-lt w (power-fits (S .pre .0 .0) (S .pre .0 .2)) }
 
 meets-requires : tie.Need-meets-requires
-meets-requires c κs = let S = c .before .before .before .before .before .before .before .before .before .before .before .before .before .before .before .before .before .before .before .before in
-    let P = S .pre .0 in
-    (bounded (P .0) (P .2), weight-small S (c .before .before .before .before .before .before .before .before .before .before .before .cone .ensures .2) (c .before .before .before .before .before .before .before .before .before .before .before .before .before .before .left .ensures) (c .before .before .before .before .before .before .before .before .before .before .before .before .before .depth-at .ensures) (c .before .before .before .before .before .before .before .right .ensures) (c .before .before .before .before .before .before .find .ensures) (c .before .power .ensures) (c .before .before .before .wide .ensures .0) (c .before .before .steps .ensures))
+meets-requires c κs = let Q = c .before in
+    let F = Q .before .before .before .before .before in
+    let K = F .before .before .before .before .before in
+    let S = K .before .before .before .before .before .before .before .before .before in
+    let w =
+    weight-small S (K .cone .ensures .2) (K .before .before .before .left .ensures) (K .before .before .depth-at .ensures) (F .before .right .ensures) (F .find .ensures)
+    (Q .power .ensures) (Q .before .before .wide .ensures .0) (Q .before .steps .ensures) in
+    (bounded (S .pre .0 .0) (S .pre .0 .2), w)
 
 same-length : tie.Need-same-length
 same-length c = search needs
 
 returns : tie.Need-returns
-returns c = let S = c .before .before .before .before .before .before .before .before .before .before .before .before .before .before .before .before .before .before .before .before .before in
-    let P = S .pre .0 in
-    found-led (P .0) (P .2) (c .before .before .before .before .before .before .before .find .ensures) (c .before .before .before .before .before .before .before .before .before .before .before .before .cone .ensures .2 ∙ c .before .before .before .before .before .before .before .before .before .before .before .before .before .before .before .left .ensures) (ap (λ (k : ℕ). eqb k 1) (c .before .before .before .before .before .before .before .before .right .ensures))
-    (looks (P .0) (P .2) (P .1) (c .before .before .before .before .before .before .before .before .before .before .before .before .before .before .before .left .ensures) (c .before .before .before .before .before .before .before .before .before .before .before .before .before .before .depth-at .ensures)) (c .before .before .power .ensures) (c .before .before .before .before .wide .ensures .0) (c .before .before .before .steps .ensures) (c .meets .ensures)
+returns c = let Q = c .before .before in
+    let F = Q .before .before .before .before .before in
+    let K = F .before .before .before .before .before in
+    let P = K .before .before .before .before .before .before .before .before .before .pre .0 in
+    let d = looks (P .0) (P .2) (P .1) (K .before .before .before .left .ensures) (K .before .before .depth-at .ensures) in
+    let top = K .cone .ensures .2 ∙ K .before .before .before .left .ensures in
+    found-led (P .0) (P .2) (F .find .ensures) top (ap (λ (k : ℕ). eqb k 1) (F .before .right .ensures)) d
+    (Q .power .ensures) (Q .before .before .wide .ensures .0) (Q .before .steps .ensures) (c .meets .ensures)
 
 pub led-spec : {M : Type 1} → statement M
 led-spec =
