@@ -1,25 +1,23 @@
 -- What the answers of load, put and judge say of the line, and of the desk that they give back: it holds what the history of calls says.
 use Prim.Native.Nat.{ℕ}
 use native.Mathlib.Omega.{arith}
-use mathlib.Core.Path.{_≡_, refl, sym, ap, ap₂, subst, _∙_}
-use mathlib.Core.Bool.{Bool, true, cond}
+use mathlib.Core.Path.{_≡_, refl, sym, ap, ap₂, _∙_}
+use mathlib.Core.Bool.{cond}
 use mathlib.Core.List.{List, [], _∷_}
-use mathlib.Core.Option.{Option, none, some}
+use mathlib.Core.Option.{none, some}
 use Rattle.logic.specs.Lists.{any}
 use Rattle.logic.specs.Checked.{Checked, ok, refused, refusal, _>>=_, _>>_, held}
 use Rattle.logic.specs.Model.{Model}
 use Rattle.logic.specs.Limits.{limits}
 use Rattle.logic.specs.Verdict as logic
-use Rattle.logic.proofs.Checked.{ok-same}
 use Rattle.blocks.specs.Bytes.{Bytes}
 use Rattle.models.specs.Layout.{model-of}
 use Rattle.models.specs.Grounds.{read-model}
 use Rattle.models.proofs.Passed.{passed-all, read-passed}
 use Rattle.questions.specs.Layout.{Question, question-of}
 use Rattle.questions.proofs.Accepted.{accepted}
-use Rattle.calls.specs.Calls.{Call, load, put, judge, Held, question-for, do-put, do-judge}
+use Rattle.calls.specs.Calls.{Call, load, put, judge, question-for, do-put, do-judge}
 use Rattle.calls.specs.History.{got, loaded, asked, is-judge, or-else, last-left, passed, verdict-since, held-since, held-from, after}
-use Rattle.calls.proofs.Demand3.{then-ok}
 use Rattle.lines.specs.Line.{verdict-line}
 use Rattle.plan_judge.specs.declared.Desk.{Desk}
 use Rattle.plan_judge.specs.declared.Taken.the-variants.{Done, Refused}
@@ -59,7 +57,11 @@ module _ (d : Desk) (m : Bytes) (r : Taking) (e : d ≡ nothing) (i : r ≡ load
 
   pub load-done : r .answer ≡ Done → Loaded (r .desk) m
   unfolding loaded-by desk-after step
-  load-done a = record { desk = ap (λ x. x .desk) (i ∙ ap (λ x. loaded-by x m) e); model = taken-done d (holding m) (read-model m) (sym (ap (λ x. x .answer) i) ∙ a) }
+  load-done a =
+      record {
+        desk = ap (λ x. x .desk) (i ∙ ap (λ x. loaded-by x m) e);
+        model = taken-done d (holding m) (read-model m) (sym (ap (λ x. x .answer) i) ∙ a);
+      }
 
 module _ (m : Bytes) (e : refusal (read-model m) ≡ 0) where
   pub model-read : read-model m ≡ ok (model-of m)
@@ -87,7 +89,8 @@ module _ (d : Desk) (m q : Bytes) (l : Loaded d m) (r : Taking) (i : r ≡ put-b
 
   pub put-refused : (k : ℕ) → r .answer ≡ Refused k → asking-line (model-of m) q ≡ refused k
   unfolding put-by
-  put-refused k a = ap (λ c. c >>= judging-line (model-of m)) (sym put-is ∙ taken-refused d (asking d q) (do-put (view d) q) k (sym (ap (λ x. x .answer) i) ∙ a))
+  put-refused k a =
+      ap (λ c. c >>= judging-line (model-of m)) (sym put-is ∙ taken-refused d (asking d q) (do-put (view d) q) k (sym (ap (λ x. x .answer) i) ∙ a))
 
   pub put-done : r .answer ≡ Done → Asked (r .desk) m q
   unfolding put-by desk-after step
@@ -130,36 +133,38 @@ module _ (m q : Bytes) (e : refusal (read-model m) ≡ 0) (i : refusal (question
       ap (λ h. h .verdict) (desk-holds (load m ∷ put q ∷ judge ∷ []) ∙ put-after (judge ∷ []) refl refl)
       ∙ ap (λ c. cond (passed c) (some (logic.verdict M (Q .start) (Q .root))) none) l
 
-module _ (d : Desk) (m q : Bytes) (l : Asked d m q) (r : Judging) (i : r ≡ judged-by d) where
-  abbrev pub U : logic.Verdict
-  U = logic.verdict (model-of m) (question-of q .start) (question-of q .root)
+-- The verdict on a question.
+abbrev pub asked-verdict : (m q : Bytes) → logic.Verdict
+asked-verdict m q = logic.verdict (model-of m) (question-of q .start) (question-of q .root)
 
+module _ (d : Desk) (m q : Bytes) (l : Asked d m q) (r : Judging) (i : r ≡ judged-by d) where
   abbrev within : Checked (Unit {0})
   within = limits (model-of m) (question-of q .nodes)
 
-  judge-is : do-judge (view d) ≡ (within >> ok U)
+  judge-is : do-judge (view d) ≡ (within >> ok (asked-verdict m q))
   unfolding do-judge
   judge-is = ap do-judge (ap view (l .desk) ∙ asked-view m q (l .model) (l .question))
 
-  judging-is : r ≡ judging d (within >> ok U)
+  judging-is : r ≡ judging d (within >> ok (asked-verdict m q))
   unfolding judged-by
   judging-is = i ∙ ap (judging d) judge-is
 
   pub judge-refused : (k : ℕ) → r .answer ≡ Judgement.Refused k → judging-line (model-of m) (question-of q) ≡ refused k
   judge-refused k a = by within (sym (ap (λ x. x .answer) judging-is) ∙ a)
     where
-      by : (c : Checked (Unit {0})) → (judging d (c >> ok U)) .answer ≡ Judgement.Refused k → (c >> ok (verdict-line (model-of m) (question-of q .root) U)) ≡ refused k
+      by : (c : Checked (Unit {0})) → (judging d (c >> ok (asked-verdict m q))) .answer ≡ Judgement.Refused k
+          → (c >> ok (verdict-line (model-of m) (question-of q .root) (asked-verdict m q))) ≡ refused k
       by (ok x) z = absurd (let y : _≡_ {A = ℕ} 0 1 = cc in omega arith)
       by (refused j) z = let y : j ≡ k = cc in ap refused y
 
   -- What judge returns that is not refused.
   pub record Told (v : Verdict) : Type 0 where
-    pub code : v ≡ verdict-code U
-    pub beside : r .choices ≡ choices-code U
-    pub shown : (view (r .desk)) .verdict ≡ some U
-    pub line : judging-line (model-of m) (question-of q) ≡ ok (verdict-line (model-of m) (question-of q .root) U)
+    pub code : v ≡ verdict-code (asked-verdict m q)
+    pub beside : r .choices ≡ choices-code (asked-verdict m q)
+    pub shown : (view (r .desk)) .verdict ≡ some (asked-verdict m q)
+    pub line : judging-line (model-of m) (question-of q) ≡ ok (verdict-line (model-of m) (question-of q .root) (asked-verdict m q))
 
-  told-desk : within ≡ ok tt → (view (r .desk)) .verdict ≡ some U
+  told-desk : within ≡ ok tt → (view (r .desk)) .verdict ≡ some (asked-verdict m q)
   unfolding desk-after step
   told-desk z = ap (λ x. (view (x .desk)) .verdict) (i ∙ ap judged-by (l .desk)) ∙ judged-view m q (l .model) (l .question) z
 
@@ -168,15 +173,15 @@ module _ (d : Desk) (m q : Bytes) (l : Asked d m q) (r : Judging) (i : r ≡ jud
     where
       by : (c : Checked (Unit {0})) → within ≡ c → Told v
       by (refused j) z =
-          let y : Judgement.Refused j ≡ Judged v = sym (ap (λ x. x .answer) (judging-is ∙ ap (λ c. judging d (c >> ok U)) z)) ∙ a in
+          let y : Judgement.Refused j ≡ Judged v = sym (ap (λ x. x .answer) (judging-is ∙ ap (λ c. judging d (c >> ok (asked-verdict m q))) z)) ∙ a in
           absurd (let w : _≡_ {A = ℕ} 0 1 = cc in omega arith)
       by (ok x) z =
-          let e : r ≡ judging d (ok U) = judging-is ∙ ap (λ c. judging d (c >> ok U)) z in
-          let y : Judged (verdict-code U) ≡ Judged v = sym (ap (λ x. x .answer) e) ∙ a in
-          let w : verdict-code U ≡ v = cc in
+          let e : r ≡ judging d (ok (asked-verdict m q)) = judging-is ∙ ap (λ c. judging d (c >> ok (asked-verdict m q))) z in
+          let y : Judged (verdict-code (asked-verdict m q)) ≡ Judged v = sym (ap (λ x. x .answer) e) ∙ a in
+          let w : verdict-code (asked-verdict m q) ≡ v = cc in
           record {
             code = sym w;
             beside = ap (λ x. x .choices) e;
             shown = told-desk z;
-            line = ap (λ c. c >> ok (verdict-line (model-of m) (question-of q .root) U)) z;
+            line = ap (λ c. c >> ok (verdict-line (model-of m) (question-of q .root) (asked-verdict m q))) z;
           }

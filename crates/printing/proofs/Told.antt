@@ -7,7 +7,6 @@ use mathlib.Core.Option.{some}
 use lib.ListN.{length, take}
 use lib.Seq.{length-take-le}
 use Rattle.bounds.proofs.Meeting.{denominator-small}
-use Rattle.logic.specs.Verdict as logic
 use Rattle.models.specs.Layout.{denominator-of, model-of}
 use Rattle.models.proofs.Passed.{passed-all}
 use Rattle.models.proofs.Held.{denominator-held}
@@ -21,11 +20,11 @@ use Rattle.plan_judge.specs.declared.Verdict.{Verdict}
 use Rattle.plan_judge.specs.declared.Judgement.the-variants.{Judged}
 use Rattle.plan_judge.specs.declared.Judging.{Judging}
 use Rattle.plan_judge.specs.View.{view}
-use Rattle.plan_judge.specs.Values.{judged-by, verdict-code, choices-code}
+use Rattle.plan_judge.specs.Values.{judged-by, verdict-code}
 use Rattle.plan_judge.specs.State.{shown-size}
 use Rattle.printing.specs.Printed.{plan-root, judging-line, shown-line, shown-steps, Shown, Asked}
 use Rattle.printing.proofs.Verdicts.{root-is, few-steps, few-choices, line-is}
-use Rattle.printing.proofs.Desks.{U, Told, judge-told}
+use Rattle.printing.proofs.Desks.{asked-verdict, Told, judge-told}
 
 pub put-as : {x y out out′ : List ℕ} {at at′ : ℕ} → x ≡ y → Put x out out′ at at′ → Put y out out′ at at′
 put-as {x} {y} {out} {out′} {at} {at′} e p = subst (λ z. Put z out out′ at at′) e p
@@ -37,12 +36,9 @@ pub record Printable (m q : Bytes) (r : Judging) (v : Verdict) (count : ℕ) : T
   pub line : shown-line (denominator-of m) (plan-root q) v (take count (r .choices)) ≡ line-of (judging-line (model-of m) (question-of q))
 
 module _ (d : Desk) (m q : Bytes) (l : Asked d m q) (r : Judging) (i : r ≡ judged-by d) (v : Verdict) (t : Told d m q l r i v) where
-  abbrev shown-verdict : logic.Verdict
-  shown-verdict = U d m q l r i
-
-  module _ (count : ℕ) (e : count ≡ shown-size (some shown-verdict)) where
+  module _ (count : ℕ) (e : count ≡ shown-size (some (asked-verdict m q))) where
     count-few : length (r .choices) ≡ 1365 → count ≤ 1365
-    count-few w = omega (arith, few-choices shown-verdict (sym (ap length (t .beside)) ∙ w))
+    count-few w = omega (arith, few-choices (asked-verdict m q) (sym (ap length (t .beside)) ∙ w))
 
     told-shown : length (r .choices) ≡ 1365 → Shown m q v (take count (r .choices))
     told-shown w =
@@ -58,16 +54,17 @@ module _ (d : Desk) (m q : Bytes) (l : Asked d m q) (r : Judging) (i : r ≡ jud
     unfolding line-of
     told-line =
         ap₂ (λ x k. shown-line (denominator-of m) (plan-root q) x (take k (r .choices))) (t .code) e
-        ∙ ap (λ c. shown-line (denominator-of m) (plan-root q) (verdict-code shown-verdict) (take (shown-size (some shown-verdict)) c)) (t .beside)
-        ∙ line-is (model-of m) (question-of q .root) shown-verdict (denominator-of m) (plan-root q) (denominator-held m) (root-is (accepted _ _ _ q (l .question)) (model-of m) (question-of q .start))
+        ∙ ap (λ c. shown-line (denominator-of m) (plan-root q) (verdict-code (asked-verdict m q)) (take (shown-size (some (asked-verdict m q))) c)) (t .beside)
+        ∙ line-is (model-of m) (question-of q .root) (asked-verdict m q) (denominator-of m) (plan-root q) (denominator-held m)
+        (root-is (accepted _ _ _ q (l .question)) (model-of m) (question-of q .start))
         ∙ sym (ap line-of (t .line))
 
     told-printable : length (r .choices) ≡ 1365 → Printable m q r v count
     told-printable w = record { inside = omega (arith, count-few w); shown = told-shown w; line = told-line }
 
 -- As many choices as the plan has that is held as shown.
-pub printable : (d : Desk) (m q : Bytes) → Asked d m q → (r : Judging) → r ≡ judged-by d → (v : Verdict) → r .answer ≡ Judged v → length (r .choices) ≡ 1365
-    → (count : ℕ) → count ≡ shown-size ((view (r .desk)) .verdict) → Printable m q r v count
+pub printable : (d : Desk) (m q : Bytes) → Asked d m q → (r : Judging) → r ≡ judged-by d → (v : Verdict) → r .answer ≡ Judged v
+    → length (r .choices) ≡ 1365 → (count : ℕ) → count ≡ shown-size ((view (r .desk)) .verdict) → Printable m q r v count
 printable d m q l r i v a w count e =
     let t = judge-told d m q l r i v a in
     told-printable d m q l r i v t count (e ∙ ap shown-size (t .shown)) w

@@ -4,13 +4,12 @@ use Prim.Native.Nat.{ℕ, _-_, _^_, _≤_}
 use native.Mathlib.Omega.{arith}
 use mathlib.Core.Path.{_≡_, refl, sym, ap, ap₂, _∙_}
 use mathlib.Core.Bool.{Bool, true, false, cond}
-use mathlib.Core.List.{List, []}
+use mathlib.Core.List.{[]}
 use mathlib.Core.Option.{Option, none, some}
-use lib.Dec.{eqb}
 use lib.ListN.{length, take, replicate, length-append, length-replicate}
 use lib.Seq.{take-append-seam}
 use borrow.Author.Tests.{eqb-true, eqb-false}
-use Rattle.logic.specs.Checked.{Checked, ok, refused, refusal}
+use Rattle.logic.specs.Checked.{Checked, ok, refused}
 use Rattle.logic.specs.Model.{Model}
 use Rattle.logic.specs.Plan.{Plan}
 use Rattle.logic.specs.Formula.{Formula, never, prop, neg, both, does, next, gain, plan, nonnegative, sat}
@@ -19,7 +18,6 @@ use Rattle.logic.specs.Verdict as logic
 use Rattle.logic.proofs.Checked.{not-ok, ok-same}
 use Rattle.blocks.specs.Bytes.{Bytes}
 use Rattle.questions.specs.Layout.{node-of, node-count, question-of}
-use Rattle.questions.specs.Grounds.{read-question}
 use Rattle.questions.proofs.Accepted.{Accepted}
 use Rattle.lines.specs.Line.{plain-line, no-plans-line, yes-plan-line, is-plan, verdict-line}
 use Rattle.plan_judge.specs.Values.{padded, verdict-code, choices-code}

@@ -1,13 +1,12 @@
 // The line that the program `verdict` prints: the calls load, put and judge in turn, from the empty desk, up to the first refusal.
 ghost use mathlib.Core.Path.{_≡_};
 ghost use mathlib.Core.Bool.{cond, false};
-ghost use Prim.Native.Nat.{_^_, _-_, _≤_};
-ghost use lib.Dec.{eqb};
+ghost use Prim.Native.Nat.{_^_, _≤_};
 ghost use lib.ListN.{length};
 ghost use Rattle.models.specs.Layout.{denominator-of, model-of};
-ghost use Rattle.questions.specs.Layout.{node-of, node-count, question-of};
+ghost use Rattle.questions.specs.Layout.{node-count, question-of};
 ghost use Rattle.lines.specs.Text.{Put};
-ghost use Rattle.lines.specs.Line.{no-plans-line, plain-line, yes-plan-line, line-of, answer-line};
+ghost use Rattle.lines.specs.Line.{no-plans-line, plain-line, line-of, answer-line};
 ghost use Rattle.printing.specs.Printed.{plan-root, judging-line, asking-line, loading-line, shown-line, Shown, Loaded, Asked};
 use plan_judge::Desk;
 use plan_judge::Judgement;
@@ -49,7 +48,13 @@ fn verdict_line(out: &mut [u8], model: &[u8], q: &[u8], v: Verdict, choices: &[u
     match v {
         Verdict::No(count) => no_line(out, q, count),
         Verdict::Yes => lines::plain_line(out, true),
-        Verdict::YesPlan(p) => lines::yes_plan_line(out, p.weight, whole(model, p.steps), p.count, choices),
+        Verdict::YesPlan(p) => lines::yes_plan_line(
+            out,
+            p.weight,
+            whole(model, p.steps),
+            p.count,
+            choices,
+        ),
     }
 }
 

@@ -1,7 +1,5 @@
 -- By the root.
-use mathlib.Core.Path.{sym, ap, subst, _∙_}
-use mathlib.Core.Bool.{cond, false}
-use Rattle.lines.specs.Text.{Put}
+use mathlib.Core.Path.{sym, _∙_}
 use Rattle.lines.specs.Line.{no-plans-line, plain-line}
 use borrow.Author.Needs.{needs}
 use Rattle.printing.proofs.no_line.Statement.{statement}

@@ -1,12 +1,8 @@
 -- The line of each case of the verdict.
-use mathlib.Core.Path.{_≡_, sym, ap, subst, _∙_}
-use native.Mathlib.Omega.{arith}
-use Prim.Native.Nat.{_≤_, _^_}
-use lib.ListN.{length}
-use Rattle.models.specs.Layout.{denominator-of}
-use Rattle.lines.specs.Text.{Put}
+use mathlib.Core.Path.{sym, subst}
+use Prim.Native.Nat.{_≤_}
 use Rattle.lines.specs.Line.{yes-plan-line}
-use Rattle.printing.specs.Printed.{plan-root, shown-line, shown-steps}
+use Rattle.printing.specs.Printed.{shown-line, shown-steps}
 use borrow.Author.Needs.{needs}
 use Rattle.printing.proofs.verdict_line.Statement.{statement}
 use Rattle.printing.proofs.verdict_line.Tie as tie
