@@ -7,7 +7,7 @@ ghost use Rattle.lines.specs.Text as texts;
 ghost use Rattle.lines.specs.Line.{refused-line, plain-line, no-plans-line, yes-plan-line};
 
 // Writes a text at a place; gives the place after it.
-fn put_text(out: &mut [u8], at: usize, text: &[u8]) -> usize
+pub fn put_text(out: &mut [u8], at: usize, text: &[u8]) -> usize
     requires { ⌜ at + length (now text) ≤ length (now out) ⌝ }
     ensures { λ r. ⌜ Put (now (text .entry)) (now (out .entry)) (now (out .exit)) at r ⌝ }
 {
@@ -16,7 +16,7 @@ fn put_text(out: &mut [u8], at: usize, text: &[u8]) -> usize
 }
 
 // Writes a text and a number after it.
-fn put_number(out: &mut [u8], at: usize, text: &[u8], n: u64) -> usize
+pub fn put_number(out: &mut [u8], at: usize, text: &[u8], n: u64) -> usize
     requires { ⌜ at + (length (now text) + 20) ≤ length (now out) ⌝ }
     ensures { λ r. ⌜ Put (now (text .entry) ++ decimal n) (now (out .entry)) (now (out .exit)) at r × (r ≤ at + (length (now (text .entry)) + 20)) ⌝ }
 {
@@ -27,7 +27,7 @@ fn put_number(out: &mut [u8], at: usize, text: &[u8], n: u64) -> usize
 }
 
 // Writes a space and the number for each choice.
-fn put_choices(out: &mut [u8], at: usize, choices: &[u8]) -> usize
+pub fn put_choices(out: &mut [u8], at: usize, choices: &[u8]) -> usize
     requires { ⌜ at + (4 * length (now choices) + 21) ≤ length (now out) ⌝ }
     ensures { λ r. ⌜ Put (flatMap (numbered " ") (now (choices .entry))) (now (out .entry)) (now (out .exit)) at r × (r ≤ at + 4 * length (now (choices .entry))) ⌝ }
 {

@@ -1,9 +1,17 @@
 // Replays a list of calls from standard input on a desk that begins empty, and prints a line for each: what second/README.md describes, so
 // that the two can be compared. A record that is cut short, too long or of another operation ends the list.
+ghost use Prim.Native.Nat.{_+_, _≤_};
+ghost use lib.ListN.{length};
 use libc::STDIN_FILENO;
 use libc::STDOUT_FILENO;
+use plan_judge::Checking;
 use plan_judge::Desk;
+use plan_judge::Judgement;
+use plan_judge::Judging;
+use plan_judge::PlanRecord;
 use plan_judge::Taken;
+use plan_judge::Verdict;
+use plan_judge::Written;
 
 // The desk after a call, and whether there was one.
 struct Turn {
@@ -11,50 +19,196 @@ struct Turn {
     desk: Desk,
 }
 
-fn say(text: &[u8]) {
-    io::write_all(STDOUT_FILENO, text);
+// ---- the words of each answer, put behind what stands in the line already
+
+fn put_refused(out: &mut [u8], at: usize, k: u32) -> usize
+    requires { ⌜ at + 29 ≤ length (now out) ⌝ }
+    ensures { λ r. ⌜ r ≤ at + 29 ⌝ }
+{
+    lines::put_number(out, at, b" refused ", k as u64)
 }
 
-fn say_refused(k: u32) {
-    say(b" refused ");
-    io::print_decimal(STDOUT_FILENO, k as u64);
-}
-
-fn say_taken(name: &[u8], answer: Taken) {
-    say(name);
+fn put_taken(out: &mut [u8], at: usize, answer: Taken) -> usize
+    requires { ⌜ at + 29 ≤ length (now out) ⌝ }
+    ensures { λ r. ⌜ r ≤ at + 29 ⌝ }
+{
     match answer {
-        Taken::Done => say(b" done"),
-        Taken::Refused(k) => say_refused(k),
+        Taken::Done => lines::put_text(out, at, b" done"),
+        Taken::Refused(k) => put_refused(out, at, k),
     }
-    say(b"\n");
 }
 
-fn call(desk: Desk, operation: u8, input: &[u8]) -> Turn {
-    if operation == 1 {
-        let r = plan_judge::load(desk, input);
-        let a = r.answer;
-        say_taken(b"load", a);
-        let d = r.desk;
-        return Turn {
-            going: true,
-            desk: d,
-        };
+fn put_plan(out: &mut [u8], at: usize, p: PlanRecord, choices: &[u8]) -> usize
+    requires { ⌜ (at + 5600 ≤ length (now out)) × (length (now choices) ≤ 1365) ⌝ }
+    ensures { λ r. ⌜ r ≤ at + 5600 ⌝ }
+{
+    let mut next = lines::put_number(out, at, b" yes ", p.weight);
+    next = lines::put_number(out, next, b" ", p.steps as u64);
+    next = lines::put_number(out, next, b" ", p.count as u64);
+    next = lines::put_text(out, next, b" choices");
+    lines::put_choices(out, next, choices)
+}
+
+fn put_verdict(out: &mut [u8], at: usize, v: Verdict, choices: &[u8]) -> usize
+    requires { ⌜ (at + 5600 ≤ length (now out)) × (length (now choices) ≤ 1365) ⌝ }
+    ensures { λ r. ⌜ r ≤ at + 5600 ⌝ }
+{
+    match v {
+        Verdict::No(count) => lines::put_number(out, at, b" no ", count as u64),
+        Verdict::Yes => lines::put_text(out, at, b" yes"),
+        Verdict::YesPlan(p) => put_plan(out, at, p, choices),
     }
-    if operation == 2 {
-        let r = plan_judge::put(desk, input);
-        let a = r.answer;
-        say_taken(b"put", a);
-        let d = r.desk;
-        return Turn {
-            going: true,
-            desk: d,
-        };
+}
+
+fn put_judged(out: &mut [u8], at: usize, r: Judging) -> usize
+    requires { ⌜ at + 5600 ≤ length (now out) ⌝ }
+    ensures { λ r. ⌜ r ≤ at + 5600 ⌝ }
+{
+    let a = r.answer;
+    let choices = r.choices;
+    let d = r.desk;
+    match a {
+        Judgement::Judged(v) => {
+            let count = plan_judge::shown_choices(d);
+            put_verdict(out, at, v, &choices[..count])
+        }
+        Judgement::Refused(k) => put_refused(out, at, k),
     }
-    Turn { going: false, desk }
+}
+
+fn put_written(out: &mut [u8], at: usize, answer: Written) -> usize
+    requires { ⌜ at + 29 ≤ length (now out) ⌝ }
+    ensures { λ r. ⌜ r ≤ at + 29 ⌝ }
+{
+    match answer {
+        Written::Bytes(n) => lines::put_number(out, at, b" ", n as u64),
+        Written::Refused(k) => put_refused(out, at, k),
+    }
+}
+
+fn put_met(out: &mut [u8], at: usize, met: bool) -> usize
+    requires { ⌜ at + 29 ≤ length (now out) ⌝ }
+    ensures { λ r. ⌜ r ≤ at + 29 ⌝ }
+{
+    if met {
+        return lines::put_text(out, at, b" accepted met");
+    }
+    lines::put_text(out, at, b" accepted unmet")
+}
+
+fn put_checked(out: &mut [u8], at: usize, answer: Checking) -> usize
+    requires { ⌜ at + 29 ≤ length (now out) ⌝ }
+    ensures { λ r. ⌜ r ≤ at + 29 ⌝ }
+{
+    match answer {
+        Checking::Accepted(met) => put_met(out, at, met),
+        Checking::Refused(k) => put_refused(out, at, k),
+    }
+}
+
+// The two Adler sums of a buffer, a short stand-in for its bytes.
+struct Sums {
+    a: u32,
+    b: u32,
+}
+
+fn adler(bytes: &[u8]) -> Sums {
+    let mut a: u32 = 1;
+    let mut b: u32 = 0;
+    let mut i: usize = 0;
+    while i < bytes.len() {
+        a = (a + bytes[i] as u32) % 65521;
+        b = (b + a) % 65521;
+        i += 1;
+    }
+    Sums { a, b }
+}
+
+fn put_sums(out: &mut [u8], at: usize, bytes: &[u8]) -> usize
+    requires { ⌜ at + 42 ≤ length (now out) ⌝ }
+    ensures { λ r. ⌜ r ≤ at + 42 ⌝ }
+{
+    let sums = adler(bytes);
+    let next = lines::put_number(out, at, b" ", sums.a as u64);
+    lines::put_number(out, next, b" ", sums.b as u64)
+}
+
+// ---- each call with its line
+
+// Ends the line and writes it.
+fn say(out: &mut [u8], at: usize)
+    requires { ⌜ at + 1 ≤ length (now out) ⌝ }
+{
+    let end = lines::put_text(out, at, b"\n");
+    io::write_all(STDOUT_FILENO, &out[..end]);
+}
+
+fn load(desk: Desk, input: &[u8], out: &mut [u8; 8192]) -> Desk {
+    let r = plan_judge::load(desk, input);
+    let a = r.answer;
+    let name = lines::put_text(out, 0, b"load");
+    let end = put_taken(out, name, a);
+    say(out, end);
+    r.desk
+}
+
+fn put(desk: Desk, input: &[u8], out: &mut [u8; 8192]) -> Desk {
+    let r = plan_judge::put(desk, input);
+    let a = r.answer;
+    let name = lines::put_text(out, 0, b"put");
+    let end = put_taken(out, name, a);
+    say(out, end);
+    r.desk
+}
+
+fn judge(desk: Desk, out: &mut [u8; 8192]) -> Desk {
+    let r = plan_judge::judge(desk);
+    let name = lines::put_text(out, 0, b"judge");
+    let end = put_judged(out, name, r);
+    say(out, end);
+    r.desk
+}
+
+fn write(desk: Desk, buffer: &mut [u8], out: &mut [u8; 8192]) {
+    let a = plan_judge::write(desk, buffer);
+    let name = lines::put_text(out, 0, b"write");
+    let next = put_written(out, name, a);
+    let end = put_sums(out, next, buffer);
+    say(out, end);
+}
+
+fn check(desk: Desk, input: &[u8], out: &mut [u8; 8192]) {
+    let a = plan_judge::check(desk, input);
+    let name = lines::put_text(out, 0, b"check");
+    let end = put_checked(out, name, a);
+    say(out, end);
+}
+
+// ---- the list
+
+fn going_on(desk: Desk) -> Turn {
+    Turn { going: true, desk }
+}
+
+fn call(desk: Desk, operation: u8, input: &mut [u8], out: &mut [u8; 8192]) -> Turn {
+    match operation {
+        1 => going_on(load(desk, input, out)),
+        2 => going_on(put(desk, input, out)),
+        3 => going_on(judge(desk, out)),
+        4 => {
+            write(desk, input, out);
+            going_on(desk)
+        }
+        5 => {
+            check(desk, input, out);
+            going_on(desk)
+        }
+        _ => Turn { going: false, desk },
+    }
 }
 
 // Reads one record into the lent buffer, and makes its call.
-fn replay_one(desk: Desk, space: &mut [u8]) -> Turn {
+fn replay_one(desk: Desk, space: &mut [u8], out: &mut [u8; 8192]) -> Turn {
     let mut head = [0u8; 5];
     let got = io::read_full(STDIN_FILENO, &mut head);
     if got < 5 {
@@ -69,11 +223,11 @@ fn replay_one(desk: Desk, space: &mut [u8]) -> Turn {
     if more < n {
         return Turn { going: false, desk };
     }
-    call(desk, operation, &space[..n])
+    call(desk, operation, &mut space[..n], out)
 }
 
 // A proved loop has to end, and nothing says that the input does: it counts down from a number that no run uses up.
-fn replay_all(space: &mut [u8]) {
+fn replay_all(space: &mut [u8], out: &mut [u8; 8192]) {
     let mut state = Turn {
         going: true,
         desk: plan_judge::empty(),
@@ -81,12 +235,13 @@ fn replay_all(space: &mut [u8]) {
     let mut left = u64::MAX;
     while left > 0 && state.going {
         let d = state.desk;
-        state = replay_one(d, space);
+        state = replay_one(d, space, out);
         left -= 1;
     }
 }
 
 fn main() {
     let mut space = [0u8; 16384];
-    replay_all(&mut space);
+    let mut line = [0u8; 8192];
+    replay_all(&mut space, &mut line);
 }

@@ -1,15 +1,15 @@
 -- The buffer keeps its length, and the turns left fall.
-use borrow.Author.Needs.{needs}
 use mathlib.Core.Path.{_≡_, refl}
 use lib.ListN.{length}
+use borrow.Author.Needs.{needs}
 use Rattle.replay.proofs.replay_all.Statement.{statement}
 use Rattle.replay.proofs.replay_all.Tie as tie
 
 abbrev Inv-loop : tie.InvT-loop
-Inv-loop space₀ state₀ left₀ space state left = length space ≡ length space₀
+Inv-loop space₀ out₀ state₀ left₀ space out state left = length space ≡ length space₀
 
 abbrev μ-loop : tie.MeasureT-loop
-μ-loop space₀ state₀ left₀ space state left = left
+μ-loop space₀ out₀ state₀ left₀ space out state left = left
 
 empty-requires : tie.Need-empty-requires Inv-loop μ-loop
 empty-requires c κs = search needs

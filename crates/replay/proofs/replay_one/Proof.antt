@@ -1,3 +1,4 @@
+-- The record is read into the part of the buffer that has its length.
 use native.Mathlib.Omega.{arith}
 use lib.ListN.{length-take, length-append, length-drop}
 use borrow.Author.Needs.{needs}
@@ -43,8 +44,8 @@ same-length c = search needs
 returns-3 : tie.Need-returns-3
 returns-3 c = search needs
 
-slice-reshare-prefix-call : tie.Need-slice-reshare-prefix-call
-slice-reshare-prefix-call c = search needs
+slice-relend-prefix-call : tie.Need-slice-relend-prefix-call
+slice-relend-prefix-call c = search needs
 
 slice-aggregate-call : tie.Need-slice-aggregate-call
 slice-aggregate-call c = simp (length-take, length-append, length-drop) (omega arith)
@@ -75,7 +76,7 @@ replay-one-spec =
     read-full-requires-2
     same-length
     returns-3
-    slice-reshare-prefix-call
+    slice-relend-prefix-call
     slice-aggregate-call
     call-requires
     same-length-2

@@ -1,0 +1,4 @@
+pub mod Verdicts
+pub mod Desks
+pub mod Told
+pub mod Inputs

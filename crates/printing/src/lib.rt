@@ -1,0 +1,120 @@
+// The line that the program `verdict` prints: the calls load, put and judge in turn, from the empty desk, up to the first refusal.
+ghost use mathlib.Core.Path.{_≡_};
+ghost use mathlib.Core.Bool.{cond, false};
+ghost use Prim.Native.Nat.{_^_, _≤_};
+ghost use lib.ListN.{length};
+ghost use Rattle.models.specs.Layout.{denominator-of, model-of};
+ghost use Rattle.questions.specs.Layout.{node-count, question-of};
+ghost use Rattle.lines.specs.Text.{Put};
+ghost use Rattle.lines.specs.Line.{no-plans-line, plain-line, line-of, answer-line};
+ghost use Rattle.printing.specs.Printed.{plan-root, judging-line, asking-line, loading-line, shown-line, Shown, Loaded, Asked};
+use plan_judge::Desk;
+use plan_judge::Judgement;
+use plan_judge::Taken;
+use plan_judge::Verdict;
+
+// Whether a question's root, its last node, is a "plan".
+fn root_is_plan(q: &[u8]) -> bool
+    requires { ⌜ 1 ≤ node-count (now q) ⌝ }
+    ensures { λ r. ⌜ r ≡ plan-root (now (q .entry)) ⌝ }
+{
+    questions::operator(q, questions::node_count(q) - 1) == 8
+}
+
+// The line of a no.
+fn no_line(out: &mut [u8], q: &[u8], count: u32) -> usize
+    requires { ⌜ (8192 ≤ length (now out)) × (1 ≤ node-count (now q)) ⌝ }
+    ensures { λ r. ⌜ Put (cond (plan-root (now (q .entry))) (no-plans-line count) (plain-line false)) (now (out .entry)) (now (out .exit)) 0 r ⌝ }
+{
+    if root_is_plan(q) {
+        return lines::no_plans_line(out, count);
+    }
+    lines::plain_line(out, false)
+}
+
+// D to the n: the total weight of all paths of a plan.
+fn whole(model: &[u8], steps: u32) -> u64
+    requires { ⌜ (denominator-of (now model) ≤ 100) × (steps ≤ 6) ⌝ }
+    ensures { λ r. ⌜ r ≡ denominator-of (now (model .entry)) ^ steps ⌝ }
+{
+    bounds::power(blocks::wide(model, 5), steps as u8)
+}
+
+// The line of a verdict, with its choices beside it.
+fn verdict_line(out: &mut [u8], model: &[u8], q: &[u8], v: Verdict, choices: &[u8]) -> usize
+    requires { ⌜ (8192 ≤ length (now out)) × Shown (now model) (now q) v (now choices) ⌝ }
+    ensures { λ r. ⌜ Put (shown-line (denominator-of (now (model .entry))) (plan-root (now (q .entry))) v (now (choices .entry))) (now (out .entry)) (now (out .exit)) 0 r ⌝ }
+{
+    match v {
+        Verdict::No(count) => no_line(out, q, count),
+        Verdict::Yes => lines::plain_line(out, true),
+        Verdict::YesPlan(p) => lines::yes_plan_line(
+            out,
+            p.weight,
+            whole(model, p.steps),
+            p.count,
+            choices,
+        ),
+    }
+}
+
+// The line where the model and the question are on the desk.
+fn judging_line(out: &mut [u8], model: &[u8], q: &[u8], d: Desk) -> usize
+    requires { ⌜ (8192 ≤ length (now out)) × Asked d (now model) (now q) ⌝ }
+    ensures { λ r. ⌜ Put (line-of (judging-line (model-of (now (model .entry))) (question-of (now (q .entry))))) (now (out .entry)) (now (out .exit)) 0 r ⌝ }
+{
+    let r = plan_judge::judge(d);
+    let a = r.answer;
+    let choices = r.choices;
+    let e = r.desk;
+    match a {
+        Judgement::Refused(k) => lines::refused_line(out, k),
+        Judgement::Judged(v) => {
+            let count = plan_judge::shown_choices(e);
+            verdict_line(out, model, q, v, &choices[..count])
+        }
+    }
+}
+
+// The line where the model is on the desk.
+fn asking_line(out: &mut [u8], model: &[u8], q: &[u8], d: Desk) -> usize
+    requires { ⌜ (8192 ≤ length (now out)) × Loaded d (now model) ⌝ }
+    ensures { λ r. ⌜ Put (line-of (asking-line (model-of (now (model .entry))) (now (q .entry)))) (now (out .entry)) (now (out .exit)) 0 r ⌝ }
+{
+    let r = plan_judge::put(d, q);
+    let a = r.answer;
+    let e = r.desk;
+    match a {
+        Taken::Refused(k) => lines::refused_line(out, k),
+        Taken::Done => judging_line(out, model, q, e),
+    }
+}
+
+// The line of a model and a question.
+fn loading_line(out: &mut [u8], model: &[u8], q: &[u8]) -> usize
+    requires { ⌜ 8192 ≤ length (now out) ⌝ }
+    ensures { λ r. ⌜ Put (line-of (loading-line (now (model .entry)) (now (q .entry)))) (now (out .entry)) (now (out .exit)) 0 r ⌝ }
+{
+    let r = plan_judge::load(plan_judge::empty(), model);
+    let a = r.answer;
+    let d = r.desk;
+    match a {
+        Taken::Refused(k) => lines::refused_line(out, k),
+        Taken::Done => asking_line(out, model, q, d),
+    }
+}
+
+// The line that the program verdict prints for its input: a model followed by a question in the last 512 bytes.
+pub fn answer(input: &[u8], out: &mut [u8; 8192]) -> usize
+    ensures { λ r. ⌜ Put (answer-line (now (input .entry))) (now (out .entry)) (now (out .exit)) 0 r ⌝ }
+{
+    let n = input.len();
+    if n < 512 {
+        return lines::refused_line(out, 1);
+    }
+    if 6656 < n {
+        return lines::refused_line(out, 1);
+    }
+    let at = n - 512;
+    loading_line(out, &input[..at], &input[at..])
+}
