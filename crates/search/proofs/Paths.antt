@@ -81,10 +81,12 @@ module _ {m used q : Bytes} {depths truth cone : List ℕ} {start : ℕ} {trail 
       leaf-value (S .ready) (take h trail) gains v (S .knows) (omega (arith, S .deep, length-here))
       ∙ ap (λ p. one-if (sat (model-of m) (formula q (root-of cone)) start p)) (sym (append-nil (steps-of m start (take h trail))))
 
-  pub picked-leaf : (least : Bool) (x at : ℕ) (c : List ℕ) → k ≡ 0 → x ≡ known v (root-of cone) 0
-      → Picked least m q start cone (take h trail) s k at c c (record { found = true; value = x; end = at })
+  pub picked-leaf : (least : Bool) (b : Best) (at : ℕ) (c : List ℕ) → k ≡ 0 → (b .value ≡ known v (root-of cone) 0) × (b .end ≡ at)
+      → Picked least m q start cone (take h trail) s k at c c b
   unfolding greatest best-choices choices
-  picked-leaf least x at c e g = record { value = g ∙ leaf-here e ∙ rw e refl; wrote = rw e (wrote-none at c) }
+  picked-leaf least b at c e g =
+      let none : Wrote (best-choices least (model-of m) k s (on-path m q start cone (take h trail))) at c c at = rw e (wrote-none at c) in
+      record { value = g .0 ∙ leaf-here e ∙ rw e refl; wrote = rw (g .1) none }
 
 -- The buffers after some searches below: as long as they were, with the trail back.
 pub record Kept (m q : Bytes) (start : ℕ) (cone : List ℕ) (h : ℕ) (trail : List ℕ) (gains : List ℤ) (v choices trail′ : List ℕ) (gains′ : List ℤ)

@@ -17,7 +17,7 @@ use Rattle.extension.specs.Choices.{room}
 use Rattle.extension.proofs.Laws.{room-step, room-most}
 use Rattle.evaluation.specs.Path.{steps-of, state-after}
 use Rattle.evaluation.specs.Reached.{formula, root-of, Ready}
-use Rattle.evaluation.specs.Learnt.{learnt}
+use Rattle.evaluation.specs.Learnt.{known, learnt}
 use Rattle.evaluation.specs.Known.{Knows, Roomy, Offered, Stepped}
 use Rattle.evaluation.proofs.Stepping.{begun}
 use Rattle.search.specs.Greatest.{on-path, best-choices, Finds}
@@ -27,9 +27,30 @@ use Rattle.search.specs.declared.Walked.{Walked}
 use Rattle.search.proofs.Bounds.{choices-few}
 use Rattle.search.proofs.Trying.{Tried, enabled-below, tried-start, turn-skipped, tried-room, keeps-inside, turn-taken, picked-all}
 use Rattle.search.proofs.Walking.{Walking, walking-more, walking-room, sum-fits, walked-value, walked-wrote}
-use Rattle.search.proofs.Paths.{on-path-bit, state-here, Kept, kept-none, setting-kept, kept-kept, offered, setting-on, back-on, picked-value, picked-wrote}
+use Rattle.search.proofs.Paths.{on-path-bit, state-here, picked-leaf, Kept, kept-none, setting-kept, kept-kept, offered, setting-on, back-on, picked-value, picked-wrote}
+
+-- Where two ways meet: what holds of the one that was taken holds.
+pub same : (P : List ℕ → List ℤ → List ℕ → List ℕ → Best → Type 0) {t t′ : List ℕ} {g g′ : List ℤ} {v v′ c c′ : List ℕ} {b b′ : Best}
+    → t ≡ t′ → g ≡ g′ → v ≡ v′ → c ≡ c′ → b ≡ b′ → P t′ g′ v′ c′ b′ → P t g v c b
+same P {t} {t′} {g} {g′} {v} {v′} {c} {c′} {b} et eg ev ec eb x =
+    subst (λ z. P z g v c b) (sym et)
+    (subst (λ z. P t′ z v c b) (sym eg)
+    (subst (λ z. P t′ g′ z c b) (sym ev)
+    (subst (λ z. P t′ g′ v′ z b) (sym ec) (subst (λ z. P t′ g′ v′ c′ z) (sym eb) x))))
 
 -- ---- an outcome walked
+
+-- The best plan found below an outcome, and the buffers after the search for it.
+pub record Searched (least : Bool) (m q : Bytes) (start : ℕ) (cone : List ℕ) (h s k at : ℕ) (trail : List ℕ) (gains : List ℤ) (v choices trail′ : List ℕ)
+    (gains′ : List ℤ) (v′ choices′ : List ℕ) (b : Best) : Type 0 where
+  pub picked : Picked least m q start cone (take h trail) s k at choices choices′ b
+  pub kept : Kept m q start cone h trail gains v choices trail′ gains′ v′ choices′
+
+pub searched-leaf : {m used q : Bytes} {depths truth cone : List ℕ} {start : ℕ} {trail : List ℕ} {gains : List ℤ} {v : List ℕ} {h s k : ℕ}
+    → Setting m used q depths truth cone start trail gains v h s k → (least : Bool) (b : Best) (at : ℕ) (choices : List ℕ) → k ≡ 0
+    → (b .value ≡ known v (root-of cone) 0) × (b .end ≡ at)
+    → Searched least m q start cone h s k at trail gains v choices trail gains v choices b
+searched-leaf S least b at choices e g = record { picked = picked-leaf S least b at choices e g; kept = kept-none S choices }
 
 module _ {m used q : Bytes} {depths truth cone : List ℕ} {start : ℕ} {trail₀ : List ℕ} {gains₀ : List ℤ} {v₀ choices₀ : List ℕ} {h s : ℕ} (k : ℕ)
     (S : Setting m used q depths truth cone start trail₀ gains₀ v₀ h s (k + 1)) {least : Bool} {a o at sum end : ℕ} {trail : List ℕ} {gains : List ℤ}
@@ -46,8 +67,8 @@ module _ {m used q : Bytes} {depths truth cone : List ℕ} {start : ℕ} {trail�
         → Setting m used q depths truth cone start trail′ gains′ v′ (h + 1) t k
     pick-setting et eg ev = setting-on k (setting-kept S K) a o here T et eg ev
 
-    module _ {trail″ : List ℕ} {gains″ : List ℤ} {v″ choices″ : List ℕ} {b : Best} (P : Picked least m q start cone (take (h + 1) trail′) t k end choices choices″ b)
-        (B : Back m q start cone (h + 1) trail′ trail″ gains″ v″) where
+    module _ {trail″ : List ℕ} {gains″ : List ℤ} {v″ choices″ : List ℕ} {b : Best}
+        (X : Searched least m q start cone (h + 1) t k end trail′ gains′ v′ choices trail″ gains″ v″ choices″ b) where
       module _ (w : ℕ) (e : w ≡ (outcome-of m s a o) .weight) where
         abbrev N : Setting m used q depths truth cone start trail gains v h s (k + 1)
         N = setting-kept S K
@@ -55,18 +76,19 @@ module _ {m used q : Bytes} {depths truth cone : List ℕ} {start : ℕ} {trail�
         pub walk-fits : sum + w * b .value < 2 ^ 64
         walk-fits =
             sum-fits least m s a k (on-path m q start cone (take h trail₀)) (S .ready .model-accepted) (state-here S) (omega (arith, S .few)) (on-path-bit m q start cone (take h trail₀))
-            o here at end (b .end) sum (b .value) choices₀ choices choices″ W (picked-value k N a o here T (K .back .kept) P) (picked-wrote k N a o here T (K .back .kept) P) w e
+            o here at end (b .end) sum (b .value) choices₀ choices choices″ W (picked-value k N a o here T (K .back .kept) (X .picked)) (picked-wrote k N a o here T (K .back .kept) (X .picked)) w e
 
         pub walk-more : {x : ℕ} → x ≡ sum + w * b .value → Walking least m s a k (on-path m q start cone (take h trail₀)) (o + 1) at choices₀ choices″ x (b .end)
         walk-more g =
             subst (λ x. Walking least m s a k (on-path m q start cone (take h trail₀)) (o + 1) at choices₀ choices″ x (b .end)) (sym g)
             (walking-more least m s a k (on-path m q start cone (take h trail₀)) (S .ready .model-accepted) (state-here S) (omega (arith, S .few)) (on-path-bit m q start cone (take h trail₀))
-            o here at end (b .end) sum (b .value) choices₀ choices choices″ W (picked-value k N a o here T (K .back .kept) P) (picked-wrote k N a o here T (K .back .kept) P) w e)
+            o here at end (b .end) sum (b .value) choices₀ choices choices″ W (picked-value k N a o here T (K .back .kept) (X .picked)) (picked-wrote k N a o here T (K .back .kept) (X .picked)) w e)
 
       pub walk-kept : length trail′ ≡ length trail → length gains′ ≡ length gains → length v′ ≡ length v
-          → length trail″ ≡ length trail′ → length gains″ ≡ length gains′ → length v″ ≡ length v′ → length choices″ ≡ length choices
           → Kept m q start cone h trail₀ gains₀ v₀ choices₀ trail″ gains″ v″ choices″
-      walk-kept et eg ev et′ eg′ ev′ ec = kept-kept K (back-on k (setting-kept S K) a o here T B) (et′ ∙ et) (eg′ ∙ eg) (ev′ ∙ ev) ec
+      walk-kept et eg ev =
+          let Y = X .kept in
+          kept-kept K (back-on k (setting-kept S K) a o here T (Y .back)) (Y .steps ∙ et) (Y .sums ∙ eg) (Y .places ∙ ev) (Y .room)
 
 -- All outcomes are walked.
 pub walked-all : {m used q : Bytes} {depths truth cone : List ℕ} {start : ℕ} {trail : List ℕ} {gains : List ℤ} {v choices₀ choices : List ℕ} {h s j : ℕ}
@@ -142,19 +164,6 @@ module _ {m used q : Bytes} {depths truth cone : List ℕ} {start : ℕ} {trail�
           tried = turn-taken least m q start cone t₀ s (k - 1) a at choices₀ choices choices′ b w (omega arith) (walk-room fits .0) (U .tried) walks-here choices″ r z J;
           kept = kept-kept (U .kept) B et eg ev (ec ∙ length-set choices (b .end) a);
         }
-
--- Where two ways meet: what holds of the one that was taken holds.
-pub turned-same : {least : Bool} {m q : Bytes} {start : ℕ} {cone : List ℕ} {h s k at : ℕ} {t₀ : List ℕ} {g₀ : List ℤ} {v₀ c₀ : List ℕ} {a : ℕ}
-    {t t′ : List ℕ} {g g′ : List ℤ} {v v′ c c′ : List ℕ} {b b′ : Best} → t ≡ t′ → g ≡ g′ → v ≡ v′ → c ≡ c′ → b ≡ b′
-    → Turned least m q start cone h s k at t₀ g₀ v₀ c₀ a t′ g′ v′ c′ b′ → Turned least m q start cone h s k at t₀ g₀ v₀ c₀ a t g v c b
-turned-same {least} {m} {q} {start} {cone} {h} {s} {k} {at} {t₀} {g₀} {v₀} {c₀} {a} {t} {t′} {g} {g′} {v} {v′} {c} {c′} {b} {b′} et eg ev ec eb x =
-    subst (λ z. P z g v c b) (sym et)
-    (subst (λ z. P t′ z v c b) (sym eg)
-    (subst (λ z. P t′ g′ z c b) (sym ev)
-    (subst (λ z. P t′ g′ v′ z b) (sym ec) (subst (λ z. P t′ g′ v′ c′ z) (sym eb) x))))
-  where
-    P : List ℕ → List ℤ → List ℕ → List ℕ → Best → Type 0
-    P t g v c b = Turned least m q start cone h s k at t₀ g₀ v₀ c₀ a t g v c b
 
 -- ---- from the start
 

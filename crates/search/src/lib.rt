@@ -8,6 +8,7 @@ ghost use Rattle.logic.specs.Formula.{depth};
 ghost use Rattle.logic.specs.Quantity.{order};
 ghost use Rattle.models.specs.Used.{Used};
 ghost use Rattle.extension.specs.Choices.{room};
+ghost use Rattle.evaluation.specs.Learnt as learnt;
 ghost use Rattle.evaluation.specs.Reached.{formula, root-of, Ready};
 ghost use Rattle.search.specs.Greatest.{Finds};
 ghost use Rattle.search.specs.Buffers.{Keeps, Setting, Back, Picked, Walks};
@@ -112,6 +113,18 @@ fn count(used: &[u8; 264], s: u8, a: u8) -> u8
     used[8 * s as usize + a as usize]
 }
 
+// What is found where no step is left: the condition's value, which is known there.
+fn leaf(cone: &[u8], v: &[u8], at: usize) -> Best
+    requires { ⌜ 0 < length (now cone) ⌝ }
+    ensures { λ r. ⌜ (r .value ≡ learnt.known (now (v .entry)) (root-of (now (cone .entry))) 0) × (r .end ≡ at) ⌝ }
+{
+    Best {
+        found: true,
+        value: known(v, root(cone), 0) as u64,
+        end: at,
+    }
+}
+
 // Picks the best choice in the state s, with k steps left, and writes its plan's choices from `at` on.
 fn pick(
     m: &[u8],
@@ -137,11 +150,7 @@ fn pick(
     ensures { λ r. ⌜ Back (now (m .entry)) (now (q .entry)) start (now (cone .entry)) h (now (trail .entry)) (now (trail .exit)) (now (gains .exit)) (now (v .exit)) ⌝ }
 {
     if k == 0 {
-        return Best {
-            found: true,
-            value: known(v, root(cone), 0) as u64,
-            end: at,
-        };
+        return leaf(cone, v, at);
     }
     let n = byte(m, 3);
     let mut best = Best {
@@ -225,24 +234,28 @@ fn walk(
             a,
             o,
         );
-        let b = pick(
-            m,
-            used,
-            q,
-            depths,
-            truth,
-            cone,
-            trail,
-            gains,
-            v,
-            choices,
-            start,
-            h + 1,
-            t,
-            k,
-            end,
-            least,
-        );
+        let b = if k == 0 {
+            leaf(cone, v, end)
+        } else {
+            pick(
+                m,
+                used,
+                q,
+                depths,
+                truth,
+                cone,
+                trail,
+                gains,
+                v,
+                choices,
+                start,
+                h + 1,
+                t,
+                k,
+                end,
+                least,
+            )
+        };
         sum = add_mul(sum, weight(m, s as usize, a as usize, o as usize), b.value);
         end = b.end;
         o += 1;

@@ -2,17 +2,16 @@
 -- (`Tried`), `walk` the sum over the outcomes walked (`Walking`).
 use Prim.Native.Nat.{ℕ, _+_, _-_, _≤_, _<_}
 use native.Mathlib.Omega.{arith}
-use mathlib.Core.Path.{_≡_, sym, ap, _∙_}
+use mathlib.Core.Path.{_≡_, sym, _∙_}
 use mathlib.Core.Logic.{⊎-elim}
 use borrow.Author.Needs.{needs}
 use lib.ListN.{take, length-set}
 use Rattle.models.specs.Layout.{action-count, entries}
 use Rattle.extension.specs.Choices.{room}
-use Rattle.evaluation.specs.Learnt.{known}
 use Rattle.search.specs.Greatest.{on-path}
 use Rattle.search.proofs.Walking.{Walking, walking-none}
 use Rattle.search.proofs.Paths.{sizes-here, few-here, count-here, picked-leaf, Kept, back-none, kept-none}
-use Rattle.search.proofs.Turns.{step-asked, pick-room, pick-setting, walk-fits, walk-more, walk-kept, walked-all, Turned, turned-none, walk-room, walk-setting, turned-all, turned-skipped, keep-asked, turned-taken, turned-same}
+use Rattle.search.proofs.Turns.{step-asked, pick-room, pick-setting, walk-fits, walk-more, walk-kept, walked-all, Turned, turned-none, walk-room, walk-setting, turned-all, turned-skipped, keep-asked, turned-taken, Searched, searched-leaf, same}
 use borrow.Fn.Kinds.{In}
 use borrow.Fn.PlainCycle.{Measures, is, falls, and}
 use Rattle.search.proofs.pick.Reads as pick
@@ -22,13 +21,12 @@ use Rattle.search.proofs.walk.Reads as walk
 use Rattle.search.proofs.walk.Kinds as walk-kinds
 use Rattle.search.proofs.+pick+walk.Lts-walk as walk-lts
 use Rattle.blocks.proofs.byte.Reads as byte-reads
-use Rattle.evaluation.proofs.known.Reads as known-reads
 use Rattle.evaluation.proofs.step.Reads as step-reads
 use Rattle.models.proofs.weight.Reads as weight-reads
 use Rattle.search.proofs.add_mul.Reads as add-mul-reads
 use Rattle.search.proofs.count.Reads as count-reads
 use Rattle.search.proofs.keep.Reads as keep-reads
-use Rattle.search.proofs.root.Reads as root-reads
+use Rattle.search.proofs.leaf.Reads as leaf-reads
 use Rattle.search.proofs.+pick+walk.{statement}
 use Rattle.search.proofs.+pick+walk.Tie.{close}
 
@@ -56,11 +54,9 @@ pick-Inv-loop m used q depths truth cone trail₀ gains₀ v₀ choices₀ start
 abbrev pick-μ-loop : pick-lts.MeasureT-loop
 pick-μ-loop m used q depths truth cone trail₀ gains₀ v₀ choices₀ start h s k at least n best₀ a₀ trail gains v choices best a = n - a
 
-pick-root-requires : (t : ℕ) → pick-lts.Need-root-requires (
-  root-reads.Asked,
-  root-reads.Learnt,
-  known-reads.Asked,
-  known-reads.Learnt,
+pick-leaf-requires : (t : ℕ) → pick-lts.Need-leaf-requires (
+  leaf-reads.Asked,
+  leaf-reads.Learnt,
   byte-reads.Asked,
   byte-reads.Learnt,
   count-reads.Asked,
@@ -70,45 +66,11 @@ pick-root-requires : (t : ℕ) → pick-lts.Need-root-requires (
   keep-reads.Asked,
   keep-reads.Learnt,
 ) (pick-at t) pick.Post pick-Inv-loop pick-μ-loop
-pick-root-requires t c κs = (c .before .before .before .before .before .before .before .before .before .before .pre .1 .0) .ready .ordered .some
-
-pick-known-requires : (t : ℕ) → pick-lts.Need-known-requires (
-  root-reads.Asked,
-  root-reads.Learnt,
-  known-reads.Asked,
-  known-reads.Learnt,
-  byte-reads.Asked,
-  byte-reads.Learnt,
-  count-reads.Asked,
-  count-reads.Learnt,
-  walk-below t,
-  walk.Post,
-  keep-reads.Asked,
-  keep-reads.Learnt,
-) (pick-at t) pick.Post pick-Inv-loop pick-μ-loop
-pick-known-requires t c κs = search needs
-
-pick-cast-t27 : (t : ℕ) → pick-lts.Need-cast-t27 (
-  root-reads.Asked,
-  root-reads.Learnt,
-  known-reads.Asked,
-  known-reads.Learnt,
-  byte-reads.Asked,
-  byte-reads.Learnt,
-  count-reads.Asked,
-  count-reads.Learnt,
-  walk-below t,
-  walk.Post,
-  keep-reads.Asked,
-  keep-reads.Learnt,
-) (pick-at t) pick.Post pick-Inv-loop pick-μ-loop
-pick-cast-t27 t c = search needs
+pick-leaf-requires t c κs = (c .before .before .before .before .before .before .before .before .before .before .pre .1 .0) .ready .ordered .some
 
 pick-same-length : (t : ℕ) → pick-lts.Need-same-length (
-  root-reads.Asked,
-  root-reads.Learnt,
-  known-reads.Asked,
-  known-reads.Learnt,
+  leaf-reads.Asked,
+  leaf-reads.Learnt,
   byte-reads.Asked,
   byte-reads.Learnt,
   count-reads.Asked,
@@ -121,10 +83,8 @@ pick-same-length : (t : ℕ) → pick-lts.Need-same-length (
 pick-same-length t c = search needs
 
 pick-returns : (t : ℕ) → pick-lts.Need-returns (
-  root-reads.Asked,
-  root-reads.Learnt,
-  known-reads.Asked,
-  known-reads.Learnt,
+  leaf-reads.Asked,
+  leaf-reads.Learnt,
   byte-reads.Asked,
   byte-reads.Learnt,
   count-reads.Asked,
@@ -134,14 +94,12 @@ pick-returns : (t : ℕ) → pick-lts.Need-returns (
   keep-reads.Asked,
   keep-reads.Learnt,
 ) (pick-at t) pick.Post pick-Inv-loop pick-μ-loop
-pick-returns t c = let S = c .before .before .before .before .before .before .before .before .before .before .before .before in
-    (picked-leaf (S .pre .1 .0) (S .args .least) (c .known .result) (S .args .at) (S .args .choices .now) (c .before .before .before .if1 .taken) (c .known .ensures ∙ ap (λ j. known (S .args .v .now) j 0) (c .before .root .ensures)), back-none (S .pre .1 .0))
+pick-returns t c = let S = c .before .before .before .before .before .before .before .before .before .before .before in
+    (picked-leaf (S .pre .1 .0) (S .args .least) (c .leaf .result) (S .args .at) (S .args .choices .now) (c .before .before .if1 .taken) (c .leaf .ensures), back-none (S .pre .1 .0))
 
 pick-byte-requires : (t : ℕ) → pick-lts.Need-byte-requires (
-  root-reads.Asked,
-  root-reads.Learnt,
-  known-reads.Asked,
-  known-reads.Learnt,
+  leaf-reads.Asked,
+  leaf-reads.Learnt,
   byte-reads.Asked,
   byte-reads.Learnt,
   count-reads.Asked,
@@ -154,10 +112,8 @@ pick-byte-requires : (t : ℕ) → pick-lts.Need-byte-requires (
 pick-byte-requires t c κs = search needs
 
 pick-loop-holds : (t : ℕ) → pick-lts.Need-loop-holds (
-  root-reads.Asked,
-  root-reads.Learnt,
-  known-reads.Asked,
-  known-reads.Learnt,
+  leaf-reads.Asked,
+  leaf-reads.Learnt,
   byte-reads.Asked,
   byte-reads.Learnt,
   count-reads.Asked,
@@ -171,10 +127,8 @@ pick-loop-holds t c = let S = c .before .before .before .before .before .before 
     (c .byte .ensures, omega arith, turned-none (S .pre .1 .0) (S .args .at) (S .args .choices .now))
 
 pick-count-requires : (t : ℕ) → pick-lts.Need-count-requires (
-  root-reads.Asked,
-  root-reads.Learnt,
-  known-reads.Asked,
-  known-reads.Learnt,
+  leaf-reads.Asked,
+  leaf-reads.Learnt,
   byte-reads.Asked,
   byte-reads.Learnt,
   count-reads.Asked,
@@ -190,10 +144,8 @@ pick-count-requires t c κs = let S = c .before .before .before .before .before 
     (z .0, omega (arith, z .1, L .inv .0, c .loop-test .taken))
 
 pick-slice-write-choices : (t : ℕ) → pick-lts.Need-slice-write-choices (
-  root-reads.Asked,
-  root-reads.Learnt,
-  known-reads.Asked,
-  known-reads.Learnt,
+  leaf-reads.Asked,
+  leaf-reads.Learnt,
   byte-reads.Asked,
   byte-reads.Learnt,
   count-reads.Asked,
@@ -208,10 +160,8 @@ pick-slice-write-choices t c = let S = c .before .before .before .before .before
     walk-room (S .pre .1 .0) (c .before .before .before .before .before .if1 .left) (L .inv .2) (S .pre .1 .1) .0
 
 pick-sub-walk : (t : ℕ) → pick-lts.Need-sub-walk (
-  root-reads.Asked,
-  root-reads.Learnt,
-  known-reads.Asked,
-  known-reads.Learnt,
+  leaf-reads.Asked,
+  leaf-reads.Learnt,
   byte-reads.Asked,
   byte-reads.Learnt,
   count-reads.Asked,
@@ -224,10 +174,8 @@ pick-sub-walk : (t : ℕ) → pick-lts.Need-sub-walk (
 pick-sub-walk t c = search needs
 
 pick-add-walk : (t : ℕ) → pick-lts.Need-add-walk (
-  root-reads.Asked,
-  root-reads.Learnt,
-  known-reads.Asked,
-  known-reads.Learnt,
+  leaf-reads.Asked,
+  leaf-reads.Learnt,
   byte-reads.Asked,
   byte-reads.Learnt,
   count-reads.Asked,
@@ -242,10 +190,8 @@ pick-add-walk t c = let S = c .before .before .before .before .before .before .b
     omega (arith, walk-room (S .pre .1 .0) (c .before .before .before .before .before .before .before .before .before .if1 .left) (L .inv .2) (S .pre .1 .1) .0, (L .inv .2) .kept .room)
 
 pick-walk-requires : (t : ℕ) → pick-lts.Need-walk-requires (
-  root-reads.Asked,
-  root-reads.Learnt,
-  known-reads.Asked,
-  known-reads.Learnt,
+  leaf-reads.Asked,
+  leaf-reads.Learnt,
   byte-reads.Asked,
   byte-reads.Learnt,
   count-reads.Asked,
@@ -265,10 +211,8 @@ pick-walk-requires t c κs = let S = c .before .before .before .before .before .
     )
 
 pick-keep-requires : (t : ℕ) → pick-lts.Need-keep-requires (
-  root-reads.Asked,
-  root-reads.Learnt,
-  known-reads.Asked,
-  known-reads.Learnt,
+  leaf-reads.Asked,
+  leaf-reads.Learnt,
   byte-reads.Asked,
   byte-reads.Learnt,
   count-reads.Asked,
@@ -283,10 +227,8 @@ pick-keep-requires t c κs = let S = c .before .before .before .before .before .
     keep-asked (S .pre .1 .0) (c .before .before .before .before .before .before .before .before .before .before .before .before .before .before .before .before .before .before .if1 .left) (L .inv .2) (S .pre .1 .1) {choices′ = c .before .before .before .before .before .before .before .before .walk .last .1 .1 .1 .1 .1 .1 .1 .1 .1 .0} (c .before .before .before .before .before .before .before .before .walk .ensures .0)
 
 pick-add-a : (t : ℕ) → pick-lts.Need-add-a (
-  root-reads.Asked,
-  root-reads.Learnt,
-  known-reads.Asked,
-  known-reads.Learnt,
+  leaf-reads.Asked,
+  leaf-reads.Learnt,
   byte-reads.Asked,
   byte-reads.Learnt,
   count-reads.Asked,
@@ -299,10 +241,8 @@ pick-add-a : (t : ℕ) → pick-lts.Need-add-a (
 pick-add-a t c = search needs
 
 pick-loop-less : (t : ℕ) → pick-lts.Need-loop-less (
-  root-reads.Asked,
-  root-reads.Learnt,
-  known-reads.Asked,
-  known-reads.Learnt,
+  leaf-reads.Asked,
+  leaf-reads.Learnt,
   byte-reads.Asked,
   byte-reads.Learnt,
   count-reads.Asked,
@@ -315,10 +255,8 @@ pick-loop-less : (t : ℕ) → pick-lts.Need-loop-less (
 pick-loop-less t c = search needs
 
 pick-loop-again : (t : ℕ) → pick-lts.Need-loop-again (
-  root-reads.Asked,
-  root-reads.Learnt,
-  known-reads.Asked,
-  known-reads.Learnt,
+  leaf-reads.Asked,
+  leaf-reads.Learnt,
   byte-reads.Asked,
   byte-reads.Learnt,
   count-reads.Asked,
@@ -333,25 +271,24 @@ pick-loop-again t c = let S = c .before .before .before .before .before .before 
     let some = c .before .before .before .before .before .if1 .left in
     let less : L .a < 8 = omega (arith, sizes-here (S .pre .1 .0) .1, L .inv .0, c .before .before .loop-test .taken) in
     let n = count-here (S .pre .1 .0) (L .a) (c .before .count .result) less (c .before .count .ensures) in
+    let P = Turned (S .args .least) (S .args .m .now) (S .args .q .now) (S .args .start) (S .args .cone .now) (S .args .h) (S .args .s) (S .args .k) (S .args .at) (S .args .trail .now) (S .args .gains .now) (S .args .v .now) (S .args .choices .now) (L .a + 1) in
     ⊎-elim
     (λ w. (
       L .inv .0,
       omega (arith, c .before .before .loop-test .taken),
-      turned-same (w .17) (w .18) (w .19) (w .20) (w .21)
+      same P (w .17) (w .18) (w .19) (w .20) (w .21)
           (turned-taken (S .pre .1 .0) some (L .inv .2) (S .pre .1 .1) {choices′ = w .5 .last .1 .1 .1 .1 .1 .1 .1 .1 .1 .0} (w .5 .ensures .0) (λ e. w .0 .taken (n ∙ e)) (w .5 .ensures .1) (w .14 .ensures) (w .5 .kept .1 .1 .1 .1 .1 .1 .0) (w .5 .kept .1 .1 .1 .1 .1 .1 .1 .0) (w .5 .kept .1 .1 .1 .1 .1 .1 .1 .1 .0) (w .14 .kept .0 ∙ w .5 .kept .1 .1 .1 .1 .1 .1 .1 .1 .1 .0)),
     ))
     (λ w. (
       L .inv .0,
       omega (arith, c .before .before .loop-test .taken),
-      turned-same (w .1) (w .2) (w .3) (w .4) (w .5) (turned-skipped (S .pre .1 .0) some (L .inv .2) (sym n ∙ w .0 .left)),
+      same P (w .1) (w .2) (w .3) (w .4) (w .5) (turned-skipped (S .pre .1 .0) some (L .inv .2) (sym n ∙ w .0 .left)),
     ))
     (c .if2 .came)
 
 pick-same-length-2 : (t : ℕ) → pick-lts.Need-same-length-2 (
-  root-reads.Asked,
-  root-reads.Learnt,
-  known-reads.Asked,
-  known-reads.Learnt,
+  leaf-reads.Asked,
+  leaf-reads.Learnt,
   byte-reads.Asked,
   byte-reads.Learnt,
   count-reads.Asked,
@@ -364,10 +301,8 @@ pick-same-length-2 : (t : ℕ) → pick-lts.Need-same-length-2 (
 pick-same-length-2 t c = (c .before .loop .inv .2) .kept .steps
 
 pick-same-length-3 : (t : ℕ) → pick-lts.Need-same-length-3 (
-  root-reads.Asked,
-  root-reads.Learnt,
-  known-reads.Asked,
-  known-reads.Learnt,
+  leaf-reads.Asked,
+  leaf-reads.Learnt,
   byte-reads.Asked,
   byte-reads.Learnt,
   count-reads.Asked,
@@ -380,10 +315,8 @@ pick-same-length-3 : (t : ℕ) → pick-lts.Need-same-length-3 (
 pick-same-length-3 t c = (c .before .loop .inv .2) .kept .sums
 
 pick-same-length-4 : (t : ℕ) → pick-lts.Need-same-length-4 (
-  root-reads.Asked,
-  root-reads.Learnt,
-  known-reads.Asked,
-  known-reads.Learnt,
+  leaf-reads.Asked,
+  leaf-reads.Learnt,
   byte-reads.Asked,
   byte-reads.Learnt,
   count-reads.Asked,
@@ -396,10 +329,8 @@ pick-same-length-4 : (t : ℕ) → pick-lts.Need-same-length-4 (
 pick-same-length-4 t c = (c .before .loop .inv .2) .kept .places
 
 pick-same-length-5 : (t : ℕ) → pick-lts.Need-same-length-5 (
-  root-reads.Asked,
-  root-reads.Learnt,
-  known-reads.Asked,
-  known-reads.Learnt,
+  leaf-reads.Asked,
+  leaf-reads.Learnt,
   byte-reads.Asked,
   byte-reads.Learnt,
   count-reads.Asked,
@@ -412,10 +343,8 @@ pick-same-length-5 : (t : ℕ) → pick-lts.Need-same-length-5 (
 pick-same-length-5 t c = (c .before .loop .inv .2) .kept .room
 
 pick-returns-2 : (t : ℕ) → pick-lts.Need-returns-2 (
-  root-reads.Asked,
-  root-reads.Learnt,
-  known-reads.Asked,
-  known-reads.Learnt,
+  leaf-reads.Asked,
+  leaf-reads.Learnt,
   byte-reads.Asked,
   byte-reads.Learnt,
   count-reads.Asked,
@@ -441,6 +370,8 @@ walk-count-requires : (t : ℕ) → walk-lts.Need-count-requires (
   count-reads.Learnt,
   step-reads.Asked,
   step-reads.Learnt,
+  leaf-reads.Asked,
+  leaf-reads.Learnt,
   pick-below t,
   pick.Post,
   weight-reads.Asked,
@@ -456,6 +387,8 @@ walk-loop-holds : (t : ℕ) → walk-lts.Need-loop-holds (
   count-reads.Learnt,
   step-reads.Asked,
   step-reads.Learnt,
+  leaf-reads.Asked,
+  leaf-reads.Learnt,
   pick-below t,
   pick.Post,
   weight-reads.Asked,
@@ -471,6 +404,8 @@ walk-step-requires : (t : ℕ) → walk-lts.Need-step-requires (
   count-reads.Learnt,
   step-reads.Asked,
   step-reads.Learnt,
+  leaf-reads.Asked,
+  leaf-reads.Learnt,
   pick-below t,
   pick.Post,
   weight-reads.Asked,
@@ -483,11 +418,13 @@ walk-step-requires t c κs = let S = c .before .before .before .before .before .
     let x = step-asked (S .args .k) (S .pre .1 .0) (L .inv .3) (L .inv .2) (omega (arith, L .inv .0, c .before .before .before .loop-test .taken)) in
     (x .0, (x .1, (x .2, x .3)))
 
-walk-add-pick : (t : ℕ) → walk-lts.Need-add-pick (
+walk-leaf-requires : (t : ℕ) → walk-lts.Need-leaf-requires (
   count-reads.Asked,
   count-reads.Learnt,
   step-reads.Asked,
   step-reads.Learnt,
+  leaf-reads.Asked,
+  leaf-reads.Learnt,
   pick-below t,
   pick.Post,
   weight-reads.Asked,
@@ -495,7 +432,23 @@ walk-add-pick : (t : ℕ) → walk-lts.Need-add-pick (
   add-mul-reads.Asked,
   add-mul-reads.Learnt,
 ) (walk-at t) walk.Post walk-Inv-loop walk-μ-loop
-walk-add-pick t c = let S = c .before .before .before .before .before .before .before .before .before .before .before .before .before .before .before .before .before .before .before .before .before .before .before .before in
+walk-leaf-requires t c κs = (c .before .before .before .before .before .before .before .before .before .before .before .before .before .before .before .before .before .before .before .before .before .before .pre .1 .0) .ready .ordered .some
+
+walk-add-pick : (t : ℕ) → walk-lts.Need-add-pick (
+  count-reads.Asked,
+  count-reads.Learnt,
+  step-reads.Asked,
+  step-reads.Learnt,
+  leaf-reads.Asked,
+  leaf-reads.Learnt,
+  pick-below t,
+  pick.Post,
+  weight-reads.Asked,
+  weight-reads.Learnt,
+  add-mul-reads.Asked,
+  add-mul-reads.Learnt,
+) (walk-at t) walk.Post walk-Inv-loop walk-μ-loop
+walk-add-pick t c = let S = c .before .before .before .before .before .before .before .before .before .before .before .before .before .before .before .before .before .before .before .before .before .before .before .before .before in
     omega (arith, (S .pre .1 .0) .few)
 
 walk-pick-requires : (t : ℕ) → walk-lts.Need-pick-requires (
@@ -503,6 +456,8 @@ walk-pick-requires : (t : ℕ) → walk-lts.Need-pick-requires (
   count-reads.Learnt,
   step-reads.Asked,
   step-reads.Learnt,
+  leaf-reads.Asked,
+  leaf-reads.Learnt,
   pick-below t,
   pick.Post,
   weight-reads.Asked,
@@ -510,10 +465,10 @@ walk-pick-requires : (t : ℕ) → walk-lts.Need-pick-requires (
   add-mul-reads.Asked,
   add-mul-reads.Learnt,
 ) (walk-at t) walk.Post walk-Inv-loop walk-μ-loop
-walk-pick-requires t c κs = let S = c .before .before .before .before .before .before .before .before .before .before .before .before .before .before .before .before .before .before .before .before .before .before .before .before in
-    let L = c .before .before .before .before .before .before .before .before .before .before .before .before .before .before .loop in
-    let T = c .before .before .before .before .before .before .before .before .before .step in
-    let here : L .o < entries (S .args .m .now) (S .args .s) (S .args .a) = omega (arith, L .inv .0, c .before .before .before .before .before .before .before .before .before .before .before .before .before .loop-test .taken) in (
+walk-pick-requires t c κs = let S = c .before .before .before .before .before .before .before .before .before .before .before .before .before .before .before .before .before .before .before .before .before .before .before .before .before in
+    let L = c .before .before .before .before .before .before .before .before .before .before .before .before .before .before .before .loop in
+    let T = c .before .before .before .before .before .before .before .before .before .before .step in
+    let here : L .o < entries (S .args .m .now) (S .args .s) (S .args .a) = omega (arith, L .inv .0, c .before .before .before .before .before .before .before .before .before .before .before .before .before .before .loop-test .taken) in (
       omega (arith, S .pre .0),
       (
         pick-setting (S .args .k) (S .pre .1 .0) (L .inv .3) (L .inv .2) here {trail′ = T .last .1 .1 .1 .1 .1 .0} {gains′ = T .last .1 .1 .1 .1 .1 .1 .0} {v′ = T .last .1 .1 .1 .1 .1 .1 .1 .0} (T .ensures) (T .kept .1 .1 .1 .1 .1 .0) (T .kept .1 .1 .1 .1 .1 .1 .0) (T .kept .1 .1 .1 .1 .1 .1 .1 .0),
@@ -526,6 +481,8 @@ walk-cast-weight : (t : ℕ) → walk-lts.Need-cast-weight (
   count-reads.Learnt,
   step-reads.Asked,
   step-reads.Learnt,
+  leaf-reads.Asked,
+  leaf-reads.Learnt,
   pick-below t,
   pick.Post,
   weight-reads.Asked,
@@ -540,6 +497,8 @@ walk-weight-requires : (t : ℕ) → walk-lts.Need-weight-requires (
   count-reads.Learnt,
   step-reads.Asked,
   step-reads.Learnt,
+  leaf-reads.Asked,
+  leaf-reads.Learnt,
   pick-below t,
   pick.Post,
   weight-reads.Asked,
@@ -547,16 +506,57 @@ walk-weight-requires : (t : ℕ) → walk-lts.Need-weight-requires (
   add-mul-reads.Asked,
   add-mul-reads.Learnt,
 ) (walk-at t) walk.Post walk-Inv-loop walk-μ-loop
-walk-weight-requires t c κs = let S = c .before .before .before .before .before .before .before .before .before .before .before .before .before .before .before .before .before .before .before .before .before .before .before .before .before .before .before .before .before .before .before .before in
-    let L = c .before .before .before .before .before .before .before .before .before .before .before .before .before .before .before .before .before .before .before .before .before .before .loop in
+walk-weight-requires t c κs = let S = c .before .before .before .before .before .before .before .before .before .before .before .before .before .before .before .before .before .before .before .before .before in
+    let L = c .before .before .before .before .before .before .before .before .before .before .before .loop in
     let z = sizes-here (S .pre .1 .0) in
-    (omega (arith, z .0), omega (arith, S .pre .1 .1 .0), omega (arith, L .inv .0, c .before .before .before .before .before .before .before .before .before .before .before .before .before .before .before .before .before .before .before .before .before .loop-test .taken, few-here (S .pre .1 .0) (S .args .a)))
+    (omega (arith, z .0), omega (arith, S .pre .1 .1 .0), omega (arith, L .inv .0, c .before .before .before .before .before .before .before .before .before .before .loop-test .taken, few-here (S .pre .1 .0) (S .args .a)))
+
+-- Where the two ways to the best plan below an outcome meet: it is found, at a leaf or by `pick`.
+walk-searched : (t : ℕ) (c : walk-lts.Joined1 (
+  count-reads.Asked,
+  count-reads.Learnt,
+  step-reads.Asked,
+  step-reads.Learnt,
+  leaf-reads.Asked,
+  leaf-reads.Learnt,
+  pick-below t,
+  pick.Post,
+  weight-reads.Asked,
+  weight-reads.Learnt,
+  add-mul-reads.Asked,
+  add-mul-reads.Learnt,
+) (walk-at t) walk.Post walk-Inv-loop walk-μ-loop) →
+    let S = c .before .before .before .before .before .before .before .before .before .before .before .before .before .before .before .before .before .before .before .before .before in
+    let T = c .before .before .before .before .before .before .step in
+    Searched (S .args .least) (S .args .m .now) (S .args .q .now) (S .args .start) (S .args .cone .now) (S .args .h + 1) (T .result) (S .args .k) (c .before .before .before .before .before .before .before .before .before .before .before .loop .end) (T .last .1 .1 .1 .1 .1 .0) (T .last .1 .1 .1 .1 .1 .1 .0) (T .last .1 .1 .1 .1 .1 .1 .1 .0) (c .before .before .before .before .before .before .before .before .before .before .before .loop .choices) (c .if1 .trail) (c .if1 .gains) (c .if1 .v) (c .if1 .choices) (c .if1 .b)
+walk-searched t c = let S = c .before .before .before .before .before .before .before .before .before .before .before .before .before .before .before .before .before .before .before .before .before in
+    let L = c .before .before .before .before .before .before .before .before .before .before .before .loop in
+    let T = c .before .before .before .before .before .before .step in
+    let P = Searched (S .args .least) (S .args .m .now) (S .args .q .now) (S .args .start) (S .args .cone .now) (S .args .h + 1) (T .result) (S .args .k) (L .end) (T .last .1 .1 .1 .1 .1 .0) (T .last .1 .1 .1 .1 .1 .1 .0) (T .last .1 .1 .1 .1 .1 .1 .1 .0) (L .choices) in
+    let here : L .o < entries (S .args .m .now) (S .args .s) (S .args .a) = omega (arith, L .inv .0, c .before .before .before .before .before .before .before .before .before .before .loop-test .taken) in
+    let N = pick-setting (S .args .k) (S .pre .1 .0) (L .inv .3) (L .inv .2) here {trail′ = T .last .1 .1 .1 .1 .1 .0} {gains′ = T .last .1 .1 .1 .1 .1 .1 .0} {v′ = T .last .1 .1 .1 .1 .1 .1 .1 .0} (T .ensures) (T .kept .1 .1 .1 .1 .1 .0) (T .kept .1 .1 .1 .1 .1 .1 .0) (T .kept .1 .1 .1 .1 .1 .1 .1 .0) in
+    ⊎-elim
+    (λ w. same P (w .3) (w .4) (w .5) (w .6) (w .7) (searched-leaf N (S .args .least) (w .2 .result) (L .end) (L .choices) (w .0 .taken) (w .2 .ensures)))
+    (λ w. same P (w .13) (w .14) (w .15) (w .16) (w .17)
+    (record {
+      picked = w .5 .ensures .0;
+      kept = record {
+        back = w .5 .ensures .1;
+        steps = w .5 .kept .1 .1 .1 .1 .1 .1 .0;
+        sums = w .5 .kept .1 .1 .1 .1 .1 .1 .1 .0;
+        places = w .5 .kept .1 .1 .1 .1 .1 .1 .1 .1 .0;
+        room = w .5 .kept .1 .1 .1 .1 .1 .1 .1 .1 .1 .0;
+      };
+    }))
+    (c .if1 .came)
 
 walk-add-mul-requires : (t : ℕ) → walk-lts.Need-add-mul-requires (
   count-reads.Asked,
   count-reads.Learnt,
   step-reads.Asked,
   step-reads.Learnt,
+  leaf-reads.Asked,
+  leaf-reads.Learnt,
   pick-below t,
   pick.Post,
   weight-reads.Asked,
@@ -564,18 +564,20 @@ walk-add-mul-requires : (t : ℕ) → walk-lts.Need-add-mul-requires (
   add-mul-reads.Asked,
   add-mul-reads.Learnt,
 ) (walk-at t) walk.Post walk-Inv-loop walk-μ-loop
-walk-add-mul-requires t c κs = let S = c .before .before .before .before .before .before .before .before .before .before .before .before .before .before .before .before .before .before .before .before .before .before .before .before .before .before .before .before .before .before .before .before .before in
-    let L = c .before .before .before .before .before .before .before .before .before .before .before .before .before .before .before .before .before .before .before .before .before .before .before .loop in
-    let T = c .before .before .before .before .before .before .before .before .before .before .before .before .before .before .before .before .before .before .step in
-    let P = c .before .before .before .before .before .before .before .before .pick in
-    let here : L .o < entries (S .args .m .now) (S .args .s) (S .args .a) = omega (arith, L .inv .0, c .before .before .before .before .before .before .before .before .before .before .before .before .before .before .before .before .before .before .before .before .before .before .loop-test .taken) in
-    walk-fits (S .args .k) (S .pre .1 .0) (L .inv .3) (L .inv .2) here {trail′ = T .last .1 .1 .1 .1 .1 .0} {gains′ = T .last .1 .1 .1 .1 .1 .1 .0} {v′ = T .last .1 .1 .1 .1 .1 .1 .1 .0} (T .ensures) {trail″ = P .last .1 .1 .1 .1 .1 .1 .0} {gains″ = P .last .1 .1 .1 .1 .1 .1 .1 .0} {v″ = P .last .1 .1 .1 .1 .1 .1 .1 .1 .0} {choices″ = P .last .1 .1 .1 .1 .1 .1 .1 .1 .1 .0} (P .ensures .0) (P .ensures .1) (c .weight .result) (c .weight .ensures .0)
+walk-add-mul-requires t c κs = let S = c .before .before .before .before .before .before .before .before .before .before .before .before .before .before .before .before .before .before .before .before .before .before in
+    let L = c .before .before .before .before .before .before .before .before .before .before .before .before .loop in
+    let T = c .before .before .before .before .before .before .before .step in
+    let J = c .before .if1 in
+    let here : L .o < entries (S .args .m .now) (S .args .s) (S .args .a) = omega (arith, L .inv .0, c .before .before .before .before .before .before .before .before .before .before .before .loop-test .taken) in
+    walk-fits (S .args .k) (S .pre .1 .0) (L .inv .3) (L .inv .2) here {trail′ = T .last .1 .1 .1 .1 .1 .0} {gains′ = T .last .1 .1 .1 .1 .1 .1 .0} {v′ = T .last .1 .1 .1 .1 .1 .1 .1 .0} (T .ensures) {trail″ = J .trail} {gains″ = J .gains} {v″ = J .v} {choices″ = J .choices} (walk-searched t (c .before)) (c .weight .result) (c .weight .ensures .0)
 
 walk-add-o : (t : ℕ) → walk-lts.Need-add-o (
   count-reads.Asked,
   count-reads.Learnt,
   step-reads.Asked,
   step-reads.Learnt,
+  leaf-reads.Asked,
+  leaf-reads.Learnt,
   pick-below t,
   pick.Post,
   weight-reads.Asked,
@@ -583,14 +585,16 @@ walk-add-o : (t : ℕ) → walk-lts.Need-add-o (
   add-mul-reads.Asked,
   add-mul-reads.Learnt,
 ) (walk-at t) walk.Post walk-Inv-loop walk-μ-loop
-walk-add-o t c = let S = c .before .before .before .before .before .before .before .before .before .before .before .before .before .before .before .before .before .before .before .before .before .before .before .before .before .before .before .before .before .before .before .before .before .before in
-    omega (arith, c .before .before .before .before .before .before .before .before .before .before .before .before .before .before .before .before .before .before .before .before .before .before .before .before .loop .inv .0, c .before .before .before .before .before .before .before .before .before .before .before .before .before .before .before .before .before .before .before .before .before .before .before .loop-test .taken, few-here (S .pre .1 .0) (S .args .a))
+walk-add-o t c = let S = c .before .before .before .before .before .before .before .before .before .before .before .before .before .before .before .before .before .before .before .before .before .before .before in
+    omega (arith, c .before .before .before .before .before .before .before .before .before .before .before .before .before .loop .inv .0, c .before .before .before .before .before .before .before .before .before .before .before .before .loop-test .taken, few-here (S .pre .1 .0) (S .args .a))
 
 walk-loop-less : (t : ℕ) → walk-lts.Need-loop-less (
   count-reads.Asked,
   count-reads.Learnt,
   step-reads.Asked,
   step-reads.Learnt,
+  leaf-reads.Asked,
+  leaf-reads.Learnt,
   pick-below t,
   pick.Post,
   weight-reads.Asked,
@@ -598,13 +602,15 @@ walk-loop-less : (t : ℕ) → walk-lts.Need-loop-less (
   add-mul-reads.Asked,
   add-mul-reads.Learnt,
 ) (walk-at t) walk.Post walk-Inv-loop walk-μ-loop
-walk-loop-less t c = omega (arith, c .before .before .before .before .before .before .before .before .before .before .before .before .before .before .before .before .before .before .before .before .before .before .before .before .loop .inv .1, c .before .before .before .before .before .before .before .before .before .before .before .before .before .before .before .before .before .before .before .before .before .before .before .loop-test .taken)
+walk-loop-less t c = omega (arith, c .before .before .before .before .before .before .before .before .before .before .before .before .before .loop .inv .1, c .before .before .before .before .before .before .before .before .before .before .before .before .loop-test .taken)
 
 walk-loop-again : (t : ℕ) → walk-lts.Need-loop-again (
   count-reads.Asked,
   count-reads.Learnt,
   step-reads.Asked,
   step-reads.Learnt,
+  leaf-reads.Asked,
+  leaf-reads.Learnt,
   pick-below t,
   pick.Post,
   weight-reads.Asked,
@@ -612,15 +618,15 @@ walk-loop-again : (t : ℕ) → walk-lts.Need-loop-again (
   add-mul-reads.Asked,
   add-mul-reads.Learnt,
 ) (walk-at t) walk.Post walk-Inv-loop walk-μ-loop
-walk-loop-again t c = let S = c .before .before .before .before .before .before .before .before .before .before .before .before .before .before .before .before .before .before .before .before .before .before .before .before .before .before .before .before .before .before .before .before .before .before in
-    let L = c .before .before .before .before .before .before .before .before .before .before .before .before .before .before .before .before .before .before .before .before .before .before .before .before .loop in
-    let T = c .before .before .before .before .before .before .before .before .before .before .before .before .before .before .before .before .before .before .before .step in
-    let P = c .before .before .before .before .before .before .before .before .before .pick in
-    let here : L .o < entries (S .args .m .now) (S .args .s) (S .args .a) = omega (arith, L .inv .0, c .before .before .before .before .before .before .before .before .before .before .before .before .before .before .before .before .before .before .before .before .before .before .before .loop-test .taken) in (
+walk-loop-again t c = let S = c .before .before .before .before .before .before .before .before .before .before .before .before .before .before .before .before .before .before .before .before .before .before .before in
+    let L = c .before .before .before .before .before .before .before .before .before .before .before .before .before .loop in
+    let T = c .before .before .before .before .before .before .before .before .step in
+    let J = c .before .before .if1 in
+    let here : L .o < entries (S .args .m .now) (S .args .s) (S .args .a) = omega (arith, L .inv .0, c .before .before .before .before .before .before .before .before .before .before .before .before .loop-test .taken) in (
       L .inv .0,
-      omega (arith, c .before .before .before .before .before .before .before .before .before .before .before .before .before .before .before .before .before .before .before .before .before .before .before .loop-test .taken),
-      walk-more (S .args .k) (S .pre .1 .0) (L .inv .3) (L .inv .2) here {trail′ = T .last .1 .1 .1 .1 .1 .0} {gains′ = T .last .1 .1 .1 .1 .1 .1 .0} {v′ = T .last .1 .1 .1 .1 .1 .1 .1 .0} (T .ensures) {trail″ = P .last .1 .1 .1 .1 .1 .1 .0} {gains″ = P .last .1 .1 .1 .1 .1 .1 .1 .0} {v″ = P .last .1 .1 .1 .1 .1 .1 .1 .1 .0} {choices″ = P .last .1 .1 .1 .1 .1 .1 .1 .1 .1 .0} (P .ensures .0) (P .ensures .1) (c .before .weight .result) (c .before .weight .ensures .0) (c .add-mul .ensures),
-      walk-kept (S .args .k) (S .pre .1 .0) (L .inv .3) (L .inv .2) here {trail′ = T .last .1 .1 .1 .1 .1 .0} {gains′ = T .last .1 .1 .1 .1 .1 .1 .0} {v′ = T .last .1 .1 .1 .1 .1 .1 .1 .0} (T .ensures) {trail″ = P .last .1 .1 .1 .1 .1 .1 .0} {gains″ = P .last .1 .1 .1 .1 .1 .1 .1 .0} {v″ = P .last .1 .1 .1 .1 .1 .1 .1 .1 .0} {choices″ = P .last .1 .1 .1 .1 .1 .1 .1 .1 .1 .0} (P .ensures .0) (P .ensures .1) (T .kept .1 .1 .1 .1 .1 .0) (T .kept .1 .1 .1 .1 .1 .1 .0) (T .kept .1 .1 .1 .1 .1 .1 .1 .0) (P .kept .1 .1 .1 .1 .1 .1 .0) (P .kept .1 .1 .1 .1 .1 .1 .1 .0) (P .kept .1 .1 .1 .1 .1 .1 .1 .1 .0) (P .kept .1 .1 .1 .1 .1 .1 .1 .1 .1 .0),
+      omega (arith, c .before .before .before .before .before .before .before .before .before .before .before .before .loop-test .taken),
+      walk-more (S .args .k) (S .pre .1 .0) (L .inv .3) (L .inv .2) here {trail′ = T .last .1 .1 .1 .1 .1 .0} {gains′ = T .last .1 .1 .1 .1 .1 .1 .0} {v′ = T .last .1 .1 .1 .1 .1 .1 .1 .0} (T .ensures) {trail″ = J .trail} {gains″ = J .gains} {v″ = J .v} {choices″ = J .choices} (walk-searched t (c .before .before)) (c .before .weight .result) (c .before .weight .ensures .0) (c .add-mul .ensures),
+      walk-kept (S .args .k) (S .pre .1 .0) (L .inv .3) (L .inv .2) here {trail′ = T .last .1 .1 .1 .1 .1 .0} {gains′ = T .last .1 .1 .1 .1 .1 .1 .0} {v′ = T .last .1 .1 .1 .1 .1 .1 .1 .0} (T .ensures) {trail″ = J .trail} {gains″ = J .gains} {v″ = J .v} {choices″ = J .choices} (walk-searched t (c .before .before)) (T .kept .1 .1 .1 .1 .1 .0) (T .kept .1 .1 .1 .1 .1 .1 .0) (T .kept .1 .1 .1 .1 .1 .1 .1 .0),
     )
 
 walk-same-length : (t : ℕ) → walk-lts.Need-same-length (
@@ -628,6 +634,8 @@ walk-same-length : (t : ℕ) → walk-lts.Need-same-length (
   count-reads.Learnt,
   step-reads.Asked,
   step-reads.Learnt,
+  leaf-reads.Asked,
+  leaf-reads.Learnt,
   pick-below t,
   pick.Post,
   weight-reads.Asked,
@@ -642,6 +650,8 @@ walk-same-length-2 : (t : ℕ) → walk-lts.Need-same-length-2 (
   count-reads.Learnt,
   step-reads.Asked,
   step-reads.Learnt,
+  leaf-reads.Asked,
+  leaf-reads.Learnt,
   pick-below t,
   pick.Post,
   weight-reads.Asked,
@@ -656,6 +666,8 @@ walk-same-length-3 : (t : ℕ) → walk-lts.Need-same-length-3 (
   count-reads.Learnt,
   step-reads.Asked,
   step-reads.Learnt,
+  leaf-reads.Asked,
+  leaf-reads.Learnt,
   pick-below t,
   pick.Post,
   weight-reads.Asked,
@@ -670,6 +682,8 @@ walk-same-length-4 : (t : ℕ) → walk-lts.Need-same-length-4 (
   count-reads.Learnt,
   step-reads.Asked,
   step-reads.Learnt,
+  leaf-reads.Asked,
+  leaf-reads.Learnt,
   pick-below t,
   pick.Post,
   weight-reads.Asked,
@@ -684,6 +698,8 @@ walk-returns : (t : ℕ) → walk-lts.Need-returns (
   count-reads.Learnt,
   step-reads.Asked,
   step-reads.Learnt,
+  leaf-reads.Asked,
+  leaf-reads.Learnt,
   pick-below t,
   pick.Post,
   weight-reads.Asked,
@@ -697,10 +713,8 @@ walk-returns t c = let S = c .before .before .before .before .before .before .be
 
 pub +pick+walk-spec : {M : Type 1} → statement M
 +pick+walk-spec = close μ-pick μ-walk (λ t. pick-lts.spec (
-  root-reads.Asked,
-  root-reads.Learnt,
-  known-reads.Asked,
-  known-reads.Learnt,
+  leaf-reads.Asked,
+  leaf-reads.Learnt,
   byte-reads.Asked,
   byte-reads.Learnt,
   count-reads.Asked,
@@ -714,9 +728,7 @@ pub +pick+walk-spec : {M : Type 1} → statement M
     pick.Post
     pick-Inv-loop
     pick-μ-loop
-    (pick-root-requires t)
-    (pick-known-requires t)
-    (pick-cast-t27 t)
+    (pick-leaf-requires t)
     (pick-same-length t)
     (pick-returns t)
     (pick-byte-requires t)
@@ -740,6 +752,8 @@ pub +pick+walk-spec : {M : Type 1} → statement M
       count-reads.Learnt,
       step-reads.Asked,
       step-reads.Learnt,
+      leaf-reads.Asked,
+      leaf-reads.Learnt,
       pick-below t,
       pick.Post,
       weight-reads.Asked,
@@ -754,6 +768,7 @@ pub +pick+walk-spec : {M : Type 1} → statement M
     (walk-count-requires t)
     (walk-loop-holds t)
     (walk-step-requires t)
+    (walk-leaf-requires t)
     (walk-add-pick t)
     (walk-pick-requires t)
     (walk-cast-weight t)
