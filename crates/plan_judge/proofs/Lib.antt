@@ -2,6 +2,7 @@ pub mod Kept
 pub mod Returns
 pub mod Grounds
 pub mod Sizes
+pub mod Spelling
 pub mod Writes
 pub mod Checks
 pub mod Judges

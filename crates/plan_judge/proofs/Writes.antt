@@ -24,6 +24,7 @@ use Rattle.blocks.specs.Bytes.{Bytes}
 use Rattle.models.specs.Layout.{model-of}
 use Rattle.questions.specs.Layout.{Question, start-of, node-count, node-of, question-of}
 use Rattle.questions.proofs.Accepted.{accepted}
+use Rattle.extension.specs.Choices.{extend}
 use Rattle.sheets.specs.Layout.{Sheet, sheet-bytes, blocks-for}
 use Rattle.sheets.proofs.ReadsBack.{sheet-length}
 use Rattle.calls.specs.Calls.{shown-sheet, do-write}
@@ -37,6 +38,7 @@ use Rattle.plan_judge.specs.Values.{writing, written-by, filling, filled
 use Rattle.plan_judge.specs.State.{held-both, held-goal, PlanRoot, plan-size, size-in, shown-size, shown-weight}
 use Rattle.plan_judge.proofs.Returns.{said-bytes}
 use Rattle.plan_judge.proofs.Grounds.{root-goal, both-of, both-asked, plan-asked, goal-refused, root-node, goal-passed}
+use Rattle.plan_judge.proofs.Spelling.{spelled}
 
 -- ---- the choices of a "plan" root
 
@@ -74,6 +76,12 @@ module _ (m q : Bytes) (r : PlanRoot m q) (cs : List ℕ) where
       let i : cs ≡ l ++ x .0 .1 = w .1 ∙ ap (λ k. k ++ x .0 .1) z in
       (omega (arith, some-choice n (x .0 .0) s, ap length z), omega (arith, ap length i ∙ length-append l (x .0 .1)), sym (ap (take (length l)) i ∙ take-append-seam l (x .0 .1)))
 
+  -- Spelled by recursion they are the same.
+  pub spelled-choices : (l : List ℕ) → choices-in (model-of m) (question-of q) cs ≡ ok l → extend (model-of m) n n (start-of q) cs .0 ≡ l
+  spelled-choices l e =
+      let x = bind-ok (read-plan (model-of m) n (start-of q) cs) _ (sym choices-are ∙ e) in
+      spelled (model-of m) n (start-of q) cs (x .0) (x .1) ∙ ok-same (x .2)
+
 -- ---- the shown plan
 
 module _ (d : Desk) (e : refusal (held-goal (view d)) ≡ 0) where
@@ -101,6 +109,7 @@ module _ (d : Desk) (e : refusal (held-goal (view d)) ≡ 0) where
   pub record ShownBy (o : Option logic.Verdict) : Type 0 where
     pub none-shown : shown-size o ≡ 0 → sheet-held o ≡ refused 23
     pub few : shown-size o ≤ length (d .choices)
+    pub there : (shown-size o ≡ 0 → ⊥) → found ≡ ok (take (shown-size o) (d .choices))
     pub some-shown : (shown-size o ≡ 0 → ⊥) → sheet-held o ≡ ok (record { weight = pos (shown-weight (d .verdict)); choices = take (shown-size o) (d .choices) })
 
   pub shown-by : ShownBy ((view d) .verdict)
@@ -110,7 +119,7 @@ module _ (d : Desk) (e : refusal (held-goal (view d)) ≡ 0) where
       nothing : (o : Option logic.Verdict) → (view d) .verdict ≡ o → shown-size o ≡ 0 → sheet-held o ≡ refused 23 → ShownBy ((view d) .verdict)
       nothing o i z s =
           let y : shown-size ((view d) .verdict) ≡ 0 = ap shown-size i ∙ z in
-          record { none-shown = λ _. ap sheet-held i ∙ s; few = omega arith; some-shown = λ h. absurd (h y) }
+          record { none-shown = λ _. ap sheet-held i ∙ s; few = omega arith; there = λ h. absurd (h y); some-shown = λ h. absurd (h y) }
 
       by : (t : Bool) (v : Verdict) (c : Checked (List ℕ)) → d .judged ≡ t → d .verdict ≡ v → found ≡ c → ShownBy ((view d) .verdict)
       by false v c i j k = nothing none (verdict-is false v i j) refl refl
@@ -121,11 +130,12 @@ module _ (d : Desk) (e : refusal (held-goal (view d)) ≡ 0) where
           let w = first-choices (said-bytes d) (d .question) (plan-asked d e) (d .choices) l k in
           let o : (view d) .verdict ≡ some (logic.yes-plan (pos (p .weight)) (p .steps) (p .count) l) = verdict-is true (YesPlan p) i j ∙ ap (λ c. verdict-in c (YesPlan p)) k in
           let y : shown-size ((view d) .verdict) ≡ length l = ap shown-size o in
+          let same : l ≡ take (shown-size ((view d) .verdict)) (d .choices) = w .2 ∙ ap (λ k. take k (d .choices)) (sym y) in
           record {
             none-shown = λ z. absurd (omega (arith, w .0));
             few = omega (arith, w .1);
-            some-shown = λ _. ap sheet-held o
-                ∙ ap₂ (λ x z. ok (record { weight = pos x; choices = z })) (sym (ap shown-weight j)) (w .2 ∙ ap (λ k. take k (d .choices)) (sym y));
+            there = λ _. k ∙ ap ok same;
+            some-shown = λ _. ap sheet-held o ∙ ap₂ (λ x z. ok (record { weight = pos x; choices = z })) (sym (ap shown-weight j)) same;
           }
 
 -- Where a ground of the state applies, no plan is shown.
@@ -197,6 +207,9 @@ module _ (d : Desk) (a : Bytes) where
 
       abbrev sheet : Bytes
       sheet = sheet-bytes steps start (shown-weight (d .verdict)) shown
+
+      pub found-shown : found d e ≡ ok shown
+      found-shown = shown-by d e .there (λ z. h (i ∙ z)) ∙ ap (λ k. ok (take k (d .choices))) (sym i)
 
       pub count-few : count ≤ length (d .choices)
       count-few = omega (arith, shown-by d e .few)
