@@ -31,7 +31,7 @@ use Rattle.sheets.specs.Layout.{Sheet, sheet-bytes}
 use Rattle.sheets.specs.Grounds.{read-sheet}
 use Rattle.calls.specs.Calls.{Call, check, judge, write, Held, Answer, judged, written, accepted, refuse, Reply, replied, yields, same, shown-sheet, do-judge, do-write, do-check}
 use Rattle.calls.specs.History.{after}
-use Rattle.calls.specs.Demand3.{Session, Plan-question, path-weights, meets-bound, Claims, Accepts, Meeting-sheet, Says-yes, Writes-shown, Demand-3-always}
+use Rattle.calls.specs.Demand3.{Session, All-bytes, Plan-question, path-weights, meets-bound, Claims, Accepts, Meeting-sheet, Says-yes, Writes-shown, Demand-3-always}
 use Rattle.calls.proofs.Histories.{verdict-told}
 
 -- ---- equality of weights by its test
@@ -111,11 +111,13 @@ module _ (h : Held) (m : Model) (q : Question) (e : h .model ≡ some m) (f : h 
     unfolding do-check
     check-is l b = rw (e, f, r, l)
 
--- A sheet of a plan is read back from the bytes that are written of it.
+-- A sheet of a plan is read back from what is written of it, which is bytes.
 pub record Reads-back : Type 0 where
   pub sheet : (calls : List Call) (x : Plan-question calls) (π : Plan (x .n)) → List·Memᴰ π (plans (x .model) (x .n) (x .question .start))
       → read-sheet (x .n) (x .question .start) (sheet-bytes (x .n) (x .question .start) (W (x .model) (x .condition) (x .n) (x .question .start) π) (choices (x .n) π))
       ≡ ok (record { weight = pos (W (x .model) (x .condition) (x .n) (x .question .start) π); choices = choices (x .n) π })
+  pub bytes : (calls : List Call) (x : Plan-question calls) (π : Plan (x .n)) → List·Memᴰ π (plans (x .model) (x .n) (x .question .start))
+      → All-bytes (sheet-bytes (x .n) (x .question .start) (W (x .model) (x .condition) (x .n) (x .question .start) π) (choices (x .n) π))
 
 module _ (session : Session) (yielding : (calls : List Call) (c : Call) → session calls c ≡ yields (after calls) c) {calls : List Call} (x : Plan-question calls) where
   abbrev s : ℕ
@@ -205,7 +207,12 @@ module _ (session : Session) (yielding : (calls : List Call) (c : Call) → sess
     meeting π i e =
         let c : Claims session x (sheet-for π) (pos (path-weights session x π)) π = record { reads = back .sheet calls x π i; is-plan = i } in
         let a = check-exact (sheet-for π) (pos (path-weights session x π)) π c .1 refl in
-        record { claims = c; accepts = a .1 ∙ ap accepted (check-says (sheet-for π) (pos (path-weights session x π)) π c (a .0) (a .1) ∙ e); meets-it = e }
+        record {
+          bytes = back .bytes calls x π i;
+          claims = c;
+          accepts = a .1 ∙ ap accepted (check-says (sheet-for π) (pos (path-weights session x π)) π c (a .0) (a .1) ∙ e);
+          meets-it = e;
+        }
 
     led-shown : (π : Plan (x .n)) → List·Memᴰ π (plans (x .model) (x .n) s) → asked-for .met π ≡ true → (y : ℕ × Plan (x .n)) × (shown (x .model) s asked-for ≡ some y)
     unfolding goal

@@ -5,7 +5,7 @@
 --   paths that its plan allows and on which the condition is true. Judging says yes exactly when some accepted sheet meets the bound, and
 --   each write that is then not refused writes one of these, that of the shown plan."
 -- The paragraphs of the sentence stand beside the parts.
-use Prim.Native.Nat.{ℕ}
+use Prim.Native.Nat.{ℕ, _<_}
 use mathlib.Core.Path.{_≡_}
 use mathlib.Core.Logic.{_↔_}
 use mathlib.Core.Bool.{Bool, true}
@@ -21,7 +21,7 @@ use Rattle.logic.specs.Plan.{Plan, plans, choices, paths, weight}
 use Rattle.logic.specs.Formula.{Formula, plan, sat, meets}
 use Rattle.logic.specs.Verdict.{plan-goal, shown, yes-plan}
 use Rattle.logic.specs.Limits.{limits}
-use Rattle.blocks.specs.Bytes.{Bytes}
+use Rattle.blocks.specs.Bytes.{Bytes, byte}
 use Rattle.questions.specs.Layout.{Question}
 use Rattle.sheets.specs.Grounds.{read-sheet}
 use Rattle.calls.specs.Calls.{Call, check, judge, write, judged, written, accepted, Reply}
@@ -30,6 +30,10 @@ use Rattle.calls.specs.History.{after}
 -- What the calls reply: to a call made after a list of calls on a desk that began empty.
 abbrev pub Session : Type 0
 Session = List Call → Call → Reply
+
+-- Every element is a byte: `Bytes` alone are numbers of any size.
+abbrev pub All-bytes : Bytes → Type 0
+All-bytes b = (i : ℕ) → byte b i < 256
 
 -- "for every plan question that the desk then holds with its accepted model, within the path and plan limits": its root is
 -- "plan" with n steps, a condition, a relation and p, q.
@@ -70,6 +74,7 @@ module _ (session : Session) {calls : List Call} (x : Plan-question calls) where
 
   -- an accepted sheet that meets the bound, with its plan
   pub record Meeting-sheet (sheet : Bytes) (π : Plan (x .n)) : Type 0 where
+    pub bytes : All-bytes sheet
     pub claims : Claims sheet (pos (path-weights π)) π
     pub accepts : Accepts sheet true
     pub meets-it : meets-bound π ≡ true
