@@ -1,7 +1,7 @@
 -- Demand 3 for every session whose replies are those that document 01 describes by the history. A sheet with no ground but 11 is decided
 -- by the comparison of two weights (`check-answer`); the verdict on the held question says yes exactly with the shown plan, which meets
 -- the bound if any plan does (`Shown`); the bytes written of a plan are read back as its sheet, so what is written is accepted.
-use Prim.Native.Nat.{ℕ}
+use Prim.Native.Nat.{ℕ, _≤_}
 use native.Mathlib.Omega.{arith}
 use native.Mathlib.Nat.{le-antisymm, le-refl}
 use mathlib.Core.Path.{_≡_, refl, sym, ap, ap₂, subst, _∙_}
@@ -11,7 +11,7 @@ use mathlib.Core.Option.{Option, none, some}
 use mathlib.Core.List.{List, [], _++_, List·Memᴰ}
 use lib.Dec.{T, leb, le→leb, leb→le}
 use lib.IntN.{ℤ, pos, negsuc}
-use lib.ListN.{length, take, drop}
+use lib.ListN.{length, take, drop, length-append, length-drop}
 use lib.Seq.{take-at, drop-at}
 use lib.Signed.{leZ}
 use Rattle.logic.specs.Checked.{Checked, ok, refused, _>>=_, _>>_, held, guard}
@@ -75,6 +75,10 @@ held-some k (some b) e = ap some (ok-same e)
 pub then-ok : {A B : Type 0} (t : Checked A) (c : Checked B) {b : B} → (t >> c) ≡ ok b → c ≡ ok b
 then-ok (ok u) c e = e
 then-ok (refused k) c e = absurd (not-ok e)
+
+guard-passed : {B : Type 0} (k : ℕ) (t : Bool) (c : Checked B) {b : B} → (guard k t >> c) ≡ ok b → T t
+guard-passed k true c e = tt
+guard-passed k false c e = absurd (not-ok e)
 
 -- ---- the verdict on a goal, by its shown plan
 
@@ -237,15 +241,21 @@ module _ (session : Session) (yielding : (calls : List Call) (c : Call) → sess
 
     -- ---- write
 
-    filled-bytes : (size : ℕ) (b : Bytes) → do-write (after calls) size ≡ ok b → (y : ℕ × Plan (x .n)) × (shown (x .model) s asked-for ≡ some y) × (b ≡ sheet-for (y .1))
+    filled-bytes : (size : ℕ) (b : Bytes) → do-write (after calls) size ≡ ok b
+        → (y : ℕ × Plan (x .n)) × (shown (x .model) s asked-for ≡ some y) × (b ≡ sheet-for (y .1)) × (length b ≤ size)
     unfolding sheet-for nonnegative
     filled-bytes size b e =
         let u = bind-ok (held 23 ((after calls) .verdict)) _ (sym (write-is (after calls) (x .model) (x .question) (x .held-model) (x .held-question) asked-for root-goal size) ∙ e) in
         let v = bind-ok (shown-sheet (u .0)) _ (u .2) in
-        let w = then-ok (guard 12 (leb (length (sheet-bytes (x .n) s (nonnegative (v .0 .weight)) (v .0 .choices))) size)) _ (v .2) in
+        let c : Bytes = sheet-bytes (x .n) s (nonnegative (v .0 .weight)) (v .0 .choices) in
+        let w = then-ok (guard 12 (leb (length c) size)) _ (v .2) in
+        let f = leb→le (length c) size (guard-passed 12 (leb (length c) size) _ (v .2)) in
         let h : u .0 ≡ said = verdict-told (x .model) (x .question) (u .0) calls (x .held-model) (x .held-question) (held-some 23 ((after calls) .verdict) (u .1)) ∙ verdict-is in
         let z = sheet-said (x .model) s asked-for (shown (x .model) s asked-for) (v .0) (ap shown-sheet (sym h) ∙ v .1) in
-        (z .0, z .1, sym (ok-same w) ∙ ap (λ k. sheet-bytes (x .n) s (nonnegative (k .weight)) (k .choices)) (z .2))
+        (
+          z .0, z .1, sym (ok-same w) ∙ ap (λ k. sheet-bytes (x .n) s (nonnegative (k .weight)) (k .choices)) (z .2),
+          subst (λ l. length l ≤ size) (ok-same w) f,
+        )
 
     writes : (a : Bytes) (filled : ℕ) (c : Checked Bytes) → do-write (after calls) (length a) ≡ c → (r : Reply)
         → r ≡ replied a c (λ b. record { answer = written (length b); buffer = b ++ drop (length b) a })
@@ -259,6 +269,8 @@ module _ (session : Session) (yielding : (calls : List Call) (c : Call) → sess
           place = y .0 .0;
           shown-plan = y .0 .1;
           is-shown = y .1;
+          size = ap (λ z. length (z .buffer)) i ∙ length-append b (drop (length b) a) ∙ omega (arith, length-drop (length b) a, y .3);
+          whole = ap length t ∙ l;
           sheet = subst (λ z. Meeting-sheet session x z (y .0 .1)) (sym (t ∙ y .2)) (meeting (y .0 .1) (u .0) (u .1));
           beyond = ap (λ z. drop filled (z .buffer)) i ∙ drop-at b (drop (length b) a) filled l ∙ ap (λ n. drop n a) l;
         }

@@ -12,7 +12,7 @@ use mathlib.Core.Bool.{Bool, true}
 use mathlib.Core.List.{List, List·Memᴰ}
 use mathlib.Core.Option.{some}
 use lib.IntN.{ℤ, pos}
-use lib.ListN.{take, drop}
+use lib.ListN.{length, take, drop}
 use Rattle.logic.specs.Checked.{ok}
 use Rattle.logic.specs.Lists.{keep}
 use Rattle.logic.specs.Model.{Model}
@@ -86,11 +86,13 @@ module _ (session : Session) {calls : List Call} (x : Plan-question calls) where
     pub chosen : List ℕ
     pub answers : (session calls judge) .answer ≡ judged (yes-plan total (x .n) count chosen)
 
-  -- "writes one of these, that of the shown plan": the bytes filled are such a sheet, and no byte beyond has changed
+  -- "writes one of these, that of the shown plan": the buffer has the bytes filled, these are such a sheet, and no byte beyond has changed
   pub record Writes-shown (buffer left : Bytes) (filled : ℕ) : Type 0 where
     pub place : ℕ
     pub shown-plan : Plan (x .n)
     pub is-shown : shown (x .model) start (plan-goal (x .model) start (x .n) (x .condition) (x .relation) (x .p) (x .q)) ≡ some (place, shown-plan)
+    pub size : length left ≡ length buffer
+    pub whole : length (take filled left) ≡ filled
     pub sheet : Meeting-sheet (take filled left) shown-plan
     pub beyond : drop filled left ≡ drop filled buffer
 
