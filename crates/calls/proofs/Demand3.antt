@@ -5,7 +5,7 @@ use Prim.Native.Nat.{ℕ, _≤_}
 use native.Mathlib.Omega.{arith}
 use native.Mathlib.Nat.{le-antisymm, le-refl}
 use mathlib.Core.Path.{_≡_, refl, sym, ap, ap₂, subst, _∙_}
-use mathlib.Core.Logic.{_↔_}
+use mathlib.Core.Logic.{_↔_, _⊎_, inl, inr, ⊎-elim}
 use mathlib.Core.Bool.{Bool, true, false, cond, _&&_}
 use mathlib.Core.Option.{Option, none, some}
 use mathlib.Core.List.{List, [], _++_, List·Memᴰ}
@@ -22,17 +22,18 @@ use Rattle.logic.specs.Verdict.{Goal, goal, plan-goal, Verdict, no, yes, yes-pl
 use Rattle.logic.specs.Limits.{limits}
 use Rattle.logic.specs.Choices.{plan-of}
 use Rattle.logic.proofs.Tests.{T→true, true→T, and-left, and-right}
-use Rattle.logic.proofs.Checked.{not-ok, ok-same, bind-ok}
+use Rattle.logic.proofs.Checked.{not-ok, ok-same, bind-ok, guard-ok}
 use Rattle.logic.proofs.Reading.{plan-of-sound, plan-of-complete}
 use Rattle.logic.proofs.Shown.{goal-led, shown-there, shown-meets}
 use Rattle.blocks.specs.Bytes.{Bytes}
 use Rattle.questions.specs.Layout.{Question}
 use Rattle.sheets.specs.Layout.{Sheet, sheet-bytes}
 use Rattle.sheets.specs.Grounds.{read-sheet}
-use Rattle.calls.specs.Calls.{Call, check, judge, write, Held, Answer, judged, written, accepted, refuse, Reply, replied, yields, same, shown-sheet, do-judge, do-write, do-check}
+use Rattle.calls.specs.Calls.{Call, check, judge, write, Held, Answer, judged, written, accepted, refuse, Reply, replied, yields, same, shown-sheet, do-write, do-check}
 use Rattle.calls.specs.History.{after}
-use Rattle.calls.specs.Demand3.{Session, All-bytes, Plan-question, path-weights, meets-bound, Claims, Accepts, Meeting-sheet, Says-yes, Writes-shown, Demand-3-always}
+use Rattle.calls.specs.Demand3.{Session, All-bytes, Plan-question, path-weights, meets-bound, Claims, Accepts, Differs, Meeting-sheet, Says-yes, Writes-shown, Demand-3-always}
 use Rattle.calls.proofs.Histories.{verdict-told}
+use Rattle.calls.proofs.Demand2.{judge-is}
 
 -- ---- equality of weights by its test
 
@@ -76,10 +77,6 @@ pub then-ok : {A B : Type 0} (t : Checked A) (c : Checked B) {b : B} → (t >> c
 then-ok (ok u) c e = e
 then-ok (refused k) c e = absurd (not-ok e)
 
-guard-passed : {B : Type 0} (k : ℕ) (t : Bool) (c : Checked B) {b : B} → (guard k t >> c) ≡ ok b → T t
-guard-passed k true c e = tt
-guard-passed k false c e = absurd (not-ok e)
-
 -- ---- the verdict on a goal, by its shown plan
 
 module _ (m : Model) (s : ℕ) (g : Goal) where
@@ -100,10 +97,6 @@ module _ (m : Model) (s : ℕ) (g : Goal) where
 -- ---- what the calls find with a plan question held
 
 module _ (h : Held) (m : Model) (q : Question) (e : h .model ≡ some m) (f : h .question ≡ some q) where
-  judge-is : limits m (q .nodes) ≡ ok tt → do-judge h ≡ ok (verdict m (q .start) (q .root))
-  unfolding do-judge
-  judge-is l = rw (e, f, l)
-
   module _ (g : Goal) (r : goal m (q .start) (q .root) ≡ ok g) where
     write-is : (n : ℕ) → do-write h n
         ≡ (held 23 (h .verdict) >>= (λ v. shown-sheet v >>= (λ z. guard 12 (leb (length (sheet-bytes (g .steps) (q .start) (nonnegative (z .weight)) (z .choices))) n) >> ok (sheet-bytes (g .steps) (q .start) (nonnegative (z .weight)) (z .choices)))))
@@ -167,6 +160,18 @@ module _ (session : Session) (yielding : (calls : List Call) (c : Call) → sess
     λ e. (asked-for .met π, claimed-answer sheet w π c ∙ ap (λ t. checked-by (guard 11 t >> ok (asked-for .met π))) (subst (λ z. same w z ≡ true) e (same-self w))),
   )
 
+  either-test : (t u : Bool) → ((met : Bool) × (checked-by (guard 11 t >> ok u) ≡ accepted met)) ⊎ (checked-by (guard 11 t >> ok u) ≡ refuse 11)
+  either-test true u = inl (u, refl)
+  either-test false u = inr refl
+
+  check-either : (sheet : Bytes) (w : ℤ) (π : Plan (x .n)) → Claims session x sheet w π → ((met : Bool) × Accepts session x sheet met) ⊎ Differs session x sheet
+  check-either sheet w π c =
+      let e = claimed-answer sheet w π c in
+      ⊎-elim (λ a. inl (a .0, e ∙ a .1)) (λ d. inr (e ∙ d)) (either-test (same w (asked-for .total π)) (asked-for .met π))
+
+  check-differs : (sheet : Bytes) (w : ℤ) (π : Plan (x .n)) → Claims session x sheet w π → (w ≡ pos (path-weights session x π) → ⊥) → Differs session x sheet
+  check-differs sheet w π c n = ⊎-elim (λ a. absurd (n (check-exact sheet w π c .0 a))) (λ d. d) (check-either sheet w π c)
+
   check-says : (sheet : Bytes) (w : ℤ) (π : Plan (x .n)) → Claims session x sheet w π → (met : Bool) → Accepts session x sheet met → met ≡ meets-bound session x π
   unfolding W
   check-says sheet w π c met a = passed-test (same w (asked-for .total π)) (asked-for .met π) met (sym (claimed-answer sheet w π c) ∙ a) .1
@@ -199,7 +204,7 @@ module _ (session : Session) (yielding : (calls : List Call) (c : Call) → sess
   unfolding yields
   judge-answer =
       ap (λ r. r .answer) (yielding calls judge)
-      ∙ ap judged-by (judge-is (after calls) (x .model) (x .question) (x .held-model) (x .held-question) (x .within-limits) ∙ ap ok verdict-is)
+      ∙ ap judged-by (judge-is (after calls) (x .model) (x .held-model) (x .question) (x .held-question) (x .within-limits) ∙ ap ok verdict-is)
 
   module _ (back : Reads-back) where
     sheet-for : Plan (x .n) → Bytes
@@ -248,13 +253,12 @@ module _ (session : Session) (yielding : (calls : List Call) (c : Call) → sess
         let u = bind-ok (held 23 ((after calls) .verdict)) _ (sym (write-is (after calls) (x .model) (x .question) (x .held-model) (x .held-question) asked-for root-goal size) ∙ e) in
         let v = bind-ok (shown-sheet (u .0)) _ (u .2) in
         let c : Bytes = sheet-bytes (x .n) s (nonnegative (v .0 .weight)) (v .0 .choices) in
-        let w = then-ok (guard 12 (leb (length c) size)) _ (v .2) in
-        let f = leb→le (length c) size (guard-passed 12 (leb (length c) size) _ (v .2)) in
+        let w = guard-ok 12 (leb (length c) size) _ (v .2) in
         let h : u .0 ≡ said = verdict-told (x .model) (x .question) (u .0) calls (x .held-model) (x .held-question) (held-some 23 ((after calls) .verdict) (u .1)) ∙ verdict-is in
         let z = sheet-said (x .model) s asked-for (shown (x .model) s asked-for) (v .0) (ap shown-sheet (sym h) ∙ v .1) in
         (
-          z .0, z .1, sym (ok-same w) ∙ ap (λ k. sheet-bytes (x .n) s (nonnegative (k .weight)) (k .choices)) (z .2),
-          subst (λ l. length l ≤ size) (ok-same w) f,
+          z .0, z .1, sym (ok-same (w .1)) ∙ ap (λ k. sheet-bytes (x .n) s (nonnegative (k .weight)) (k .choices)) (z .2),
+          subst (λ l. length l ≤ size) (ok-same (w .1)) (leb→le (length c) size (true→T (w .0))),
         )
 
     writes : (a : Bytes) (filled : ℕ) (c : Checked Bytes) → do-write (after calls) (length a) ≡ c → (r : Reply)
@@ -284,6 +288,8 @@ pub demand-3 : (session : Session) → ((calls : List Call) (c : Call) → sessi
 demand-3 session yielding back calls x =
     record {
       check-exact = check-exact session yielding x;
+      check-differs = check-differs session yielding x;
+      check-either = check-either session yielding x;
       check-says = check-says session yielding x;
       accepted-claims = accepted-claims session yielding x;
       yes-exact = yes-exact session yielding x back;

@@ -7,7 +7,7 @@
 -- The paragraphs of the sentence stand beside the parts.
 use Prim.Native.Nat.{ℕ, _<_}
 use mathlib.Core.Path.{_≡_}
-use mathlib.Core.Logic.{_↔_}
+use mathlib.Core.Logic.{_↔_, _⊎_}
 use mathlib.Core.Bool.{Bool, true}
 use mathlib.Core.List.{List, List·Memᴰ}
 use mathlib.Core.Option.{some}
@@ -24,7 +24,7 @@ use Rattle.logic.specs.Limits.{limits}
 use Rattle.blocks.specs.Bytes.{Bytes, byte}
 use Rattle.questions.specs.Layout.{Question}
 use Rattle.sheets.specs.Grounds.{read-sheet}
-use Rattle.calls.specs.Calls.{Call, check, judge, write, judged, written, accepted, Reply}
+use Rattle.calls.specs.Calls.{Call, check, judge, write, judged, written, accepted, refuse, Reply}
 use Rattle.calls.specs.History.{after}
 
 -- What the calls reply: to a call made after a list of calls on a desk that began empty.
@@ -72,6 +72,10 @@ module _ (session : Session) {calls : List Call} (x : Plan-question calls) where
   abbrev pub Accepts : Bytes → Bool → Type 0
   Accepts sheet met = (session calls (check sheet)) .answer ≡ accepted met
 
+  -- ground 11: "the sheet's weight is not its plan's"
+  abbrev pub Differs : Bytes → Type 0
+  Differs sheet = (session calls (check sheet)) .answer ≡ refuse 11
+
   -- an accepted sheet that meets the bound, with its plan
   pub record Meeting-sheet (sheet : Bytes) (π : Plan (x .n)) : Type 0 where
     pub bytes : All-bytes sheet
@@ -99,7 +103,10 @@ module _ (session : Session) {calls : List Call} (x : Plan-question calls) where
   pub record Demand-3 : Type 0 where
     -- "accepts it exactly when two weights are equal"
     pub check-exact : (sheet : Bytes) (w : ℤ) (π : Plan (x .n)) → Claims sheet w π → ((met : Bool) × Accepts sheet met) ↔ (w ≡ pos (path-weights π))
-    -- and what it says then is whether the sheet's weight meets the bound
+    -- and refuses it with 11 when they differ, so that there is no third answer: no other ground applies to a sheet that claims
+    pub check-differs : (sheet : Bytes) (w : ℤ) (π : Plan (x .n)) → Claims sheet w π → (w ≡ pos (path-weights π) → ⊥) → Differs sheet
+    pub check-either : (sheet : Bytes) (w : ℤ) (π : Plan (x .n)) → Claims sheet w π → ((met : Bool) × Accepts sheet met) ⊎ Differs sheet
+    -- What it says on accepting is whether the sheet's weight meets the bound.
     pub check-says : (sheet : Bytes) (w : ℤ) (π : Plan (x .n)) → Claims sheet w π → (met : Bool) → Accepts sheet met → met ≡ meets-bound π
     -- a sheet that is accepted has no other ground for refusal: it claims a weight for some plan
     pub accepted-claims : (sheet : Bytes) (met : Bool) → Accepts sheet met → (w : ℤ) × (π : Plan (x .n)) × Claims sheet w π
