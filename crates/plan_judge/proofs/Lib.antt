@@ -5,9 +5,9 @@ pub mod Sizes
 pub mod Writes
 pub mod Checks
 pub mod Judges
-pub mod Demand3
 pub mod Ran
 pub mod EveryList
+pub mod CodeDemand2
 pub mod CodeDemand3
 pub mod Listed
 pub mod CSteps

@@ -1,4 +1,4 @@
--- A refusal of load, put, judge or write has a listed number, at most 25: each ground of a chain of tests does.
+-- The number of a refusal of load, put, judge or write is at most 25, since that of each ground in its chain of tests is.
 use Prim.Native.Nat.{ℕ, _≤_}
 use native.Mathlib.Omega.{arith}
 use mathlib.Core.Bool.{Bool, true, false, not, _&&_, _||_}
