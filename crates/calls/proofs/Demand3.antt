@@ -14,7 +14,7 @@ use lib.IntN.{ℤ, pos, negsuc}
 use lib.ListN.{length, take, drop, length-append, length-drop}
 use lib.Seq.{take-at, drop-at}
 use lib.Signed.{leZ}
-use Rattle.logic.specs.Checked.{Checked, ok, refused, _>>=_, _>>_, held, guard}
+use Rattle.logic.specs.Checked.{Checked, ok, refused, _>>=_, _>>_, held, guard, refusal}
 use Rattle.logic.specs.Model.{Model}
 use Rattle.logic.specs.Plan.{Plan, plans, choices}
 use Rattle.logic.specs.Formula.{plan, sat, W, nonnegative}
@@ -33,6 +33,7 @@ use Rattle.calls.specs.Calls.{Call, check, judge, write, Held, Answer, j
 use Rattle.calls.specs.History.{after}
 use Rattle.calls.specs.Demand3.{Session, All-bytes, Plan-question, path-weights, meets-bound, Claims, Accepts, Differs, Meeting-sheet, Says-yes, Writes-shown, Demand-3-always}
 use Rattle.calls.proofs.Histories.{verdict-told}
+use Rattle.calls.proofs.Refusals.{never-over, up-to-sheet, up-to-plan}
 use Rattle.calls.proofs.Demand2.{judge-is}
 
 -- ---- equality of weights by its test
@@ -76,6 +77,17 @@ held-some k (some b) e = ap some (ok-same e)
 pub then-ok : {A B : Type 0} (t : Checked A) (c : Checked B) {b : B} → (t >> c) ≡ ok b → c ≡ ok b
 then-ok (ok u) c e = e
 then-ok (refused k) c e = absurd (not-ok e)
+
+refuse-same : {j k : ℕ} → refuse j ≡ refuse k → j ≡ k
+refuse-same e = cc
+
+not-refused : {k : ℕ} {t : Bool} → accepted t ≡ refuse k → ⊥
+not-refused e = not-accepted (sym e)
+
+-- A chain is refused by what comes after, if not by its first part.
+refused-later : {A B : Type 0} (c : Checked A) (f : A → Checked B) (j : ℕ) → (c ≡ refused j → ⊥) → (c >>= f) ≡ refused j → (a : A) × (c ≡ ok a) × (f a ≡ refused j)
+refused-later (ok a) f j n e = (a, refl, e)
+refused-later (refused k) f j n e = absurd (n (ap (λ r. refused (refusal r)) e))
 
 -- ---- the verdict on a goal, by its shown plan
 
@@ -180,13 +192,33 @@ module _ (session : Session) (yielding : (calls : List Call) (c : Call) → sess
   accepted-ok (ok t) met e = ap ok (accepted-same e)
   accepted-ok (refused k) met e = absurd (not-accepted e)
 
+  differs-refused : (c : Checked Bool) → checked-by c ≡ refuse 11 → c ≡ refused 11
+  differs-refused (ok t) e = absurd (not-refused e)
+  differs-refused (refused k) e = ap refused (refuse-same e)
+
+  claims-of : (sheet : Bytes) (z : Sheet) (π : Plan (x .n)) → read-sheet (x .n) s sheet ≡ ok z → plan-of (x .model) (x .n) s (z .choices) ≡ ok π
+      → Claims session x sheet (z .weight) π
+  claims-of sheet z π e f =
+      let p = plan-of-sound (x .model) (x .n) s (z .choices) π f in
+      record { reads = e ∙ ap (λ cs. ok (record { weight = z .weight; choices = cs })) (sym (p .1)); is-plan = p .0 }
+
   accepted-claims : (sheet : Bytes) (met : Bool) → Accepts session x sheet met → (w : ℤ) × (π : Plan (x .n)) × Claims session x sheet w π
   accepted-claims sheet met a =
-      let e = accepted-ok _ met (sym (check-answer sheet) ∙ a) in
-      let u = bind-ok (read-sheet (x .n) s sheet) _ e in
+      let u = bind-ok (read-sheet (x .n) s sheet) _ (accepted-ok _ met (sym (check-answer sheet) ∙ a)) in
       let v = bind-ok (plan-of (x .model) (x .n) s (u .0 .choices)) _ (u .2) in
-      let p = plan-of-sound (x .model) (x .n) s (u .0 .choices) (v .0) (v .1) in
-      (u .0 .weight, v .0, record { reads = u .1 ∙ ap (λ cs. ok (record { weight = u .0 .weight; choices = cs })) (sym (p .1)); is-plan = p .0 })
+      (u .0 .weight, v .0, claims-of sheet (u .0) (v .0) (u .1) (v .1))
+
+  differing-claims : (sheet : Bytes) → Differs session x sheet → (w : ℤ) × (π : Plan (x .n)) × Claims session x sheet w π
+  differing-claims sheet d =
+      let e = differs-refused _ (sym (check-answer sheet) ∙ d) in
+      let r = read-sheet (x .n) s sheet in
+      let u = refused-later r _ 11 (never-over r (up-to-sheet (x .n) s sheet) 11 (omega arith)) e in
+      let q = plan-of (x .model) (x .n) s (u .0 .choices) in
+      let v = refused-later q _ 11 (never-over q (up-to-plan (x .model) (x .n) s (u .0 .choices)) 11 (omega arith)) (u .2) in
+      (u .0 .weight, v .0, claims-of sheet (u .0) (v .0) (u .1) (v .1))
+
+  claims-exact : (sheet : Bytes) → ((w : ℤ) × (π : Plan (x .n)) × Claims session x sheet w π) ↔ (((met : Bool) × Accepts session x sheet met) ⊎ Differs session x sheet)
+  claims-exact sheet = (λ c. check-either sheet (c .0) (c .1) (c .2), ⊎-elim (λ a. accepted-claims sheet (a .0) (a .1)) (λ d. differing-claims sheet d))
 
   -- ---- judge
 
@@ -289,9 +321,8 @@ demand-3 session yielding back calls x =
     record {
       check-exact = check-exact session yielding x;
       check-differs = check-differs session yielding x;
-      check-either = check-either session yielding x;
+      claims-exact = claims-exact session yielding x;
       check-says = check-says session yielding x;
-      accepted-claims = accepted-claims session yielding x;
       yes-exact = yes-exact session yielding x back;
       write-exact = write-exact session yielding x back;
     }

@@ -62,8 +62,8 @@ module _ (session : Session) {calls : List Call} (x : Plan-question calls) where
   abbrev pub meets-bound : Plan (x .n) → Bool
   meets-bound π = meets naturals (x .model) (x .n) (x .relation) (x .p) (x .q) (path-weights π)
 
-  -- "if it has no other ground for refusal": none of 1 to 6, and its choices are those of a plan, so not 10. It claims the weight w for
-  -- the plan π.
+  -- "if it has no other ground for refusal" than 11: none of 1 to 6, and its choices are those of a plan, so not 10. It claims the weight
+  -- w for the plan π.
   pub record Claims (sheet : Bytes) (w : ℤ) (π : Plan (x .n)) : Type 0 where
     pub reads : read-sheet (x .n) start sheet ≡ ok (record { weight = w; choices = choices (x .n) π })
     pub is-plan : List·Memᴰ π (plans (x .model) (x .n) start)
@@ -103,13 +103,12 @@ module _ (session : Session) {calls : List Call} (x : Plan-question calls) where
   pub record Demand-3 : Type 0 where
     -- "accepts it exactly when two weights are equal"
     pub check-exact : (sheet : Bytes) (w : ℤ) (π : Plan (x .n)) → Claims sheet w π → ((met : Bool) × Accepts sheet met) ↔ (w ≡ pos (path-weights π))
-    -- and refuses it with 11 when they differ, so that there is no third answer: no other ground applies to a sheet that claims
+    -- and refuses it with 11 when they differ
     pub check-differs : (sheet : Bytes) (w : ℤ) (π : Plan (x .n)) → Claims sheet w π → (w ≡ pos (path-weights π) → ⊥) → Differs sheet
-    pub check-either : (sheet : Bytes) (w : ℤ) (π : Plan (x .n)) → Claims sheet w π → ((met : Bool) × Accepts sheet met) ⊎ Differs sheet
+    -- "no other ground for refusal": the sheets that claim a weight for some plan are just those that check accepts or refuses with 11
+    pub claims-exact : (sheet : Bytes) → ((w : ℤ) × (π : Plan (x .n)) × Claims sheet w π) ↔ (((met : Bool) × Accepts sheet met) ⊎ Differs sheet)
     -- What it says on accepting is whether the sheet's weight meets the bound.
     pub check-says : (sheet : Bytes) (w : ℤ) (π : Plan (x .n)) → Claims sheet w π → (met : Bool) → Accepts sheet met → met ≡ meets-bound π
-    -- a sheet that is accepted has no other ground for refusal: it claims a weight for some plan
-    pub accepted-claims : (sheet : Bytes) (met : Bool) → Accepts sheet met → (w : ℤ) × (π : Plan (x .n)) × Claims sheet w π
     -- "Judging says yes exactly when some accepted sheet meets the bound"
     pub yes-exact : Says-yes ↔ ((sheet : Bytes) × (π : Plan (x .n)) × Meeting-sheet sheet π)
     -- "each write that is then not refused writes one of these, that of the shown plan"
