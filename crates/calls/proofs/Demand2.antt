@@ -2,6 +2,7 @@
 -- its verdict says yes exactly where the formula is true, for a "plan" root since there is a shown plan just where it is true.
 use Prim.Native.Nat.{ℕ}
 use mathlib.Core.Path.{_≡_, refl, sym, ap, _∙_}
+use mathlib.Core.Logic.{_↔_}
 use mathlib.Core.Bool.{Bool, true, false, cond}
 use mathlib.Core.Option.{Option, none, some}
 use mathlib.Core.List.{List, []}
@@ -28,10 +29,10 @@ says-told true = refl
 says-told false = refl
 
 says-shown : (m : Model) (s : ℕ) (g : Goal) (t : Bool) (o : Option (ℕ × Plan (g .steps)))
-    → (t ≡ true → (y : ℕ × Plan (g .steps)) × (o ≡ some y)) → ((y : ℕ × Plan (g .steps)) × (o ≡ some y) → t ≡ true) → says-yes (announced m s g o) ≡ t
+    → (t ≡ true) ↔ ((y : ℕ × Plan (g .steps)) × (o ≡ some y)) → says-yes (announced m s g o) ≡ t
 unfolding says-yes
-says-shown m s g t none h k = sym (not-true t (λ e. none≢some (h e .1)))
-says-shown m s g t (some y) h k = sym (k (y, refl))
+says-shown m s g t none h = sym (not-true t (λ e. none≢some (h .0 e .1)))
+says-shown m s g t (some y) h = sym (h .1 (y, refl))
 
 pub says-true : (m : Model) (s : ℕ) (φ : Formula) → says-yes (verdict m s φ) ≡ sat m φ s []
 unfolding verdict goal
@@ -44,8 +45,7 @@ says-true m s (next φ) = says-told (sat m (next φ) s [])
 says-true m s (gain n b p) = says-told (sat m (gain n b p) s [])
 says-true m s (plan n φ r p q) =
     let g = plan-goal m s n φ r p q in
-    let w = sat-shown m s n φ r p q [] in
-    says-shown m s g (sat m (plan n φ r p q) s []) (shown m s g) (w .0) (w .1)
+    says-shown m s g (sat m (plan n φ r p q) s []) (shown m s g) (sat-shown m s n φ r p q [])
 
 -- ---- judging by what is held
 

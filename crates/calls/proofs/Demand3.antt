@@ -287,9 +287,10 @@ module _ (session : Session) (yielding : (calls : List Call) (c : Call) → sess
         let c : Bytes = sheet-bytes (x .n) s (nonnegative (v .0 .weight)) (v .0 .choices) in
         let w = guard-ok 12 (leb (length c) size) _ (v .2) in
         let h : u .0 ≡ said = verdict-told (x .model) (x .question) (u .0) calls (x .held-model) (x .held-question) (held-some 23 ((after calls) .verdict) (u .1)) ∙ verdict-is in
-        let z = sheet-said (x .model) s asked-for (shown (x .model) s asked-for) (v .0) (ap shown-sheet (sym h) ∙ v .1) in
-        (
-          z .0, z .1, sym (ok-same (w .1)) ∙ ap (λ k. sheet-bytes (x .n) s (nonnegative (k .weight)) (k .choices)) (z .2),
+        let z = sheet-said (x .model) s asked-for (shown (x .model) s asked-for) (v .0) (ap shown-sheet (sym h) ∙ v .1) in (
+          z .0,
+          z .1,
+          sym (ok-same (w .1)) ∙ ap (λ k. sheet-bytes (x .n) s (nonnegative (k .weight)) (k .choices)) (z .2),
           subst (λ l. length l ≤ size) (ok-same (w .1)) (leb→le (length c) size (true→T (w .0))),
         )
 

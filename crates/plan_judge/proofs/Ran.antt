@@ -1,7 +1,8 @@
--- Lists of calls of the code, and what is claimed of them (proved in `EveryList`, `CodeDemand2`, `CodeDemand3`). Document 01: "In every list of calls .. from the empty desk, each call gets any bytes and the desk that the
--- last one returned, altered by nobody". What a call returns is here whatever the function's own contract allows: `F.Pre` and `F.Post` are
--- the plain readings of what the source says after `requires` and `ensures`, of the arguments, the result and the arguments at the return.
--- So a contract that asks something or says less allows more lists, and the claims fail.
+-- Lists of calls of the code, and what is claimed of them (proved in `EveryList`, `CodeDemand2`, `CodeDemand3`). Document 01: "In every
+-- list of calls .. from the empty desk, each call gets any bytes and the desk that the last one returned, altered by nobody". What a call
+-- returns is here whatever the function's own contract allows: `F.Pre` and `F.Post` are the plain readings of what the source says after
+-- `requires` and `ensures`, of the arguments, the result and the arguments at the return. So a contract that asks something or says less
+-- allows more lists, and the claims fail.
 use mathlib.Core.Path.{_≡_}
 use mathlib.Core.List.{List, [], _∷_, _++_}
 use contract.Lifetimes.{Lfts}
