@@ -1,20 +1,20 @@
 -- Demand 3 for every session whose replies are those that document 01 describes by the history. A sheet with no ground but 11 is decided
 -- by the comparison of two weights (`check-answer`); the verdict on the held question says yes exactly with the shown plan, which meets
 -- the bound if any plan does (`Shown`); the bytes written of a plan are read back as its sheet, so what is written is accepted.
-use Prim.Native.Nat.{ℕ}
+use Prim.Native.Nat.{ℕ, _≤_}
 use native.Mathlib.Omega.{arith}
 use native.Mathlib.Nat.{le-antisymm, le-refl}
 use mathlib.Core.Path.{_≡_, refl, sym, ap, ap₂, subst, _∙_}
-use mathlib.Core.Logic.{_↔_}
+use mathlib.Core.Logic.{_↔_, _⊎_, inl, inr, ⊎-elim}
 use mathlib.Core.Bool.{Bool, true, false, cond, _&&_}
 use mathlib.Core.Option.{Option, none, some}
 use mathlib.Core.List.{List, [], _++_, List·Memᴰ}
 use lib.Dec.{T, leb, le→leb, leb→le}
 use lib.IntN.{ℤ, pos, negsuc}
-use lib.ListN.{length, take, drop}
+use lib.ListN.{length, take, drop, length-append, length-drop}
 use lib.Seq.{take-at, drop-at}
 use lib.Signed.{leZ}
-use Rattle.logic.specs.Checked.{Checked, ok, refused, _>>=_, _>>_, held, guard}
+use Rattle.logic.specs.Checked.{Checked, ok, refused, _>>=_, _>>_, held, guard, refusal}
 use Rattle.logic.specs.Model.{Model}
 use Rattle.logic.specs.Plan.{Plan, plans, choices}
 use Rattle.logic.specs.Formula.{plan, sat, W, nonnegative}
@@ -22,17 +22,19 @@ use Rattle.logic.specs.Verdict.{Goal, goal, plan-goal, Verdict, no, yes, yes-pl
 use Rattle.logic.specs.Limits.{limits}
 use Rattle.logic.specs.Choices.{plan-of}
 use Rattle.logic.proofs.Tests.{T→true, true→T, and-left, and-right}
-use Rattle.logic.proofs.Checked.{not-ok, ok-same, bind-ok}
+use Rattle.logic.proofs.Checked.{not-ok, ok-same, bind-ok, guard-ok}
 use Rattle.logic.proofs.Reading.{plan-of-sound, plan-of-complete}
 use Rattle.logic.proofs.Shown.{goal-led, shown-there, shown-meets}
 use Rattle.blocks.specs.Bytes.{Bytes}
 use Rattle.questions.specs.Layout.{Question}
 use Rattle.sheets.specs.Layout.{Sheet, sheet-bytes}
 use Rattle.sheets.specs.Grounds.{read-sheet}
-use Rattle.calls.specs.Calls.{Call, check, judge, write, Held, Answer, judged, written, accepted, refuse, Reply, replied, yields, same, shown-sheet, do-judge, do-write, do-check}
+use Rattle.calls.specs.Calls.{Call, check, judge, write, Held, Answer, judged, written, accepted, refuse, Reply, replied, yields, same, shown-sheet, do-write, do-check}
 use Rattle.calls.specs.History.{after}
-use Rattle.calls.specs.Demand3.{Session, Plan-question, path-weights, meets-bound, Claims, Accepts, Meeting-sheet, Says-yes, Writes-shown, Demand-3-always}
+use Rattle.calls.specs.Demand3.{Session, All-bytes, Plan-question, path-weights, meets-bound, Claims, Accepts, Differs, Meeting-sheet, Says-yes, Writes-shown, Demand-3-always}
 use Rattle.calls.proofs.Histories.{verdict-told}
+use Rattle.calls.proofs.Refusals.{never-over, up-to-sheet, up-to-plan}
+use Rattle.calls.proofs.Demand2.{judge-is}
 
 -- ---- equality of weights by its test
 
@@ -76,6 +78,17 @@ pub then-ok : {A B : Type 0} (t : Checked A) (c : Checked B) {b : B} → (t >> c
 then-ok (ok u) c e = e
 then-ok (refused k) c e = absurd (not-ok e)
 
+refuse-same : {j k : ℕ} → refuse j ≡ refuse k → j ≡ k
+refuse-same e = cc
+
+not-refused : {k : ℕ} {t : Bool} → accepted t ≡ refuse k → ⊥
+not-refused e = not-accepted (sym e)
+
+-- A chain is refused by what comes after, if not by its first part.
+refused-later : {A B : Type 0} (c : Checked A) (f : A → Checked B) (j : ℕ) → (c ≡ refused j → ⊥) → (c >>= f) ≡ refused j → (a : A) × (c ≡ ok a) × (f a ≡ refused j)
+refused-later (ok a) f j n e = (a, refl, e)
+refused-later (refused k) f j n e = absurd (n (ap (λ r. refused (refusal r)) e))
+
 -- ---- the verdict on a goal, by its shown plan
 
 module _ (m : Model) (s : ℕ) (g : Goal) where
@@ -96,10 +109,6 @@ module _ (m : Model) (s : ℕ) (g : Goal) where
 -- ---- what the calls find with a plan question held
 
 module _ (h : Held) (m : Model) (q : Question) (e : h .model ≡ some m) (f : h .question ≡ some q) where
-  judge-is : limits m (q .nodes) ≡ ok tt → do-judge h ≡ ok (verdict m (q .start) (q .root))
-  unfolding do-judge
-  judge-is l = rw (e, f, l)
-
   module _ (g : Goal) (r : goal m (q .start) (q .root) ≡ ok g) where
     write-is : (n : ℕ) → do-write h n
         ≡ (held 23 (h .verdict) >>= (λ v. shown-sheet v >>= (λ z. guard 12 (leb (length (sheet-bytes (g .steps) (q .start) (nonnegative (z .weight)) (z .choices))) n) >> ok (sheet-bytes (g .steps) (q .start) (nonnegative (z .weight)) (z .choices)))))
@@ -111,11 +120,13 @@ module _ (h : Held) (m : Model) (q : Question) (e : h .model ≡ some m) (f : h 
     unfolding do-check
     check-is l b = rw (e, f, r, l)
 
--- A sheet of a plan is read back from the bytes that are written of it.
+-- A sheet of a plan is read back from what is written of it, which is bytes.
 pub record Reads-back : Type 0 where
   pub sheet : (calls : List Call) (x : Plan-question calls) (π : Plan (x .n)) → List·Memᴰ π (plans (x .model) (x .n) (x .question .start))
       → read-sheet (x .n) (x .question .start) (sheet-bytes (x .n) (x .question .start) (W (x .model) (x .condition) (x .n) (x .question .start) π) (choices (x .n) π))
       ≡ ok (record { weight = pos (W (x .model) (x .condition) (x .n) (x .question .start) π); choices = choices (x .n) π })
+  pub bytes : (calls : List Call) (x : Plan-question calls) (π : Plan (x .n)) → List·Memᴰ π (plans (x .model) (x .n) (x .question .start))
+      → All-bytes (sheet-bytes (x .n) (x .question .start) (W (x .model) (x .condition) (x .n) (x .question .start) π) (choices (x .n) π))
 
 module _ (session : Session) (yielding : (calls : List Call) (c : Call) → session calls c ≡ yields (after calls) c) {calls : List Call} (x : Plan-question calls) where
   abbrev s : ℕ
@@ -161,6 +172,18 @@ module _ (session : Session) (yielding : (calls : List Call) (c : Call) → sess
     λ e. (asked-for .met π, claimed-answer sheet w π c ∙ ap (λ t. checked-by (guard 11 t >> ok (asked-for .met π))) (subst (λ z. same w z ≡ true) e (same-self w))),
   )
 
+  either-test : (t u : Bool) → ((met : Bool) × (checked-by (guard 11 t >> ok u) ≡ accepted met)) ⊎ (checked-by (guard 11 t >> ok u) ≡ refuse 11)
+  either-test true u = inl (u, refl)
+  either-test false u = inr refl
+
+  check-either : (sheet : Bytes) (w : ℤ) (π : Plan (x .n)) → Claims session x sheet w π → ((met : Bool) × Accepts session x sheet met) ⊎ Differs session x sheet
+  check-either sheet w π c =
+      let e = claimed-answer sheet w π c in
+      ⊎-elim (λ a. inl (a .0, e ∙ a .1)) (λ d. inr (e ∙ d)) (either-test (same w (asked-for .total π)) (asked-for .met π))
+
+  check-differs : (sheet : Bytes) (w : ℤ) (π : Plan (x .n)) → Claims session x sheet w π → (w ≡ pos (path-weights session x π) → ⊥) → Differs session x sheet
+  check-differs sheet w π c n = ⊎-elim (λ a. absurd (n (check-exact sheet w π c .0 a))) (λ d. d) (check-either sheet w π c)
+
   check-says : (sheet : Bytes) (w : ℤ) (π : Plan (x .n)) → Claims session x sheet w π → (met : Bool) → Accepts session x sheet met → met ≡ meets-bound session x π
   unfolding W
   check-says sheet w π c met a = passed-test (same w (asked-for .total π)) (asked-for .met π) met (sym (claimed-answer sheet w π c) ∙ a) .1
@@ -169,13 +192,33 @@ module _ (session : Session) (yielding : (calls : List Call) (c : Call) → sess
   accepted-ok (ok t) met e = ap ok (accepted-same e)
   accepted-ok (refused k) met e = absurd (not-accepted e)
 
+  differs-refused : (c : Checked Bool) → checked-by c ≡ refuse 11 → c ≡ refused 11
+  differs-refused (ok t) e = absurd (not-refused e)
+  differs-refused (refused k) e = ap refused (refuse-same e)
+
+  claims-of : (sheet : Bytes) (z : Sheet) (π : Plan (x .n)) → read-sheet (x .n) s sheet ≡ ok z → plan-of (x .model) (x .n) s (z .choices) ≡ ok π
+      → Claims session x sheet (z .weight) π
+  claims-of sheet z π e f =
+      let p = plan-of-sound (x .model) (x .n) s (z .choices) π f in
+      record { reads = e ∙ ap (λ cs. ok (record { weight = z .weight; choices = cs })) (sym (p .1)); is-plan = p .0 }
+
   accepted-claims : (sheet : Bytes) (met : Bool) → Accepts session x sheet met → (w : ℤ) × (π : Plan (x .n)) × Claims session x sheet w π
   accepted-claims sheet met a =
-      let e = accepted-ok _ met (sym (check-answer sheet) ∙ a) in
-      let u = bind-ok (read-sheet (x .n) s sheet) _ e in
+      let u = bind-ok (read-sheet (x .n) s sheet) _ (accepted-ok _ met (sym (check-answer sheet) ∙ a)) in
       let v = bind-ok (plan-of (x .model) (x .n) s (u .0 .choices)) _ (u .2) in
-      let p = plan-of-sound (x .model) (x .n) s (u .0 .choices) (v .0) (v .1) in
-      (u .0 .weight, v .0, record { reads = u .1 ∙ ap (λ cs. ok (record { weight = u .0 .weight; choices = cs })) (sym (p .1)); is-plan = p .0 })
+      (u .0 .weight, v .0, claims-of sheet (u .0) (v .0) (u .1) (v .1))
+
+  differing-claims : (sheet : Bytes) → Differs session x sheet → (w : ℤ) × (π : Plan (x .n)) × Claims session x sheet w π
+  differing-claims sheet d =
+      let e = differs-refused _ (sym (check-answer sheet) ∙ d) in
+      let r = read-sheet (x .n) s sheet in
+      let u = refused-later r _ 11 (never-over r (up-to-sheet (x .n) s sheet) 11 (omega arith)) e in
+      let q = plan-of (x .model) (x .n) s (u .0 .choices) in
+      let v = refused-later q _ 11 (never-over q (up-to-plan (x .model) (x .n) s (u .0 .choices)) 11 (omega arith)) (u .2) in
+      (u .0 .weight, v .0, claims-of sheet (u .0) (v .0) (u .1) (v .1))
+
+  claims-exact : (sheet : Bytes) → ((w : ℤ) × (π : Plan (x .n)) × Claims session x sheet w π) ↔ (((met : Bool) × Accepts session x sheet met) ⊎ Differs session x sheet)
+  claims-exact sheet = (λ c. check-either sheet (c .0) (c .1) (c .2), ⊎-elim (λ a. accepted-claims sheet (a .0) (a .1)) (λ d. differing-claims sheet d))
 
   -- ---- judge
 
@@ -193,7 +236,7 @@ module _ (session : Session) (yielding : (calls : List Call) (c : Call) → sess
   unfolding yields
   judge-answer =
       ap (λ r. r .answer) (yielding calls judge)
-      ∙ ap judged-by (judge-is (after calls) (x .model) (x .question) (x .held-model) (x .held-question) (x .within-limits) ∙ ap ok verdict-is)
+      ∙ ap judged-by (judge-is (after calls) (x .model) (x .held-model) (x .question) (x .held-question) (x .within-limits) ∙ ap ok verdict-is)
 
   module _ (back : Reads-back) where
     sheet-for : Plan (x .n) → Bytes
@@ -205,7 +248,12 @@ module _ (session : Session) (yielding : (calls : List Call) (c : Call) → sess
     meeting π i e =
         let c : Claims session x (sheet-for π) (pos (path-weights session x π)) π = record { reads = back .sheet calls x π i; is-plan = i } in
         let a = check-exact (sheet-for π) (pos (path-weights session x π)) π c .1 refl in
-        record { claims = c; accepts = a .1 ∙ ap accepted (check-says (sheet-for π) (pos (path-weights session x π)) π c (a .0) (a .1) ∙ e); meets-it = e }
+        record {
+          bytes = back .bytes calls x π i;
+          claims = c;
+          accepts = a .1 ∙ ap accepted (check-says (sheet-for π) (pos (path-weights session x π)) π c (a .0) (a .1) ∙ e);
+          meets-it = e;
+        }
 
     led-shown : (π : Plan (x .n)) → List·Memᴰ π (plans (x .model) (x .n) s) → asked-for .met π ≡ true → (y : ℕ × Plan (x .n)) × (shown (x .model) s asked-for ≡ some y)
     unfolding goal
@@ -230,15 +278,21 @@ module _ (session : Session) (yielding : (calls : List Call) (c : Call) → sess
 
     -- ---- write
 
-    filled-bytes : (size : ℕ) (b : Bytes) → do-write (after calls) size ≡ ok b → (y : ℕ × Plan (x .n)) × (shown (x .model) s asked-for ≡ some y) × (b ≡ sheet-for (y .1))
+    filled-bytes : (size : ℕ) (b : Bytes) → do-write (after calls) size ≡ ok b
+        → (y : ℕ × Plan (x .n)) × (shown (x .model) s asked-for ≡ some y) × (b ≡ sheet-for (y .1)) × (length b ≤ size)
     unfolding sheet-for nonnegative
     filled-bytes size b e =
         let u = bind-ok (held 23 ((after calls) .verdict)) _ (sym (write-is (after calls) (x .model) (x .question) (x .held-model) (x .held-question) asked-for root-goal size) ∙ e) in
         let v = bind-ok (shown-sheet (u .0)) _ (u .2) in
-        let w = then-ok (guard 12 (leb (length (sheet-bytes (x .n) s (nonnegative (v .0 .weight)) (v .0 .choices))) size)) _ (v .2) in
+        let c : Bytes = sheet-bytes (x .n) s (nonnegative (v .0 .weight)) (v .0 .choices) in
+        let w = guard-ok 12 (leb (length c) size) _ (v .2) in
         let h : u .0 ≡ said = verdict-told (x .model) (x .question) (u .0) calls (x .held-model) (x .held-question) (held-some 23 ((after calls) .verdict) (u .1)) ∙ verdict-is in
-        let z = sheet-said (x .model) s asked-for (shown (x .model) s asked-for) (v .0) (ap shown-sheet (sym h) ∙ v .1) in
-        (z .0, z .1, sym (ok-same w) ∙ ap (λ k. sheet-bytes (x .n) s (nonnegative (k .weight)) (k .choices)) (z .2))
+        let z = sheet-said (x .model) s asked-for (shown (x .model) s asked-for) (v .0) (ap shown-sheet (sym h) ∙ v .1) in (
+          z .0,
+          z .1,
+          sym (ok-same (w .1)) ∙ ap (λ k. sheet-bytes (x .n) s (nonnegative (k .weight)) (k .choices)) (z .2),
+          subst (λ l. length l ≤ size) (ok-same (w .1)) (leb→le (length c) size (true→T (w .0))),
+        )
 
     writes : (a : Bytes) (filled : ℕ) (c : Checked Bytes) → do-write (after calls) (length a) ≡ c → (r : Reply)
         → r ≡ replied a c (λ b. record { answer = written (length b); buffer = b ++ drop (length b) a })
@@ -252,6 +306,8 @@ module _ (session : Session) (yielding : (calls : List Call) (c : Call) → sess
           place = y .0 .0;
           shown-plan = y .0 .1;
           is-shown = y .1;
+          size = ap (λ z. length (z .buffer)) i ∙ length-append b (drop (length b) a) ∙ omega (arith, length-drop (length b) a, y .3);
+          whole = ap length t ∙ l;
           sheet = subst (λ z. Meeting-sheet session x z (y .0 .1)) (sym (t ∙ y .2)) (meeting (y .0 .1) (u .0) (u .1));
           beyond = ap (λ z. drop filled (z .buffer)) i ∙ drop-at b (drop (length b) a) filled l ∙ ap (λ n. drop n a) l;
         }
@@ -265,8 +321,9 @@ pub demand-3 : (session : Session) → ((calls : List Call) (c : Call) → sessi
 demand-3 session yielding back calls x =
     record {
       check-exact = check-exact session yielding x;
+      check-differs = check-differs session yielding x;
+      claims-exact = claims-exact session yielding x;
       check-says = check-says session yielding x;
-      accepted-claims = accepted-claims session yielding x;
       yes-exact = yes-exact session yielding x back;
       write-exact = write-exact session yielding x back;
     }

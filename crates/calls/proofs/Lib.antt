@@ -1,3 +1,5 @@
 pub mod Histories
+pub mod Refusals
+pub mod Demand2
 pub mod Demand3
 pub mod Sheets

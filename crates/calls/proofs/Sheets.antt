@@ -1,16 +1,18 @@
 -- A plan's sheet is read back from the bytes written of it: an accepted question asks for 1 to 6 steps, an action of an accepted model has
--- at most 4 outcomes, so that a plan has 1 to 1,365 choices; and W is at most D to the n, below 2 to the 64.
+-- at most 4 outcomes, so that a plan has 1 to 1,365 choices; and W is at most D to the n, below 2 to the 64. The bytes are bytes: states
+-- are below 32, choices below 8.
 use Prim.Native.Nat.{ℕ, zero, suc, _+_, _*_, _-_, _^_, _≤_, _<_}
 use native.Mathlib.Omega.{arith}
 use native.Mathlib.Nat.{le-refl, le-trans, lt-of-le-of-lt, suc-mul, mul-le-mul-right, pow-le-pow-left, pow-le-pow-right}
 use mathlib.Core.Path.{_≡_, refl, sym, ap, subst, _∙_}
 use mathlib.Core.Bool.{Bool, true, false, cond, _&&_, false≢true}
-use mathlib.Core.List.{List, [], _∷_, flatMap, List·Memᴰ}
+use mathlib.Core.Logic.{⊎-elim}
+use mathlib.Core.List.{List, [], _∷_, flatMap, List·Memᴰ, List·Memᴰ·head, List·Memᴰ·tail, List·Memᴰ·not-nil, List·Memᴰ·cases-cons, List·Memᴰ·append-cases}
 use lib.Dec.{leb, lit<}
 use lib.ListN.{length, getD, length-append}
 use Rattle.logic.specs.Checked.{ok, refusal}
 use Rattle.logic.specs.Lists.{keep}
-use Rattle.logic.specs.Model.{Model, outcomes}
+use Rattle.logic.specs.Model.{Model, enabled, outcomes}
 use Rattle.logic.specs.Quantity.{naturals, sum}
 use Rattle.logic.specs.Plan.{Plan, plans, choices, paths, weight, Match, ends, pair}
 use Rattle.logic.specs.Accepted.{Accepted}
@@ -19,7 +21,7 @@ use Rattle.logic.specs.Formula.{Formula, never, prop, neg, both, does, next, ga
 use Rattle.logic.proofs.Checked.{ok-same}
 use Rattle.logic.proofs.Dictionary.{plans-are}
 use Rattle.logic.proofs.PathWeights.{path-weights}
-use Rattle.logic.proofs.Tests.{and-left, and-right, length-tabulate}
+use Rattle.logic.proofs.Tests.{and-left, and-right, keep-member, counted-range, length-tabulate}
 use borrow.Author.Tests.{leb-true}
 use Rattle.blocks.specs.Bytes.{Bytes, within}
 use Rattle.models.specs.Layout.{state-count, action-count, prop-count, denominator-of, model-of, entries, outcome-of}
@@ -27,7 +29,7 @@ use Rattle.models.specs.Grounds.{sizes-right, read-model}
 use Rattle.models.proofs.Passed.{passed-all, read-passed}
 use Rattle.models.proofs.Readable.{readable}
 use Rattle.models.proofs.Rows.{entries-few, outcomes-are}
-use Rattle.models.proofs.Held.{accepted}
+use Rattle.models.proofs.Held.{accepted, states-held}
 use Rattle.questions.specs.Layout.{node-of, node-count, formulas-of, question-of}
 use Rattle.questions.specs.Grounds.{read-question}
 use Rattle.questions.proofs.Accepted as questions
@@ -35,6 +37,7 @@ use Rattle.questions.proofs.Laws.{by-operator}
 use Rattle.extension.specs.Choices.{room}
 use Rattle.extension.proofs.Laws.{room-most}
 use Rattle.sheets.proofs.ReadsBack.{reads-back}
+use Rattle.sheets.proofs.Small.{sheet-small}
 use Rattle.calls.specs.Calls.{Call}
 use Rattle.calls.specs.Demand3.{Plan-question}
 use Rattle.calls.proofs.Histories.{model-told, question-told}
@@ -63,6 +66,32 @@ some-choice : (n : ℕ) (π : Plan n) → 1 ≤ n → 1 ≤ length (choices n π
 unfolding choices
 some-choice zero π h = h
 some-choice (suc n) π h = omega arith
+
+-- ---- which choices
+
+each-member : {A B : Type 0} {R : A → B → Type 0} (key : B → List ℕ) (k : ℕ) {c : ℕ} → ((x : A) (y : B) → R x y → List·Memᴰ c (key y) → c < k)
+    → {l : List A} {ys : List B} → Match R l ys → List·Memᴰ c (flatMap key ys) → c < k
+unfolding flatMap
+each-member key k h ends i = absurd (List·Memᴰ·not-nil i)
+each-member key k h (pair {x} {y} r t) i = ⊎-elim (λ j. h x y r j) (λ j. each-member key k h t j) (List·Memᴰ·append-cases (key y) i)
+
+enabled-action : (m : Model) (s : ℕ) {c : ℕ} → List·Memᴰ c (enabled m s) → c < length (m .actions)
+unfolding enabled
+enabled-action m s i = let w = keep-member _ _ i in omega (arith, counted-range 0 (length (m .actions)) (w .0) .1)
+
+-- Each choice of a plan is an action of the model.
+choice-action : (m : Model) (n s : ℕ) (π : Plan n) → Is-plan m n s π → {c : ℕ} → List·Memᴰ c (choices n π) → c < length (m .actions)
+unfolding choices
+choice-action m zero s π h i = absurd (List·Memᴰ·not-nil i)
+choice-action m (suc n) s π h {c} i =
+    ⊎-elim (λ e. subst (λ a. a < length (m .actions)) (sym e) (enabled-action m s (h .0)))
+    (λ j. each-member (choices n) (length (m .actions)) (λ o q g k. choice-action m n (o .target) q g k) (h .1) j)
+    (List·Memᴰ·cases-cons i)
+
+small-at : (l : List ℕ) → ((c : ℕ) → List·Memᴰ c l → c < 256) → (i : ℕ) → getD l i 0 < 256
+small-at [] h i = omega arith
+small-at (x ∷ l) h zero = h x (List·Memᴰ·head refl)
+small-at (x ∷ l) h (suc i) = small-at l (λ c j. h c (List·Memᴰ·tail j)) i
 
 -- ---- how large W is
 
@@ -124,7 +153,7 @@ module _ (S A N : ℕ) (c : Bytes) (a : questions.Accepted S A N c) (i : ℕ) (h
       let r = a .in-range i h .of-plan o .compares in
       subst (λ n. (1 ≤ n) × (n ≤ 6)) (ap steps (sym (questions.at-plan S A N c a i h o))) (r .some-step, r .few-steps)
 
--- ---- the denominator that an accepted model has
+-- ---- the sizes that an accepted model has
 
 denominator-most : (b : Bytes) → sizes-right b ≡ true → denominator-of b ≤ 100
 unfolding sizes-right within
@@ -133,6 +162,18 @@ denominator-most b e =
     let three : Bool = within 1 32 (state-count b) && within 1 8 (action-count b) && within 1 32 (prop-count b) in
     let d = and-right three (within 1 100 (denominator-of b)) (and-left four _ e) in
     leb-true _ _ (and-right (leb 1 (denominator-of b)) (leb (denominator-of b) 100) d)
+
+states-most : (b : Bytes) → sizes-right b ≡ true → state-count b ≤ 32
+unfolding sizes-right within
+states-most b e =
+    let d = and-left (within 1 32 (state-count b)) _ (and-left _ _ (and-left _ _ (and-left _ _ e))) in
+    leb-true _ _ (and-right (leb 1 (state-count b)) (leb (state-count b) 32) d)
+
+actions-most : (b : Bytes) → sizes-right b ≡ true → action-count b ≤ 8
+unfolding sizes-right within
+actions-most b e =
+    let d = and-right (within 1 32 (state-count b)) _ (and-left _ _ (and-left _ _ (and-left _ _ e))) in
+    leb-true _ _ (and-right (leb 1 (action-count b)) (leb (action-count b) 8) d)
 
 -- ---- the whole
 
@@ -191,9 +232,23 @@ module _ {calls : List Call} (x : Plan-question calls) where
   unfolding model-of
   denominator-few = subst (λ m. m .denominator ≤ 100) (sym same-model) (denominator-most b (passed-all b passed .sizes))
 
+  start-few : s < 256
+  start-few =
+      let n = subst (λ m. s < length (m .states)) same-model start-inside in
+      omega (arith, states-held b, states-most b (passed-all b passed .sizes), n)
+
+  actions-few : length (x .model .actions) ≤ 8
+  unfolding model-of
+  actions-few = subst (λ m. length (m .actions) ≤ 8) (sym same-model) (subst (λ n. n ≤ 8) (sym (length-tabulate _ (action-count b))) (actions-most b (passed-all b passed .sizes)))
+
   module _ (π : Plan (x .n)) (i : List·Memᴰ π (plans (x .model) (x .n) s)) where
     choices-few : length (choices (x .n) π) ≤ 1365
     choices-few = le-trans (few-choices (x .model) outcomes-few (x .n) s π (plans-are (x .model) (x .n) s π .0 i)) (room-most (x .n) (steps-asked .1))
+
+    choices-small : (k : ℕ) → getD (choices (x .n) π) k 0 < 256
+    choices-small =
+        small-at (choices (x .n) π)
+        (λ c j. let h = choice-action (x .model) (x .n) s π (plans-are (x .model) (x .n) s π .0 i) j in omega (arith, actions-few, h))
 
     weight-few : W (x .model) (x .condition) (x .n) s π < 18446744073709551616
     unfolding W
@@ -209,4 +264,7 @@ sheets-read-back =
       sheet = λ calls x π i.
           reads-back (x .n) (x .question .start) (W (x .model) (x .condition) (x .n) (x .question .start) π) (choices (x .n) π)
           (weight-few x π i) (some-choice (x .n) π (steps-asked x .0)) (choices-few x π i);
+      bytes = λ calls x π i.
+          sheet-small (x .n) (x .question .start) (W (x .model) (x .condition) (x .n) (x .question .start) π) (choices (x .n) π)
+          (omega (arith, steps-asked x .1)) (start-few x) (choices-few x π i) (record { below = choices-small x π i }) .below;
     }

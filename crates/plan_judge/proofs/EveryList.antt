@@ -6,6 +6,7 @@ use lib.ListN.{length}
 use Rattle.blocks.specs.Bytes.{Bytes}
 use Rattle.calls.specs.Calls.{Call, load, put, check, write, judge, Reply, yields}
 use Rattle.calls.specs.History.{after}
+use Rattle.calls.specs.Demand3.{Session}
 use Rattle.plan_judge.specs.declared.Desk.{Desk}
 use Rattle.plan_judge.specs.declared.Taking.{Taking}
 use Rattle.plan_judge.specs.declared.Judging.{Judging}
@@ -16,7 +17,7 @@ use Rattle.plan_judge.specs.Values.{nothing, loaded-by, put-by, judged-b
 use Rattle.plan_judge.specs.Session.{said-taken, said-judgement, said-written, said-checking, step, desk-after}
 use Rattle.plan_judge.specs.Replies.{replies-after, replies-to}
 use Rattle.plan_judge.proofs.Kept.{replies, desk-holds}
-use Rattle.plan_judge.proofs.Ran.{Slice, Answered, loads, puts, judges, writes, checks, Ran, began, further}
+use Rattle.plan_judge.proofs.Ran.{Slice, Answered, loads, puts, judges, writes, checks, Ran, began, further, Described, Of-the-code}
 
 -- ---- one call
 
@@ -66,11 +67,7 @@ unfolding replies-after
 every-reply (began p) = refl
 every-reply (further {cs = cs} {c = c} h a) = ap₂ (λ x y. x ++ (y ∷ [])) (every-reply h) (every-answer h a) ∙ sym (replies-more [] cs c)
 
--- The claim. Of each list of calls of the code: the answers, the buffer bytes and the desk contents are those described.
-pub record Described (cs : List Call) (rs : List Reply) (d : Desk) : Type 0 where
-  pub answers : rs ≡ replies-to cs
-  pub contents : view d ≡ after cs
-
+-- The claim.
 pub every-list : {cs : List Call} {rs : List Reply} {d : Desk} → Ran cs rs d → Described cs rs d
 every-list h = record { answers = every-reply h; contents = every-ran h }
 
@@ -111,3 +108,10 @@ there-after before t (c ∷ cs) =
 
 pub ran-there : (cs : List Call) → There cs
 ran-there cs = there-after [] (record { replies = []; desk = nothing; ran = began (λ _. refl) }) cs
+
+-- A session that tells the replies of the code tells the described ones: every list of calls can be made, and every call is answered.
+pub code-yields : (session : Session) → Of-the-code session → (cs : List Call) (c : Call) → session cs c ≡ yields (after cs) c
+code-yields session h cs c =
+    let t = ran-there cs in
+    let n = answer-there (t .desk) c in
+    h cs (t .replies) (t .desk) c (n .reply) (n .desk) (t .ran) (n .answered) ∙ every-answer (t .ran) (n .answered)

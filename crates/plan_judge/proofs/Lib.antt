@@ -6,9 +6,9 @@ pub mod Spelling
 pub mod Writes
 pub mod Checks
 pub mod Judges
-pub mod Demand3
 pub mod Ran
 pub mod EveryList
+pub mod CodeDemand2
 pub mod CodeDemand3
 pub mod Listed
 pub mod CSteps

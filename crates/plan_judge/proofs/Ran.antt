@@ -1,12 +1,16 @@
--- Lists of calls of the code. Document 01: "In every list of calls .. from the empty desk, each call gets any bytes and the desk that the
--- last one returned, altered by nobody". What a call returns is here whatever the function's own contract allows: `F.Pre` and `F.Post` are
--- the plain readings of what the source says after `requires` and `ensures`, of the arguments, the result and the arguments at the return.
--- So a contract that asks something or says less allows more lists, and the claims of `EveryList` fail.
+-- Lists of calls of the code, and what is claimed of them (proved in `EveryList`, `CodeDemand2`, `CodeDemand3`). Document 01: "In every
+-- list of calls .. from the empty desk, each call gets any bytes and the desk that the last one returned, altered by nobody". What a call
+-- returns is here whatever the function's own contract allows: `F.Pre` and `F.Post` are the plain readings of what the source says after
+-- `requires` and `ensures`, of the arguments, the result and the arguments at the return. So a contract that asks something or says less
+-- allows more lists, and the claims fail.
+use mathlib.Core.Path.{_≡_}
 use mathlib.Core.List.{List, [], _∷_, _++_}
 use contract.Lifetimes.{Lfts}
 use denote.Ref.{RefT}
 use Rattle.blocks.specs.Bytes.{Bytes}
 use Rattle.calls.specs.Calls.{Call, load, put, check, write, judge, Reply}
+use Rattle.calls.specs.History.{after}
+use Rattle.calls.specs.Demand3.{Session}
 use Rattle.plan_judge.specs.declared.Desk.{Desk}
 use Rattle.plan_judge.specs.declared.Taking.{Taking}
 use Rattle.plan_judge.specs.declared.Judging.{Judging}
@@ -14,6 +18,7 @@ use Rattle.plan_judge.specs.declared.Written.{Written}
 use Rattle.plan_judge.specs.declared.Checking.{Checking}
 use Rattle.plan_judge.specs.View.{view}
 use Rattle.plan_judge.specs.Session.{said-taken, said-judgement, said-written, said-checking}
+use Rattle.plan_judge.specs.Replies.{replies-to}
 use Rattle.plan_judge.proofs.empty.Reads as empty-reads
 use Rattle.plan_judge.proofs.load.Reads as load-reads
 use Rattle.plan_judge.proofs.put.Reads as put-reads
@@ -51,3 +56,13 @@ pub data Ran : List Call → List Reply → Desk → Type 0 where
   began : {d : Desk} → (empty-reads.Pre tt tt → empty-reads.Post tt tt d tt) → Ran [] [] d
   further : {cs : List Call} {rs : List Reply} {d e : Desk} {c : Call} {r : Reply}
       → Ran cs rs d → Answered d c r e → Ran (cs ++ (c ∷ [])) (rs ++ (r ∷ [])) e
+
+-- The claim. Of each list of calls of the code: the answers, the buffer bytes and the desk contents are those described.
+pub record Described (cs : List Call) (rs : List Reply) (d : Desk) : Type 0 where
+  pub answers : rs ≡ replies-to cs
+  pub contents : view d ≡ after cs
+
+-- The session tells the replies of the code: wherever the calls cs were made and a further call c is answered r, it tells r.
+abbrev pub Of-the-code : Session → Type 0
+Of-the-code session =
+    (cs : List Call) (rs : List Reply) (d : Desk) (c : Call) (r : Reply) (e : Desk) → Ran cs rs d → Answered d c r e → session cs c ≡ r
