@@ -1,7 +1,7 @@
 //! The fast judge against the plain one.
 
 use crate::blocks::{read_model, QuestionImage};
-use crate::generate::{random_model, random_question, Rng, Scale, Size};
+use crate::generate::{random_model, random_question, Rng, Scale, Size, AFFORDABLE};
 use crate::logic::{fast, plain, Model, Plan, Question, Totals};
 use crate::text::show_blocks;
 
@@ -13,9 +13,6 @@ pub struct Difference {
     pub fast: String,
     pub plain: String,
 }
-
-/// Questions whose plain judging looks at more nodes than this are left out.
-const AFFORDABLE: u128 = 200_000;
 
 const SCALE: Scale = Scale {
     nodes: 14,

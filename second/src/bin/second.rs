@@ -13,7 +13,7 @@ const USAGE: &str = "usage: second [--plain] COMMAND
   replay                     a stream of calls to a line for each
   ccalls                     the C call on what a stream of calls loads and puts
   tally                      a stream of calls to counts of its answers
-  generate KIND SEED COUNT   a stream of models, questions, judges, sheets or lists
+  generate KIND SEED COUNT   a stream of models, questions, judges, small, sheets or lists
   compare SEED COUNT         the fast judge against the plain one
   bench-cases DIR            worst cases as DIR/NAME.bin
   bench FILE..               the time of each case in microseconds";

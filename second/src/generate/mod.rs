@@ -17,7 +17,7 @@ pub use lists::lists;
 pub use model::{random_model, Size};
 pub use question::{random_question, Scale};
 pub use rng::Rng;
-pub use streams::{judges, models, questions, sheets};
+pub use streams::{judges, models, questions, sheets, small, AFFORDABLE};
 
 use crate::desk::Call;
 
@@ -28,6 +28,7 @@ pub fn stream(kind: &str, seed: u64, count: usize) -> Option<Vec<u8>> {
         "models" => models(&mut rng, count),
         "questions" => questions(&mut rng, count),
         "judges" => judges(&mut rng, count),
+        "small" => small(&mut rng, count),
         "sheets" => sheets(&mut rng, count),
         "lists" => lists(&mut rng, count),
         _ => return None,

@@ -7,7 +7,7 @@ use super::rng::Rng;
 use super::{model_damage, question_damage, sheet_damage};
 use crate::blocks::{read_model, read_question, QuestionImage, Sheet, BLOCK};
 use crate::desk::Call;
-use crate::logic::{fast, Model, Node, Plan, Question, Totals};
+use crate::logic::{fast, plain, Model, Node, Plan, Question, Totals};
 
 /// Random questions whose judging takes about a microsecond to a millisecond.
 const SMALL: Scale = Scale {
@@ -301,4 +301,28 @@ pub(super) fn any_sheet(
     let mut draft = sheet_damage::Draft::of(sheet);
     harmed(rng, &mut draft, sheet_damage::HARMS, turn);
     draft.pack()
+}
+
+/// Questions that the plain judge looks at no more nodes than this for.
+pub const AFFORDABLE: u128 = 200_000;
+
+/// Judges of questions that the plain judge can afford, and writes of what they show.
+pub fn small(rng: &mut Rng, count: usize) -> Vec<Call> {
+    let mut calls = Vec::new();
+    while calls.len() < count {
+        let size = size(rng);
+        let Some((bytes, model, totals)) = good_model(rng, size) else {
+            continue;
+        };
+        calls.push(Call::Load(bytes));
+        for _ in 0..8 {
+            let question = random_question(rng, &model, &totals, SMALL);
+            if plain::cost(&model, &question, &totals) <= AFFORDABLE {
+                calls.push(Call::Put(QuestionImage::from(&question).pack()));
+                calls.push(Call::Judge);
+                calls.push(Call::Write(vec![0; 3 * BLOCK]));
+            }
+        }
+    }
+    calls
 }
