@@ -80,68 +80,75 @@ module _ {m q : Bytes} {s : ℕ} {depths truth cone : List ℕ} (ready : Ready m
   asked = questions.accepted (state-count m) (action-count m) (prop-count m) q (ready .question-accepted)
 
   module _ (trail : List ℕ) (prefix : t ≡ take (length t) trail) (gains : List ℤ) (followed : Trail m s t) (summed : Gained m s t gains) where
-    -- At the place i of the cone, a node that looks at steps.
-    module _ (i k : ℕ) (v : List ℕ) (l : i < length cone) (K : Known m q s cone t i v) (level : k + depth (formula q (node i)) ≡ length t)
-        (path : depth (formula q (node i)) ≡ 0 → ⊥) (r : Needed (node i) k) where
+    -- Node j at the place where the last step makes its value known, by its operator and its children's values.
+    module _ (j k : ℕ) (inside : j < node-count q) (level : k + depth (formula q j) ≡ length t) where
       abbrev x : Node
-      x = node-of q (node i)
+      x = node-of q j
 
-      inside : node i < node-count q
-      inside = ready .ordered .nodes i l
+      abbrev same : {φ : Formula} → formula q j ≡ φ → value-of (model-of m) φ (at k) (from k) ≡ meaning j k
+      same f = ap (λ φ. value-of (model-of m) φ (at k) (from k)) (sym f)
 
-      left : (op : ℕ) → x .operator ≡ op → reads-left op ≡ true → Earlier cone i (x .left)
-      left op e h = ready .ordered .lefts i l path (ap reads-left e ∙ h)
+      pub not-level : x .operator ≡ 3 → k + depth (formula q (x .left)) ≡ length t
+      unfolding depth
+      not-level e = omega (arith, ap depth (questions.at-neg (state-count m) (action-count m) (prop-count m) q asked j inside e))
 
-      of-not : x .operator ≡ 3 → one-if (eqb (known v (x .left) k) 0) ≡ meaning (node i) k
-      unfolding sat depth reads-left
-      of-not e =
-          let f = questions.at-neg (state-count m) (action-count m) (prop-count m) q asked (node i) inside e in
-          let d : k + depth (formula q (x .left)) ≤ length t = omega (arith, ap depth f) in
-          ap (λ y. one-if (eqb y 0)) (child-known i k (x .left) v l K (left 3 e refl) d (under-not r e))
+      pub not-means : x .operator ≡ 3 → (y : ℕ) → y ≡ meaning (x .left) k → one-if (eqb y 0) ≡ meaning j k
+      unfolding sat
+      not-means e y h =
+          ap (λ z. one-if (eqb z 0)) h
           ∙ flipped (sat (model-of m) (formula q (x .left)) (at k) (from k))
-          ∙ ap (λ φ. value-of (model-of m) φ (at k) (from k)) (sym f)
+          ∙ same (questions.at-neg (state-count m) (action-count m) (prop-count m) q asked j inside e)
 
-      of-and : x .operator ≡ 4 → bitAnd (known v (x .left) k) (known v (x .right) k) ≡ meaning (node i) k
-      unfolding sat depth reads-left
-      of-and e =
-          let f = questions.at-both (state-count m) (action-count m) (prop-count m) q asked (node i) inside e in
+      pub and-level : x .operator ≡ 4 → (k + depth (formula q (x .left)) ≤ length t) × (k + depth (formula q (x .right)) ≤ length t)
+      unfolding depth
+      and-level e =
+          let f = questions.at-both (state-count m) (action-count m) (prop-count m) q asked j inside e in
           let dl = depth (formula q (x .left)) in
           let dr = depth (formula q (x .right)) in
-          let a : k + dl ≤ length t = omega (arith, ap depth f, le-max-left dl dr) in
-          let b : k + dr ≤ length t = omega (arith, ap depth f, le-max-right dl dr) in
-          ap₂ bitAnd (child-known i k (x .left) v l K (left 4 e refl) a (and-left r e))
-          (child-known i k (x .right) v l K (ready .ordered .rights i l path e) b (and-right r e))
-          ∙ joined (sat (model-of m) (formula q (x .left)) (at k) (from k)) (sat (model-of m) (formula q (x .right)) (at k) (from k))
-          ∙ ap (λ φ. value-of (model-of m) φ (at k) (from k)) (sym f)
+          (omega (arith, ap depth f, le-max-left dl dr), omega (arith, ap depth f, le-max-right dl dr))
 
-      of-do : x .operator ≡ 5 → one-if (eqb (byte trail k / 4) (x .left)) ≡ meaning (node i) k
+      pub and-means : x .operator ≡ 4 → (y z : ℕ) → y ≡ meaning (x .left) k → z ≡ meaning (x .right) k → bitAnd y z ≡ meaning j k
+      unfolding sat
+      and-means e y z g h =
+          ap₂ bitAnd g h
+          ∙ joined (sat (model-of m) (formula q (x .left)) (at k) (from k)) (sat (model-of m) (formula q (x .right)) (at k) (from k))
+          ∙ same (questions.at-both (state-count m) (action-count m) (prop-count m) q asked j inside e)
+
+      pub do-means : x .operator ≡ 5 → one-if (eqb (byte trail k / 4) (x .left)) ≡ meaning j k
       unfolding sat depth step-of outcome-of
-      of-do e =
-          let f = questions.at-does (state-count m) (action-count m) (prop-count m) q asked (node i) inside e in
+      do-means e =
+          let f = questions.at-does (state-count m) (action-count m) (prop-count m) q asked j inside e in
           let h : k < length t = omega (arith, ap depth f) in
           ap (λ y. one-if (eqb (y / 4) (x .left))) (sym (getD-take (length t) trail k 0 h) ∙ ap (λ z. getD z k 0) (sym prefix))
           ∙ ap (λ z. value-of (model-of m) (does (x .left)) (at k) z) (sym (first-step k h))
-          ∙ ap (λ φ. value-of (model-of m) φ (at k) (from k)) (sym f)
+          ∙ same f
 
-      of-next : x .operator ≡ 6 → known v (x .left) (k + 1) ≡ meaning (node i) k
-      unfolding sat depth reads-left step-of
-      of-next e =
-          let f = questions.at-next (state-count m) (action-count m) (prop-count m) q asked (node i) inside e in
-          let h : k < length t = omega (arith, ap depth f) in
-          let d : suc k + depth (formula q (x .left)) ≤ length t = omega (arith, ap depth f) in
-          let n = state-next m s k t h in
+      pub next-level : x .operator ≡ 6 → (k < length t) × (suc k + depth (formula q (x .left)) ≡ length t)
+      unfolding depth
+      next-level e =
+          let f = questions.at-next (state-count m) (action-count m) (prop-count m) q asked j inside e in
+          (omega (arith, ap depth f), omega (arith, ap depth f))
+
+      pub next-needed : x .operator ≡ 6 → Needed j k → Needed (x .left) (suc k)
+      unfolding step-of
+      next-needed e r =
+          let h = next-level e .0 in
           let b = getD t k 0 in
-          let u : Needed (x .left) (suc k) = subst (Reached m q (root-of cone) s (x .left)) (sym n) (under-next (b / 4) (b % 4) r e (used-at m followed k h)) in
-          ap (known v (x .left)) (add-one k)
-          ∙ child-known i (suc k) (x .left) v l K (left 6 e refl) d u
-          ∙ ap (λ y. value-of (model-of m) (formula q (x .left)) y (from (suc k))) n
-          ∙ ap (λ z. value-of (model-of m) (next (formula q (x .left))) (at k) z) (sym (first-step k h))
-          ∙ ap (λ φ. value-of (model-of m) φ (at k) (from k)) (sym f)
+          subst (Reached m q (root-of cone) s (x .left)) (sym (state-next m s k t h)) (under-next (b / 4) (b % 4) r e (used-at m followed k h))
 
-      of-gain : x .operator ≡ 7 → one-if (gained q gains (length t) k (node i)) ≡ meaning (node i) k
+      pub next-means : x .operator ≡ 6 → (y : ℕ) → y ≡ meaning (x .left) (suc k) → y ≡ meaning j k
+      unfolding sat step-of
+      next-means e y g =
+          let h = next-level e .0 in
+          g
+          ∙ ap (λ y. value-of (model-of m) (formula q (x .left)) y (from (suc k))) (state-next m s k t h)
+          ∙ ap (λ z. value-of (model-of m) (next (formula q (x .left))) (at k) z) (sym (first-step k h))
+          ∙ same (questions.at-next (state-count m) (action-count m) (prop-count m) q asked j inside e)
+
+      pub gain-means : x .operator ≡ 7 → one-if (gained q gains (length t) k j) ≡ meaning j k
       unfolding sat depth gained
-      of-gain e =
-          let f = questions.at-gain (state-count m) (action-count m) (prop-count m) q asked (node i) inside e in
+      gain-means e =
+          let f = questions.at-gain (state-count m) (action-count m) (prop-count m) q asked j inside e in
           let n : k + x .n ≡ length t = omega (arith, ap depth f) in
           let R = steps-of m s t in
           let z : length R ≡ length t = steps-length m s t in
@@ -151,28 +158,56 @@ module _ {m q : Bytes} {s : ℕ} {depths truth cone : List ℕ} (ready : Ready m
           ap₂ _-ℤ_ (summed .right (length t) (omega arith) ∙ all) (summed .right k (omega arith))
           ∙ rest-of-sum (gain-of (take k R)) (gain-of (from k))
           ∙ ap gain-of (sym (take-all (x .n) (from k) (omega (arith, length-drop k R)))) in
-          ap (λ y. one-if (related integers (relation (x .right)) y (x .p))) g
-          ∙ ap (λ φ. value-of (model-of m) φ (at k) (from k)) (sym f)
+          ap (λ y. one-if (related integers (relation (x .right)) y (x .p))) g ∙ same f
 
       -- The other operators make state formulas.
-      flat : {A : Type 0} {φ : Formula} → formula q (node i) ≡ φ → depth φ ≡ 0 → A
-      flat f d = absurd (path (ap depth f ∙ d))
+      pub flat : {A : Type 0} → (depth (formula q j) ≡ 0 → ⊥) → {φ : Formula} → formula q j ≡ φ → depth φ ≡ 0 → A
+      flat path f d = absurd (path (ap depth f ∙ d))
 
-      of-path : value-by q trail gains (length t) k (node i) (x .operator) v ≡ meaning (node i) k
-      unfolding value-by depth
-      of-path =
+      -- By the operator of a node that looks at steps.
+      pub by-path : (P : ℕ → Type 0) → (depth (formula q j) ≡ 0 → ⊥) → (x .operator ≡ 3 → P 3) → (x .operator ≡ 4 → P 4) → (x .operator ≡ 5 → P 5)
+          → (x .operator ≡ 6 → P 6) → (x .operator ≡ 7 → P 7) → P (x .operator)
+      unfolding depth
+      by-path P path n a d f g =
           let S = state-count m in
           let A = action-count m in
           let N = prop-count m in
-          let range = asked .in-range (node i) inside in
-          by-operator (λ op. x .operator ≡ op → value-by q trail gains (length t) k (node i) op v ≡ meaning (node i) k)
-          (λ e. absurd (omega (arith, range .operator-from)))
-          (λ e. flat (questions.at-never S A N q asked (node i) inside e) refl)
-          (λ e. flat (questions.at-prop S A N q asked (node i) inside e) refl)
-          of-not of-and of-do of-next of-gain
-          (λ e. flat (questions.at-plan S A N q asked (node i) inside e) refl)
+          let range = asked .in-range j inside in
+          by-operator (λ op. x .operator ≡ op → P op) (λ e. absurd (omega (arith, range .operator-from)))
+          (λ e. flat path (questions.at-never S A N q asked j inside e) refl)
+          (λ e. flat path (questions.at-prop S A N q asked j inside e) refl)
+          n a d f g
+          (λ e. flat path (questions.at-plan S A N q asked j inside e) refl)
           (λ n e. absurd (omega (arith, range .operator-to)))
           (x .operator) refl
+
+    -- At the place i of the cone, a node that looks at steps: `learn` computes its meaning.
+    module _ (i k : ℕ) (v : List ℕ) (l : i < length cone) (K : Known m q s cone t i v) (level : k + depth (formula q (node i)) ≡ length t)
+        (path : depth (formula q (node i)) ≡ 0 → ⊥) (r : Needed (node i) k) where
+      abbrev y : Node
+      y = node-of q (node i)
+
+      inside : node i < node-count q
+      inside = ready .ordered .nodes i l
+
+      left : (op : ℕ) → y .operator ≡ op → reads-left op ≡ true → Earlier cone i (y .left)
+      left op e h = ready .ordered .lefts i l path (ap reads-left e ∙ h)
+
+      of-path : value-by q trail gains (length t) k (node i) (y .operator) v ≡ meaning (node i) k
+      unfolding value-by reads-left
+      of-path =
+          by-path (node i) k inside level (λ op. value-by q trail gains (length t) k (node i) op v ≡ meaning (node i) k) path
+          (λ e. not-means (node i) k inside level e (known v (y .left) k) (child-known i k (y .left) v l K (left 3 e refl) (omega (arith, not-level (node i) k inside level e)) (under-not r e)))
+          (λ e.
+          let d = and-level (node i) k inside level e in
+          and-means (node i) k inside level e (known v (y .left) k) (known v (y .right) k) (child-known i k (y .left) v l K (left 4 e refl) (d .0) (and-left r e))
+          (child-known i k (y .right) v l K (ready .ordered .rights i l path e) (d .1) (and-right r e)))
+          (do-means (node i) k inside level)
+          (λ e.
+          let d = next-level (node i) k inside level e .1 in
+          next-means (node i) k inside level e (known v (y .left) (k + 1))
+          (ap (known v (y .left)) (add-one k) ∙ child-known i (suc k) (y .left) v l K (left 6 e refl) (omega arith) (next-needed (node i) k inside level e r)))
+          (gain-means (node i) k inside level)
 
     -- Any node, in the state reached.
     pub of-node : (i k : ℕ) (v : List ℕ) → i < length cone → Known m q s cone t i v → k + depth (formula q (node i)) ≡ length t → Needed (node i) k

@@ -1,0 +1,24 @@
+-- The outcomes of a state side by side: a word with a bit, a lane, for each, bit 4·a + o for the outcome o of the action a.
+use Prim.Native.Nat.{ℕ, _+_, _*_, _/_, _%_, _^_, _<_}
+use mathlib.Core.Path.{_≡_}
+use mathlib.Core.List.{List}
+use lib.IntN.{ℤ, pos}
+use lib.ListN.{getD}
+use Rattle.blocks.specs.Bytes.{Bytes}
+use Rattle.models.specs.Layout.{state-count, outcome-of, entries}
+
+-- The bit of lane i.
+unfoldable pub lane : ℕ → ℕ → ℕ
+lane x i = x / 2 ^ i % 2
+
+-- In each of the 32 lanes the word has the lane's value.
+pub record Lanes (value : ℕ → ℕ) (x : ℕ) : Type 0 where
+  pub right : (i : ℕ) → i < 32 → lane x i ≡ value i
+
+-- In the lane of each outcome of s that is used, the word has the outcome's value.
+pub record Laned (m : Bytes) (s : ℕ) (value : ℕ → ℕ → ℕ) (x : ℕ) : Type 0 where
+  pub right : (a o : ℕ) → o < entries m s a → lane x (4 * a + o) ≡ value a o
+
+-- A table of the rewards of all outcomes, 32 lanes a state.
+pub record Rewards (m : Bytes) (r : List ℤ) : Type 0 where
+  pub right : (k : ℕ) → k < 32 * state-count m → getD r k (pos 0) ≡ (outcome-of m (k / 32) (k / 4 % 8) (k % 4)) .reward
