@@ -27,12 +27,12 @@ use Rattle.evaluation.proofs.Trails.{steps-length, steps-append, trail-
 use Rattle.evaluation.proofs.Meaning.{gain-append, Needed, meaning, of-node}
 
 module _ {m q : Bytes} {s : ℕ} {depths truth cone : List ℕ} (ready : Ready m q s depths truth cone) where
-  cone-node : (i : ℕ) → i < length cone → getD cone i 0 < 40
+  pub cone-node : (i : ℕ) → i < length cone → getD cone i 0 < 40
   cone-node i l =
       let a = questions.accepted (state-count m) (action-count m) (prop-count m) q (ready .question-accepted) in
       omega (arith, a .few-nodes, ready .ordered .nodes i l)
 
-  depth-is : (j : ℕ) → j < 40 → depth (formula q j) ≡ getD depths j 0
+  pub depth-is : (j : ℕ) → j < 40 → depth (formula q j) ≡ getD depths j 0
   unfolding table
   depth-is j l = sym (ap (λ d. getD d j 0) (ready .depths-right) ∙ getD-tabulate (λ i. depth (formula q i)) 40 0 l)
 

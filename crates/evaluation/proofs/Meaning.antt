@@ -114,11 +114,15 @@ module _ {m q : Bytes} {s : ℕ} {depths truth cone : List ℕ} (ready : Ready m
           ∙ joined (sat (model-of m) (formula q (x .left)) (at k) (from k)) (sat (model-of m) (formula q (x .right)) (at k) (from k))
           ∙ same (questions.at-both (state-count m) (action-count m) (prop-count m) q asked j inside e)
 
+      pub do-level : x .operator ≡ 5 → k + 1 ≡ length t
+      unfolding depth
+      do-level e = omega (arith, ap depth (questions.at-does (state-count m) (action-count m) (prop-count m) q asked j inside e))
+
       pub do-means : x .operator ≡ 5 → one-if (eqb (byte trail k / 4) (x .left)) ≡ meaning j k
-      unfolding sat depth step-of outcome-of
+      unfolding sat step-of outcome-of
       do-means e =
           let f = questions.at-does (state-count m) (action-count m) (prop-count m) q asked j inside e in
-          let h : k < length t = omega (arith, ap depth f) in
+          let h : k < length t = omega (arith, do-level e) in
           ap (λ y. one-if (eqb (y / 4) (x .left))) (sym (getD-take (length t) trail k 0 h) ∙ ap (λ z. getD z k 0) (sym prefix))
           ∙ ap (λ z. value-of (model-of m) (does (x .left)) (at k) z) (sym (first-step k h))
           ∙ same f

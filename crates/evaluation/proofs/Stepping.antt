@@ -53,16 +53,16 @@ module _ {m q : Bytes} {start : ℕ} {depths truth cone : List ℕ} (ready : Rea
       abbrev T : List ℕ
       T = take h trail
 
-      T-length : length T ≡ h
+      pub T-length : length T ≡ h
       T-length = length-take-le h trail (omega (arith, roomy .steps, offered .steps))
 
-      on-length : length (T ++ (b ∷ [])) ≡ h + 1
+      pub on-length : length (T ++ (b ∷ [])) ≡ h + 1
       on-length = length-append T (b ∷ []) ∙ omega (arith, T-length)
 
       longer : take (h + 1) (set trail h b) ≡ T ++ (b ∷ [])
       longer = ap (λ n. take n (set trail h b)) (add-one h) ∙ take-suc-set trail h b (omega (arith, roomy .steps, offered .steps))
 
-      the-step : step-of m (state-after m start T) b ≡ outcome-of m s a o
+      pub the-step : step-of m (state-after m start T) b ≡ outcome-of m s a o
       unfolding step-of
       the-step =
           let x : b / 4 ≡ a = omega (arith, outcome-small) in
@@ -75,9 +75,18 @@ module _ {m q : Bytes} {start : ℕ} {depths truth cone : List ℕ} (ready : Rea
           let y : b % 4 ≡ o = omega (arith, outcome-small) in
           rw (offered .state, x, y) (offered .used)
 
-      state-on : state-after m start (T ++ (b ∷ [])) ≡ (outcome-of m s a o) .target
+      pub state-on : state-after m start (T ++ (b ∷ [])) ≡ (outcome-of m s a o) .target
       unfolding state-after
       state-on = state-append m start T (b ∷ []) ∙ ap (λ z. z .target) the-step
+
+      pub followed-on : Trail m start (T ++ (b ∷ []))
+      followed-on = trail-longer m (knows .followed) b used-here
+
+      pub gained-on : (gains′ : List ℤ) → gains′ ≡ set gains (h + 1) (getD gains h (pos 0) +ℤ (outcome-of m s a o) .reward) → Gained m start (T ++ (b ∷ [])) gains′
+      gained-on gains′ eg =
+          let g : set gains (suc (length T)) (getD gains (length T) (pos 0) +ℤ (step-of m (state-after m start T) b) .reward) ≡ gains′ =
+          ap₂ (λ n z. set gains n z) (ap suc T-length ∙ sym (add-one h)) (ap₂ (λ n z. getD gains n (pos 0) +ℤ z) T-length (ap (λ z. z .reward) the-step)) ∙ sym eg in
+          subst (λ x. Gained m start (T ++ (b ∷ [])) x) g (gained-longer m q start cone T b gains (omega (arith, T-length, roomy .sums, offered .steps)) (knows .gained))
 
       pub stepped : (t : ℕ) (gains′ : List ℤ) (v′ : List ℕ) → t ≡ (outcome-of m s a o) .target
           → gains′ ≡ set gains (h + 1) (getD gains h (pos 0) +ℤ (outcome-of m s a o) .reward)
@@ -85,15 +94,12 @@ module _ {m q : Bytes} {start : ℕ} {depths truth cone : List ℕ} (ready : Rea
           → Stepped m q start cone h s a o trail (set trail h b) gains′ v′ t
       stepped t gains′ v′ et eg ev =
           let on = T ++ (b ∷ []) in
-          let followed : Trail m start on = trail-longer m (knows .followed) b used-here in
-          let g : set gains (suc (length T)) (getD gains (length T) (pos 0) +ℤ (step-of m (state-after m start T) b) .reward) ≡ gains′ =
-          ap₂ (λ n z. set gains n z) (ap suc T-length ∙ sym (add-one h)) (ap₂ (λ n z. getD gains n (pos 0) +ℤ z) T-length (ap (λ z. z .reward) the-step)) ∙ sym eg in
-          let gained = subst (λ x. Gained m start on x) g (gained-longer m q start cone T b gains (omega (arith, T-length, roomy .sums, offered .steps)) (knows .gained)) in
+          let gained = gained-on gains′ eg in
           let p : on ≡ take (length on) (set trail h b) = sym (ap (λ n. take n (set trail h b)) on-length ∙ longer) in
-          let K = known-all ready on (set trail h b) p (omega (arith, on-length, offered .steps)) gains′ followed gained v (roomy .places) (known-longer m q start cone T b v (knows .values)) in
+          let K = known-all ready on (set trail h b) p (omega (arith, on-length, offered .steps)) gains′ followed-on gained v (roomy .places) (known-longer m q start cone T b v (knows .values)) in
           let e : learnt q depths truth (set trail h b) gains′ (length on) (state-after m start on) cone v ≡ v′ =
           ap₂ (λ n z. learnt q depths truth (set trail h b) gains′ n z cone v) on-length (state-on ∙ sym et) ∙ sym ev in
-          let N : Knows m q start cone on gains′ v′ = record { followed = followed; gained = gained; values = subst (Known m q start cone on (length cone)) e K } in
+          let N : Knows m q start cone on gains′ v′ = record { followed = followed-on; gained = gained; values = subst (Known m q start cone on (length cone)) e K } in
           record { longer = longer; state = et; knows = subst (λ l. Knows m q start cone l gains′ v′) (sym longer) N }
 
   -- At the start, before any step.

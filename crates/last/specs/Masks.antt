@@ -25,13 +25,16 @@ pub record Before-last (m q : Bytes) (start : ℕ) (depths truth cone late : Lis
   pub deep : depth (formula q (root-of cone)) ≡ h + 1
   pub few : h < 6
 
--- The words of the first i nodes of a cone, as far as they are marked, after the trail t, which led to the state s: in the lane of the
--- outcome o of the action a, the node's value at the place where it becomes known with that outcome.
+-- The word of node j after the trail t, which led to the state s: in the lane of the outcome o of the action a, the node's value at the
+-- place where it becomes known with that outcome.
+pub record Worded (m q : Bytes) (start : ℕ) (cone t : List ℕ) (s j x : ℕ) : Type 0 where
+  pub right : (k a o : ℕ) → o < entries m s a → k + depth (formula q j) ≡ length t + 1
+      → Reached m q (root-of cone) start j (state-after m start (take k (t ++ ((4 * a + o) ∷ []))))
+      → lane x (4 * a + o) ≡ value-of (model-of m) (formula q j) (state-after m start (take k (t ++ ((4 * a + o) ∷ [])))) (drop k (steps-of m start (t ++ ((4 * a + o) ∷ []))))
+
+-- The words of the first i nodes of a cone, as far as they are marked.
 pub record Masked (m q : Bytes) (start : ℕ) (cone late t : List ℕ) (s i : ℕ) (masks : List ℕ) : Type 0 where
-  pub right : (e k a o : ℕ) → e < i → getD late (getD cone e 0) 0 ≡ 1 → o < entries m s a → k + depth (formula q (getD cone e 0)) ≡ length t + 1
-      → Reached m q (root-of cone) start (getD cone e 0) (state-after m start (take k (t ++ ((4 * a + o) ∷ []))))
-      → lane (getD masks (getD cone e 0) 0) (4 * a + o)
-      ≡ value-of (model-of m) (formula q (getD cone e 0)) (state-after m start (take k (t ++ ((4 * a + o) ∷ [])))) (drop k (steps-of m start (t ++ ((4 * a + o) ∷ []))))
+  pub right : (e : ℕ) → e < i → getD late (getD cone e 0) 0 ≡ 1 → Worded m q start cone t s (getD cone e 0) (getD masks (getD cone e 0) 0)
 
 -- The condition's own word: its value on the path that each outcome ends.
 abbrev pub Ended : (m q : Bytes) (start : ℕ) (cone t : List ℕ) (s x : ℕ) → Type 0

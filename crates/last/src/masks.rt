@@ -1,8 +1,16 @@
-// The words of a condition's nodes.
+// The words of a condition's nodes, for all outcomes of the last step at once.
 ghost use mathlib.Core.Path.{_≡_};
-ghost use Prim.Native.Nat.{_+_, _≤_};
-ghost use lib.ListN.{take};
-ghost use Rattle.last.specs.Masks.{Before-last, Ended};
+ghost use mathlib.Core.Bool.{true, false, not};
+ghost use Prim.Native.Nat.{_+_, _<_, _≤_};
+ghost use lib.Dec.{eqb};
+ghost use lib.IntN.{pos};
+ghost use lib.ListN.{take, length, getD};
+ghost use Rattle.logic.specs.Formula.{depth};
+ghost use Rattle.logic.specs.Total.{one-if};
+ghost use Rattle.evaluation.specs.Learnt as learnt;
+ghost use Rattle.evaluation.specs.Reached.{formula};
+ghost use Rattle.lanes.specs.Lanes.{Lanes};
+ghost use Rattle.last.specs.Masks.{Before-last, Worded, Masked, Ended};
 use blocks::byte;
 use evaluation::depth_at;
 use evaluation::known;
@@ -19,6 +27,7 @@ use questions::right;
 
 // The word of node j.
 fn mask_at(masks: &[u32; 40], j: u8) -> u32
+    ensures { λ r. ⌜ r ≡ getD (now (masks .entry)) j 0 ⌝ }
 {
     let i = j as usize;
     if i < 40 {
@@ -27,8 +36,9 @@ fn mask_at(masks: &[u32; 40], j: u8) -> u32
     0
 }
 
-// The gain after k steps.
+// The gain after k steps; 0 past the end.
 fn gain_at(gains: &[i32], k: u8) -> i32
+    ensures { λ r. ⌜ r ≡ getD (now (gains .entry)) k (pos 0) ⌝ }
 {
     let i = k as usize;
     if i < gains.len() {
@@ -37,8 +47,9 @@ fn gain_at(gains: &[i32], k: u8) -> i32
     0
 }
 
-// The word of a child of "and", at place k: its own if it looks as far ahead, else its value, which was known before the last step.
+// The word of a child of "and", at place k: its own if it looks as far ahead, d steps, else its value, which was known before the last step.
 fn part(depths: &[u32], v: &[u8], masks: &[u32; 40], d: u32, k: u8, child: u8) -> u32
+    ensures { λ r. ⌜ (getD (now (depths .entry)) child 0 ≡ d → r ≡ getD (now (masks .entry)) child 0) × ((getD (now (depths .entry)) child 0 ≡ d → ⊥) → Lanes (λ _. one-if (not (eqb (learnt.known (now (v .entry)) child k) 0))) r) ⌝ }
 {
     if depth_at(depths, child) == d {
         return mask_at(masks, child);
@@ -46,9 +57,30 @@ fn part(depths: &[u32], v: &[u8], masks: &[u32; 40], d: u32, k: u8, child: u8) -
     spread(known(v, child, k))
 }
 
-// The word of node j, of depth d, after h steps and the last: each arm has its operator's meaning.
-fn mask_by(m: &[u8], q: &[u8], depths: &[u32], rewards: &[i32; 1024], gains: &[i32], v: &[u8], masks: &[u32; 40], h: u8, s: u8, d: u32, j: u8) -> u32
-    requires { ⌜ d ≤ h + 1 ⌝ }
+// The word of the node at place i of the cone, node j, which looks d steps ahead: each arm has its operator's meaning.
+fn mask_by(
+    m: &[u8],
+    q: &[u8],
+    depths: &[u32],
+    truth: &[u8],
+    cone: &[u8],
+    late: &[u8; 40],
+    rewards: &[i32; 1024],
+    trail: &[u8],
+    gains: &[i32],
+    v: &[u8],
+    masks: &[u32; 40],
+    start: u8,
+    h: u8,
+    s: u8,
+    i: usize,
+    d: u32,
+    j: u8,
+) -> u32
+    requires { ⌜ Before-last (now m) (now q) start (now depths) (now truth) (now cone) (now late) (now rewards) (now trail) (now gains) (now v) h s ⌝ }
+    requires { ⌜ Masked (now m) (now q) start (now cone) (now late) (take h (now trail)) s i (now masks) × (i < length (now cone)) × (getD (now late) (getD (now cone) i 0) 0 ≡ 1) ⌝ }
+    requires { ⌜ (j ≡ getD (now cone) i 0) × (d ≡ depth (formula (now q) (getD (now cone) i 0))) × (0 < d) × (d ≤ h + 1) ⌝ }
+    ensures { λ r. ⌜ Worded (now (m .entry)) (now (q .entry)) start (now (cone .entry)) (take h (now (trail .entry))) s (getD (now (cone .entry)) i 0) r ⌝ }
 {
     let k = h + 1 - d as u8;
     let op = operator(q, j);
@@ -62,16 +94,37 @@ fn mask_by(m: &[u8], q: &[u8], depths: &[u32], rewards: &[i32; 1024], gains: &[i
     }
 }
 
-fn mask_node(m: &[u8], q: &[u8], depths: &[u32], truth: &[u8], rewards: &[i32; 1024], gains: &[i32], v: &[u8], masks: &[u32; 40], h: u8, s: u8, j: u8) -> u32
+// The word of the node at place i of the cone.
+fn mask_node(
+    m: &[u8],
+    q: &[u8],
+    depths: &[u32],
+    truth: &[u8],
+    cone: &[u8],
+    late: &[u8; 40],
+    rewards: &[i32; 1024],
+    trail: &[u8],
+    gains: &[i32],
+    v: &[u8],
+    masks: &[u32; 40],
+    start: u8,
+    h: u8,
+    s: u8,
+    i: usize,
+) -> u32
+    requires { ⌜ Before-last (now m) (now q) start (now depths) (now truth) (now cone) (now late) (now rewards) (now trail) (now gains) (now v) h s ⌝ }
+    requires { ⌜ Masked (now m) (now q) start (now cone) (now late) (take h (now trail)) s i (now masks) × (i < length (now cone)) × (getD (now late) (getD (now cone) i 0) 0 ≡ 1) ⌝ }
+    ensures { λ r. ⌜ Worded (now (m .entry)) (now (q .entry)) start (now (cone .entry)) (take h (now (trail .entry))) s (getD (now (cone .entry)) i 0) r ⌝ }
 {
+    let j = cone[i];
     let d = depth_at(depths, j);
     if d == 0 {
         return told(m, truth, s, j);
     }
-    if d <= h as u32 + 1 {
-        return mask_by(m, q, depths, rewards, gains, v, masks, h, s, d, j);
+    if d > h as u32 + 1 {
+        return 0;
     }
-    0
+    mask_by(m, q, depths, truth, cone, late, rewards, trail, gains, v, masks, start, h, s, i, d, j)
 }
 
 // The condition's word: its value on the path that each outcome of the state s ends.
@@ -96,9 +149,9 @@ pub fn mask(
     let mut masks = [0u32; 40];
     let mut i: usize = 0;
     while i < cone.len() {
-        let j = cone[i];
-        if byte(late, j as usize) == 1 {
-            masks[j as usize] = mask_node(m, q, depths, truth, rewards, gains, v, &masks, h, s, j);
+        let j = cone[i] as usize;
+        if byte(late, j) == 1 {
+            masks[j] = mask_node(m, q, depths, truth, cone, late, rewards, trail, gains, v, &masks, start, h, s, i);
         }
         i += 1;
     }
