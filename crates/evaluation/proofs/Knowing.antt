@@ -16,6 +16,7 @@ use Rattle.logic.proofs.Depth.{sat-same}
 use Rattle.logic.proofs.Tests.{getD-tabulate}
 use Rattle.blocks.specs.Bytes.{Bytes}
 use Rattle.models.specs.Layout.{state-count, action-count, prop-count, model-of}
+use Rattle.questions.specs.Layout.{formulas-of}
 use Rattle.questions.specs.Tables.{table}
 use Rattle.questions.proofs.Accepted as questions
 use Rattle.evaluation.specs.Path.{step-of, steps-of, state-after, Trail, gain-of}
@@ -26,6 +27,10 @@ use Rattle.evaluation.proofs.Values.{learn-now, learn-later, learnt-mor
 use Rattle.evaluation.proofs.Trails.{steps-length, steps-append, trail-shorter}
 use Rattle.evaluation.proofs.Meaning.{gain-append, Needed, meaning, of-node}
 
+pub depth-in : (q : Bytes) (depths : List ℕ) → depths ≡ table depth (formulas-of q) → (j : ℕ) → j < 40 → getD depths j 0 ≡ depth (formula q j)
+unfolding table
+depth-in q depths e j l = ap (λ d. getD d j 0) e ∙ getD-tabulate (λ i. depth (formula q i)) 40 0 l
+
 module _ {m q : Bytes} {s : ℕ} {depths truth cone : List ℕ} (ready : Ready m q s depths truth cone) where
   pub cone-node : (i : ℕ) → i < length cone → getD cone i 0 < 40
   cone-node i l =
@@ -33,8 +38,7 @@ module _ {m q : Bytes} {s : ℕ} {depths truth cone : List ℕ} (ready : Ready m
       omega (arith, a .few-nodes, ready .ordered .nodes i l)
 
   pub depth-is : (j : ℕ) → j < 40 → depth (formula q j) ≡ getD depths j 0
-  unfolding table
-  depth-is j l = sym (ap (λ d. getD d j 0) (ready .depths-right) ∙ getD-tabulate (λ i. depth (formula q i)) 40 0 l)
+  depth-is j l = sym (depth-in q depths (ready .depths-right) j l)
 
   module _ (t trail : List ℕ) (prefix : t ≡ take (length t) trail) (few : length t ≤ 6) (gains : List ℤ) (followed : Trail m s t) (summed : Gained m s t gains) where
     abbrev node : ℕ → ℕ

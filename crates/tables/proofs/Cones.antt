@@ -10,10 +10,8 @@ use mathlib.Core.List.{List}
 use lib.ListN.{getD, length, set, take, length-set}
 use lib.Seq.{getD-set-same, getD-set-other, getD-take, length-take-le}
 use Rattle.logic.specs.Formula.{Node, depth}
-use Rattle.logic.proofs.Tests.{getD-tabulate}
 use Rattle.blocks.specs.Bytes.{Bytes}
-use Rattle.questions.specs.Layout.{node-count, node-of, formulas-of}
-use Rattle.questions.specs.Tables.{table}
+use Rattle.questions.specs.Layout.{node-count, node-of}
 use Rattle.questions.proofs.Laws.{by-operator}
 use Rattle.evaluation.specs.Reached.{formula, reads-left, Earlier, Cone, root-of}
 use Rattle.tables.specs.Need.{Given, Grown}
@@ -46,10 +44,6 @@ given-ordered {m} {q} given =
           (reads-cases ((node-of q j) .operator) e);
       right = λ j h o. a .in-range j h .of-both o .1;
     }
-
-pub depth-in : (q : Bytes) (depths : List ℕ) → depths ≡ table depth (formulas-of q) → (j : ℕ) → j < 40 → getD depths j 0 ≡ depth (formula q j)
-unfolding table
-depth-in q depths e j h = ap (λ d. getD d j 0) e ∙ getD-tabulate (λ i. depth (formula q i)) 40 0 h
 
 -- ---- one node
 

@@ -7,7 +7,8 @@ use mathlib.Core.List.{List}
 use lib.ListN.{set}
 use borrow.Author.Needs.{needs}
 use Rattle.tables.proofs.Marks.{grown-none}
-use Rattle.tables.proofs.Cones.{Node-done, depth-in, entered-flat, entered-none, left-entered, both-entered}
+use Rattle.evaluation.proofs.Knowing.{depth-in}
+use Rattle.tables.proofs.Cones.{Node-done, entered-flat, entered-none, left-entered, both-entered}
 use Rattle.tables.proofs.enter.Statement.{statement}
 use Rattle.tables.proofs.enter.Tie as tie
 
