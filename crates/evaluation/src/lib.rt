@@ -37,7 +37,7 @@ pub fn known(v: &[u8], j: u8, k: u8) -> u8
 }
 
 // The gain after k steps; 0 past the end.
-fn gain_at(gains: &[i32], k: u8) -> i32
+pub fn gain_at(gains: &[i32], k: u8) -> i32
     ensures { λ r. ⌜ r ≡ getD (now (gains .entry)) k (pos 0) ⌝ }
 {
     let i = k as usize;
@@ -48,7 +48,7 @@ fn gain_at(gains: &[i32], k: u8) -> i32
 }
 
 // Whether a gain stands in the relation of this number to a bound.
-fn related(kind: u8, gain: i64, bound: i64) -> bool
+pub fn related(kind: u8, gain: i64, bound: i64) -> bool
     ensures { λ r. ⌜ r ≡ quantity.related integers (relation kind) gain bound ⌝ }
 {
     match kind {

@@ -1,0 +1,3 @@
+pub mod Words
+pub mod Spare
+pub mod Gains

@@ -1,1 +1,154 @@
-// stub
+// Words of lanes: the last step of a path for all outcomes of a state at once, a bit each, bit 4·a + o for the outcome o of the action a.
+ghost use mathlib.Core.Path.{_≡_};
+ghost use mathlib.Core.Bool.{not};
+ghost use Prim.Native.Nat.{_+_, _*_, _<_, _≤_};
+ghost use lib.Bits.{bitAnd};
+ghost use lib.Dec.{eqb};
+ghost use lib.IntN.{_+ℤ_, _-ℤ_};
+ghost use Rattle.logic.specs.Checked.{refusal};
+ghost use Rattle.logic.specs.Formula.{relation};
+ghost use Rattle.logic.specs.Quantity.{integers};
+ghost use Rattle.logic.specs.Quantity as quantity;
+ghost use Rattle.logic.specs.Total.{one-if};
+ghost use Rattle.blocks.specs.Block.{sum-below};
+ghost use Rattle.blocks.specs.Bytes as bytes;
+ghost use Rattle.models.specs.Grounds.{read-model};
+ghost use Rattle.models.specs.Layout.{state-count, outcome-of, entries};
+ghost use Rattle.lanes.specs.Lanes.{Lanes, Laned, Rewards};
+ghost use Rattle.lanes.specs.Lanes as spec;
+use blocks::byte;
+use blocks::wide;
+use evaluation::related;
+use models::reward;
+use models::target;
+use models::weight;
+
+// A word with one lane more, the lowest.
+fn pushed(x: u32, t: bool) -> u32
+    requires { ⌜ x < 2147483648 ⌝ }
+    ensures { λ r. ⌜ r ≡ 2 * x + one-if t ⌝ }
+{
+    if t {
+        return 2 * x + 1;
+    }
+    2 * x
+}
+
+// ---- words made lane by lane
+
+// Of a state formula, node j: whether it is true in each outcome's target.
+pub fn told(m: &[u8], truth: &[u8], s: u8, j: u8) -> u32
+    requires { ⌜ (refusal (read-model (now m)) ≡ 0) × (s < 32) ⌝ }
+    ensures { λ r. ⌜ Laned (now (m .entry)) s (λ a o. one-if (not (eqb (bytes.byte (now (truth .entry)) (32 * j + (outcome-of (now (m .entry)) s a o) .target)) 0))) r ⌝ }
+{
+    let mut x: u32 = 0;
+    let mut i = 4 * wide(m, 3);
+    while i > 0 {
+        i -= 1;
+        let t = target(m, s as usize, i / 4, i % 4);
+        x = pushed(x, byte(truth, 32 * j as usize + t) != 0);
+    }
+    x
+}
+
+// Of "do": whether an outcome is one of the action a.
+pub fn done(m: &[u8], s: u8, a: u8) -> u32
+    requires { ⌜ (refusal (read-model (now m)) ≡ 0) × (s < 32) ⌝ }
+    ensures { λ r. ⌜ Laned (now (m .entry)) s (λ b o. one-if (eqb b a)) r ⌝ }
+{
+    let mut x: u32 = 0;
+    let mut i = 4 * wide(m, 3);
+    while i > 0 {
+        i -= 1;
+        x = pushed(x, i / 4 == a as usize);
+    }
+    x
+}
+
+// Of "gain": whether the rewards since its place, the outcome's among them, stand in the relation to its bound.
+pub fn gained(
+    m: &[u8],
+    rewards: &[i32; 1024],
+    s: u8,
+    kind: u8,
+    after: i32,
+    before: i32,
+    bound: i32,
+) -> u32
+    requires { ⌜ (refusal (read-model (now m)) ≡ 0) × (s < state-count (now m)) × (s < 32) ⌝ }
+    requires { ⌜ Rewards (now m) (now rewards) ⌝ }
+    ensures { λ r. ⌜ Laned (now (m .entry)) s (λ a o. one-if (quantity.related integers (relation kind) ((after -ℤ before) +ℤ (outcome-of (now (m .entry)) s a o) .reward) bound)) r ⌝ }
+{
+    let at = 32 * s as usize;
+    let sum = after as i64 - before as i64;
+    let mut x: u32 = 0;
+    let mut i = 4 * wide(m, 3);
+    while i > 0 {
+        i -= 1;
+        x = pushed(x, related(kind, sum + rewards[at + i] as i64, bound as i64));
+    }
+    x
+}
+
+// ---- words made of words
+
+// The same value in all lanes.
+pub fn spread(t: u8) -> u32
+    ensures { λ r. ⌜ Lanes (λ _. one-if (not (eqb t 0))) r ⌝ }
+{
+    if t == 0 {
+        return 0;
+    }
+    4294967295
+}
+
+// Of "not".
+pub fn flipped(x: u32) -> u32
+    ensures { λ r. ⌜ Lanes (λ i. one-if (eqb (spec.lane x i) 0)) r ⌝ }
+{
+    x ^ 4294967295
+}
+
+// Of "and".
+pub fn met(x: u32, y: u32) -> u32
+    ensures { λ r. ⌜ Lanes (λ i. bitAnd (spec.lane x i) (spec.lane y i)) r ⌝ }
+{
+    x & y
+}
+
+// ---- what the lanes weigh
+
+// The weight of the lowest lane's outcome, if the lane is 1.
+fn part(m: &[u8], s: u8, a: u8, o: u8, y: u32) -> u64
+    requires { ⌜ (s < 32) × (a < 8) × (o < 4) ⌝ }
+    ensures { λ r. ⌜ (r ≡ (outcome-of (now (m .entry)) s a o) .weight * spec.lane y 0) × (r < 256) ⌝ }
+{
+    weight(m, s as usize, a as usize, o as usize) as u64 * (y & 1) as u64
+}
+
+// The weights of an action's outcomes whose lanes are 1, summed: what is not used weighs 0.
+pub fn total(m: &[u8], x: u32, s: u8, a: u8) -> u64
+    requires { ⌜ (refusal (read-model (now m)) ≡ 0) × (s < state-count (now m)) × (s < 32) × (a < 8) ⌝ }
+    ensures { λ r. ⌜ r ≡ sum-below (entries (now (m .entry)) s a) (λ o. (outcome-of (now (m .entry)) s a o) .weight * spec.lane x (4 * a + o)) ⌝ }
+{
+    let y = x >> (4 * a as u32);
+    part(m, s, a, 0, y)
+        + part(m, s, a, 1, y >> 1)
+        + part(m, s, a, 2, y >> 2)
+        + part(m, s, a, 3, y >> 3)
+}
+
+// The rewards of all outcomes.
+pub fn rewards(m: &[u8]) -> [i32; 1024]
+    requires { ⌜ state-count (now m) ≤ 32 ⌝ }
+    ensures { λ r. ⌜ Rewards (now (m .entry)) r ⌝ }
+{
+    let mut r = [0i32; 1024];
+    let n = 32 * wide(m, 2);
+    let mut k: usize = 0;
+    while k < n {
+        r[k] = reward(m, k / 32, k / 4 % 8, k % 4);
+        k += 1;
+    }
+    r
+}

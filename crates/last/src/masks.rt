@@ -3,7 +3,6 @@ ghost use mathlib.Core.Path.{_≡_};
 ghost use mathlib.Core.Bool.{true, false, not};
 ghost use Prim.Native.Nat.{_+_, _<_, _≤_};
 ghost use lib.Dec.{eqb};
-ghost use lib.IntN.{pos};
 ghost use lib.ListN.{take, length, getD};
 ghost use Rattle.logic.specs.Formula.{depth};
 ghost use Rattle.logic.specs.Total.{one-if};
@@ -13,6 +12,7 @@ ghost use Rattle.lanes.specs.Lanes.{Lanes};
 ghost use Rattle.last.specs.Masks.{Before-last, Worded, Masked, Ended};
 use blocks::byte;
 use evaluation::depth_at;
+use evaluation::gain_at;
 use evaluation::known;
 use lanes::done;
 use lanes::flipped;
@@ -32,17 +32,6 @@ fn mask_at(masks: &[u32; 40], j: u8) -> u32
     let i = j as usize;
     if i < 40 {
         return masks[i];
-    }
-    0
-}
-
-// The gain after k steps; 0 past the end.
-fn gain_at(gains: &[i32], k: u8) -> i32
-    ensures { λ r. ⌜ r ≡ getD (now (gains .entry)) k (pos 0) ⌝ }
-{
-    let i = k as usize;
-    if i < gains.len() {
-        return gains[i];
     }
     0
 }

@@ -1,0 +1,16 @@
+use borrow.Author.Tests.{ne-eqb}
+use Rattle.logic.specs.Total.{one-if}
+use Rattle.lanes.proofs.Words.{lane-none, lane-ones}
+use Rattle.lanes.proofs.spread.Statement.{statement}
+use Rattle.lanes.proofs.spread.Tie as tie
+
+returns : tie.Need-returns
+unfolding one-if
+returns c = record { right = λ i h. rw (c .if1 .taken) (lane-none i) }
+
+returns-2 : tie.Need-returns-2
+unfolding one-if
+returns-2 c = record { right = λ i h. rw (ne-eqb (c .before .args .t) 0 (c .if1 .left)) (lane-ones 32 i h) }
+
+pub spread-spec : {M : Type 1} → statement M
+spread-spec = tie.close (tie.spec returns returns-2)
