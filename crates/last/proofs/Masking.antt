@@ -14,13 +14,14 @@ use Rattle.logic.specs.Formula.{Node, depth, sat, relation}
 use Rattle.logic.specs.Quantity.{integers, related}
 use Rattle.logic.specs.Total.{one-if, value-of}
 use Rattle.blocks.specs.Bytes.{Bytes, byte}
-use Rattle.models.specs.Layout.{state-count, action-count, outcome-of, entries, model-of}
+use Rattle.models.specs.Layout.{state-count, outcome-of, entries, model-of}
+use Rattle.models.proofs.Passed.{passed-all, passed-sized}
 use Rattle.questions.specs.Layout.{node-count, node-of}
 use Rattle.evaluation.specs.Path.{steps-of, state-after, Trail}
 use Rattle.evaluation.specs.Reached.{formula, Reached, itself, under-not, and-left, and-right, reads-left, Earlier, root-of}
 use Rattle.evaluation.specs.Learnt.{known, gained}
 use Rattle.evaluation.specs.Known.{Known, Gained, Offered}
-use Rattle.evaluation.proofs.Trails.{steps-length, steps-append}
+use Rattle.evaluation.proofs.Trails.{steps-length, steps-append, state-inside}
 use Rattle.evaluation.proofs.Meaning.{not-level, not-means, and-level, and-means, do-level, do-means, next-level, next-needed, next-means, gain-means, by-path}
 use Rattle.evaluation.proofs.Knowing.{depth-is, cone-node, known-longer}
 use Rattle.evaluation.proofs.Stepping as stepping
@@ -44,6 +45,12 @@ module _ {m q : Bytes} {start : ℕ} {depths truth cone late : List ℕ} {reward
 
   abbrev node : ℕ → ℕ
   node i = getD cone i 0
+
+  pub state-here : s < state-count m
+  state-here = subst (λ x. x < state-count m) (B .state) (state-inside m (B .ready .model-accepted) (B .knows .followed) (B .ready .state))
+
+  pub few-states : s < 32
+  few-states = omega (arith, passed-sized m (passed-all m (B .ready .model-accepted)) .states, state-here)
 
   -- The path that an outcome ends.
   module _ (a o : ℕ) (used : o < entries m s a) where

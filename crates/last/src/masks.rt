@@ -26,18 +26,18 @@ use questions::p;
 use questions::right;
 
 // The word of node j.
-fn mask_at(masks: &[u32; 40], j: u8) -> u32
+fn mask_at(masks: &[u32], j: u8) -> u32
     ensures { λ r. ⌜ r ≡ getD (now (masks .entry)) j 0 ⌝ }
 {
     let i = j as usize;
-    if i < 40 {
+    if i < masks.len() {
         return masks[i];
     }
     0
 }
 
 // The word of a child of "and", at place k: its own if it looks as far ahead, d steps, else its value, which was known before the last step.
-fn part(depths: &[u32], v: &[u8], masks: &[u32; 40], d: u32, k: u8, child: u8) -> u32
+fn part(depths: &[u32], v: &[u8], masks: &[u32], d: u32, k: u8, child: u8) -> u32
     ensures { λ r. ⌜ (getD (now (depths .entry)) child 0 ≡ d → r ≡ getD (now (masks .entry)) child 0) × ((getD (now (depths .entry)) child 0 ≡ d → ⊥) → Lanes (λ _. one-if (not (eqb (learnt.known (now (v .entry)) child k) 0))) r) ⌝ }
 {
     if depth_at(depths, child) == d {
@@ -58,7 +58,7 @@ fn mask_by(
     trail: &[u8],
     gains: &[i32],
     v: &[u8],
-    masks: &[u32; 40],
+    masks: &[u32],
     start: u8,
     h: u8,
     s: u8,
@@ -75,10 +75,21 @@ fn mask_by(
     let op = operator(q, j);
     match op {
         3 => flipped(mask_at(masks, left(q, j))),
-        4 => met(part(depths, v, masks, d, k, left(q, j)), part(depths, v, masks, d, k, right(q, j))),
+        4 => met(
+            part(depths, v, masks, d, k, left(q, j)),
+            part(depths, v, masks, d, k, right(q, j)),
+        ),
         5 => done(m, s, left(q, j)),
         6 => mask_at(masks, left(q, j)),
-        7 => gained(m, rewards, s, right(q, j), gain_at(gains, h), gain_at(gains, k), p(q, j)),
+        7 => gained(
+            m,
+            rewards,
+            s,
+            right(q, j),
+            gain_at(gains, h),
+            gain_at(gains, k),
+            p(q, j),
+        ),
         _ => 0,
     }
 }
@@ -95,7 +106,7 @@ fn mask_node(
     trail: &[u8],
     gains: &[i32],
     v: &[u8],
-    masks: &[u32; 40],
+    masks: &[u32],
     start: u8,
     h: u8,
     s: u8,
@@ -113,7 +124,25 @@ fn mask_node(
     if d > h as u32 + 1 {
         return 0;
     }
-    mask_by(m, q, depths, truth, cone, late, rewards, trail, gains, v, masks, start, h, s, i, d, j)
+    mask_by(
+        m,
+        q,
+        depths,
+        truth,
+        cone,
+        late,
+        rewards,
+        trail,
+        gains,
+        v,
+        masks,
+        start,
+        h,
+        s,
+        i,
+        d,
+        j,
+    )
 }
 
 // The condition's word: its value on the path that each outcome of the state s ends.
@@ -140,7 +169,23 @@ pub fn mask(
     while i < cone.len() {
         let j = cone[i] as usize;
         if byte(late, j) == 1 {
-            masks[j] = mask_node(m, q, depths, truth, cone, late, rewards, trail, gains, v, &masks, start, h, s, i);
+            masks[j] = mask_node(
+                m,
+                q,
+                depths,
+                truth,
+                cone,
+                late,
+                rewards,
+                trail,
+                gains,
+                v,
+                &masks,
+                start,
+                h,
+                s,
+                i,
+            );
         }
         i += 1;
     }
