@@ -4,5 +4,6 @@ pub mod Steps
 pub mod Bounds
 pub mod Trying
 pub mod Walking
+pub mod Ending
 pub mod Paths
 pub mod Turns

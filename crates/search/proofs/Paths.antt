@@ -8,6 +8,7 @@ use mathlib.Core.List.{List, [], _∷_, _++_, append-nil, append-assoc}
 use lib.IntN.{ℤ}
 use lib.ListN.{length, getD, take}
 use lib.Seq.{length-take-le, take-take, take-at}
+use Rattle.logic.specs.Checked.{refusal}
 use Rattle.logic.specs.Formula.{sat}
 use Rattle.logic.specs.Model.{Step}
 use Rattle.logic.specs.Quantity.{weights, order}
@@ -16,6 +17,8 @@ use Rattle.logic.specs.Recursion.{greatest}
 use Rattle.logic.specs.Total.{one-if}
 use Rattle.blocks.specs.Bytes.{Bytes}
 use Rattle.models.specs.Layout.{state-count, action-count, outcome-of, entries, model-of}
+use Rattle.models.specs.Grounds.{read-model}
+use Rattle.models.specs.Used.{Used}
 use Rattle.models.proofs.Passed.{passed-all, passed-sized}
 use Rattle.models.proofs.Laws.{entries-small}
 use Rattle.evaluation.specs.Path.{step-of, steps-of, state-after}
@@ -25,10 +28,13 @@ use Rattle.evaluation.specs.Known.{Knows, Offered, Stepped}
 use Rattle.evaluation.proofs.Trails.{steps-append, state-append, state-inside}
 use Rattle.evaluation.proofs.Knowing.{knows-shorter}
 use Rattle.evaluation.proofs.Stepping.{leaf-value}
+use Rattle.last.specs.Masks.{Before-last, Ended}
+use Rattle.extension.specs.Choices.{room}
 use Rattle.search.specs.Greatest.{on-path, best-choices}
-use Rattle.search.specs.Buffers.{Wrote, Setting, Back, Picked}
+use Rattle.search.specs.Buffers.{Wrote, Setting, Back, Picked, Ends}
 use Rattle.search.specs.declared.Best.{Best}
 use Rattle.search.proofs.Stack.{wrote-none}
+use Rattle.search.proofs.Trying.{sizes-in, count-in}
 
 module _ (m q : Bytes) (start : ℕ) (cone : List ℕ) where
   pub on-path-bit : (t : List ℕ) (r : List Step) → on-path m q start cone t r ≤ 1
@@ -54,22 +60,19 @@ step-is m s a o h =
     let y : (4 * a + o) % 4 ≡ o = omega arith in
     ap₂ (outcome-of m s) x y
 
-module _ {m used q : Bytes} {depths truth cone : List ℕ} {start : ℕ} {trail : List ℕ} {gains : List ℤ} {v : List ℕ} {h s k : ℕ}
-    (S : Setting m used q depths truth cone start trail gains v h s k) where
+module _ {m used q : Bytes} {depths truth cone late : List ℕ} {rewards : List ℤ} {start : ℕ} {trail : List ℕ} {gains : List ℤ} {v : List ℕ} {h s k : ℕ}
+    (S : Setting m used q depths truth cone late rewards start trail gains v h s k) where
   pub state-here : s < state-count m
   state-here = subst (λ x. x < state-count m) (S .state) (state-inside m (S .ready .model-accepted) (S .knows .followed) (S .ready .state))
 
   pub sizes-here : (s < 32) × (action-count m ≤ 8)
-  sizes-here = let z = passed-sized m (passed-all m (S .ready .model-accepted)) in omega (arith, state-here, z .states, z .actions)
+  sizes-here = sizes-in m (S .ready .model-accepted) state-here
 
   pub few-here : (a : ℕ) → entries m s a ≤ 4
   few-here a = entries-small m (passed-sized m (passed-all m (S .ready .model-accepted))) s a
 
   pub count-here : (a n : ℕ) → a < 8 → n ≡ getD used (8 * s + a) 0 → n ≡ entries m s a
-  count-here a n h e =
-      let x : (8 * s + a) / 8 ≡ s = omega arith in
-      let y : (8 * s + a) % 8 ≡ a = omega arith in
-      e ∙ S .counted .count (8 * s + a) (omega (arith, sizes-here)) ∙ ap₂ (entries m) x y
+  count-here a n h e = count-in m (S .ready .model-accepted) state-here (S .counted) a n h e
 
   length-here : length (take h trail) ≡ h
   length-here = length-take-le h trail (omega (arith, S .few, S .roomy .steps))
@@ -82,11 +85,35 @@ module _ {m used q : Bytes} {depths truth cone : List ℕ} {start : ℕ} {trail 
       ∙ ap (λ p. one-if (sat (model-of m) (formula q (root-of cone)) start p)) (sym (append-nil (steps-of m start (take h trail))))
 
   pub picked-leaf : (least : Bool) (b : Best) (at : ℕ) (c : List ℕ) → k ≡ 0 → (b .value ≡ known v (root-of cone) 0) × (b .end ≡ at)
-      → Picked least m q start cone (take h trail) s k at c c b
+      → Picked least m (on-path m q start cone (take h trail)) s k at c c b
   unfolding greatest best-choices choices
   picked-leaf least b at c e g =
       let none : Wrote (best-choices least (model-of m) k s (on-path m q start cone (take h trail))) at c c at = rw e (wrote-none at c) in
       record { value = g .0 ∙ leaf-here e ∙ rw e refl; wrote = rw (g .1) none }
+
+  -- Where one step is left, the lanes have the values.
+  module _ (e : k ≡ 1) where
+    pub before-last : Before-last m q start depths truth cone late rewards trail gains v h s
+    before-last =
+        record {
+          ready = S .ready;
+          marked = S .marked;
+          rewarded = S .rewarded;
+          roomy = S .roomy;
+          knows = S .knows;
+          state = S .state;
+          deep = omega (arith, S .deep);
+          few = omega (arith, S .few);
+        }
+
+    pub last-asked : (at : ℕ) (c : List ℕ) → at + 3 * room k ≤ length c → (refusal (read-model m) ≡ 0) × Used m used × (s < state-count m) × (at + 3 ≤ length c)
+    unfolding room
+    last-asked at c r = let one : room k ≡ 1 = ap room e in (S .ready .model-accepted, S .counted, state-here, omega arith)
+
+    pub picked-last : {least : Bool} {x at : ℕ} {c c′ : List ℕ} {b : Best} → Ended m q start cone (take h trail) s x → Ends least m s x at c c′ b
+        → Picked least m (on-path m q start cone (take h trail)) s k at c c′ b
+    unfolding on-path
+    picked-last X E = rw e (E .picked (on-path m q start cone (take h trail)) X)
 
 -- The buffers after some searches below: as long as they were, with the trail back.
 pub record Kept (m q : Bytes) (start : ℕ) (cone : List ℕ) (h : ℕ) (trail : List ℕ) (gains : List ℤ) (v choices trail′ : List ℕ) (gains′ : List ℤ)
@@ -97,8 +124,8 @@ pub record Kept (m q : Bytes) (start : ℕ) (cone : List ℕ) (h : ℕ) (trail :
   pub places : length v′ ≡ length v
   pub room : length choices′ ≡ length choices
 
-module _ {m used q : Bytes} {depths truth cone : List ℕ} {start : ℕ} {trail : List ℕ} {gains : List ℤ} {v : List ℕ} {h s k : ℕ}
-    (S : Setting m used q depths truth cone start trail gains v h s k) where
+module _ {m used q : Bytes} {depths truth cone late : List ℕ} {rewards : List ℤ} {start : ℕ} {trail : List ℕ} {gains : List ℤ} {v : List ℕ} {h s k : ℕ}
+    (S : Setting m used q depths truth cone late rewards start trail gains v h s k) where
   pub back-none : Back m q start cone h trail trail gains v
   back-none = record { kept = refl; knows = S .knows }
 
@@ -106,12 +133,14 @@ module _ {m used q : Bytes} {depths truth cone : List ℕ} {start : ℕ} {trail 
   kept-none choices = record { back = back-none; steps = refl; sums = refl; places = refl; room = refl }
 
   pub setting-kept : {choices trail′ : List ℕ} {gains′ : List ℤ} {v′ choices′ : List ℕ} → Kept m q start cone h trail gains v choices trail′ gains′ v′ choices′
-      → Setting m used q depths truth cone start trail′ gains′ v′ h s k
+      → Setting m used q depths truth cone late rewards start trail′ gains′ v′ h s k
   setting-kept {gains′ = gains′} {v′} K =
       let B = K .back in
       record {
         ready = S .ready;
         counted = S .counted;
+        marked = S .marked;
+        rewarded = S .rewarded;
         roomy = record { steps = omega (arith, S .roomy .steps, K .steps); sums = omega (arith, S .roomy .sums, K .sums); places = omega (arith, S .roomy .places, K .places) };
         knows = subst (λ t. Knows m q start cone t gains′ v′) (sym (B .kept)) (B .knows);
         state = ap (state-after m start) (B .kept) ∙ S .state;
@@ -135,8 +164,8 @@ kept-kept {m} {q} {start} {cone = cone} {g2 = g2} {v2 = v2} K B et eg ev ec =
 
 -- ---- a step
 
-module _ {m used q : Bytes} {depths truth cone : List ℕ} {start : ℕ} {trail : List ℕ} {gains : List ℤ} {v : List ℕ} {h s : ℕ} (k : ℕ)
-    (S : Setting m used q depths truth cone start trail gains v h s (k + 1)) (a o : ℕ) (used-here : o < entries m s a) where
+module _ {m used q : Bytes} {depths truth cone late : List ℕ} {rewards : List ℤ} {start : ℕ} {trail : List ℕ} {gains : List ℤ} {v : List ℕ} {h s : ℕ} (k : ℕ)
+    (S : Setting m used q depths truth cone late rewards start trail gains v h s (k + 1)) (a o : ℕ) (used-here : o < entries m s a) where
   pub offered : Offered m start trail h s a o
   offered = record { steps = omega (arith, S .few); state = S .state; used = used-here }
 
@@ -148,12 +177,14 @@ module _ {m used q : Bytes} {depths truth cone : List ℕ} {start : ℕ} {trail 
     the-step = ap (λ x. step-of m x (4 * a + o)) (S .state) ∙ step-is m s a o outcome-few
 
     pub setting-on : length trail′ ≡ length trail → length gains′ ≡ length gains → length v′ ≡ length v
-        → Setting m used q depths truth cone start trail′ gains′ v′ (h + 1) t k
+        → Setting m used q depths truth cone late rewards start trail′ gains′ v′ (h + 1) t k
     unfolding state-after
     setting-on e1 e2 e3 =
         record {
           ready = S .ready;
           counted = S .counted;
+          marked = S .marked;
+          rewarded = S .rewarded;
           roomy = record { steps = omega (arith, S .roomy .steps); sums = omega (arith, S .roomy .sums); places = omega (arith, S .roomy .places) };
           knows = T .knows;
           state = ap (state-after m start) (T .longer) ∙ state-append m start (take h trail) ((4 * a + o) ∷ []) ∙ ap (λ x. x .target) the-step ∙ sym (T .state);
@@ -179,7 +210,7 @@ module _ {m used q : Bytes} {depths truth cone : List ℕ} {start : ℕ} {trail 
           ∙ on-path-more m q start cone (take h trail) (4 * a + o)
           ∙ ap₂ (λ t x r. on-path m q start cone t (x ∷ r)) e the-step
 
-      module _ {least : Bool} {at : ℕ} {before after : List ℕ} {b : Best} (P : Picked least m q start cone (take (h + 1) trail′) t k at before after b) where
+      module _ {least : Bool} {at : ℕ} {before after : List ℕ} {b : Best} (P : Picked least m (on-path m q start cone (take (h + 1) trail′)) t k at before after b) where
         pub picked-value : b .value ≡ greatest (weights (order least)) (model-of m) k ((outcome-of m s a o) .target) (λ r. on-path m q start cone t0 (outcome-of m s a o ∷ r))
         picked-value = P .value ∙ ap₂ (λ x f. greatest (weights (order least)) (model-of m) k x f) (T .state) same-value
 

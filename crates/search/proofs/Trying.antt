@@ -1,5 +1,5 @@
 -- The choices tried so far: with one more, the best is the better of the two, and it stands at the bottom of the stack.
-use Prim.Native.Nat.{ℕ, suc, _+_, _≤_, _<_, zero-le}
+use Prim.Native.Nat.{ℕ, suc, _+_, _*_, _/_, _%_, _≤_, _<_, zero-le}
 use native.Mathlib.Omega.{arith}
 use native.Mathlib.Numerals.{add-one}
 use native.Mathlib.Nat.{pos-of-ne-zero}
@@ -7,7 +7,7 @@ use mathlib.Core.Path.{_≡_, refl, sym, ap, ap₂, subst, _∙_}
 use mathlib.Core.Bool.{Bool, true, false, not, cond, _||_, false≢true}
 use mathlib.Core.List.{List, [], _∷_, _++_, append-nil}
 use lib.Dec.{ltb}
-use lib.ListN.{length, set}
+use lib.ListN.{length, getD, set}
 use borrow.Author.Tests.{lt-ltb, le-ltb}
 use Rattle.logic.specs.Lists.{keep, is-empty, count-from}
 use Rattle.logic.specs.Checked.{refusal}
@@ -18,10 +18,11 @@ use Rattle.logic.proofs.Tests.{keep-append, count-more}
 use Rattle.blocks.specs.Bytes.{Bytes}
 use Rattle.models.specs.Layout.{state-count, action-count, entries, model-of}
 use Rattle.models.specs.Grounds.{read-model}
-use Rattle.models.proofs.Passed.{passed-all}
+use Rattle.models.specs.Used.{Used}
+use Rattle.models.proofs.Passed.{passed-all, passed-sized}
 use Rattle.models.proofs.Held.{states-held, enabled-entries, accepted}
 use Rattle.extension.specs.Choices.{room}
-use Rattle.search.specs.Greatest.{on-path, best-choices}
+use Rattle.search.specs.Greatest.{best-choices}
 use Rattle.search.specs.Buffers.{Wrote, Keeps, wins, Picked, Walks}
 use Rattle.search.specs.declared.Best.{Best}
 use Rattle.search.specs.declared.Walked.{Walked}
@@ -138,10 +139,18 @@ module _ (m : Bytes) (s a : ℕ) where
       kept-more (λ a. ltb 0 (entries m s a)) a
       ∙ ap (λ t. enabled-below m s a ++ cond t (a ∷ []) []) (lt-ltb 0 (entries m s a) (omega (arith, pos-of-ne-zero z)))
 
-module _ (least : Bool) (m q : Bytes) (start : ℕ) (cone t : List ℕ) (s k : ℕ) where
-  abbrev f : List Step → ℕ
-  f = on-path m q start cone t
+-- The state and its actions are in the tables.
+module _ (m : Bytes) (passed : refusal (read-model m) ≡ 0) {s : ℕ} (here : s < state-count m) where
+  pub sizes-in : (s < 32) × (action-count m ≤ 8)
+  sizes-in = let z = passed-sized m (passed-all m passed) in omega (arith, here, z .states, z .actions)
 
+  pub count-in : {used : Bytes} → Used m used → (a n : ℕ) → a < 8 → n ≡ getD used (8 * s + a) 0 → n ≡ entries m s a
+  count-in U a n h e =
+      let x : (8 * s + a) / 8 ≡ s = omega arith in
+      let y : (8 * s + a) % 8 ≡ a = omega arith in
+      e ∙ U .count (8 * s + a) (omega (arith, sizes-in)) ∙ ap₂ (entries m) x y
+
+module _ (least : Bool) (m : Bytes) (f : List Step → ℕ) (s k : ℕ) where
   pub tried-start : (at : ℕ) (c : List ℕ) → Tried least (model-of m) k s f (enabled-below m s 0) at c c (record { found = false; value = 0; end = at })
   unfolding keep count-from
   tried-start at c = tried-none least (model-of m) k s f at c
@@ -152,7 +161,7 @@ module _ (least : Bool) (m q : Bytes) (start : ℕ) (cone t : List ℕ) (s k : �
   turn-skipped a at c0 c b e T = subst (λ l. Tried least (model-of m) k s f l at c0 c b) (sym (enabled-skip m s a e)) T
 
   module _ (a at : ℕ) (c0 c1 c2 : List ℕ) (b : Best) (w : Walked) (inside : at ≤ length c0) (room-here : b .end < length c1)
-      (T : Tried least (model-of m) k s f (enabled-below m s a) at c0 c1 b) (W : Walks least m q start cone t s a k (b .end + 1) (set c1 (b .end) a) c2 w) where
+      (T : Tried least (model-of m) k s f (enabled-below m s a) at c0 c1 b) (W : Walks least m f s a k (b .end + 1) (set c1 (b .end) a) c2 w) where
     -- The candidate stands behind the best.
     pub candidate : Wrote (plan-from least (model-of m) k s f a) (b .end) c1 c2 (w .end)
     candidate = wrote-both (wrote-choice a (b .end) c1 room-here) (W .wrote)
@@ -177,7 +186,7 @@ module _ (least : Bool) (m q : Bytes) (start : ℕ) (cone t : List ℕ) (s k : �
         go false = plan-few m passed least k s f _
 
     pub picked-all : s < state-count m → Tried least (model-of m) k s f (enabled-below m s (action-count m)) at c0 c b
-        → Picked least m q start cone t s (suc k) at c0 c b
+        → Picked least m f s (suc k) at c0 c b
     picked-all h T =
         let p = passed-all m passed in
         let e = enabled-entries m p s h in

@@ -9,17 +9,24 @@ use lib.IntN.{ℤ, pos}
 use lib.ListN.{length, getD, take, set, length-set}
 use Rattle.logic.specs.Checked.{refusal}
 use Rattle.logic.specs.Formula.{depth}
+use Rattle.logic.specs.Model.{Step}
 use Rattle.blocks.specs.Bytes.{Bytes}
-use Rattle.models.specs.Layout.{action-count, outcome-of, entries, model-of}
+use Rattle.models.specs.Layout.{state-count, action-count, prop-count, outcome-of, entries, model-of}
 use Rattle.models.specs.Grounds.{read-model}
 use Rattle.models.specs.Used.{Used}
+use Rattle.models.proofs.Passed.{passed-all, passed-sized}
+use Rattle.questions.specs.Layout.{node-count, formulas-of}
+use Rattle.questions.specs.Tables.{table}
+use Rattle.questions.proofs.Accepted.{accepted}
 use Rattle.extension.specs.Choices.{room}
 use Rattle.extension.proofs.Laws.{room-step, room-most}
 use Rattle.evaluation.specs.Path.{steps-of, state-after}
-use Rattle.evaluation.specs.Reached.{formula, root-of, Ready}
-use Rattle.evaluation.specs.Learnt.{known, learnt}
+use Rattle.evaluation.specs.Reached.{formula, root-of, Cone, Ready}
+use Rattle.evaluation.specs.Learnt.{learnt}
 use Rattle.evaluation.specs.Known.{Knows, Roomy, Offered, Stepped}
 use Rattle.evaluation.proofs.Stepping.{begun}
+use Rattle.lanes.specs.Lanes.{Rewards}
+use Rattle.last.specs.Late.{Late}
 use Rattle.search.specs.Greatest.{on-path, best-choices, Finds}
 use Rattle.search.specs.Buffers.{Setting, Back, Keeps, Picked, Walks}
 use Rattle.search.specs.declared.Best.{Best}
@@ -27,7 +34,7 @@ use Rattle.search.specs.declared.Walked.{Walked}
 use Rattle.search.proofs.Bounds.{choices-few}
 use Rattle.search.proofs.Trying.{Tried, enabled-below, tried-start, turn-skipped, tried-room, keeps-inside, turn-taken, picked-all}
 use Rattle.search.proofs.Walking.{Walking, walking-more, walking-room, sum-fits, walked-value, walked-wrote}
-use Rattle.search.proofs.Paths.{on-path-bit, state-here, picked-leaf, Kept, kept-none, setting-kept, kept-kept, offered, setting-on, back-on, picked-value, picked-wrote}
+use Rattle.search.proofs.Paths.{on-path-bit, state-here, Kept, kept-none, setting-kept, kept-kept, offered, setting-on, back-on, picked-value, picked-wrote}
 
 -- Where two ways meet: what holds of the one that was taken holds.
 pub same : (P : List ℕ → List ℤ → List ℕ → List ℕ → Best → Type 0) {t t′ : List ℕ} {g g′ : List ℤ} {v v′ c c′ : List ℕ} {b b′ : Best}
@@ -40,20 +47,8 @@ same P {t} {t′} {g} {g′} {v} {v′} {c} {c′} {b} et eg ev ec eb x =
 
 -- ---- an outcome walked
 
--- The best plan found below an outcome, and the buffers after the search for it.
-pub record Searched (least : Bool) (m q : Bytes) (start : ℕ) (cone : List ℕ) (h s k at : ℕ) (trail : List ℕ) (gains : List ℤ) (v choices trail′ : List ℕ)
-    (gains′ : List ℤ) (v′ choices′ : List ℕ) (b : Best) : Type 0 where
-  pub picked : Picked least m q start cone (take h trail) s k at choices choices′ b
-  pub kept : Kept m q start cone h trail gains v choices trail′ gains′ v′ choices′
-
-pub searched-leaf : {m used q : Bytes} {depths truth cone : List ℕ} {start : ℕ} {trail : List ℕ} {gains : List ℤ} {v : List ℕ} {h s k : ℕ}
-    → Setting m used q depths truth cone start trail gains v h s k → (least : Bool) (b : Best) (at : ℕ) (choices : List ℕ) → k ≡ 0
-    → (b .value ≡ known v (root-of cone) 0) × (b .end ≡ at)
-    → Searched least m q start cone h s k at trail gains v choices trail gains v choices b
-searched-leaf S least b at choices e g = record { picked = picked-leaf S least b at choices e g; kept = kept-none S choices }
-
-module _ {m used q : Bytes} {depths truth cone : List ℕ} {start : ℕ} {trail₀ : List ℕ} {gains₀ : List ℤ} {v₀ choices₀ : List ℕ} {h s : ℕ} (k : ℕ)
-    (S : Setting m used q depths truth cone start trail₀ gains₀ v₀ h s (k + 1)) {least : Bool} {a o at sum end : ℕ} {trail : List ℕ} {gains : List ℤ}
+module _ {m used q : Bytes} {depths truth cone late : List ℕ} {rewards : List ℤ} {start : ℕ} {trail₀ : List ℕ} {gains₀ : List ℤ} {v₀ choices₀ : List ℕ} {h s : ℕ} (k : ℕ)
+    (S : Setting m used q depths truth cone late rewards start trail₀ gains₀ v₀ h s (k + 1)) {least : Bool} {a o at sum end : ℕ} {trail : List ℕ} {gains : List ℤ}
     {v choices : List ℕ} (K : Kept m q start cone h trail₀ gains₀ v₀ choices₀ trail gains v choices)
     (W : Walking least m s a k (on-path m q start cone (take h trail₀)) o at choices₀ choices sum end) (here : o < entries m s a) where
   pub step-asked : Ready m q start depths truth cone × Roomy trail gains v × Offered m start trail h s a o × Knows m q start cone (take h trail) gains v
@@ -64,37 +59,35 @@ module _ {m used q : Bytes} {depths truth cone : List ℕ} {start : ℕ} {trail�
 
   module _ {trail′ : List ℕ} {gains′ : List ℤ} {v′ : List ℕ} {t : ℕ} (T : Stepped m q start cone h s a o trail trail′ gains′ v′ t) where
     pub pick-setting : length trail′ ≡ length trail → length gains′ ≡ length gains → length v′ ≡ length v
-        → Setting m used q depths truth cone start trail′ gains′ v′ (h + 1) t k
+        → Setting m used q depths truth cone late rewards start trail′ gains′ v′ (h + 1) t k
     pick-setting et eg ev = setting-on k (setting-kept S K) a o here T et eg ev
 
-    module _ {trail″ : List ℕ} {gains″ : List ℤ} {v″ choices″ : List ℕ} {b : Best}
-        (X : Searched least m q start cone (h + 1) t k end trail′ gains′ v′ choices trail″ gains″ v″ choices″ b) where
-      module _ (w : ℕ) (e : w ≡ (outcome-of m s a o) .weight) where
-        abbrev N : Setting m used q depths truth cone start trail gains v h s (k + 1)
-        N = setting-kept S K
+    module _ {choices″ : List ℕ} {b : Best} (P : Picked least m (on-path m q start cone (take (h + 1) trail′)) t k end choices choices″ b)
+        (w : ℕ) (e : w ≡ (outcome-of m s a o) .weight) where
+      abbrev N : Setting m used q depths truth cone late rewards start trail gains v h s (k + 1)
+      N = setting-kept S K
 
-        pub walk-fits : sum + w * b .value < 2 ^ 64
-        walk-fits =
-            sum-fits least m s a k (on-path m q start cone (take h trail₀)) (S .ready .model-accepted) (state-here S) (omega (arith, S .few)) (on-path-bit m q start cone (take h trail₀))
-            o here at end (b .end) sum (b .value) choices₀ choices choices″ W (picked-value k N a o here T (K .back .kept) (X .picked)) (picked-wrote k N a o here T (K .back .kept) (X .picked)) w e
+      pub walk-fits : sum + w * b .value < 2 ^ 64
+      walk-fits =
+          sum-fits least m s a k (on-path m q start cone (take h trail₀)) (S .ready .model-accepted) (state-here S) (omega (arith, S .few)) (on-path-bit m q start cone (take h trail₀))
+          o here at end (b .end) sum (b .value) choices₀ choices choices″ W (picked-value k N a o here T (K .back .kept) P) (picked-wrote k N a o here T (K .back .kept) P) w e
 
-        pub walk-more : {x : ℕ} → x ≡ sum + w * b .value → Walking least m s a k (on-path m q start cone (take h trail₀)) (o + 1) at choices₀ choices″ x (b .end)
-        walk-more g =
-            subst (λ x. Walking least m s a k (on-path m q start cone (take h trail₀)) (o + 1) at choices₀ choices″ x (b .end)) (sym g)
-            (walking-more least m s a k (on-path m q start cone (take h trail₀)) (S .ready .model-accepted) (state-here S) (omega (arith, S .few)) (on-path-bit m q start cone (take h trail₀))
-            o here at end (b .end) sum (b .value) choices₀ choices choices″ W (picked-value k N a o here T (K .back .kept) (X .picked)) (picked-wrote k N a o here T (K .back .kept) (X .picked)) w e)
+      pub walk-more : {x : ℕ} → x ≡ sum + w * b .value → Walking least m s a k (on-path m q start cone (take h trail₀)) (o + 1) at choices₀ choices″ x (b .end)
+      walk-more g =
+          subst (λ x. Walking least m s a k (on-path m q start cone (take h trail₀)) (o + 1) at choices₀ choices″ x (b .end)) (sym g)
+          (walking-more least m s a k (on-path m q start cone (take h trail₀)) (S .ready .model-accepted) (state-here S) (omega (arith, S .few)) (on-path-bit m q start cone (take h trail₀))
+          o here at end (b .end) sum (b .value) choices₀ choices choices″ W (picked-value k N a o here T (K .back .kept) P) (picked-wrote k N a o here T (K .back .kept) P) w e)
 
-      pub walk-kept : length trail′ ≡ length trail → length gains′ ≡ length gains → length v′ ≡ length v
-          → Kept m q start cone h trail₀ gains₀ v₀ choices₀ trail″ gains″ v″ choices″
-      walk-kept et eg ev =
-          let Y = X .kept in
-          kept-kept K (back-on k (setting-kept S K) a o here T (Y .back)) (Y .steps ∙ et) (Y .sums ∙ eg) (Y .places ∙ ev) (Y .room)
+    pub walk-kept : {trail″ : List ℕ} {gains″ : List ℤ} {v″ choices″ : List ℕ} → Back m q start cone (h + 1) trail′ trail″ gains″ v″
+        → length trail″ ≡ length trail → length gains″ ≡ length gains → length v″ ≡ length v → length choices″ ≡ length choices
+        → Kept m q start cone h trail₀ gains₀ v₀ choices₀ trail″ gains″ v″ choices″
+    walk-kept B et eg ev ec = kept-kept K (back-on k (setting-kept S K) a o here T B) et eg ev ec
 
 -- All outcomes are walked.
-pub walked-all : {m used q : Bytes} {depths truth cone : List ℕ} {start : ℕ} {trail : List ℕ} {gains : List ℤ} {v choices₀ choices : List ℕ} {h s j : ℕ}
-    → Setting m used q depths truth cone start trail gains v h s j → {least : Bool} {a o at sum end k : ℕ}
+pub walked-all : {m used q : Bytes} {depths truth cone late : List ℕ} {rewards : List ℤ} {start : ℕ} {trail : List ℕ} {gains : List ℤ} {v choices₀ choices : List ℕ} {h s j : ℕ}
+    → Setting m used q depths truth cone late rewards start trail gains v h s j → {least : Bool} {a o at sum end k : ℕ}
     → Walking least m s a k (on-path m q start cone (take h trail)) o at choices₀ choices sum end → o ≡ entries m s a
-    → Walks least m q start cone (take h trail) s a k at choices₀ choices (record { value = sum; end = end })
+    → Walks least m (on-path m q start cone (take h trail)) s a k at choices₀ choices (record { value = sum; end = end })
 walked-all {m} {q = q} {cone = cone} {start} {trail} {choices₀ = choices₀} {choices} {h} {s} S {least} {a} {o} {at} {sum} {end} {k} W e =
     let f = on-path m q start cone (take h trail) in
     let p = S .ready .model-accepted in
@@ -111,17 +104,17 @@ pub record Turned (least : Bool) (m q : Bytes) (start : ℕ) (cone : List ℕ) (
   pub tried : Tried least (model-of m) (k - 1) s (on-path m q start cone (take h trail₀)) (enabled-below m s a) at choices₀ choices b
   pub kept : Kept m q start cone h trail₀ gains₀ v₀ choices₀ trail gains v choices
 
-module _ {m used q : Bytes} {depths truth cone : List ℕ} {start : ℕ} {trail₀ : List ℕ} {gains₀ : List ℤ} {v₀ : List ℕ} {h s k : ℕ}
-    (S : Setting m used q depths truth cone start trail₀ gains₀ v₀ h s k) where
+module _ {m used q : Bytes} {depths truth cone late : List ℕ} {rewards : List ℤ} {start : ℕ} {trail₀ : List ℕ} {gains₀ : List ℤ} {v₀ : List ℕ} {h s k : ℕ}
+    (S : Setting m used q depths truth cone late rewards start trail₀ gains₀ v₀ h s k) where
   pub turned-none : {least : Bool} (at : ℕ) (choices : List ℕ)
       → Turned least m q start cone h s k at trail₀ gains₀ v₀ choices 0 trail₀ gains₀ v₀ choices (record { found = false; value = 0; end = at })
-  turned-none {least} at choices = record { tried = tried-start least m q start cone (take h trail₀) s (k - 1) at choices; kept = kept-none S choices }
+  turned-none {least} at choices = record { tried = tried-start least m (on-path m q start cone (take h trail₀)) s (k - 1) at choices; kept = kept-none S choices }
 
-module _ {m used q : Bytes} {depths truth cone : List ℕ} {start : ℕ} {trail₀ : List ℕ} {gains₀ : List ℤ} {v₀ choices₀ : List ℕ} {h s k : ℕ}
-    (S : Setting m used q depths truth cone start trail₀ gains₀ v₀ h s k) (some : k ≡ 0 → ⊥) {least : Bool} {a at : ℕ} {trail : List ℕ} {gains : List ℤ}
+module _ {m used q : Bytes} {depths truth cone late : List ℕ} {rewards : List ℤ} {start : ℕ} {trail₀ : List ℕ} {gains₀ : List ℤ} {v₀ choices₀ : List ℕ} {h s k : ℕ}
+    (S : Setting m used q depths truth cone late rewards start trail₀ gains₀ v₀ h s k) (some : k ≡ 0 → ⊥) {least : Bool} {a at : ℕ} {trail : List ℕ} {gains : List ℤ}
     {v choices : List ℕ} {b : Best} (U : Turned least m q start cone h s k at trail₀ gains₀ v₀ choices₀ a trail gains v choices b) where
-  abbrev t₀ : List ℕ
-  t₀ = take h trail₀
+  abbrev f : List Step → ℕ
+  f = on-path m q start cone (take h trail₀)
 
   one-less : suc (k - 1) ≡ k
   one-less = omega (arith, pos-of-ne-zero some)
@@ -129,31 +122,31 @@ module _ {m used q : Bytes} {depths truth cone : List ℕ} {start : ℕ} {trail�
   -- There is room for a choice, and for the search below it.
   pub walk-room : at + 3 * room k ≤ length choices₀ → (b .end < length choices) × (b .end + 1 + 6 * room (k - 1) ≤ length choices)
   walk-room r =
-      let n = tried-room least m q start cone t₀ s (k - 1) (S .ready .model-accepted) at choices₀ choices b (enabled-below m s a) (U .tried) in
+      let n = tried-room least m f s (k - 1) (S .ready .model-accepted) at choices₀ choices b (enabled-below m s a) (U .tried) in
       let e : room (suc (k - 1)) ≡ room k = ap room one-less in
       let z = room-step k some in
       (omega (arith, U .kept .room), omega (arith, U .kept .room))
 
-  pub walk-setting : Setting m used q depths truth cone start trail gains v h s (k - 1 + 1)
+  pub walk-setting : Setting m used q depths truth cone late rewards start trail gains v h s (k - 1 + 1)
   walk-setting = let e : k - 1 + 1 ≡ k = omega (arith, one-less) in rw e (setting-kept S (U .kept))
 
   -- All are tried.
-  pub turned-all : a ≡ action-count m → Picked least m q start cone t₀ s k at choices₀ choices b
+  pub turned-all : a ≡ action-count m → Picked least m f s k at choices₀ choices b
   turned-all e =
-      subst (λ j. Picked least m q start cone t₀ s j at choices₀ choices b) one-less
-      (picked-all least m q start cone t₀ s (k - 1) (S .ready .model-accepted) at choices₀ choices b (state-here S)
-      (subst (λ n. Tried least (model-of m) (k - 1) s (on-path m q start cone t₀) (enabled-below m s n) at choices₀ choices b) e (U .tried)))
+      subst (λ j. Picked least m f s j at choices₀ choices b) one-less
+      (picked-all least m f s (k - 1) (S .ready .model-accepted) at choices₀ choices b (state-here S)
+      (subst (λ n. Tried least (model-of m) (k - 1) s f (enabled-below m s n) at choices₀ choices b) e (U .tried)))
 
   pub turned-skipped : entries m s a ≡ 0 → Turned least m q start cone h s k at trail₀ gains₀ v₀ choices₀ (a + 1) trail gains v choices b
-  turned-skipped z = record { tried = turn-skipped least m q start cone t₀ s (k - 1) a at choices₀ choices b z (U .tried); kept = U .kept }
+  turned-skipped z = record { tried = turn-skipped least m f s (k - 1) a at choices₀ choices b z (U .tried); kept = U .kept }
 
   module _ (fits : at + 3 * room k ≤ length choices₀) {choices′ : List ℕ} {w : Walked}
-      (W : Walks least m q start cone (take h trail) s a (k - 1) (b .end + 1) (set choices (b .end) a) choices′ w) where
-    walks-here : Walks least m q start cone t₀ s a (k - 1) (b .end + 1) (set choices (b .end) a) choices′ w
-    walks-here = subst (λ t. Walks least m q start cone t s a (k - 1) (b .end + 1) (set choices (b .end) a) choices′ w) (U .kept .back .kept) W
+      (W : Walks least m (on-path m q start cone (take h trail)) s a (k - 1) (b .end + 1) (set choices (b .end) a) choices′ w) where
+    walks-here : Walks least m f s a (k - 1) (b .end + 1) (set choices (b .end) a) choices′ w
+    walks-here = subst (λ t. Walks least m (on-path m q start cone t) s a (k - 1) (b .end + 1) (set choices (b .end) a) choices′ w) (U .kept .back .kept) W
 
     pub keep-asked : (at ≤ b .end) × (b .end ≤ w .end) × (w .end ≤ length choices′)
-    keep-asked = keeps-inside least m q start cone t₀ s (k - 1) a at choices₀ choices choices′ b w (omega arith) (walk-room fits .0) (U .tried) walks-here
+    keep-asked = keeps-inside least m f s (k - 1) a at choices₀ choices choices′ b w (omega arith) (walk-room fits .0) (U .tried) walks-here
 
     pub turned-taken : {trail′ : List ℕ} {gains′ : List ℤ} {v′ choices″ : List ℕ} {r : Best} → (entries m s a ≡ 0 → ⊥) → Back m q start cone h trail trail′ gains′ v′
         → Keeps b w at least choices′ choices″ r
@@ -161,21 +154,31 @@ module _ {m used q : Bytes} {depths truth cone : List ℕ} {start : ℕ} {trail�
         → Turned least m q start cone h s k at trail₀ gains₀ v₀ choices₀ (a + 1) trail′ gains′ v′ choices″ r
     turned-taken {choices″ = choices″} {r} z B J et eg ev ec =
         record {
-          tried = turn-taken least m q start cone t₀ s (k - 1) a at choices₀ choices choices′ b w (omega arith) (walk-room fits .0) (U .tried) walks-here choices″ r z J;
+          tried = turn-taken least m f s (k - 1) a at choices₀ choices choices′ b w (omega arith) (walk-room fits .0) (U .tried) walks-here choices″ r z J;
           kept = kept-kept (U .kept) B et eg ev (ec ∙ length-set choices (b .end) a);
         }
 
 -- ---- from the start
 
-pub setting-start : {m used q : Bytes} {depths truth cone : List ℕ} {start d : ℕ} {trail : List ℕ} {gains : List ℤ} {v v′ : List ℕ}
-    → Ready m q start depths truth cone → Used m used → d ≡ depth (formula q (root-of cone)) → d ≤ 6 → Roomy trail gains v → length v′ ≡ length v
+-- What the tables of the last step ask.
+module _ {m q : Bytes} {start : ℕ} {depths truth cone : List ℕ} (R : Ready m q start depths truth cone) where
+  pub late-asked : Cone q cone × (depths ≡ table depth (formulas-of q)) × (node-count q ≤ 40)
+  late-asked = (R .ordered, R .depths-right, (accepted (state-count m) (action-count m) (prop-count m) q (R .question-accepted)) .few-nodes)
+
+  pub rewards-asked : state-count m ≤ 32
+  rewards-asked = (passed-sized m (passed-all m (R .model-accepted))) .states
+
+pub setting-start : {m used q : Bytes} {depths truth cone late : List ℕ} {rewards : List ℤ} {start d : ℕ} {trail : List ℕ} {gains : List ℤ} {v v′ : List ℕ}
+    → Ready m q start depths truth cone → Used m used → Late q cone late → Rewards m rewards → d ≡ depth (formula q (root-of cone)) → d ≤ 6 → Roomy trail gains v → length v′ ≡ length v
     → getD gains 0 (pos 0) ≡ pos 0 → v′ ≡ learnt q depths truth trail gains 0 start cone v
-    → Setting m used q depths truth cone start trail gains v′ 0 start d
+    → Setting m used q depths truth cone late rewards start trail gains v′ 0 start d
 unfolding state-after
-setting-start {trail = trail} {gains} {v} {v′} R U e h F l g k =
+setting-start {trail = trail} {gains} {v} {v′} R U L G e h F l g k =
     record {
       ready = R;
       counted = U;
+      marked = L;
+      rewarded = G;
       roomy = record { steps = F .steps; sums = F .sums; places = omega (arith, F .places) };
       knows = begun R trail gains v v′ g (F .places) k;
       state = refl;
@@ -184,7 +187,7 @@ setting-start {trail = trail} {gains} {v} {v′} R U e h F l g k =
     }
 
 pub found : {m q : Bytes} {start d : ℕ} {cone before after : List ℕ} {least : Bool} {b : Best} → refusal (read-model m) ≡ 0 → d ≤ 6
-    → Picked least m q start cone [] start d 0 before after b → Finds least m q start cone d after (record { value = b .value; count = b .end })
+    → Picked least m (on-path m q start cone []) start d 0 before after b → Finds least m q start cone d after (record { value = b .value; count = b .end })
 unfolding on-path steps-of best-choices
 found {m} {q} {start} {d} {cone} {least = least} passed h P =
     record {

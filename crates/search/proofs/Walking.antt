@@ -32,7 +32,7 @@ module _ (least : Bool) (M : Model) (k : ℕ) (f : List Step → ℕ) (l : List 
   abbrev on : List Step → ℕ
   on r = f (o ∷ r)
 
-  worth-more : worth least M k f (l ++ (o ∷ [])) ≡ worth least M k f l + o .weight * greatest (weights (order least)) M k (o .target) on
+  pub worth-more : worth least M k f (l ++ (o ∷ [])) ≡ worth least M k f l + o .weight * greatest (weights (order least)) M k (o .target) on
   unfolding worth sum
   worth-more =
       sum-append (weights (order least)) (additive (order least)) (λ o. o .weight * greatest (weights (order least)) M k (o .target) (λ r. f (o ∷ r))) l (o ∷ [])

@@ -3,20 +3,22 @@
 use Prim.Native.Nat.{ℕ, _+_, _-_, _≤_}
 use mathlib.Core.Path.{_≡_}
 use mathlib.Core.Bool.{Bool, true, false, not, _||_}
-use mathlib.Core.List.{List, _++_}
+use mathlib.Core.List.{List, [], _∷_, _++_}
 use lib.IntN.{ℤ}
 use lib.ListN.{length, take, drop}
 use Rattle.logic.specs.Formula.{depth}
-use Rattle.logic.specs.Model.{outcomes}
+use Rattle.logic.specs.Model.{Step, outcomes}
 use Rattle.logic.specs.Quantity.{weights, order}
 use Rattle.logic.specs.Recursion.{greatest}
 use Rattle.blocks.specs.Bytes.{Bytes}
-use Rattle.models.specs.Layout.{model-of}
+use Rattle.models.specs.Layout.{outcome-of, model-of}
 use Rattle.models.specs.Used.{Used}
 use Rattle.evaluation.specs.Path.{state-after}
 use Rattle.evaluation.specs.Reached.{formula, root-of, Ready}
 use Rattle.evaluation.specs.Known.{Knows, Roomy}
-use Rattle.search.specs.Greatest.{on-path, worth, below, best-choices}
+use Rattle.lanes.specs.Lanes.{Laned, Rewards}
+use Rattle.last.specs.Late.{Late}
+use Rattle.search.specs.Greatest.{worth, below, best-choices}
 use Rattle.search.specs.declared.Best.{Best}
 use Rattle.search.specs.declared.Walked.{Walked}
 
@@ -37,13 +39,16 @@ pub record Keeps (b : Best) (w : Walked) (at : ℕ) (least : Bool) (before after
   pub left : wins b (w .value) least ≡ false → (r ≡ b) × (after ≡ before)
 
 -- A search of k steps goes on in the state s, where the first h bytes of the trail lead.
-pub record Setting (m used q : Bytes) (depths truth cone : List ℕ) (start : ℕ) (trail : List ℕ) (gains : List ℤ) (v : List ℕ) (h s k : ℕ) : Type 0 where
+pub record Setting (m used q : Bytes) (depths truth cone late : List ℕ) (rewards : List ℤ) (start : ℕ) (trail : List ℕ) (gains : List ℤ) (v : List ℕ)
+    (h s k : ℕ) : Type 0 where
   pub ready : Ready m q start depths truth cone
   pub counted : Used m used
+  pub marked : Late q cone late
+  pub rewarded : Rewards m rewards
   pub roomy : Roomy trail gains v
   pub knows : Knows m q start cone (take h trail) gains v
   pub state : state-after m start (take h trail) ≡ s
-  pub deep : depth (formula q (root-of cone)) ≤ h + k
+  pub deep : depth (formula q (root-of cone)) ≡ h + k
   pub few : h + k ≤ 6
 
 -- The trail is as it was up to h, and all is known on it that was.
@@ -51,12 +56,16 @@ pub record Back (m q : Bytes) (start : ℕ) (cone : List ℕ) (h : ℕ) (trail t
   pub kept : take h trail′ ≡ take h trail
   pub knows : Knows m q start cone (take h trail) gains′ v′
 
--- The best plan of k steps from s after the trail t, its choices written from `at` on.
-pub record Picked (least : Bool) (m q : Bytes) (start : ℕ) (cone t : List ℕ) (s k at : ℕ) (before after : List ℕ) (b : Best) : Type 0 where
-  pub value : b .value ≡ greatest (weights (order least)) (model-of m) k s (on-path m q start cone t)
-  pub wrote : Wrote (best-choices least (model-of m) k s (on-path m q start cone t)) at before after (b .end)
+-- The best plan of k steps from s, where f is the value of its steps, its choices written from `at` on.
+pub record Picked (least : Bool) (m : Bytes) (f : List Step → ℕ) (s k at : ℕ) (before after : List ℕ) (b : Best) : Type 0 where
+  pub value : b .value ≡ greatest (weights (order least)) (model-of m) k s f
+  pub wrote : Wrote (best-choices least (model-of m) k s f) at before after (b .end)
 
 -- The best plans of k steps below the outcomes of the choice a.
-pub record Walks (least : Bool) (m q : Bytes) (start : ℕ) (cone t : List ℕ) (s a k at : ℕ) (before after : List ℕ) (w : Walked) : Type 0 where
-  pub value : w .value ≡ worth least (model-of m) k (on-path m q start cone t) (outcomes (model-of m) s a)
-  pub wrote : Wrote (below least (model-of m) k (on-path m q start cone t) (outcomes (model-of m) s a)) at before after (w .end)
+pub record Walks (least : Bool) (m : Bytes) (f : List Step → ℕ) (s a k at : ℕ) (before after : List ℕ) (w : Walked) : Type 0 where
+  pub value : w .value ≡ worth least (model-of m) k f (outcomes (model-of m) s a)
+  pub wrote : Wrote (below least (model-of m) k f (outcomes (model-of m) s a)) at before after (w .end)
+
+-- The best plan of the last step from s, for any value of that step that x has in its lanes.
+pub record Ends (least : Bool) (m : Bytes) (s x at : ℕ) (before after : List ℕ) (b : Best) : Type 0 where
+  pub picked : (f : List Step → ℕ) → Laned m s (λ a o. f (outcome-of m s a o ∷ [])) x → Picked least m f s 1 at before after b

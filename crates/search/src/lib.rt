@@ -1,22 +1,30 @@
-// The search for the plan of greatest or of least weight: one pass over the tree of paths, which meets each path once.
+// The search for the plan of greatest or of least weight: one pass over the tree of paths, which meets each path once. The last step of the
+// paths through a state is taken for all its outcomes at once.
 ghost use mathlib.Core.Path.{_≡_};
 ghost use mathlib.Core.Bool.{not};
 ghost use mathlib.Core.List.{_++_};
 ghost use Prim.Native.Nat.{_+_, _*_, _<_, _≤_, _^_};
 ghost use lib.ListN.{length, take, drop, getD};
+ghost use Rattle.logic.specs.Checked.{refusal};
 ghost use Rattle.logic.specs.Formula.{depth};
 ghost use Rattle.logic.specs.Quantity.{order};
+ghost use Rattle.models.specs.Grounds.{read-model};
+ghost use Rattle.models.specs.Layout.{state-count};
 ghost use Rattle.models.specs.Used.{Used};
 ghost use Rattle.extension.specs.Choices.{room};
 ghost use Rattle.evaluation.specs.Learnt as learnt;
 ghost use Rattle.evaluation.specs.Reached.{formula, root-of, Ready};
-ghost use Rattle.search.specs.Greatest.{Finds};
-ghost use Rattle.search.specs.Buffers.{Keeps, Setting, Back, Picked, Walks};
+ghost use Rattle.search.specs.Greatest.{on-path, Finds};
+ghost use Rattle.search.specs.Buffers.{Keeps, Setting, Back, Picked, Walks, Ends};
 ghost use Rattle.search.specs.Buffers as spec;
 use blocks::byte;
 use evaluation::known;
 use evaluation::learn;
 use evaluation::step;
+use lanes::rewards;
+use lanes::total;
+use last::late;
+use last::masks::mask;
 use models::weight;
 
 // What was found: the best plan's total, and the number of its choices.
@@ -125,6 +133,41 @@ fn leaf(cone: &[u8], v: &[u8], at: usize) -> Best
     }
 }
 
+// Tries the actions of a state from which one step is left: x has, in the lane of each outcome, the condition's value on its path.
+fn last_choice(
+    m: &[u8],
+    used: &[u8; 264],
+    choices: &mut [u8],
+    x: u32,
+    s: u8,
+    at: usize,
+    least: bool,
+) -> Best
+    requires { ⌜ (refusal (read-model (now m)) ≡ 0) × Used (now m) (now used) × (s < state-count (now m)) × (at + 3 ≤ length (now choices)) ⌝ }
+    ensures { λ r. ⌜ Ends least (now (m .entry)) s x at (now (choices .entry)) (now (choices .exit)) r ⌝ }
+{
+    let n = byte(m, 3);
+    let mut best = Best {
+        found: false,
+        value: 0,
+        end: at,
+    };
+    let mut a: u8 = 0;
+    while a < n {
+        if count(used, s, a) != 0 {
+            let from = best.end;
+            choices[from] = a;
+            let w = Walked {
+                value: total(m, x, s, a),
+                end: from + 1,
+            };
+            best = keep(choices, best, w, at, least);
+        }
+        a += 1;
+    }
+    best
+}
+
 // Picks the best choice in the state s, with k steps left, and writes its plan's choices from `at` on.
 fn pick(
     m: &[u8],
@@ -133,6 +176,8 @@ fn pick(
     depths: &[u32],
     truth: &[u8],
     cone: &[u8],
+    late: &[u8; 40],
+    rewards: &[i32; 1024],
     trail: &mut [u8],
     gains: &mut [i32],
     v: &mut [u8],
@@ -144,13 +189,31 @@ fn pick(
     at: usize,
     least: bool,
 ) -> Best
-    requires { ⌜ Setting (now m) (now used) (now q) (now depths) (now truth) (now cone) start (now trail) (now gains) (now v) h s k ⌝ }
+    requires { ⌜ Setting (now m) (now used) (now q) (now depths) (now truth) (now cone) (now late) (now rewards) start (now trail) (now gains) (now v) h s k ⌝ }
     requires { ⌜ at + 3 * room k ≤ length (now choices) ⌝ }
-    ensures { λ r. ⌜ Picked least (now (m .entry)) (now (q .entry)) start (now (cone .entry)) (take h (now (trail .entry))) s k at (now (choices .entry)) (now (choices .exit)) r ⌝ }
+    ensures { λ r. ⌜ Picked least (now (m .entry)) (on-path (now (m .entry)) (now (q .entry)) start (now (cone .entry)) (take h (now (trail .entry)))) s k at (now (choices .entry)) (now (choices .exit)) r ⌝ }
     ensures { λ r. ⌜ Back (now (m .entry)) (now (q .entry)) start (now (cone .entry)) h (now (trail .entry)) (now (trail .exit)) (now (gains .exit)) (now (v .exit)) ⌝ }
 {
     if k == 0 {
         return leaf(cone, v, at);
+    }
+    if k == 1 {
+        let x = mask(
+            m,
+            q,
+            depths,
+            truth,
+            cone,
+            late,
+            rewards,
+            trail,
+            gains,
+            v,
+            start,
+            h,
+            s,
+        );
+        return last_choice(m, used, choices, x, s, at, least);
     }
     let n = byte(m, 3);
     let mut best = Best {
@@ -170,6 +233,8 @@ fn pick(
                 depths,
                 truth,
                 cone,
+                late,
+                rewards,
                 trail,
                 gains,
                 v,
@@ -197,6 +262,8 @@ fn walk(
     depths: &[u32],
     truth: &[u8],
     cone: &[u8],
+    late: &[u8; 40],
+    rewards: &[i32; 1024],
     trail: &mut [u8],
     gains: &mut [i32],
     v: &mut [u8],
@@ -209,9 +276,9 @@ fn walk(
     at: usize,
     least: bool,
 ) -> Walked
-    requires { ⌜ Setting (now m) (now used) (now q) (now depths) (now truth) (now cone) start (now trail) (now gains) (now v) h s (k + 1) ⌝ }
-    requires { ⌜ (a < 8) × (at + 6 * room k ≤ length (now choices)) ⌝ }
-    ensures { λ r. ⌜ Walks least (now (m .entry)) (now (q .entry)) start (now (cone .entry)) (take h (now (trail .entry))) s a k at (now (choices .entry)) (now (choices .exit)) r ⌝ }
+    requires { ⌜ Setting (now m) (now used) (now q) (now depths) (now truth) (now cone) (now late) (now rewards) start (now trail) (now gains) (now v) h s (k + 1) ⌝ }
+    requires { ⌜ (a < 8) × (1 ≤ k) × (at + 6 * room k ≤ length (now choices)) ⌝ }
+    ensures { λ r. ⌜ Walks least (now (m .entry)) (on-path (now (m .entry)) (now (q .entry)) start (now (cone .entry)) (take h (now (trail .entry)))) s a k at (now (choices .entry)) (now (choices .exit)) r ⌝ }
     ensures { λ r. ⌜ Back (now (m .entry)) (now (q .entry)) start (now (cone .entry)) h (now (trail .entry)) (now (trail .exit)) (now (gains .exit)) (now (v .exit)) ⌝ }
 {
     let n = count(used, s, a);
@@ -234,28 +301,26 @@ fn walk(
             a,
             o,
         );
-        let b = if k == 0 {
-            leaf(cone, v, end)
-        } else {
-            pick(
-                m,
-                used,
-                q,
-                depths,
-                truth,
-                cone,
-                trail,
-                gains,
-                v,
-                choices,
-                start,
-                h + 1,
-                t,
-                k,
-                end,
-                least,
-            )
-        };
+        let b = pick(
+            m,
+            used,
+            q,
+            depths,
+            truth,
+            cone,
+            late,
+            rewards,
+            trail,
+            gains,
+            v,
+            choices,
+            start,
+            h + 1,
+            t,
+            k,
+            end,
+            least,
+        );
         sum = add_mul(sum, weight(m, s as usize, a as usize, o as usize), b.value);
         end = b.end;
         o += 1;
@@ -283,6 +348,8 @@ pub fn find(
     requires { ⌜ (d ≡ depth (formula (now q) (root-of (now cone)))) × (d ≤ 6) × (4095 ≤ length (now choices)) ⌝ }
     ensures { λ r. ⌜ Finds least (now (m .entry)) (now (q .entry)) start (now (cone .entry)) d (now (choices .exit)) r ⌝ }
 {
+    let marks = late(q, depths, cone);
+    let table = rewards(m);
     let mut trail = [0u8; 6];
     let mut gains = [0i32; 7];
     let mut v = [0u8; 280];
@@ -294,6 +361,8 @@ pub fn find(
         depths,
         truth,
         cone,
+        &marks,
+        &table,
         &mut trail,
         &mut gains,
         &mut v,
