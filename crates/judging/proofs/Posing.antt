@@ -34,7 +34,7 @@ use Rattle.equal.specs.Totals.{totals}
 use Rattle.equal.specs.Listing as listing
 use Rattle.tables.specs.Need.{Given}
 use Rattle.tables.proofs.Marks.{given-question}
-use Rattle.tables.proofs.Cones.{depth-in}
+use Rattle.evaluation.proofs.Knowing.{depth-in}
 use Rattle.judging.specs.Asked.{Asked}
 use Rattle.judging.specs.Truth.{Told}
 use Rattle.judging.specs.declared.plans.Decision.{Decision}
