@@ -9,17 +9,16 @@ use mathlib.Core.List.{List, []}
 use Rattle.logic.specs.Checked.{Checked, ok, refused}
 use Rattle.logic.specs.Model.{Model}
 use Rattle.logic.specs.Plan.{Plan}
-use Rattle.logic.specs.Quantity.{Relation}
 use Rattle.logic.specs.Formula.{Formula, never, prop, neg, both, does, next, gain, plan, sat}
-use Rattle.logic.specs.Verdict.{Goal, plan-goal, goal, Verdict, no, yes, yes-plan, shown, announced, verdict}
+use Rattle.logic.specs.Verdict.{Goal, plan-goal, goal, Verdict, no, yes, shown, announced, verdict}
 use Rattle.logic.specs.Limits.{limits}
 use Rattle.logic.proofs.Tests.{not-true, none≢some}
 use Rattle.logic.proofs.Shown.{sat-shown}
 use Rattle.questions.specs.Layout.{Question}
-use Rattle.calls.specs.Calls.{Call, judge, Held, Answer, judged, refuse, replied, yields, do-judge}
+use Rattle.calls.specs.Calls.{Call, judge, Held, Answer, judged, replied, yields, do-judge}
 use Rattle.calls.specs.History.{after}
 use Rattle.calls.specs.Demand3.{Session}
-use Rattle.calls.specs.Demand2.{says-yes, Judged, judge-answer, Demand-2-always}
+use Rattle.calls.specs.Demand2.{says-yes, judge-answer, Demand-2-always}
 
 -- ---- the verdict says yes exactly where the formula is true
 

@@ -18,7 +18,7 @@ use Rattle.logic.specs.Checked.{Checked, ok, refused, _>>=_, _>>_, held, guard,
 use Rattle.logic.specs.Model.{Model}
 use Rattle.logic.specs.Plan.{Plan, plans, choices}
 use Rattle.logic.specs.Formula.{plan, sat, W, nonnegative}
-use Rattle.logic.specs.Verdict.{Goal, goal, plan-goal, Verdict, no, yes, yes-plan, shown, announced, verdict-by, verdict}
+use Rattle.logic.specs.Verdict.{Goal, goal, plan-goal, Verdict, no, yes-plan, shown, announced, verdict-by, verdict}
 use Rattle.logic.specs.Limits.{limits}
 use Rattle.logic.specs.Choices.{plan-of}
 use Rattle.logic.proofs.Tests.{T→true, true→T, and-left, and-right}

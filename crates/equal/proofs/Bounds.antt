@@ -1,15 +1,14 @@
 -- How large totals are: those of conditions, which are 0 or 1 on each path, are at most the denominator to the number of steps; where
 -- the condition is decided already, all are alike.
-use Prim.Native.Nat.{ℕ, zero, suc, _+_, _*_, _^_, _≤_, _<_}
-use native.Mathlib.Nat.{add-le-add, mul-le-mul-left, mul-one, mul-comm, le-refl, le-trans, suc-mul, pow-suc}
-use native.Mathlib.Numerals.{add-one}
+use Prim.Native.Nat.{ℕ, _+_, _*_, _^_, _≤_, _<_}
+use native.Mathlib.Nat.{add-le-add, mul-le-mul-left, mul-one, mul-comm, le-refl, le-trans, suc-mul}
 use native.Mathlib.Omega.{arith}
-use mathlib.Core.Path.{_≡_, refl, sym, ap, ap₂, subst, _∙_, fun-ext}
-use mathlib.Core.List.{List, [], _∷_, _++_, map, flatMap, List·Memᴰ, List·Memᴰ·head, List·Memᴰ·tail, List·Memᴰ·eq-of-singleton}
+use mathlib.Core.Path.{_≡_, refl, sym, ap, ap₂, _∙_}
+use mathlib.Core.List.{List, [], _∷_, map, List·Memᴰ, List·Memᴰ·head, List·Memᴰ·tail, List·Memᴰ·eq-of-singleton}
 use lib.ListN.{length, replicate}
 use Rattle.logic.specs.Model.{Model, Step}
 use Rattle.logic.specs.Quantity.{naturals, sum}
-use Rattle.logic.specs.Plan.{Plan, plans, paths, weight}
+use Rattle.logic.specs.Plan.{plans, paths, weight}
 use Rattle.logic.specs.Limits.{plan-total}
 use Rattle.logic.specs.Accepted.{Accepted}
 use Rattle.logic.specs.Total.{total}

@@ -1,23 +1,23 @@
 -- One turn of combining the lists of an action's outcomes: the list of a further outcome is made behind the product, and joined on.
-use Prim.Native.Nat.{ℕ, zero, suc, _+_, _-_, _*_, _^_, _≤_, _<_, min, max}
+use Prim.Native.Nat.{ℕ, suc, _+_, _-_, _*_, _^_, _≤_, _<_, min, max}
 use native.Mathlib.Nat.{le-mul-of-pos-right, mul-comm, zero-add}
 use native.Mathlib.Omega.{arith}
 use mathlib.Core.Path.{_≡_, refl, sym, ap, ap₂, subst, _∙_, fun-ext}
-use mathlib.Core.Logic.{_⊎_, inl, inr, ⊎-elim}
+use mathlib.Core.Logic.{_⊎_, ⊎-elim}
 use mathlib.Core.Bool.{Bool, true, false}
-use mathlib.Core.List.{List, [], _∷_, _++_, map, List·Memᴰ}
-use lib.ListN.{length, take, drop, length-append, length-map}
+use mathlib.Core.List.{List, _++_, map, List·Memᴰ}
+use lib.ListN.{length, take, drop}
 use lib.Seq.{take-take, take-append-le, drop-at, length-take-le}
 use lib.Dec.{ltb}
 use borrow.Author.Tests.{lt-ltb, le-ltb}
 use Rattle.logic.specs.Lists.{count-from}
 use Rattle.logic.specs.Limits.{multiply}
 use Rattle.logic.proofs.Members.{in-map}
-use Rattle.equal.specs.Totals.{part, splice, grid, joined, combined}
-use Rattle.equal.specs.Spread.{Shifts, Joins}
-use Rattle.equal.proofs.Splice.{take-written, part-drop, part-length}
-use Rattle.equal.proofs.Grid.{length-grid, combined-length, combined-one}
-use Rattle.equal.proofs.Spans.{combined-right, combined-left, multiply-right, multiply-left, multiply-one}
+use Rattle.equal.specs.Totals.{part, splice, joined, combined}
+use Rattle.equal.specs.Spread.{Joins}
+use Rattle.equal.proofs.Splice.{take-written, part-drop}
+use Rattle.equal.proofs.Grid.{length-grid}
+use Rattle.equal.proofs.Spans.{combined-right, combined-left, multiply-right, multiply-left}
 use Rattle.equal.proofs.Bounds.{Up-to}
 
 -- ---- a list that stands at a place of the buffer

@@ -1,6 +1,6 @@
 -- Laws of `grid` and `combined`: combining is associative with 0 alone as its unit, so that the lists of an action's outcomes may be
 -- combined from any outcome on, to the left and to the right.
-use Prim.Native.Nat.{ℕ, suc, _+_, _*_, _≤_, _<_}
+use Prim.Native.Nat.{ℕ, _+_, _*_}
 use native.Mathlib.Nat.{add-assoc, zero-add, add-zero, suc-mul, zero-mul}
 use native.Mathlib.Omega.{arith}
 use mathlib.Core.Path.{_≡_, refl, sym, ap, ap₂, _∙_, fun-ext}

@@ -1,9 +1,8 @@
 -- One outcome more among which the longest is sought.
 use Prim.Native.Nat.{ℕ, _+_, _*_, _≤_, _<_}
-use native.Mathlib.Nat.{le-trans, le-refl}
+use native.Mathlib.Nat.{le-refl}
 use native.Mathlib.Omega.{arith}
 use mathlib.Core.Path.{_≡_, sym, subst}
-use mathlib.Core.Logic.{_⊎_, ⊎-elim}
 use native.Mathlib.Decide.{ℕ-discrete}
 use lib.ListN.{getD}
 use mathlib.Core.List.{List}

@@ -1,9 +1,9 @@
 -- The room of a list leaves room for each list that it is made of.
 use Prim.Native.Nat.{ℕ, zero, suc, _+_, _-_, _*_, _≤_, _<_}
-use native.Mathlib.Nat.{le-trans, mul-le-mul, lt-of-not-le, lt-irrefl, lt-of-le-of-lt, le-of-lt, mul-lt-mul-of-pos-right, mul-le-mul-right, mul-le-mul-left, le-mul-of-pos-right, mul-comm}
+use native.Mathlib.Nat.{le-trans, lt-of-not-le, lt-irrefl, lt-of-le-of-lt, le-of-lt, mul-lt-mul-of-pos-right, mul-le-mul-right, mul-le-mul-left, le-mul-of-pos-right, mul-comm}
 use native.Mathlib.Omega.{arith}
 use native.Mathlib.Decide.{decLe}
-use mathlib.Core.Path.{_≡_, refl, sym, ap, subst, _∙_}
+use mathlib.Core.Path.{_≡_, refl, subst}
 use Rattle.equal.specs.Room.{Spare, nothing, roots, Room}
 
 -- Fewer steps take no more.

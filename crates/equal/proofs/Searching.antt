@@ -1,19 +1,14 @@
 -- The first place of a number among the totals; and the search at the start, before any step.
-use Prim.Native.Nat.{ℕ, zero, suc, _+_, _≤_, _<_}
+use Prim.Native.Nat.{ℕ, _+_, _≤_, _<_}
 use native.Mathlib.Nat.{zero-add}
 use native.Mathlib.Decide.{ℕ-discrete}
 use native.Mathlib.Omega.{arith}
 use mathlib.Core.Path.{_≡_, refl, sym, ap, subst, _∙_}
-use mathlib.Core.List.{List, [], _∷_, map}
+use mathlib.Core.List.{List, []}
 use lib.IntN.{ℤ}
-use lib.ListN.{length, take, getD, List·getD-map, length-map}
+use lib.ListN.{length, take, getD}
 use lib.Seq.{getD-take, length-take-le}
-use Rattle.logic.specs.Model.{Model, Step}
-use Rattle.logic.specs.Quantity.{naturals}
-use Rattle.logic.specs.Plan.{Plan, plans}
-use Rattle.logic.specs.Limits.{plan-total}
-use Rattle.logic.specs.Total.{total, value-of}
-use Rattle.logic.proofs.Dictionary.{plan-count}
+use Rattle.logic.specs.Total.{value-of}
 use Rattle.blocks.specs.Bytes.{Bytes}
 use Rattle.models.specs.Layout.{model-of}
 use Rattle.evaluation.specs.Path.{steps-of, state-after}
@@ -61,19 +56,3 @@ module _ {m q : Bytes} {start d : ℕ} {depths truth cone used table : List ℕ}
   first-listed n x {r} {i} {buf₁ = buf₁} W F =
       let X : List ℕ = totals (model-of m) n start (value-of (model-of m) (formula q (root-of cone)) start) in
       subst (λ l. First l x i) (ap (λ k. take k buf₁) (W .count ∙ sym (zero-add (length X))) ∙ W .listed) F
-
--- ---- what a place in the list says of the plan there
-
-getD-default : {A : Type 0} (l : List A) (j : ℕ) (c e : A) → j < length l → getD l j c ≡ getD l j e
-getD-default [] j c e h = absurd (omega arith)
-getD-default (x ∷ l) zero c e h = refl
-getD-default (x ∷ l) (suc j) c e h = getD-default l j c e (omega arith)
-
-module _ (m : Model) (n s : ℕ) (f : List Step → ℕ) where
-  -- The total of plan number j.
-  pub totals-at : (j : ℕ) (p : Plan n) → j < plan-total m n s → getD (totals m n s f) j 0 ≡ total naturals m n s (getD (plans m n s) j p) f
-  unfolding totals
-  totals-at j p h =
-      let g : Plan n → ℕ = λ π. total naturals m n s π f in
-      getD-default (map g (plans m n s)) j 0 (g p) (omega (arith, length-map (plans m n s) g, plan-count m n s))
-      ∙ List·getD-map g (plans m n s) j p

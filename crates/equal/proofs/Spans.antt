@@ -1,8 +1,8 @@
 -- Lists over consecutive numbers, one more at either end: products, combined lists, and those that pass a test.
 use Prim.Native.Nat.{ℕ, zero, suc, _+_, _-_, _*_, _≤_, _<_}
-use native.Mathlib.Nat.{zero-add, add-zero, mul-one, one-mul, mul-assoc, le-refl, le-trans, le-mul-of-pos-right, mul-le-mul-right, mul-comm, suc-mul}
+use native.Mathlib.Nat.{zero-add, add-zero, mul-one, one-mul, mul-assoc, le-refl, le-trans, le-mul-of-pos-right, mul-comm}
 use native.Mathlib.Omega.{arith}
-use mathlib.Core.Path.{_≡_, refl, sym, ap, ap₂, subst, _∙_}
+use mathlib.Core.Path.{_≡_, refl, sym, ap, subst, _∙_}
 use mathlib.Core.Bool.{Bool, true, false, cond}
 use mathlib.Core.List.{List, [], _∷_, _++_, map, flatMap, append-nil, append-assoc}
 use Rattle.logic.specs.Lists.{keep, count-from}

@@ -1,13 +1,12 @@
 -- Laws of `part` and `splice`: what is written, what stays beside it, and two pieces written side by side.
-use Prim.Native.Nat.{ℕ, zero, suc, _+_, _-_, _*_, _≤_, _<_}
-use native.Mathlib.Nat.{add-zero, zero-add, suc-add, le-of-suc-le-suc}
+use Prim.Native.Nat.{ℕ, zero, suc, _+_, _-_, _≤_, _<_}
+use native.Mathlib.Nat.{add-zero, zero-add}
 use native.Mathlib.Numerals.{add-one}
 use native.Mathlib.Omega.{arith}
 use mathlib.Core.Path.{_≡_, refl, sym, ap, ap₂, _∙_}
-use mathlib.Core.Logic.{_⊎_, ⊎-elim}
 use mathlib.Core.List.{List, [], _∷_, _++_, append-assoc}
-use lib.ListN.{length, take, drop, getD, set, length-append, length-drop, length-take, take-append-drop, List·getD-append}
-use lib.Seq.{take-at, take-take, drop-at, take-append-le, drop-append-add, drop-append-le, drop-drop, length-take-le, set-split, getD-drop, getD-take, take-suc}
+use lib.ListN.{length, take, drop, getD, set, length-append, length-drop, length-take, take-append-drop}
+use lib.Seq.{take-at, take-take, drop-at, take-append-le, drop-append-add, drop-drop, length-take-le, set-split, getD-drop, getD-take, take-suc}
 use Rattle.equal.specs.Totals.{part, splice}
 
 pub splice-none : (l : List ℕ) (p : ℕ) → splice l p [] ≡ l

@@ -1,5 +1,5 @@
 -- The totals over one step more: for each enabled choice, in order, the totals below its outcomes, weighed and combined.
-use Prim.Native.Nat.{ℕ, zero, suc, _+_, _*_}
+use Prim.Native.Nat.{ℕ, suc, _+_, _*_}
 use mathlib.Core.Path.{_≡_, refl, sym, ap, ap₂, _∙_, fun-ext}
 use mathlib.Core.List.{List, [], _∷_, _++_, map, flatMap, map-map, map-append}
 use lib.ListN.{length, length-map}
@@ -9,7 +9,7 @@ use Rattle.logic.specs.Quantity.{naturals}
 use Rattle.logic.specs.Plan.{Plan, plans}
 use Rattle.logic.specs.Limits.{plan-total}
 use Rattle.logic.specs.Total.{total}
-use Rattle.logic.proofs.Sums.{naturals-additive, sum-pairs, total-zero, total-step}
+use Rattle.logic.proofs.Sums.{naturals-additive, sum-pairs, total-step}
 use Rattle.logic.proofs.Dictionary.{plan-count}
 use Rattle.logic.proofs.Members.{block}
 use Rattle.equal.specs.Totals.{totals, grid, combined, weighed}
@@ -41,10 +41,6 @@ module _ (m : Model) where
   pub totals-length : (n s : ℕ) (f : List Step → ℕ) → length (totals m n s f) ≡ plan-total m n s
   unfolding totals
   totals-length n s f = length-map (plans m n s) (λ π. total naturals m n s π f) ∙ plan-count m n s
-
-  pub totals-zero : (s : ℕ) (f : List Step → ℕ) → totals m 0 s f ≡ f [] ∷ []
-  unfolding totals plans
-  totals-zero s f = ap (λ v. v ∷ []) (total-zero naturals naturals-additive m s tt f)
 
   pub totals-step : (n s : ℕ) (f : List Step → ℕ) → totals m (suc n) s f ≡ flatMap (λ a. combined (weighed m n f) (outcomes m s a)) (enabled m s)
   unfolding totals plans weighed

@@ -1,13 +1,12 @@
 -- One turn of each loop that combines lists in place: what is read still stands as at the start, and what is written continues the piece.
 use Prim.Native.Nat.{ℕ, zero, suc, _+_, _-_, _*_, _^_, _≤_, _<_}
 use native.Mathlib.Nat.{suc-mul, add-mul, le-mul-of-pos-right, one-mul, mul-comm}
-use native.Mathlib.Numerals.{add-one}
 use native.Mathlib.Omega.{arith}
 use mathlib.Core.Path.{_≡_, refl, sym, ap, ap₂, subst, _∙_, fun-ext}
 use mathlib.Core.Logic.{_⊎_, inl, inr, ⊎-elim}
 use mathlib.Core.Bool.{Bool, true, false}
 use mathlib.Core.List.{List, [], _∷_, _++_, map, flatMap, map-append, map-map, map-id, List·Memᴰ, List·Memᴰ·head, List·Memᴰ·tail}
-use lib.ListN.{length, take, drop, getD, set, replicate, length-map, length-drop, length-replicate, replicate-append-replicate}
+use lib.ListN.{length, drop, getD, set, replicate, length-map, length-drop, length-replicate, replicate-append-replicate}
 use lib.Seq.{drop-cons, drop-length}
 use Rattle.equal.specs.Totals.{part, splice, grid, joined}
 use Rattle.equal.specs.Spread.{Shifts, Spreads, Joins}

@@ -9,7 +9,7 @@ use Rattle.logic.specs.Formula.{depth}
 use Rattle.logic.specs.Total.{value-of}
 use Rattle.logic.specs.Limits.{plan-total}
 use Rattle.blocks.specs.Bytes.{Bytes, byte}
-use Rattle.models.specs.Layout.{state-count, model-of, entries, outcome-of}
+use Rattle.models.specs.Layout.{state-count, model-of, outcome-of}
 use Rattle.models.specs.Used.{Used}
 use Rattle.evaluation.specs.Path.{steps-of, state-after}
 use Rattle.evaluation.specs.Reached.{formula, root-of, Ready}

@@ -2,12 +2,12 @@
 -- (`Choices`).
 use Prim.Native.Nat.{ℕ, zero, suc, _+_, _*_, _-_, _≤_, min}
 use mathlib.Core.Path.{_≡_}
-use mathlib.Core.Bool.{Bool, cond}
+use mathlib.Core.Bool.{cond}
 use mathlib.Core.List.{List, [], _∷_, _++_}
 use lib.Dec.{ltb}
 use lib.ListN.{getD, take, drop, length}
 use Rattle.logic.specs.Lists.{keep, count-from}
-use Rattle.logic.specs.Model.{Model, Step, outcomes}
+use Rattle.logic.specs.Model.{Model, outcomes}
 use Rattle.logic.specs.Extension.{first-choice}
 
 -- What is written, and what is left to read.

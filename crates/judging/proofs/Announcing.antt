@@ -1,6 +1,6 @@
 -- How the verdict follows from what a search decided, and how it is told: the plan that a search found, extended or looked up by its place,
 -- is the shown plan.
-use Prim.Native.Nat.{ℕ, _+_, _-_, _≤_, _<_}
+use Prim.Native.Nat.{ℕ, _+_, _≤_, _<_}
 use native.Mathlib.Omega.{arith}
 use native.Mathlib.Nat.{le-antisymm}
 use native.Mathlib.Decide.{ℕ-discrete}

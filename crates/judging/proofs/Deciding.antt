@@ -1,7 +1,7 @@
 -- What a search's result decides. The search for "less" or "greater" goes as deep as the condition looks; the plan that it finds, gone on
 -- with first enabled actions, is the shown plan or none is. The search for "equal" finds the first place of the totals of all plans that
 -- has the one number that meets the bound, if there is such a number.
-use Prim.Native.Nat.{ℕ, zero, suc, _+_, _*_, _-_, _≤_, _<_}
+use Prim.Native.Nat.{ℕ, zero, suc, _+_, _*_, _≤_, _<_}
 use native.Mathlib.Omega.{arith}
 use native.Mathlib.Nat.{le-refl, min-eq-right}
 use mathlib.Core.Path.{_≡_, refl, sym, ap, ap₂, subst, _∙_}

@@ -7,7 +7,7 @@ use mathlib.Core.List.{List, [], _∷_}
 use lib.Dec.{leb, eqb}
 use lib.ListN.{getD, length}
 use Rattle.logic.specs.Lists.{every}
-use Rattle.logic.specs.Model.{Model, Step, enabled, outcomes}
+use Rattle.logic.specs.Model.{Model, enabled, outcomes}
 use Rattle.logic.specs.Quantity.{naturals, sum, Relation}
 use Rattle.logic.specs.Formula.{Node, relation}
 use Rattle.logic.specs.Verdict.{is-equal}

@@ -7,13 +7,12 @@ use native.Mathlib.Nat.{le-of-suc-le-suc, not-suc-le-zero, mul-assoc, mul-left-c
 use mathlib.Core.Path.{_≡_, refl, sym, ap, ap₂, subst, _∙_}
 use mathlib.Core.Bool.{Bool, true, false, cond}
 use mathlib.Core.List.{List, [], _∷_, map, List·Memᴰ, List·Memᴰ·head, List·Memᴰ·tail}
-use lib.Dec.{T, leb, leb→le, le→leb}
+use lib.Dec.{leb, leb→le, le→leb}
 use lib.ListN.{length, getD, take}
-use lib.Seq.{take-take}
 use Rattle.logic.specs.Lists.{join}
 use Rattle.logic.specs.Model.{Model, Step, enabled, outcomes}
 use Rattle.logic.specs.Plan.{Plan}
-use Rattle.logic.specs.Quantity.{Quantity, naturals, sum, weights, order}
+use Rattle.logic.specs.Quantity.{naturals, sum, weights, order}
 use Rattle.logic.specs.Total.{one-if, value-of}
 use Rattle.logic.specs.Formula.{Formula, depth}
 use Rattle.logic.specs.Recursion.{first-best, best-choice, greatest, best-plan}
@@ -25,9 +24,6 @@ use Rattle.logic.proofs.Depth.{sat-short}
 -- A value that looks at the first d steps only.
 abbrev pub Short : ℕ → (List Step → ℕ) → Type 0
 Short d f = (r : List Step) → f r ≡ f (take d r)
-
-short-more : (d n : ℕ) (f : List Step → ℕ) → d ≤ n → Short d f → Short n f
-short-more d n f h g r = g r ∙ ap f (sym (take-take d n r h)) ∙ sym (g (take n r))
 
 short-after : (d : ℕ) (f : List Step → ℕ) → Short (suc d) f → (o : Step) → Short d (λ r. f (o ∷ r))
 short-after d f h o r = h (o ∷ r)

@@ -199,9 +199,6 @@ module _ (f : ℕ → Bool) where
       pick k true q h = let w = k q in (w .0, omega (arith, w .1), w .2)
       pick k false q h = (n, omega arith, h)
 
-  pub some-below-none : (n : ℕ) → ((i : ℕ) → i < n → f i ≡ false) → some-below n f ≡ false
-  some-below-none n h = not-true (some-below n f) (λ e. let w = some-below-index n e in false≢true (sym (h (w .0) (w .1)) ∙ w .2))
-
 -- ---- tabulated lists
 
 pub counted-in : (k n : ℕ) {i : ℕ} → k ≤ i → i < k + n → List·Memᴰ i (count-from k n)

@@ -1,5 +1,7 @@
--- What an accepted model promises, as the theorems use it: Definition 1 of source document 001, conditions (i) to (iii), in whole numbers.
-use Prim.Native.Nat.{ℕ, _<_, _≤_}
+-- What an accepted model promises, as far as the theorems use it: of Definition 1 of source document 001, (i) and what (iii) says of the
+-- outcomes' number and targets, in whole numbers. (ii) is how `enabled` is defined; that a target makes its own postcondition true is
+-- ground 7's test on the bytes (models/specs/Grounds).
+use Prim.Native.Nat.{ℕ, _<_}
 use mathlib.Core.Path.{_≡_}
 use mathlib.Core.List.{List, _∷_, List·Memᴰ}
 use lib.ListN.{length}

@@ -1,12 +1,11 @@
 -- The plan on a sheet, read from its choices. Document 01: "Choices run depth first: the action for a history, then the choices below
 -- each outcome in postcondition order."
 use Prim.Native.Nat.{ℕ, zero, suc}
-use mathlib.Core.Bool.{Bool}
 use mathlib.Core.List.{List, [], _∷_}
 use lib.Dec.{eqb}
 use Rattle.logic.specs.Lists.{any, is-empty}
 use Rattle.logic.specs.Checked.{Checked, ok, refused, _>>=_, _>>_, guard}
-use Rattle.logic.specs.Model.{Model, Step, enabled, outcomes}
+use Rattle.logic.specs.Model.{Model, enabled, outcomes}
 use Rattle.logic.specs.Plan.{Plan}
 
 -- Reads one thing for each element, one after the other.

@@ -1,9 +1,9 @@
 -- Plans that go on with the first enabled action: what a search that looks no further than its condition leaves to do.
 use Prim.Native.Nat.{ℕ, zero, suc}
-use mathlib.Core.List.{List, [], _∷_, map}
+use mathlib.Core.List.{[], _∷_, map}
 use lib.ListN.{getD}
 use Rattle.logic.specs.Lists.{join}
-use Rattle.logic.specs.Model.{Model, Step, enabled, outcomes}
+use Rattle.logic.specs.Model.{Model, enabled, outcomes}
 use Rattle.logic.specs.Plan.{Plan}
 
 -- The first enabled action; 0 if there is none.

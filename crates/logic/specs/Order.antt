@@ -2,7 +2,7 @@
 use Prim.Native.Nat.{ℕ, zero, suc, _<_}
 use mathlib.Core.Path.{_≡_}
 use mathlib.Core.List.{List, [], _∷_, List·Memᴰ}
-use Rattle.logic.specs.Model.{Model, Step, enabled, outcomes}
+use Rattle.logic.specs.Model.{Model, enabled, outcomes}
 use Rattle.logic.specs.Plan.{Plan, Match}
 
 -- One list of choices comes before another: at the first place where they differ, it has the smaller choice. No list of choices of a plan

@@ -1,6 +1,5 @@
 -- Bounded policies as published: Definition 2 of source document 001 (Definitions 9 to 11 of 000).
 use Prim.Native.Nat.{ℕ, zero, suc, _<_}
-use mathlib.Core.Path.{_≡_}
 use mathlib.Core.List.{List, [], _∷_, _++_, map, flatMap, List·Memᴰ}
 use lib.ListN.{length}
 use Rattle.logic.specs.Lists.{keep}

@@ -1,7 +1,7 @@
 -- The greatest total by recursion over the steps, and the plan of the first choices that reach it: what a search computes. That they are
 -- the greatest over all plans, and the first plan in dictionary order that has it, is proved (`Recursion`).
 use Prim.Native.Nat.{ℕ, zero, suc}
-use mathlib.Core.Bool.{Bool, cond}
+use mathlib.Core.Bool.{cond}
 use mathlib.Core.List.{List, [], _∷_, map}
 use Rattle.logic.specs.Model.{Model, Step, enabled, outcomes}
 use Rattle.logic.specs.Quantity.{Quantity, sum}

@@ -1,7 +1,6 @@
 -- The two-shelf model, and the verdicts of document 01 that are marked *.
-use Prim.Native.Nat.{ℕ, zero, suc}
+use Prim.Native.Nat.{ℕ}
 use mathlib.Core.Path.{_≡_, refl}
-use mathlib.Core.Bool.{Bool, true, false}
 use mathlib.Core.List.{List, [], _∷_, map, flatMap}
 use lib.IntN.{ℤ, pos, negsuc}
 use Rattle.logic.specs.Lists.{all, any, find, keep, product, join, count-from}

@@ -3,7 +3,7 @@ use Prim.Native.Nat.{ℕ, _<_, _≤_}
 use mathlib.Core.Path.{_≡_, refl}
 use mathlib.Core.Bool.{true, _&&_}
 use Rattle.logic.specs.Lists.{every, some-below}
-use Rattle.logic.specs.Checked.{ok, refused, refusal}
+use Rattle.logic.specs.Checked.{ok, refusal}
 use Rattle.logic.specs.Model.{true-of}
 use Rattle.logic.proofs.Checked.{guard-passed}
 use Rattle.logic.proofs.Tests.{and-both, every-at}

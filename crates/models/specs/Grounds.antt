@@ -1,6 +1,6 @@
 -- The grounds on which a model is refused, 1 to 8, each a test on the whole input. Document 01, "Refused because of the input".
 use Prim.Native.Nat.{ℕ, _+_, _*_, _-_, _/_, _^_}
-use mathlib.Core.Bool.{Bool, true, false, _&&_, _||_}
+use mathlib.Core.Bool.{Bool, _&&_, _||_}
 use lib.Bits.{bitAnd}
 use lib.Dec.{eqb, ltb}
 use lib.IntN.{pos, negsuc}
@@ -8,7 +8,7 @@ use lib.Signed.{leZ}
 use Rattle.logic.specs.Lists.{every, some-below}
 use Rattle.logic.specs.Checked.{Checked, ok, _>>_, guard}
 use Rattle.logic.specs.Model.{Literals, Step, Model, true-of, contradict}
-use Rattle.blocks.specs.Bytes.{Bytes, byte, zeros, within}
+use Rattle.blocks.specs.Bytes.{Bytes, zeros, within}
 use Rattle.blocks.specs.Block.{sum-below, block-count, whole-blocks, sums-right, headed}
 use Rattle.models.specs.Layout.{state-count, action-count, prop-count, denominator-of, state-mask, action-at, pre-of, post-count, post-of, cell-at, outcome-of, entries, model-of}
 

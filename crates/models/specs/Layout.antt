@@ -1,10 +1,9 @@
 -- Where a model's fields stand in its blocks, and the model that they hold. Document 01, "Blocks of 512 bytes", Head and Rows.
 use Prim.Native.Nat.{ℕ, _+_, _*_, _/_, _%_}
-use mathlib.Core.Bool.{Bool, cond, _&&_}
-use mathlib.Core.List.{List}
+use mathlib.Core.Bool.{cond, _&&_}
 use lib.Dec.{ltb}
 use Rattle.logic.specs.Lists.{tabulate}
-use Rattle.logic.specs.Model.{Literals, Action, Step, Model, true-of}
+use Rattle.logic.specs.Model.{Literals, Step, Model, true-of}
 use Rattle.blocks.specs.Bytes.{Bytes, byte, u32, i16}
 
 -- Head: bytes 2 to 5 are S, A, N, D.

@@ -5,7 +5,6 @@ use mathlib.Core.List.{List, [], _∷_}
 use mathlib.Core.Option.{Option, none, some}
 use lib.ListN.{length}
 use Rattle.logic.specs.Verdict as logic
-use Rattle.blocks.specs.Bytes.{Bytes}
 use Rattle.calls.specs.Calls.{Call, load, put, check, write, judge, Held, Answer, done, judged, written, accepted, refuse, Reply}
 use Rattle.calls.specs.Demand3.{Session}
 use Rattle.plan_judge.specs.declared.Desk.{Desk}

@@ -1,7 +1,7 @@
 -- What each call returns, for every desk value and every input, by the grounds and definitions of the calls.
 use Prim.Native.Nat.{ℕ, _-_, _/_}
 use mathlib.Core.Bool.{Bool, true, false}
-use mathlib.Core.List.{List, _++_}
+use mathlib.Core.List.{_++_}
 use lib.ListN.{length, drop, replicate}
 use Rattle.logic.specs.Checked.{Checked, ok, refused}
 use Rattle.logic.specs.Verdict as logic
@@ -10,7 +10,6 @@ use Rattle.blocks.specs.Bytes.{Bytes}
 use Rattle.models.specs.Grounds.{read-model}
 use Rattle.calls.specs.Calls.{do-put, do-judge, do-write, do-check}
 use Rattle.plan_judge.specs.declared.Desk.{Desk}
-use Rattle.plan_judge.specs.declared.Taken.{Taken}
 use Rattle.plan_judge.specs.declared.Taken.the-variants.{Done, Refused}
 use Rattle.plan_judge.specs.declared.Taking.{Taking}
 use Rattle.plan_judge.specs.declared.Verdict.{Verdict}

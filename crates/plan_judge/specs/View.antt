@@ -10,8 +10,8 @@ use lib.IntN.{pos}
 use lib.ListN.{length, take}
 use Rattle.logic.specs.Checked.{Checked, ok, refused, refusal, _>>=_}
 use Rattle.logic.specs.Model.{Model}
-use Rattle.logic.specs.Plan.{Plan, choices}
-use Rattle.logic.specs.Verdict.{Goal, goal}
+use Rattle.logic.specs.Plan.{choices}
+use Rattle.logic.specs.Verdict.{goal}
 use Rattle.logic.specs.Verdict as logic
 use Rattle.logic.specs.Choices.{read-plan}
 use Rattle.blocks.specs.Bytes.{Bytes}

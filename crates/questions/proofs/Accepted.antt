@@ -11,7 +11,7 @@ use lib.Signed.{mag, leZ}
 use borrow.Author.Tests.{ltb-true, leb-true, eqb-true, not-true}
 use Rattle.logic.specs.Lists.{all, every}
 use Rattle.logic.specs.Checked.{ok, refusal}
-use Rattle.logic.specs.Formula.{never, prop, neg, both, does, next, gain, plan, Node, depth, is-path, shallow, relation, nonnegative, formula-of}
+use Rattle.logic.specs.Formula.{never, prop, neg, both, does, next, gain, plan, Node, depth, is-path, shallow, relation, nonnegative}
 use Rattle.logic.proofs.Tests.{and-left, and-right, every-at}
 use Rattle.blocks.specs.Bytes.{Bytes, within}
 use Rattle.blocks.specs.Block.{whole-blocks, sums-right, headed}
@@ -186,9 +186,6 @@ accepted S A N b e =
 -- The formulas before node i, and the one at it.
 pub formulas-take : (b : Bytes) (i : ℕ) → i ≤ node-count b → take i (formulas-of b) ≡ formulas-before b i
 formulas-take b i h = ap (take i) (sym (all-before b)) ∙ before-take b i (node-count b) h
-
-pub formula-step : (b : Bytes) (i : ℕ) → i < node-count b → getD (formulas-of b) i never ≡ formula-of (take i (formulas-of b)) (node-of b i)
-formula-step b i h = formula-here b i h ∙ ap (λ fs. formula-of fs (node-of b i)) (sym (formulas-take b i (omega arith)))
 
 -- A child's formula is the same before node i and in the whole list.
 child-same : (b : Bytes) (i j : ℕ) → i < node-count b → j < i → getD (formulas-before b i) j never ≡ getD (formulas-of b) j never

@@ -1,15 +1,15 @@
 -- The grounds on which a question is refused, 1 to 6 and 9, each a test on the whole input, for a model with S states, A actions and N
 -- propositions. Document 01, "Refused because of the input" and the table of "Formulas".
-use Prim.Native.Nat.{ℕ, _+_, _*_, _-_}
+use Prim.Native.Nat.{ℕ, _+_, _-_}
 use mathlib.Core.Bool.{Bool, true, false, not, _&&_}
-use mathlib.Core.List.{List, [], _∷_}
+use mathlib.Core.List.{[], _∷_}
 use lib.Dec.{eqb, ltb}
 use lib.IntN.{ℤ, pos, negsuc}
 use lib.ListN.{getD}
 use lib.Signed.{leZ}
 use Rattle.logic.specs.Lists.{all, every}
 use Rattle.logic.specs.Checked.{Checked, ok, _>>_, guard}
-use Rattle.logic.specs.Formula.{Formula, Node, is-path, shallow}
+use Rattle.logic.specs.Formula.{Node, is-path, shallow}
 use Rattle.blocks.specs.Bytes.{Bytes, byte, zeros, within}
 use Rattle.blocks.specs.Block.{whole-blocks, sums-right, headed}
 use Rattle.questions.specs.Layout.{Question, start-of, node-count, node-at, node-of, question-of}

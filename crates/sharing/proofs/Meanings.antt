@@ -2,7 +2,7 @@
 -- the same for whoever judges.
 use Prim.Native.Nat.{ℕ, zero, suc, max}
 use native.Mathlib.Omega.{arith}
-use mathlib.Core.Path.{_≡_, refl, sym, ap, ap₂, _∙_, fun-ext}
+use mathlib.Core.Path.{_≡_, refl, ap, ap₂, _∙_, fun-ext}
 use mathlib.Core.Bool.{Bool, true, false, not, cond, _&&_, _||_}
 use mathlib.Core.List.{List, [], _∷_}
 use mathlib.Core.Option.{some}
@@ -22,9 +22,6 @@ pub same-refl : (φ : Formula) → Same φ φ
 same-refl φ = record { depths = refl; paths = refl; truths = λ M s r. refl }
 
 module _ {φ ψ : Formula} (e : Same φ ψ) where
-  pub same-sym : Same ψ φ
-  same-sym = record { depths = sym (e .depths); paths = sym (e .paths); truths = λ M s r. sym (e .truths M s r) }
-
   pub same-then : {χ : Formula} → Same ψ χ → Same φ χ
   same-then f = record { depths = e .depths ∙ f .depths; paths = e .paths ∙ f .paths; truths = λ M s r. e .truths M s r ∙ f .truths M s r }
 

@@ -1,5 +1,5 @@
 -- The loop has put in the choices of the blocks before k, one after the other, and nothing behind them. The measure is what is left of the count.
-use Prim.Native.Nat.{_+_, _-_, _*_, _/_, _≤_}
+use Prim.Native.Nat.{_-_, _*_, _/_, _≤_}
 use native.Mathlib.Omega.{arith}
 use mathlib.Core.Path.{_≡_, refl, ap, _∙_}
 use mathlib.Core.List.{_++_, flatMap}

@@ -1,5 +1,5 @@
 -- `spread::spread`: with i of the slow numbers left, the sums of the others stand where they belong, and all before them as at the start.
-use Prim.Native.Nat.{_-_, _≤_}
+use Prim.Native.Nat.{_≤_}
 use native.Mathlib.Omega.{arith}
 use mathlib.Core.Path.{_≡_, ap, _∙_}
 use lib.ListN.{length}

@@ -1,4 +1,4 @@
-use Prim.Native.Nat.{suc, _+_, _*_, _-_, _<_, _≤_}
+use Prim.Native.Nat.{suc, _-_, _≤_}
 use native.Mathlib.Omega.{arith}
 use native.Mathlib.Numerals.{add-one}
 use mathlib.Core.Logic.{⊎-elim}

@@ -1,7 +1,7 @@
 -- The four stores compute.
 use native.Mathlib.Omega.{arith}
 use mathlib.Core.Path.{_≡_, ap, _∙_}
-use lib.ListN.{length, set, replicate, length-set}
+use lib.ListN.{set, replicate, length-set}
 use borrow.Author.Needs.{needs}
 use Rattle.sheets.specs.Writer.{started}
 use Rattle.sheets.proofs.writer.head.Statement.{statement}
