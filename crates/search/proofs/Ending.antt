@@ -1,11 +1,11 @@
 -- The last step from a state: an action is worth the weights of its outcomes whose lanes are 1, and nothing is chosen below it.
-use Prim.Native.Nat.{ℕ, zero, suc, _+_, _*_, _-_, _≤_, _<_}
+use Prim.Native.Nat.{ℕ, zero, suc, _+_, _*_, _≤_, _<_}
 use native.Mathlib.Omega.{arith}
 use mathlib.Core.Path.{_≡_, refl, sym, ap, ap₂, subst, _∙_}
-use mathlib.Core.Bool.{Bool, true, false}
+use mathlib.Core.Bool.{Bool, true, false, not, cond, false≢true}
 use mathlib.Core.List.{List, [], _∷_, flatMap}
-use lib.ListN.{length, set, length-set}
-use Rattle.logic.specs.Lists.{count-from, tabulate}
+use lib.ListN.{length, set}
+use Rattle.logic.specs.Lists.{keep, is-empty, count-from, tabulate}
 use Rattle.logic.specs.Checked.{refusal}
 use Rattle.logic.specs.Model.{Model, Step, outcomes}
 use Rattle.logic.specs.Plan.{choices}
@@ -19,11 +19,10 @@ use Rattle.models.specs.Grounds.{read-model}
 use Rattle.models.proofs.Rows.{outcomes-are}
 use Rattle.lanes.specs.Lanes.{lane, Laned}
 use Rattle.search.specs.Greatest.{best-choices, worth, below}
-use Rattle.search.specs.Buffers.{Wrote, Keeps, wins, Walks, Ends}
-use Rattle.search.specs.declared.Best.{Best}
-use Rattle.search.specs.declared.Walked.{Walked}
-use Rattle.search.proofs.Stack.{wrote-none}
-use Rattle.search.proofs.Trying.{Tried, enabled-below, tried-start, turn-skipped, turn-taken, picked-all}
+use Rattle.search.specs.Buffers.{Wrote, wins, Ends}
+use Rattle.search.proofs.Stack.{wrote-choice}
+use Rattle.search.proofs.Steps.{worth-of, best-of}
+use Rattle.search.proofs.Trying.{enabled-below, enabled-skip, enabled-one, enabled-some, more-some, beaten-some, best-more, picked-best}
 use Rattle.search.proofs.Walking.{worth-more}
 
 below-none : (least : Bool) (M : Model) (f : List Step → ℕ) (l : List Step) → below least M 0 f l ≡ []
@@ -49,61 +48,59 @@ module _ (least : Bool) (m : Bytes) (s x a : ℕ) (f : List Step → ℕ) (X : V
       ∙ sym (worth-more least (model-of m) 0 f (tabulate n (outcome-of m s a)) o)
       ∙ ap (worth least (model-of m) 0 f) (sym (tabulate-more (outcome-of m s a) n))
 
-  walks-last : (v at : ℕ) (c : List ℕ) → v ≡ in-lanes m s a x (entries m s a) → Walks least m f s a 0 at c c (record { value = v; end = at })
-  walks-last v at c e =
-      record {
-        value = e ∙ lanes-worth (entries m s a) (omega arith) ∙ ap (worth least (model-of m) 0 f) (sym (outcomes-are m s a));
-        wrote = subst (λ l. Wrote l at c c at) (sym (below-none least (model-of m) f (outcomes (model-of m) s a))) (wrote-none at c);
-      }
+  lanes-total : in-lanes m s a x (entries m s a) ≡ worth-of least (model-of m) 0 s f a
+  lanes-total = lanes-worth (entries m s a) (omega arith) ∙ ap (worth least (model-of m) 0 f) (sym (outcomes-are m s a))
 
 -- ---- the loop over the actions
 
--- Before the action a is tried.
-pub record Ending (least : Bool) (m : Bytes) (s x at : ℕ) (choices₀ : List ℕ) (a : ℕ) (choices : List ℕ) (b : Best) : Type 0 where
-  pub tried : (f : List Step → ℕ) → Valued m s x f → Tried least (model-of m) 0 s f (enabled-below m s a) at choices₀ choices b
-  pub from : at ≤ b .end
-  pub near : b .end ≤ at + 1
-  pub room : length choices ≡ length choices₀
+-- Before the action a is tried: whether there is a best, its total, and which it is.
+pub record Ending (least : Bool) (m : Bytes) (s x a : ℕ) (found : Bool) (value action : ℕ) : Type 0 where
+  pub some : found ≡ not (is-empty (enabled-below m s a))
+  pub best : is-empty (enabled-below m s a) ≡ false → (f : List Step → ℕ) → Valued m s x f
+      → (action ≡ best-of least (model-of m) 0 s f (enabled-below m s a)) × (value ≡ worth-of least (model-of m) 0 s f action)
 
-module _ {least : Bool} {m : Bytes} {s x at : ℕ} {choices₀ : List ℕ} where
-  pub ending-none : Ending least m s x at choices₀ 0 choices₀ (record { found = false; value = 0; end = at })
-  ending-none = record { tried = λ f X. tried-start least m f s 0 at choices₀; from = omega arith; near = omega arith; room = refl }
+module _ {least : Bool} {m : Bytes} {s x : ℕ} where
+  pub ending-none : Ending least m s x 0 false 0 0
+  unfolding keep count-from is-empty
+  ending-none = record { some = refl; best = λ e. absurd (false≢true (sym e)) }
 
-  module _ {a : ℕ} {choices : List ℕ} {b : Best} (E : Ending least m s x at choices₀ a choices b) where
-    pub ending-skipped : entries m s a ≡ 0 → Ending least m s x at choices₀ (a + 1) choices b
-    ending-skipped e = record { tried = λ f X. turn-skipped least m f s 0 a at choices₀ choices b e (E .tried f X); from = E .from; near = E .near; room = E .room }
+  module _ {a : ℕ} {found : Bool} {value action : ℕ} (E : Ending least m s x a found value action) where
+    pub ending-skipped : entries m s a ≡ 0 → Ending least m s x (a + 1) found value action
+    ending-skipped e = let g = enabled-skip m s a e in record { some = rw g (E .some); best = rw g (E .best) }
 
-    pub ending-all : refusal (read-model m) ≡ 0 → s < state-count m → a ≡ action-count m → Ends least m s x at choices₀ choices b
-    ending-all passed h e =
+    module _ {v : ℕ} (enabled : entries m s a ≡ 0 → ⊥) (here : v ≡ in-lanes m s a x (entries m s a)) where
+      abbrev l : List ℕ
+      l = enabled-below m s a
+
+      best-next : (t : Bool) → wins found value v least ≡ t → (f : List Step → ℕ) → Valued m s x f
+          → best-of least (model-of m) 0 s f (enabled-below m s (a + 1)) ≡ cond t a (best-of least (model-of m) 0 s f l)
+      best-next t h f X =
+          ap (best-of least (model-of m) 0 s f) (enabled-one m s a enabled)
+          ∙ best-more least (model-of m) 0 s f l a found value v (E .some)
+          (λ e. let b = E .best e f X in b .1 ∙ ap (worth-of least (model-of m) 0 s f) (b .0)) (here ∙ lanes-total least m s x a f X) t h
+
+      next-some : is-empty (enabled-below m s (a + 1)) ≡ false
+      next-some = ap is-empty (enabled-one m s a enabled) ∙ more-some l a
+
+      pub ending-won : wins found value v least ≡ true → Ending least m s x (a + 1) true v a
+      ending-won h = record { some = sym (ap not next-some); best = λ _ f X. (sym (best-next true h f X), here ∙ lanes-total least m s x a f X) }
+
+      pub ending-lost : wins found value v least ≡ false → Ending least m s x (a + 1) found value action
+      ending-lost h =
+          let e : is-empty l ≡ false = beaten-some l found value v least (E .some) h in
+          record {
+            some = E .some ∙ ap not (e ∙ sym next-some);
+            best = λ _ f X. let b = E .best e f X in (b .0 ∙ sym (best-next false h f X), b .1);
+          }
+
+    pub ending-all : refusal (read-model m) ≡ 0 → s < state-count m → a ≡ action-count m → {at : ℕ} {choices : List ℕ} → at < length choices
+        → Ends least m s x at choices (set choices at action) (record { found = true; value = value; end = at + 1 })
+    ending-all passed h e {at} {choices} fits =
         record {
-          picked = λ f X. picked-all least m f s 0 passed at choices₀ choices b h
-              (subst (λ n. Tried least (model-of m) 0 s f (enabled-below m s n) at choices₀ choices b) e (E .tried f X));
+          picked = λ f X.
+              let b = E .best (ap (λ n. is-empty (enabled-below m s n)) e ∙ enabled-some m passed h) f X in
+              picked-best least m f s 0 passed at choices (set choices at action) (record { found = true; value = value; end = at + 1 }) h action
+              (b .0 ∙ ap (λ n. best-of least (model-of m) 0 s f (enabled-below m s n)) e) (b .1)
+              (subst (λ z. Wrote (action ∷ z) at choices (set choices at action) (at + 1)) (sym (below-none least (model-of m) f (outcomes (model-of m) s action)))
+              (wrote-choice action at choices fits));
         }
-
-    module _ (fits : at + 3 ≤ length choices₀) where
-      pub ending-room : b .end + 1 < length choices
-      ending-room = omega (arith, E .near, E .room)
-
-      module _ {v : ℕ} {choices′ : List ℕ} {r : Best} (some : entries m s a ≡ 0 → ⊥) (worth-here : v ≡ in-lanes m s a x (entries m s a))
-          (K : Keeps b (record { value = v; end = b .end + 1 }) at least (set choices (b .end) a) choices′ r)
-          (same : length choices′ ≡ length (set choices (b .end) a)) where
-        abbrev c1 : List ℕ
-        c1 = set choices (b .end) a
-
-        abbrev w : Walked
-        w = record { value = v; end = b .end + 1 }
-
-        end-near : (t : Bool) → wins b v least ≡ t → (at ≤ r .end) × (r .end ≤ at + 1)
-        end-near true e = let g : r .end ≡ at + (b .end + 1 - b .end) = ap (λ z. z .end) (K .taken e .0) in (omega arith, omega arith)
-        end-near false e = let g : r .end ≡ b .end = ap (λ z. z .end) (K .left e .0) in (omega (arith, E .from), omega (arith, E .near))
-
-        pub ending-taken : Ending least m s x at choices₀ (a + 1) choices′ r
-        ending-taken =
-            let n = end-near (wins b v least) refl in
-            record {
-              tried = λ f X. turn-taken least m f s 0 a at choices₀ choices c1 b w (omega arith) (omega (arith, ending-room)) (E .tried f X)
-                  (walks-last least m s x a f X v (b .end + 1) c1 worth-here) choices′ r some K;
-              from = n .0;
-              near = n .1;
-              room = same ∙ length-set choices (b .end) a ∙ E .room;
-            }

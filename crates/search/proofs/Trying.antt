@@ -13,7 +13,7 @@ use Rattle.logic.specs.Lists.{keep, is-empty, count-from}
 use Rattle.logic.specs.Checked.{refusal}
 use Rattle.logic.specs.Model.{Model, Step, enabled}
 use Rattle.logic.specs.Quantity.{weights, order}
-use Rattle.logic.specs.Recursion.{first-best, best-choice, greatest}
+use Rattle.logic.specs.Recursion.{first-best, best-choice}
 use Rattle.logic.proofs.Tests.{keep-append, count-more}
 use Rattle.blocks.specs.Bytes.{Bytes}
 use Rattle.models.specs.Layout.{state-count, action-count, entries, model-of}
@@ -22,7 +22,6 @@ use Rattle.models.specs.Used.{Used}
 use Rattle.models.proofs.Passed.{passed-all, passed-sized}
 use Rattle.models.proofs.Held.{states-held, enabled-entries, accepted}
 use Rattle.extension.specs.Choices.{room}
-use Rattle.search.specs.Greatest.{best-choices}
 use Rattle.search.specs.Buffers.{Wrote, Keeps, wins, Picked, Walks}
 use Rattle.search.specs.declared.Best.{Best}
 use Rattle.search.specs.declared.Walked.{Walked}
@@ -40,6 +39,38 @@ kept-more f n =
     ∙ ap (keep f) (count-more 0 n)
     ∙ keep-append f (count-from 0 n) ((0 + n) ∷ [])
     ∙ ap (λ i. keep f (count-from 0 n) ++ cond (f i) (i ∷ []) []) z
+
+pub more-some : (l : List ℕ) (a : ℕ) → is-empty (l ++ (a ∷ [])) ≡ false
+unfolding is-empty
+more-some [] a = refl
+more-some (x ∷ l) a = refl
+
+-- What does not win is beaten by another.
+pub beaten-some : (l : List ℕ) (found : Bool) (other value : ℕ) (least : Bool) → found ≡ not (is-empty l)
+    → wins found other value least ≡ false → is-empty l ≡ false
+unfolding wins is-empty
+beaten-some [] found other value least e h = absurd (false≢true (sym h ∙ ap (λ t. not t || not (order least value other)) e))
+beaten-some (x ∷ l) found other value least e h = refl
+
+-- With one choice more, the best is that one if it wins.
+pub best-more : (least : Bool) (M : Model) (k s : ℕ) (f : List Step → ℕ) (l : List ℕ) (a : ℕ) (found : Bool) (other value : ℕ) → found ≡ not (is-empty l)
+    → (is-empty l ≡ false → other ≡ worth-of least M k s f (best-of least M k s f l)) → value ≡ worth-of least M k s f a → (t : Bool)
+    → wins found other value least ≡ t → best-of least M k s f (l ++ (a ∷ [])) ≡ cond t a (best-of least M k s f l)
+unfolding is-empty wins best-choice first-best better
+best-more least M k s f [] a found other value e o v true h = refl
+best-more least M k s f [] a found other value e o v false h = absurd (false≢true (sym (beaten-some [] found other value least e h)))
+best-more least M k s f (x ∷ l) a found other value e o v t h =
+    first-best-more (weights (order least)) (ordered least) (worth-of least M k s f) x l a
+    ∙ ap (λ u. cond u z a) (ap₂ (order least) (sym v) (sym (o refl)))
+    ∙ turned (order least value other)
+    ∙ ap (λ u. cond u a z) (sym (ap (λ u. not u || not (order least value other)) e) ∙ h)
+  where
+    z : ℕ
+    z = best-of least M k s f (x ∷ l)
+
+    turned : (u : Bool) → cond u z a ≡ cond (not u) a z
+    turned true = refl
+    turned false = refl
 
 -- The choices of the best plan that begins with one of l.
 unfoldable pub so-far : (least : Bool) (M : Model) (k s : ℕ) (f : List Step → ℕ) → List ℕ → List ℕ
@@ -62,7 +93,8 @@ module _ (least : Bool) (M : Model) (k s : ℕ) (f : List Step → ℕ) where
   -- The best of l stands at `at`, the candidate a behind it, and the better of them has been kept.
   module _ (l : List ℕ) (a at : ℕ) (c0 c1 c2 c3 : List ℕ) (b r : Best) (w : Walked) (inside : at ≤ length c0) (T : Tried least M k s f l at c0 c1 b)
       (value : w .value ≡ worth-of least M k s f a) (wrote : Wrote (plan-from least M k s f a) (b .end) c1 c2 (w .end)) (K : Keeps b w at least c2 c3 r) where
-    won : (l′ : List ℕ) → is-empty l′ ≡ false → best l′ ≡ a → wins b (w .value) least ≡ true → Tried least M k s f l′ at c0 c3 r
+    won : (l′ : List ℕ) → is-empty l′ ≡ false → best l′ ≡ a
+        → wins (b .found) (b .value) (w .value) least ≡ true → Tried least M k s f l′ at c0 c3 r
     unfolding so-far
     won l′ e h t =
         let u = K .taken t in
@@ -72,7 +104,8 @@ module _ (least : Bool) (M : Model) (k s : ℕ) (f : List Step → ℕ) where
           wrote = rw (e, h) (subst (λ z. Wrote (plan-from least M k s f a) at c0 c3 (z .end)) (sym (u .0)) (wrote-over (T .wrote) wrote inside c3 (u .1)));
         }
 
-    lost : (l′ : List ℕ) → is-empty l′ ≡ is-empty l → best l′ ≡ best l → wins b (w .value) least ≡ false → Tried least M k s f l′ at c0 c3 r
+    lost : (l′ : List ℕ) → is-empty l′ ≡ is-empty l → best l′ ≡ best l
+        → wins (b .found) (b .value) (w .value) least ≡ false → Tried least M k s f l′ at c0 c3 r
     unfolding so-far
     lost l′ e h t =
         let u = K .left t in
@@ -86,40 +119,16 @@ module _ (least : Bool) (M : Model) (k s : ℕ) (f : List Step → ℕ) where
   pub tried-more : (l : List ℕ) (a at : ℕ) (c0 c1 c2 c3 : List ℕ) (b r : Best) (w : Walked) → at ≤ length c0 → Tried least M k s f l at c0 c1 b
       → w .value ≡ worth-of least M k s f a → Wrote (plan-from least M k s f a) (b .end) c1 c2 (w .end) → Keeps b w at least c2 c3 r
       → Tried least M k s f (l ++ (a ∷ [])) at c0 c3 r
-  unfolding is-empty wins best-choice first-best better
-  tried-more [] a at c0 c1 c2 c3 b r w h T v W K =
-      won [] a at c0 c1 c2 c3 b r w h T v W K (a ∷ []) refl refl (ap (λ t. not t || not (order least (w .value) (b .value))) (T .found))
-  tried-more (x ∷ l) a at c0 c1 c2 c3 b r w h T v W K = go (order least (w .value) (b .value)) refl
+  tried-more l a at c0 c1 c2 c3 b r w h T v W K = go (wins (b .found) (b .value) (w .value) least) refl
     where
-      z : ℕ
-      z = best (x ∷ l)
-
-      winner : (t : Bool) → order least (w .value) (b .value) ≡ t → best ((x ∷ l) ++ (a ∷ [])) ≡ cond t z a
-      winner t e =
-          first-best-more (weights (order least)) (ordered least) (worth-of least M k s f) x l a
-          ∙ ap (λ u. cond u z a) (ap₂ (order least) (sym v) (sym (T .value refl)) ∙ e)
-
-      winning : (t : Bool) → order least (w .value) (b .value) ≡ t → wins b (w .value) least ≡ not t
-      winning t e = ap₂ (λ u i. not u || not i) (T .found) e
-
-      go : (t : Bool) → order least (w .value) (b .value) ≡ t → Tried least M k s f ((x ∷ l) ++ (a ∷ [])) at c0 c3 r
-      go true e = lost (x ∷ l) a at c0 c1 c2 c3 b r w h T v W K ((x ∷ l) ++ (a ∷ [])) refl (winner true e) (winning true e)
-      go false e = won (x ∷ l) a at c0 c1 c2 c3 b r w h T v W K ((x ∷ l) ++ (a ∷ [])) refl (winner false e) (winning false e)
-
-  -- All enabled choices have been tried, and there is one.
-  module _ (l : List ℕ) (a : ℕ) (rest : List ℕ) (at : ℕ) (c0 c : List ℕ) (b : Best) (all : enabled M s ≡ l) (some : enabled M s ≡ a ∷ rest) (T : Tried least M k s f l at c0 c b) where
-    not-none : is-empty l ≡ false
-    unfolding is-empty
-    not-none = ap is-empty (sym all ∙ some)
-
-    pub tried-value : b .value ≡ greatest (weights (order least)) M (suc k) s f
-    tried-value = T .value not-none ∙ ap (λ x. worth-of least M k s f (best x)) (sym all) ∙ sym (greatest-step least M k s f)
-
-    pub tried-wrote : Wrote (best-choices least M (suc k) s f) at c0 c (b .end)
-    unfolding so-far
-    tried-wrote =
-        subst (λ x. Wrote x at c0 c (b .end))
-        (ap (λ t. cond t [] (plan-from least M k s f (best l))) not-none ∙ ap (λ x. plan-from least M k s f (best x)) (sym all) ∙ sym (choices-step least M k s f)) (T .wrote)
+      go : (t : Bool) → wins (b .found) (b .value) (w .value) least ≡ t → Tried least M k s f (l ++ (a ∷ [])) at c0 c3 r
+      go true e =
+          won l a at c0 c1 c2 c3 b r w h T v W K (l ++ (a ∷ [])) (more-some l a)
+          (best-more least M k s f l a (b .found) (b .value) (w .value) (T .found) (T .value) v true e) e
+      go false e =
+          lost l a at c0 c1 c2 c3 b r w h T v W K (l ++ (a ∷ []))
+          (more-some l a ∙ sym (beaten-some l (b .found) (b .value) (w .value) least (T .found) e))
+          (best-more least M k s f l a (b .found) (b .value) (w .value) (T .found) (T .value) v false e) e
 
 -- ---- the loop over the actions
 
@@ -143,6 +152,14 @@ module _ (m : Bytes) (s a : ℕ) where
 module _ (m : Bytes) (passed : refusal (read-model m) ≡ 0) {s : ℕ} (here : s < state-count m) where
   pub sizes-in : (s < 32) × (action-count m ≤ 8)
   sizes-in = let z = passed-sized m (passed-all m passed) in omega (arith, here, z .states, z .actions)
+
+  -- Some action is enabled.
+  pub enabled-some : is-empty (enabled-below m s (action-count m)) ≡ false
+  unfolding is-empty
+  enabled-some =
+      let p = passed-all m passed in
+      let some = (accepted m p) .some-choice s (rw (states-held m) here) in
+      ap is-empty (sym (enabled-entries m p s here) ∙ some .2)
 
   pub count-in : {used : Bytes} → Used m used → (a n : ℕ) → a < 8 → n ≡ getD used (8 * s + a) 0 → n ≡ entries m s a
   count-in U a n h e =
@@ -185,13 +202,21 @@ module _ (least : Bool) (m : Bytes) (f : List Step → ℕ) (s k : ℕ) where
         go true = zero-le
         go false = plan-few m passed least k s f _
 
-    pub picked-all : s < state-count m → Tried least (model-of m) k s f (enabled-below m s (action-count m)) at c0 c b
-        → Picked least m f s (suc k) at c0 c b
-    picked-all h T =
-        let p = passed-all m passed in
-        let e = enabled-entries m p s h in
-        let some = (accepted m p) .some-choice s (rw (states-held m) h) in
-        record {
-          value = tried-value least (model-of m) k s f (enabled-below m s (action-count m)) (some .0) (some .1) at c0 c b e (some .2) T;
-          wrote = tried-wrote least (model-of m) k s f (enabled-below m s (action-count m)) (some .0) (some .1) at c0 c b e (some .2) T;
-        }
+    -- The best of all enabled choices.
+    module _ (here : s < state-count m) where
+      pub picked-best : (a : ℕ) → a ≡ best-of least (model-of m) k s f (enabled-below m s (action-count m))
+          → b .value ≡ worth-of least (model-of m) k s f a → Wrote (plan-from least (model-of m) k s f a) at c0 c (b .end) → Picked least m f s (suc k) at c0 c b
+      picked-best a e v w =
+          let h : a ≡ best-of least (model-of m) k s f (enabled (model-of m) s) =
+          e ∙ ap (best-of least (model-of m) k s f) (sym (enabled-entries m (passed-all m passed) s here)) in
+          record {
+            value = v ∙ ap (worth-of least (model-of m) k s f) h ∙ sym (greatest-step least (model-of m) k s f);
+            wrote = subst (λ l. Wrote l at c0 c (b .end)) (ap (plan-from least (model-of m) k s f) h ∙ sym (choices-step least (model-of m) k s f)) w;
+          }
+
+      pub picked-all : Tried least (model-of m) k s f (enabled-below m s (action-count m)) at c0 c b → Picked least m f s (suc k) at c0 c b
+      unfolding so-far
+      picked-all T =
+          let z : ℕ = best-of least (model-of m) k s f (enabled-below m s (action-count m)) in
+          picked-best z refl (T .value (enabled-some m passed here))
+          (subst (λ t. Wrote (cond t [] (plan-from least (model-of m) k s f z)) at c0 c (b .end)) (enabled-some m passed here) (T .wrote))

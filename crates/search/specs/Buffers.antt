@@ -28,15 +28,15 @@ pub record Wrote (x : List ℕ) (at : ℕ) (before after : List ℕ) (end : ℕ)
   pub next : end ≡ at + length x
 
 -- A candidate wins where there is no best yet or it is better, not where it is as good: first among equals.
-unfoldable pub wins : Best → ℕ → Bool → Bool
-wins b value least = not (b .found) || not (order least value (b .value))
+unfoldable pub wins : (found : Bool) (other value : ℕ) (least : Bool) → Bool
+wins found other value least = not found || not (order least value other)
 
 -- The candidate, which stands from the end of the best on, moved down to `at` if it wins.
 pub record Keeps (b : Best) (w : Walked) (at : ℕ) (least : Bool) (before after : List ℕ) (r : Best) : Type 0 where
-  pub taken : wins b (w .value) least ≡ true
+  pub taken : wins (b .found) (b .value) (w .value) least ≡ true
       → (r ≡ record { found = true; value = w .value; end = at + (w .end - b .end) })
       × (take (at + (w .end - b .end)) after ≡ take at before ++ take (w .end - b .end) (drop (b .end) before))
-  pub left : wins b (w .value) least ≡ false → (r ≡ b) × (after ≡ before)
+  pub left : wins (b .found) (b .value) (w .value) least ≡ false → (r ≡ b) × (after ≡ before)
 
 -- A search of k steps goes on in the state s, where the first h bytes of the trail lead.
 pub record Setting (m used q : Bytes) (depths truth cone late : List ℕ) (rewards : List ℤ) (start : ℕ) (trail : List ℕ) (gains : List ℤ) (v : List ℕ)

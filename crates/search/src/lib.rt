@@ -56,11 +56,10 @@ fn exceeds(value: u64, other: u64, least: bool) -> bool
     other < value
 }
 
-fn wins(b: Best, value: u64, least: bool) -> bool
-    ensures { λ r. ⌜ r ≡ spec.wins b value least ⌝ }
+// Whether a total wins over the best so far, if there is one.
+fn wins(found: bool, other: u64, value: u64, least: bool) -> bool
+    ensures { λ r. ⌜ r ≡ spec.wins found other value least ⌝ }
 {
-    let found = b.found;
-    let other = b.value;
     if found {
         return exceeds(value, other, least);
     }
@@ -87,7 +86,7 @@ fn keep(choices: &mut [u8], b: Best, w: Walked, at: usize, least: bool) -> Best
     let value = w.value;
     let from = b.end;
     let n = w.end - from;
-    if wins(b, value, least) {
+    if wins(b.found, b.value, value, least) {
         move_down(choices, at, from, n);
         return Best {
             found: true,
@@ -147,25 +146,27 @@ fn last_choice(
     ensures { λ r. ⌜ Ends least (now (m .entry)) s x at (now (choices .entry)) (now (choices .exit)) r ⌝ }
 {
     let n = byte(m, 3);
-    let mut best = Best {
-        found: false,
-        value: 0,
-        end: at,
-    };
+    let mut found = false;
+    let mut value: u64 = 0;
+    let mut action: u8 = 0;
     let mut a: u8 = 0;
     while a < n {
         if count(used, s, a) != 0 {
-            let from = best.end;
-            choices[from] = a;
-            let w = Walked {
-                value: total(m, x, s, a),
-                end: from + 1,
-            };
-            best = keep(choices, best, w, at, least);
+            let v = total(m, x, s, a);
+            if wins(found, value, v, least) {
+                found = true;
+                value = v;
+                action = a;
+            }
         }
         a += 1;
     }
-    best
+    choices[at] = action;
+    Best {
+        found: true,
+        value: value,
+        end: at + 1,
+    }
 }
 
 // Picks the best choice in the state s, with k steps left, and writes its plan's choices from `at` on.

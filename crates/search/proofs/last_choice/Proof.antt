@@ -4,18 +4,18 @@ use native.Mathlib.Omega.{arith}
 use mathlib.Core.Path.{_≡_, sym, _∙_}
 use mathlib.Core.Logic.{⊎-elim}
 use borrow.Author.Needs.{needs}
-use lib.ListN.{length-set}
 use Rattle.models.specs.Layout.{action-count}
 use Rattle.search.proofs.Trying.{sizes-in, count-in}
-use Rattle.search.proofs.Ending.{Ending, ending-none, ending-skipped, ending-room, ending-taken, ending-all}
+use Rattle.search.proofs.Ending.{Ending, ending-none, ending-skipped, ending-won, ending-lost, ending-all}
 use Rattle.search.proofs.last_choice.Statement.{statement}
 use Rattle.search.proofs.last_choice.Tie as tie
 
 abbrev Inv-loop : tie.InvT-loop
-Inv-loop m used choices₀ x s at least n best₀ a₀ choices best a = (n ≡ action-count m) × (a ≤ n) × Ending least m s x at choices₀ a choices best
+Inv-loop m used choices x s at least n found₀ value₀ action₀ a₀ found value action a =
+    (n ≡ action-count m) × (a ≤ n) × Ending least m s x a found value action
 
 abbrev μ-loop : tie.MeasureT-loop
-μ-loop m used choices₀ x s at least n best₀ a₀ choices best a = n - a
+μ-loop m used choices x s at least n found₀ value₀ action₀ a₀ found value action a = n - a
 
 byte-requires : tie.Need-byte-requires Inv-loop μ-loop
 byte-requires c κs = search needs
@@ -29,24 +29,14 @@ count-requires c κs = let S = c .before .before .before .before .before in
     let z = sizes-in (S .args .m .now) (S .pre .0) (S .pre .2) in
     (z .0, omega (arith, z .1, L .inv .0, c .loop-test .taken))
 
-slice-write-choices : tie.Need-slice-write-choices Inv-loop μ-loop
-slice-write-choices c = let L = c .before .before .before .loop in
-    omega (arith, ending-room (L .inv .2) (c .before .before .before .before .before .before .before .pre .3))
-
 total-requires : tie.Need-total-requires Inv-loop μ-loop
 total-requires c κs = let S = c .before .before .before .before .before .before .before in
     let L = c .before .before .before .loop in
     let z = sizes-in (S .args .m .now) (S .pre .0) (S .pre .2) in
     (S .pre .0, S .pre .2, z .0, omega (arith, z .1, L .inv .0, c .before .before .loop-test .taken))
 
-add-t17 : tie.Need-add-t17 Inv-loop μ-loop
-add-t17 c = let L = c .before .before .before .before .loop in
-    omega (arith, ending-room (L .inv .2) (c .before .before .before .before .before .before .before .before .pre .3))
-
-keep-requires : tie.Need-keep-requires Inv-loop μ-loop
-keep-requires c κs = let L = c .before .before .before .before .before .loop in
-    let r = ending-room (L .inv .2) (c .before .before .before .before .before .before .before .before .before .pre .3) in
-    (L .inv .2 .from, omega arith, simp length-set (omega (arith, r)))
+wins-requires : tie.Need-wins-requires Inv-loop μ-loop
+wins-requires c κs = search needs
 
 add-a : tie.Need-add-a Inv-loop μ-loop
 add-a c = search needs
@@ -59,19 +49,30 @@ loop-again c = let S = c .before .before .before .before .before .before .before
     let L = c .before .before .before .loop in
     let less : L .a < 8 = omega (arith, sizes-in (S .args .m .now) (S .pre .0) (S .pre .2) .1, L .inv .0, c .before .before .loop-test .taken) in
     let n = count-in (S .args .m .now) (S .pre .0) (S .pre .2) (S .pre .1) (L .a) (c .before .count .result) less (c .before .count .ensures) in
-    let more : L .a + 1 ≤ c .before .before .before .before .byte .result = omega (arith, c .before .before .loop-test .taken) in
-    ⊎-elim
-    (λ w. (L .inv .0, more, rw (w .6, w .7) (ending-taken (L .inv .2) (S .pre .3) (λ e. w .0 .taken (n ∙ e)) (w .1 .ensures) (w .3 .ensures) (w .3 .kept .0))))
-    (λ w. (L .inv .0, more, rw (w .1, w .2) (ending-skipped (L .inv .2) (sym n ∙ w .0 .left))))
-    (c .if1 .came)
+    let more : L .a + 1 ≤ c .before .before .before .before .byte .result = omega (arith, c .before .before .loop-test .taken) in (
+      L .inv .0,
+      more,
+      ⊎-elim
+          (λ w. rw (w .4, w .5, w .6) (ending-won (L .inv .2) (λ e. w .0 .taken (n ∙ e)) (w .1 .ensures) (sym (w .2 .ensures) ∙ w .3 .taken)))
+          (⊎-elim
+          (λ w. rw (w .4, w .5, w .6) (ending-lost (L .inv .2) (λ e. w .0 .taken (n ∙ e)) (w .1 .ensures) (sym (w .2 .ensures) ∙ w .3 .left)))
+          (λ w. rw (w .1, w .2, w .3) (ending-skipped (L .inv .2) (sym n ∙ w .0 .left))))
+          (c .if1 .came),
+    )
+
+slice-write-choices : tie.Need-slice-write-choices Inv-loop μ-loop
+slice-write-choices c = search needs
+
+add-t18 : tie.Need-add-t18 Inv-loop μ-loop
+add-t18 c = search needs
 
 same-length : tie.Need-same-length Inv-loop μ-loop
-same-length c = c .before .loop .inv .2 .room
+same-length c = search needs
 
 returns : tie.Need-returns Inv-loop μ-loop
 returns c = let S = c .before .before .before .before .before in
     let L = c .before .loop in
-    ending-all (L .inv .2) (S .pre .0) (S .pre .2) (omega (arith, L .inv .0))
+    ending-all (L .inv .2) (S .pre .0) (S .pre .2) (omega (arith, L .inv .0)) (omega (arith, S .pre .3))
 
 pub last-choice-spec : {M : Type 1} → statement M
 last-choice-spec =
@@ -82,12 +83,12 @@ last-choice-spec =
     byte-requires
     loop-holds
     count-requires
-    slice-write-choices
     total-requires
-    add-t17
-    keep-requires
+    wins-requires
     add-a
     loop-less
     loop-again
+    slice-write-choices
+    add-t18
     same-length
     returns)

@@ -13,12 +13,12 @@ exceeds-requires c κs = search needs
 returns : tie.Need-returns
 unfolding wins
 returns c = let S = c .before .before .args in
-    c .exceeds .ensures ∙ ap (λ t. not t || not (order (S .least) (S .value) (S .b .value))) (sym (c .before .if1 .taken))
+    c .exceeds .ensures ∙ ap (λ t. not t || not (order (S .least) (S .value) (S .other))) (sym (c .before .if1 .taken))
 
 returns-2 : tie.Need-returns-2
 unfolding wins
 returns-2 c = let S = c .before .args in
-    ap (λ t. not t || not (order (S .least) (S .value) (S .b .value))) (sym (c .if1 .left))
+    ap (λ t. not t || not (order (S .least) (S .value) (S .other))) (sym (c .if1 .left))
 
 pub wins-spec : {M : Type 1} → statement M
 wins-spec = tie.close (tie.spec exceeds-requires returns returns-2)
