@@ -277,6 +277,7 @@ pub fn bench_cases() -> Vec<Case> {
         case("and-of-itself-38", &ten, &doubled_formula()),
         case("nested-shallow-37", &ten, &nested_shallow()),
         case("nested-deep-gains", &ten, &nested_deep("greater", 6)),
+        case("nested-one-gain", &ten, &nested_one_gain()),
         case("nested-equal", &levels, &nested_deep("equal", 3)),
     ]
 }
@@ -313,6 +314,22 @@ fn nested_shallow() -> Vec<String> {
 }
 
 /// Plan nodes that need the one below in every state, each with a gain.
+/// As many "plan" nodes as 40 nodes allow, each a search six steps deep in
+/// every state: all ask for the same gain and for the node before.
+fn nested_one_gain() -> Vec<String> {
+    let mut nodes = words(&["gain 6 steps greater 0", "plan 0 steps 6 greater 1/1000"]);
+    while nodes.len() + 5 <= 40 {
+        let last = nodes.len() - 1;
+        nodes.push(format!("and 0 {last}"));
+        nodes.push(format!("plan {} steps 6 greater 1/1000", last + 1));
+    }
+    let last = nodes.len() - 1;
+    nodes.push(format!("next {last}"));
+    nodes.push(format!("next {}", last + 1));
+    nodes.push(format!("plan {} steps 2 greater 1/1000", last + 2));
+    nodes
+}
+
 fn nested_deep(relation: &str, gain: u8) -> Vec<String> {
     let mut nodes = words(&["proposition 0"]);
     while nodes.len() + 4 <= 40 {
