@@ -5,7 +5,7 @@ use mathlib.Core.List.{List}
 use lib.IntN.{ℤ, pos}
 use lib.ListN.{getD}
 use Rattle.blocks.specs.Bytes.{Bytes}
-use Rattle.models.specs.Layout.{state-count, outcome-of, entries}
+use Rattle.models.specs.Layout.{state-count, action-count, outcome-of, entries}
 
 -- The bit of lane i.
 unfoldable pub lane : ℕ → ℕ → ℕ
@@ -19,6 +19,10 @@ pub record Lanes (value : ℕ → ℕ) (x : ℕ) : Type 0 where
 pub record Laned (m : Bytes) (s : ℕ) (value : ℕ → ℕ → ℕ) (x : ℕ) : Type 0 where
   pub right : (a o : ℕ) → o < entries m s a → lane x (4 * a + o) ≡ value a o
 
--- A table of the rewards of all outcomes, 32 lanes a state.
-pub record Rewards (m : Bytes) (r : List ℤ) : Type 0 where
-  pub right : (k : ℕ) → k < 32 * state-count m → getD r k (pos 0) ≡ (outcome-of m (k / 32) (k / 4 % 8) (k % 4)) .reward
+-- A table of the rewards of the outcomes, 32 lanes a state: below `end` it has them in the lanes of the model's actions.
+pub record Rewarded (m : Bytes) (end : ℕ) (r : List ℤ) : Type 0 where
+  pub right : (k : ℕ) → k < end → k % 32 < 4 * action-count m → getD r k (pos 0) ≡ (outcome-of m (k / 32) (k / 4 % 8) (k % 4)) .reward
+
+-- The table of the rewards of all outcomes.
+abbrev pub Rewards : Bytes → List ℤ → Type 0
+Rewards m r = Rewarded m (32 * state-count m) r

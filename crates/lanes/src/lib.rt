@@ -5,6 +5,7 @@ ghost use Prim.Native.Nat.{_+_, _*_, _<_, _≤_};
 ghost use lib.Bits.{bitAnd};
 ghost use lib.Dec.{eqb};
 ghost use lib.IntN.{_+ℤ_, _-ℤ_};
+ghost use lib.ListN.{length};
 ghost use Rattle.logic.specs.Checked.{refusal};
 ghost use Rattle.logic.specs.Formula.{relation};
 ghost use Rattle.logic.specs.Quantity.{integers};
@@ -13,8 +14,8 @@ ghost use Rattle.logic.specs.Total.{one-if};
 ghost use Rattle.blocks.specs.Block.{sum-below};
 ghost use Rattle.blocks.specs.Bytes as bytes;
 ghost use Rattle.models.specs.Grounds.{read-model};
-ghost use Rattle.models.specs.Layout.{state-count, outcome-of, entries};
-ghost use Rattle.lanes.specs.Lanes.{Lanes, Laned, Rewards};
+ghost use Rattle.models.specs.Layout.{state-count, action-count, outcome-of, entries};
+ghost use Rattle.lanes.specs.Lanes.{Lanes, Laned, Rewarded, Rewards};
 ghost use Rattle.lanes.specs.Lanes as spec;
 use blocks::byte;
 use blocks::wide;
@@ -138,17 +139,32 @@ pub fn total(m: &[u8], x: u32, s: u8, a: u8) -> u64
         + part(m, s, a, 3, y >> 3)
 }
 
+// ---- the rewards
+
+// Puts the rewards of a state's outcomes into its lanes.
+fn reward_row(m: &[u8], r: &mut [i32], s: usize, n: usize)
+    requires { ⌜ (s < 32) × (n ≡ 4 * action-count (now m)) × (n ≤ 32) × (length (now r) ≡ 1024) × Rewarded (now m) (32 * s) (now r) ⌝ }
+    ensures { λ _. ⌜ Rewarded (now (m .entry)) (32 * s + 32) (now (r .exit)) ⌝ }
+{
+    let mut i: usize = 0;
+    while i < n {
+        r[32 * s + i] = reward(m, s, i / 4, i % 4);
+        i += 1;
+    }
+}
+
 // The rewards of all outcomes.
 pub fn rewards(m: &[u8]) -> [i32; 1024]
-    requires { ⌜ state-count (now m) ≤ 32 ⌝ }
+    requires { ⌜ (state-count (now m) ≤ 32) × (action-count (now m) ≤ 8) ⌝ }
     ensures { λ r. ⌜ Rewards (now (m .entry)) r ⌝ }
 {
     let mut r = [0i32; 1024];
-    let n = 32 * wide(m, 2);
-    let mut k: usize = 0;
-    while k < n {
-        r[k] = reward(m, k / 32, k / 4 % 8, k % 4);
-        k += 1;
+    let states = wide(m, 2);
+    let n = 4 * wide(m, 3);
+    let mut s: usize = 0;
+    while s < states {
+        reward_row(m, &mut r, s, n);
+        s += 1;
     }
     r
 }

@@ -165,8 +165,8 @@ module _ {m q : Bytes} {start : ℕ} {depths truth cone : List ℕ} (R : Ready m
   pub late-asked : Cone q cone × (depths ≡ table depth (formulas-of q)) × (node-count q ≤ 40)
   late-asked = (R .ordered, R .depths-right, (accepted (state-count m) (action-count m) (prop-count m) q (R .question-accepted)) .few-nodes)
 
-  pub rewards-asked : state-count m ≤ 32
-  rewards-asked = (passed-sized m (passed-all m (R .model-accepted))) .states
+  pub rewards-asked : (state-count m ≤ 32) × (action-count m ≤ 8)
+  rewards-asked = let z = passed-sized m (passed-all m (R .model-accepted)) in (z .states, z .actions)
 
 pub setting-start : {m used q : Bytes} {depths truth cone late : List ℕ} {rewards : List ℤ} {start d : ℕ} {trail : List ℕ} {gains : List ℤ} {v v′ : List ℕ}
     → Ready m q start depths truth cone → Used m used → Late q cone late → Rewards m rewards → d ≡ depth (formula q (root-of cone)) → d ≤ 6 → Roomy trail gains v → length v′ ≡ length v

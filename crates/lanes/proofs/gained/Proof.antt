@@ -101,7 +101,7 @@ loop-again c = let L = c .before .before .before .before .loop in
     let S = c .before .before .before .before .before .before .before in
     let A = S .args in
     let n = few-lanes (A .m .now) (S .pre .0 .0) in
-    let z = widened (read S (L .i)) (c .before .before .related-arg .given) ∙ reward-at (S .pre .1) (S .pre .0 .1) (omega arith) in (
+    let z = widened (read S (L .i)) (c .before .before .related-arg .given) ∙ reward-at (S .pre .1) (S .pre .0 .1) (omega arith) (omega arith) in (
       omega arith,
       built-more _ _ (c .before .before .before .loop-test .taken) (L .inv .0) (L .inv .1) (c .pushed .ensures)
           (c .before .related .ensures

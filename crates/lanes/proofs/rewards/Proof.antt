@@ -1,61 +1,47 @@
--- The invariant: the table has 1024 entries, and each of those passed is its outcome's reward.
-use Prim.Native.Nat.{ℕ, _-_, _/_, _%_, _≤_, _<_}
+-- The invariant: the table has 1024 entries, and the lanes of the states passed have their outcomes' rewards.
+use Prim.Native.Nat.{_*_, _-_, _≤_}
 use native.Mathlib.Omega.{arith}
-use mathlib.Core.Path.{_≡_, refl, _∙_}
-use lib.IntN.{ℤ, pos}
-use lib.ListN.{length, getD, set, length-set}
-use lib.Seq.{getD-set-same, getD-set-other}
-use borrow.Author.Count.{below-more}
-use Rattle.models.specs.Layout.{outcome-of}
-use Rattle.evaluation.proofs.Integers.{fits32}
+use mathlib.Core.Path.{_≡_, refl}
+use lib.ListN.{length}
+use Rattle.lanes.specs.Lanes.{Rewarded}
 use Rattle.lanes.proofs.rewards.Statement.{statement}
 use Rattle.lanes.proofs.rewards.Tie as tie
 
 abbrev Inv-loop : tie.InvT-loop
-Inv-loop m r₀ n k₀ r k = (k ≤ n) × (length r ≡ 1024) × ((j : ℕ) → j < k → getD r j (pos 0) ≡ (outcome-of m (j / 32) (j / 4 % 8) (j % 4)) .reward)
+Inv-loop m r₀ states n s₀ r s = (s ≤ states) × (length r ≡ 1024) × Rewarded m (32 * s) r
 
 abbrev μ-loop : tie.MeasureT-loop
-μ-loop m r₀ n k₀ r k = n - k
+μ-loop m r₀ states n s₀ r s = states - s
 
 wide-requires : tie.Need-wide-requires Inv-loop μ-loop
 wide-requires c κs = tt
+
+wide-requires-2 : tie.Need-wide-requires-2 Inv-loop μ-loop
+wide-requires-2 c κs = tt
 
 mul-n : tie.Need-mul-n Inv-loop μ-loop
 mul-n c = omega arith
 
 loop-holds : tie.Need-loop-holds Inv-loop μ-loop
-loop-holds c = (omega arith, refl, λ j h. absurd (omega arith))
+loop-holds c = (omega arith, refl, record { right = λ k h g. absurd (omega arith) })
 
-reward-requires : tie.Need-reward-requires Inv-loop μ-loop
-reward-requires c κs = omega arith
+slice-aggregate-reward-row : tie.Need-slice-aggregate-reward-row Inv-loop μ-loop
+slice-aggregate-reward-row c = omega arith
 
-mul-r : tie.Need-mul-r Inv-loop μ-loop
-mul-r c = omega arith
+reward-row-requires : tie.Need-reward-row-requires Inv-loop μ-loop
+reward-row-requires c κs = (omega arith, omega arith, omega arith, omega arith, c .before .before .loop .inv .2)
 
-array-set-from-r : tie.Need-array-set-from-r Inv-loop μ-loop
-array-set-from-r c = omega arith
-
-add-k : tie.Need-add-k Inv-loop μ-loop
-add-k c = omega arith
+add-s : tie.Need-add-s Inv-loop μ-loop
+add-s c = omega arith
 
 loop-less : tie.Need-loop-less Inv-loop μ-loop
 loop-less c = omega arith
 
 loop-again : tie.Need-loop-again Inv-loop μ-loop
-loop-again c = let m = c .before .before .before .before .before .args .m .now in
-    let L = c .before .before .loop in
-    let v = c .reward .result in
-    let f : ℕ → ℤ = λ j. (outcome-of m (j / 32) (j / 4 % 8) (j % 4)) .reward in
-    rw (fits32 v (c .reward .ok)) (
-      omega arith,
-      length-set (L .r) (L .k) v ∙ L .inv .1,
-      below-more (λ j. getD (set (L .r) (L .k) v) j (pos 0) ≡ f j) (L .k)
-          (λ j i. getD-set-other (L .r) (L .k) j v (pos 0) (omega arith) ∙ L .inv .2 j i)
-          (getD-set-same (L .r) (L .k) v (pos 0) (omega arith) ∙ c .reward .ensures .0),
-    )
+loop-again c = let R = c .before .reward-row in (omega arith, omega arith, record { right = λ k h g. R .ensures .right k (omega arith) g })
 
 returns : tie.Need-returns Inv-loop μ-loop
-returns c = record { right = λ k h. c .before .loop .inv .2 k (omega arith) }
+returns c = record { right = λ k h g. c .before .loop .inv .2 .right k (omega arith) g }
 
 pub rewards-spec : {M : Type 1} → statement M
 rewards-spec =
@@ -64,12 +50,12 @@ rewards-spec =
     Inv-loop
     μ-loop
     wide-requires
+    wide-requires-2
     mul-n
     loop-holds
-    reward-requires
-    mul-r
-    array-set-from-r
-    add-k
+    slice-aggregate-reward-row
+    reward-row-requires
+    add-s
     loop-less
     loop-again
     returns)
