@@ -1,5 +1,5 @@
 -- Lists written while a path is followed: one after the other, where the condition is decided, and below an outcome.
-use Prim.Native.Nat.{ℕ, _+_, _*_, _^_, _/_, _%_, _≤_, _<_}
+use Prim.Native.Nat.{ℕ, _+_, _*_, _^_, _≤_, _<_}
 use native.Mathlib.Nat.{add-zero}
 use native.Mathlib.Omega.{arith}
 use mathlib.Core.Path.{_≡_, refl, sym, ap, ap₂, subst, _∙_}
@@ -12,6 +12,7 @@ use Rattle.logic.specs.Limits.{plan-total}
 use Rattle.blocks.specs.Bytes.{Bytes, byte}
 use Rattle.models.specs.Layout.{state-count, model-of, entries, outcome-of}
 use Rattle.models.proofs.Held.{states-held, denominator-held}
+use Rattle.models.proofs.Table.{used-at}
 use Rattle.evaluation.specs.Path.{state-after}
 use Rattle.evaluation.specs.Reached.{root-of, on-path}
 use Rattle.evaluation.specs.Learnt.{known}
@@ -87,11 +88,7 @@ module _ {m q : Bytes} {start d : ℕ} {depths truth cone used table : List ℕ}
   action-small s a o h u = omega (arith, fair m (G .ready .model-accepted) s a o h u .action, is-sized m (G .ready .model-accepted) .actions)
 
   pub uses-right : (s a : ℕ) {x : ℕ} → s < state-count m → a < 8 → x ≡ getD used (8 * s + a) 0 → x ≡ entries m s a
-  uses-right s a h g e =
-      let l : s < 32 = state-small h in
-      let y : (8 * s + a) / 8 ≡ s = omega arith in
-      let z : (8 * s + a) % 8 ≡ a = omega arith in
-      e ∙ G .uses .count (8 * s + a) (omega arith) ∙ ap₂ (entries m) y z
+  uses-right s a h g e = e ∙ used-at m (G .uses) s a (state-small h) g
 
   module _ {trail : List ℕ} {gains : List ℤ} {v : List ℕ} {h s k : ℕ} (H : Here m q start d cone trail gains v h s k) where
     pub path-length : length (take h trail) ≡ h

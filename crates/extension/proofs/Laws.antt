@@ -22,6 +22,7 @@ use Rattle.models.specs.Readable.{Readable}
 use Rattle.models.specs.Used.{Used}
 use Rattle.models.proofs.Laws.{entries-past-actions}
 use Rattle.models.proofs.Rows.{outcomes-are, enabled-are, entries-few}
+use Rattle.models.proofs.Table.{used-at}
 use Rattle.extension.specs.Choices.{Run, each, choice-at, after-choice, extend, count-in, first-in, splice, room, Ran}
 
 -- ---- splices
@@ -217,8 +218,7 @@ module _ (b : Bytes) (r : Readable b) {used : List ℕ} (u : Used b used) (s : �
       go : Dec (a < 8) → cond (ltb a 8) (getD used (8 * s + a) 0) 0 ≡ entries b s a
       go (yes h) =
           ap (λ t. cond t (getD used (8 * s + a) 0) 0) (lt-ltb a 8 h)
-          ∙ u .count (8 * s + a) (omega (arith, r .states))
-          ∙ ap₂ (entries b) (omega arith) (omega arith)
+          ∙ used-at b u s a (omega (arith, r .states)) h
       go (no h) = ap (λ t. cond t (getD used (8 * s + a) 0) 0) (le-ltb a 8 (omega arith)) ∙ sym (entries-past-actions b s a (omega (arith, r .actions)))
 
   pub first-enabled : first-in used s ≡ first-choice (model-of b) s

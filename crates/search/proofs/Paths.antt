@@ -18,6 +18,7 @@ use Rattle.models.specs.Grounds.{read-model}
 use Rattle.models.specs.Used.{Used}
 use Rattle.models.proofs.Passed.{passed-all, passed-sized}
 use Rattle.models.proofs.Laws.{entries-small}
+use Rattle.models.proofs.Table.{used-at}
 use Rattle.evaluation.specs.Path.{state-after}
 use Rattle.evaluation.specs.Reached.{root-of, on-path}
 use Rattle.evaluation.specs.Learnt.{known}
@@ -31,7 +32,7 @@ use Rattle.search.specs.Greatest.{best-choices}
 use Rattle.search.specs.Buffers.{Wrote, Setting, Back, Picked, Ends}
 use Rattle.search.specs.declared.Best.{Best}
 use Rattle.search.proofs.Stack.{wrote-none}
-use Rattle.search.proofs.Trying.{sizes-in, count-in}
+use Rattle.search.proofs.Trying.{sizes-in}
 
 module _ {m used q : Bytes} {depths truth cone late : List ℕ} {rewards : List ℤ} {start : ℕ} {trail : List ℕ} {gains : List ℤ} {v : List ℕ} {h s k : ℕ}
     (S : Setting m used q depths truth cone late rewards start trail gains v h s k) where
@@ -45,7 +46,7 @@ module _ {m used q : Bytes} {depths truth cone late : List ℕ} {rewards : List 
   few-here a = entries-small m (passed-sized m (passed-all m (S .ready .model-accepted))) s a
 
   pub count-here : (a n : ℕ) → a < 8 → n ≡ getD used (8 * s + a) 0 → n ≡ entries m s a
-  count-here a n h e = count-in m (S .ready .model-accepted) state-here (S .counted) a n h e
+  count-here a n h e = e ∙ used-at m (S .counted) s a (sizes-here .0) h
 
   length-here : length (take h trail) ≡ h
   length-here = length-take-le h trail (omega (arith, S .few, S .roomy .steps))

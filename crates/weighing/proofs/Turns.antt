@@ -27,6 +27,7 @@ use Rattle.models.specs.Used.{Used}
 use Rattle.models.proofs.Laws.{entries-past-actions}
 use Rattle.models.proofs.Readable.{readable}
 use Rattle.models.proofs.Rows.{outcomes-are, entries-few}
+use Rattle.models.proofs.Table.{used-at}
 use Rattle.evaluation.specs.Path.{steps-of, state-after}
 use Rattle.evaluation.specs.Reached.{formula, root-of, on-path, Ready}
 use Rattle.evaluation.specs.Learnt.{known, learnt}
@@ -79,8 +80,7 @@ module _ (m : Bytes) (r : Readable m) {used : List ℕ} (u : Used m used) (s : �
       go : Dec (a < 8) → cond (ltb a 8) (getD used (8 * s + a) 0) 0 ≡ entries m s a
       go (yes h) =
           ap (λ t. cond t (getD used (8 * s + a) 0) 0) (lt-ltb a 8 h)
-          ∙ u .count (8 * s + a) (omega (arith, r .states))
-          ∙ ap₂ (entries m) (omega arith) (omega arith)
+          ∙ used-at m u s a (omega (arith, r .states)) h
       go (no h) = ap (λ t. cond t (getD used (8 * s + a) 0) 0) (le-ltb a 8 (omega arith)) ∙ sym (entries-past-actions m s a (omega (arith, r .actions)))
 
 -- ---- the loop over the outcomes
