@@ -3,16 +3,12 @@
 use Prim.Native.Nat.{ℕ, zero, suc, _+_, _*_, _-_, _^_, _≤_, _<_}
 use native.Mathlib.Omega.{arith}
 use native.Mathlib.Numerals.{add-one}
-use native.Mathlib.Decide.{decLt}
 use native.Mathlib.Nat.{mul-le-mul, mul-le-mul-right}
 use mathlib.Core.Path.{_≡_, refl, sym, ap, ap₂, subst, _∙_}
-use mathlib.Core.Bool.{cond}
 use mathlib.Core.List.{List, [], _∷_, _++_}
-use lib.Dec.{ltb}
 use lib.IntN.{ℤ, pos}
 use lib.ListN.{length, getD, take, drop, drop-of-length-le}
 use lib.Seq.{length-take-le, take-take, take-at, getD-drop, drop-drop}
-use borrow.Author.Tests.{lt-ltb, le-ltb}
 use Rattle.logic.specs.Lists.{tabulate, count-from}
 use Rattle.logic.specs.Model.{Model, Step, outcomes}
 use Rattle.logic.specs.Checked.{ok}
@@ -22,12 +18,10 @@ use Rattle.logic.specs.Formula.{depth, W}
 use Rattle.logic.proofs.Tests.{tabulate-more}
 use Rattle.blocks.specs.Bytes.{Bytes}
 use Rattle.models.specs.Layout.{state-count, outcome-of, entries, model-of}
-use Rattle.models.specs.Readable.{Readable}
-use Rattle.models.specs.Used.{Used}
-use Rattle.models.proofs.Laws.{entries-past-actions}
+use Rattle.models.specs.Used.{Used, count-in}
 use Rattle.models.proofs.Readable.{readable}
 use Rattle.models.proofs.Rows.{outcomes-are, entries-few}
-use Rattle.models.proofs.Table.{used-at}
+use Rattle.models.proofs.Table.{count-entries}
 use Rattle.evaluation.specs.Path.{steps-of, state-after}
 use Rattle.evaluation.specs.Reached.{formula, root-of, on-path, Ready}
 use Rattle.evaluation.specs.Learnt.{known, learnt}
@@ -36,7 +30,7 @@ use Rattle.evaluation.proofs.Trails.{fair, state-inside}
 use Rattle.evaluation.proofs.Knowing.{knows-shorter}
 use Rattle.evaluation.proofs.Stepping.{leaf-value, begun, state-stepped, on-path-stepped}
 use Rattle.evaluation.proofs.Values.{one-if-small, learnt-length}
-use Rattle.weighing.specs.Sums.{Run, each, weigh, count-in}
+use Rattle.weighing.specs.Sums.{Run, each, weigh}
 use Rattle.weighing.specs.Places.{Here, Ran}
 use Rattle.weighing.proofs.Plans.{plan-weighed}
 use Rattle.weighing.proofs.Fits.{each-more, outcomes-small, weigh-small, power-small}
@@ -60,28 +54,6 @@ after-choice choices at = sym (drop-drop 1 at choices)
 -- Beyond the end there are no more choices.
 pub after-end : (choices : List ℕ) (at : ℕ) → length choices ≤ at → drop at choices ≡ drop 1 (drop at choices)
 after-end choices at h = let e : drop at choices ≡ [] = drop-of-length-le choices {i = at} h in e ∙ sym (ap (drop 1) e)
-
--- ---- the table of used entries
-
-module _ (used : List ℕ) (s a : ℕ) where
-  pub count-some : a < 8 → getD used (8 * s + a) 0 ≡ count-in used s a
-  unfolding count-in
-  count-some h = ap (λ t. cond t (getD used (8 * s + a) 0) 0) (sym (lt-ltb a 8 h))
-
-  pub count-none : 8 ≤ a → 0 ≡ count-in used s a
-  unfolding count-in
-  count-none h = ap (λ t. cond t (getD used (8 * s + a) 0) 0) (sym (le-ltb a 8 h))
-
-module _ (m : Bytes) (r : Readable m) {used : List ℕ} (u : Used m used) (s : ℕ) (k : s < state-count m) where
-  count-entries : (a : ℕ) → count-in used s a ≡ entries m s a
-  unfolding count-in
-  count-entries a = go (decLt a 8)
-    where
-      go : Dec (a < 8) → cond (ltb a 8) (getD used (8 * s + a) 0) 0 ≡ entries m s a
-      go (yes h) =
-          ap (λ t. cond t (getD used (8 * s + a) 0) 0) (lt-ltb a 8 h)
-          ∙ used-at m u s a (omega (arith, r .states)) h
-      go (no h) = ap (λ t. cond t (getD used (8 * s + a) 0) 0) (le-ltb a 8 (omega arith)) ∙ sym (entries-past-actions m s a (omega (arith, r .actions)))
 
 -- ---- the loop over the outcomes
 
