@@ -20,7 +20,8 @@ use Rattle.models.proofs.Passed.{passed-all}
 use Rattle.models.proofs.Held.{enabled-entries}
 use Rattle.equal.specs.Totals.{totals, combined, weighed}
 use Rattle.equal.specs.Room.{Room}
-use Rattle.equal.specs.Listing.{onward, Given, Here, Written}
+use Rattle.evaluation.specs.Reached.{on-path}
+use Rattle.equal.specs.Listing.{Given, Here, Written}
 use Rattle.equal.proofs.Totals.{totals-length, totals-step}
 use Rattle.equal.proofs.Grid.{combined-length}
 use Rattle.equal.proofs.Spans.{keep-no, flatMap-yes, sum-within}
@@ -30,7 +31,7 @@ use Rattle.equal.proofs.Writing.{written-none, written-more, rebased, s
 
 -- The totals of the plans that begin with the action a, and the enabled actions below a.
 abbrev pub chosen : (m q : Bytes) (start : ℕ) (cone : List ℕ) (s j : ℕ) → List ℕ → ℕ → List ℕ
-chosen m q start cone s j T a = combined (weighed (model-of m) j (onward m q start cone T)) (outcomes (model-of m) s a)
+chosen m q start cone s j T a = combined (weighed (model-of m) j (on-path m q start cone T)) (outcomes (model-of m) s a)
 
 abbrev pub usable : (m : Bytes) (s : ℕ) → ℕ → Bool
 usable m s a = ltb 0 (entries m s a)
@@ -67,10 +68,10 @@ module _ {m q : Bytes} {start d : ℕ} {depths truth cone used table : List ℕ}
     chosen-length : (T : List ℕ) (b : ℕ) → length (chosen m q start cone s j T b) ≡ P b
     unfolding P weighed
     chosen-length T b =
-        combined-length (weighed (model-of m) j (onward m q start cone T)) (λ o. plan-total (model-of m) j (o .target))
+        combined-length (weighed (model-of m) j (on-path m q start cone T)) (λ o. plan-total (model-of m) j (o .target))
         (λ o.
-        length-map (totals (model-of m) j (o .target) (λ r. onward m q start cone T (o ∷ r))) (λ y. o .weight * y)
-        ∙ totals-length (model-of m) j (o .target) (λ r. onward m q start cone T (o ∷ r)))
+        length-map (totals (model-of m) j (o .target) (λ r. on-path m q start cone T (o ∷ r))) (λ y. o .weight * y)
+        ∙ totals-length (model-of m) j (o .target) (λ r. on-path m q start cone T (o ∷ r)))
         (outcomes (model-of m) s b)
 
     so-far : len ≡ sum naturals P (passed m s a)
@@ -149,10 +150,10 @@ module _ {m q : Bytes} {start d : ℕ} {depths truth cone used table : List ℕ}
 
     -- All of them.
     pub listed-all : action-count m ≤ a
-        → Written (totals (model-of m) k s (onward m q start cone (take h trail₀))) m q start cone h at trail₀ trail gains v buf₀ buf len
+        → Written (totals (model-of m) k s (on-path m q start cone (take h trail₀))) m q start cone h at trail₀ trail gains v buf₀ buf len
     listed-all g =
         let x : a ≡ action-count m = omega (arith, L .below) in
-        let f : List Step → ℕ = onward m q start cone (take h trail₀) in
+        let f : List Step → ℕ = on-path m q start cone (take h trail₀) in
         let C : ℕ → List ℕ = chosen m q start cone s j (take h trail₀) in
         let e : flatMap C (passed m s a) ≡ totals (model-of m) k s f =
         ap (flatMap C) (ap (passed m s) x ∙ sym are) ∙ sym (totals-step (model-of m) j s f) ∙ ap (λ n. totals (model-of m) n s f) (sym step) in

@@ -12,10 +12,10 @@ use Rattle.logic.specs.Total.{value-of}
 use Rattle.blocks.specs.Bytes.{Bytes}
 use Rattle.models.specs.Layout.{model-of}
 use Rattle.evaluation.specs.Path.{steps-of, state-after}
-use Rattle.evaluation.specs.Reached.{formula, root-of}
+use Rattle.evaluation.specs.Reached.{formula, root-of, on-path}
 use Rattle.evaluation.specs.Known.{Knows, Roomy}
 use Rattle.equal.specs.Totals.{totals}
-use Rattle.equal.specs.Listing.{onward, Given, Here, Written, First}
+use Rattle.equal.specs.Listing.{Given, Here, Written, First}
 
 module _ (buf : List ℕ) (len x : ℕ) (fits : len ≤ length buf) where
   -- None of the first i numbers is x.
@@ -50,7 +50,7 @@ module _ {m q : Bytes} {start d : ℕ} {depths truth cone used table : List ℕ}
 
   -- The list from the start, and the first of it.
   pub first-listed : (n x : ℕ) {r i : ℕ} {trail trail₁ : List ℕ} {gains₁ : List ℤ} {v₁ buf buf₁ : List ℕ}
-      → Written (totals (model-of m) n start (onward m q start cone (take 0 trail))) m q start cone 0 0 trail trail₁ gains₁ v₁ buf buf₁ r
+      → Written (totals (model-of m) n start (on-path m q start cone (take 0 trail))) m q start cone 0 0 trail trail₁ gains₁ v₁ buf buf₁ r
       → First (take r buf₁) x i → First (totals (model-of m) n start (value-of (model-of m) (formula q (root-of cone)) start)) x i
   unfolding steps-of
   first-listed n x {r} {i} {buf₁ = buf₁} W F =

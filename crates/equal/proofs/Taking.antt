@@ -20,12 +20,14 @@ use Rattle.blocks.specs.Bytes.{Bytes}
 use Rattle.models.specs.Layout.{state-count, pre-of, state-mask, post-count, model-of, entries, outcome-of}
 use Rattle.models.proofs.Laws.{entries-inside}
 use Rattle.models.proofs.Held.{states-held, denominator-held}
+use Rattle.evaluation.specs.Reached.{on-path}
+use Rattle.evaluation.proofs.Values.{one-if-small}
 use Rattle.evaluation.proofs.Trails.{fair}
 use Rattle.bounds.proofs.Powers.{power-le}
 use Rattle.equal.specs.Totals.{totals, part, splice, joined, combined, weighed}
 use Rattle.equal.specs.Spread.{Shifts, Joins}
 use Rattle.equal.specs.Room.{Room}
-use Rattle.equal.specs.Listing.{onward, Given, Here, Written, Longest, Grows}
+use Rattle.equal.specs.Listing.{Given, Here, Written, Longest, Grows}
 use Rattle.equal.proofs.Splice.{part-length, part-drop}
 use Rattle.equal.proofs.Totals.{totals-length}
 use Rattle.equal.proofs.Grid.{combined-length, combined-one}
@@ -34,14 +36,14 @@ use Rattle.equal.proofs.Bounds.{Up-to, up-times, up-totals, up-combined
 use Rattle.equal.proofs.Rooms.{room-first, room-next}
 use Rattle.equal.proofs.Combine.{Holds, held-before, held-part, first-held, joined-length, join-held, joins, Beside, beside-inside, wider-some, wider-most, wider-combined, wider-times}
 use Rattle.equal.proofs.Accepting.{is-accepted, is-sized, some-plan, denominator-small, multiply-outcomes, combined-outcomes}
-use Rattle.equal.proofs.Writing.{rebased, still, onward-small, reached}
+use Rattle.equal.proofs.Writing.{rebased, still, reached}
 
 -- The number of plans below the outcome i of an action, and their totals, weighed.
 abbrev pub ways : (m : Bytes) (s a k : ℕ) → ℕ → ℕ
 ways m s a k i = plan-total (model-of m) k ((outcome-of m s a i) .target)
 
 abbrev pub lists : (m q : Bytes) (start : ℕ) (cone : List ℕ) (s a k : ℕ) → List ℕ → ℕ → List ℕ
-lists m q start cone s a k T i = weighed (model-of m) k (onward m q start cone T) (outcome-of m s a i)
+lists m q start cone s a k T i = weighed (model-of m) k (on-path m q start cone T) (outcome-of m s a i)
 
 count-length : (k n : ℕ) → length (count-from k n) ≡ n
 unfolding count-from
@@ -133,8 +135,8 @@ module _ {m q : Bytes} {start d : ℕ} {depths truth cone used table : List ℕ}
   unfolding weighed
   lists-length T i =
       let o : Step = outcome-of m s a i in
-      length-map (totals (model-of m) k (o .target) (λ r. onward m q start cone T (o ∷ r))) (λ y. o .weight * y)
-      ∙ totals-length (model-of m) k (o .target) (λ r. onward m q start cone T (o ∷ r))
+      length-map (totals (model-of m) k (o .target) (λ r. on-path m q start cone T (o ∷ r))) (λ y. o .weight * y)
+      ∙ totals-length (model-of m) k (o .target) (λ r. on-path m q start cone T (o ∷ r))
 
   ways-some : (i : ℕ) → i < entries m s a → 0 < t i
   ways-some i u = some-plan m (G .ready .model-accepted) k ((outcome-of m s a i) .target) (reached G s a i (place .state) u)
@@ -147,12 +149,12 @@ module _ {m q : Bytes} {start d : ℕ} {depths truth cone used table : List ℕ}
   unfolding weighed
   lists-small T i u x j =
       let o : Step = outcome-of m s a i in
-      let f : List Step → ℕ = λ r. onward m q start cone T (o ∷ r) in
+      let f : List Step → ℕ = λ r. on-path m q start cone T (o ∷ r) in
       let D : ℕ = (model-of m) .denominator in
       let l : x ≤ o .weight * D ^ k =
       up-times (o .weight) (D ^ k) (totals (model-of m) k (o .target) f)
       (up-totals (model-of m) (is-accepted m (G .ready .model-accepted)) k (o .target) (rw (states-held m) (reached G s a i (place .state) u)) f
-      (λ r. onward-small m q start cone T (o ∷ r)))
+      (λ r. one-if-small _))
       x j in
       let p : D ^ k ≤ 100 ^ 5 = power-le D k 5 (rw (denominator-held m) (denominator-small m (G .ready .model-accepted))) (omega (arith, place .few)) in
       omega (arith, mul-le-mul (fair m (G .ready .model-accepted) s a i (place .state) u .light) p)
@@ -197,14 +199,14 @@ module _ {m q : Bytes} {start d : ℕ} {depths truth cone used table : List ℕ}
     module _ (lo : ℕ) (u : lo < entries m s a) {trail trail₁ : List ℕ} {gains gains₁ : List ℤ} {v v₁ : List ℕ} (buf : List ℕ) {buf₁ : List ℕ}
         {h r w : ℕ} (in-buf : length buf ≡ size)
         (H : Here m q start d cone trail gains v h s (k + 1))
-        (W : Written (totals (model-of m) k ((outcome-of m s a lo) .target) (λ l. onward m q start cone (take h trail) (outcome-of m s a lo ∷ l)))
+        (W : Written (totals (model-of m) k ((outcome-of m s a lo) .target) (λ l. on-path m q start cone (take h trail) (outcome-of m s a lo ∷ l)))
         m q start cone h at trail trail₁ gains₁ v₁ buf buf₁ r)
         (whole : length buf₁ ≡ length buf) (e : w ≡ (outcome-of m s a lo) .weight) where
       xs : List ℕ
-      xs = totals (model-of m) k ((outcome-of m s a lo) .target) (λ l. onward m q start cone (take h trail) (outcome-of m s a lo ∷ l))
+      xs = totals (model-of m) k ((outcome-of m s a lo) .target) (λ l. on-path m q start cone (take h trail) (outcome-of m s a lo ∷ l))
 
       first-count : r ≡ t lo
-      first-count = W .count ∙ totals-length (model-of m) k ((outcome-of m s a lo) .target) (λ l. onward m q start cone (take h trail) (outcome-of m s a lo ∷ l))
+      first-count = W .count ∙ totals-length (model-of m) k ((outcome-of m s a lo) .target) (λ l. on-path m q start cone (take h trail) (outcome-of m s a lo ∷ l))
 
       inside-buf : at + t lo ≤ length buf
       inside-buf = omega (arith, room .fits, ways-few lo u)
@@ -293,12 +295,12 @@ module _ {m q : Bytes} {start d : ℕ} {depths truth cone used table : List ℕ}
 
       -- All of them.
       pub span-end : c ≤ hi - lo
-          → Written (combined (weighed (model-of m) k (onward m q start cone (take h trail₀))) (outcomes (model-of m) s a))
+          → Written (combined (weighed (model-of m) k (on-path m q start cone (take h trail₀))) (outcomes (model-of m) s a))
           m q start cone h at trail₀ trail gains v buf₀ buf len
       span-end g =
           let x : lo ≡ 0 = omega (arith, S .some, S .most) in
           let y : hi - lo ≡ entries m s a = omega (arith, S .all, S .some, S .most) in
-          let f : Step → List ℕ = weighed (model-of m) k (onward m q start cone (take h trail₀)) in
+          let f : Step → List ℕ = weighed (model-of m) k (on-path m q start cone (take h trail₀)) in
           let e : combined (F (take h trail₀)) (count-from lo (hi - lo)) ≡ combined f (outcomes (model-of m) s a) =
           ap₂ (λ i n. combined (F (take h trail₀)) (count-from i n)) x y ∙ sym (combined-outcomes m s a f) in
           subst (λ l. Written l m q start cone h at trail₀ trail gains v buf₀ buf len) e (S .written)
@@ -361,15 +363,15 @@ module _ {m q : Bytes} {start d : ℕ} {depths truth cone used table : List ℕ}
 
   module _ (o : ℕ) (u : o < entries m s a) {trail trail₁ : List ℕ} {gains₁ : List ℤ} {v₁ : List ℕ} {buf buf₁ : List ℕ} {h at len r : ℕ}
       (K : Grows buf at len (t o) k) (n : ℕ) (en : n ≡ t o)
-      (W : Written (totals (model-of m) k ((outcome-of m s a o) .target) (λ l. onward m q start cone (take h trail) (outcome-of m s a o ∷ l)))
+      (W : Written (totals (model-of m) k ((outcome-of m s a o) .target) (λ l. on-path m q start cone (take h trail) (outcome-of m s a o ∷ l)))
       m q start cone h (at + len * n) trail trail₁ gains₁ v₁ buf buf₁ r)
       (whole : length buf₁ ≡ length buf) (w : ℕ) (ew : w ≡ (outcome-of m s a o) .weight) where
     ys : List ℕ
-    ys = totals (model-of m) k ((outcome-of m s a o) .target) (λ l. onward m q start cone (take h trail) (outcome-of m s a o ∷ l))
+    ys = totals (model-of m) k ((outcome-of m s a o) .target) (λ l. on-path m q start cone (take h trail) (outcome-of m s a o ∷ l))
 
     ly : length ys ≡ n
     unfolding ys
-    ly = totals-length (model-of m) k ((outcome-of m s a o) .target) (λ l. onward m q start cone (take h trail) (outcome-of m s a o ∷ l)) ∙ sym en
+    ly = totals-length (model-of m) k ((outcome-of m s a o) .target) (λ l. on-path m q start cone (take h trail) (outcome-of m s a o ∷ l)) ∙ sym en
 
     K₁ : Grows buf at len n k
     K₁ = rw en K

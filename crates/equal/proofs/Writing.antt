@@ -1,31 +1,29 @@
 -- Lists written while a path is followed: one after the other, where the condition is decided, and below an outcome.
-use Prim.Native.Nat.{ℕ, _+_, _*_, _^_, _/_, _%_, _≤_, _<_}
+use Prim.Native.Nat.{ℕ, _+_, _*_, _^_, _≤_, _<_}
 use native.Mathlib.Nat.{add-zero}
 use native.Mathlib.Omega.{arith}
-use mathlib.Core.Path.{_≡_, refl, sym, ap, ap₂, subst, _∙_, fun-ext}
-use mathlib.Core.Bool.{Bool, true, false}
+use mathlib.Core.Path.{_≡_, refl, sym, ap, ap₂, subst, _∙_}
 use mathlib.Core.List.{List, [], _∷_, _++_, append-assoc, append-nil}
 use lib.IntN.{ℤ}
 use lib.ListN.{length, take, getD, replicate, length-append}
-use lib.Seq.{take-take, take-append-le, take-at, length-take-le}
+use lib.Seq.{take-take, take-at, length-take-le}
 use Rattle.logic.specs.Model.{Step}
-use Rattle.logic.specs.Formula.{Formula}
-use Rattle.logic.specs.Total.{one-if, value-of}
 use Rattle.logic.specs.Limits.{plan-total}
-use Rattle.logic.proofs.Depth.{sat-same}
 use Rattle.blocks.specs.Bytes.{Bytes, byte}
 use Rattle.models.specs.Layout.{state-count, model-of, entries, outcome-of}
 use Rattle.models.proofs.Held.{states-held, denominator-held}
-use Rattle.evaluation.specs.Path.{step-of, steps-of, state-after}
-use Rattle.evaluation.specs.Reached.{formula, root-of}
+use Rattle.models.proofs.Table.{used-at}
+use Rattle.evaluation.specs.Path.{state-after}
+use Rattle.evaluation.specs.Reached.{root-of, on-path}
 use Rattle.evaluation.specs.Learnt.{known}
 use Rattle.evaluation.specs.Known.{Knows, Offered, Stepped}
-use Rattle.evaluation.proofs.Trails.{steps-length, steps-append, state-append, fair}
+use Rattle.evaluation.proofs.Trails.{fair}
+use Rattle.evaluation.proofs.Values.{one-if-small}
 use Rattle.evaluation.proofs.Knowing.{knows-shorter}
-use Rattle.evaluation.proofs.Stepping.{leaf-value, outcome-small}
+use Rattle.evaluation.proofs.Stepping.{leaf-value, state-stepped, on-path-stepped}
 use Rattle.equal.specs.Totals.{totals, splice}
 use Rattle.equal.specs.Room.{Room}
-use Rattle.equal.specs.Listing.{onward, Given, Here, Written, Decides}
+use Rattle.equal.specs.Listing.{Given, Here, Written, Decides}
 use Rattle.equal.proofs.Splice.{take-written}
 use Rattle.equal.proofs.Totals.{totals-length}
 use Rattle.equal.proofs.Bounds.{totals-alike}
@@ -79,15 +77,6 @@ module _ {m q : Bytes} {start : ℕ} {cone : List ℕ} {h : ℕ} {trail : List �
         knows = subst (λ T. Knows m q start cone T gains₁ v₁) (sym (W .kept)) (W .knows);
       }
 
-one-if-small : (t : Bool) → one-if t ≤ 1
-unfolding one-if
-one-if-small true = omega arith
-one-if-small false = omega arith
-
--- The value of a condition is 0 or 1.
-pub onward-small : (m q : Bytes) (start : ℕ) (cone t : List ℕ) (r : List Step) → onward m q start cone t r ≤ 1
-onward-small m q start cone t r = one-if-small _
-
 module _ {m q : Bytes} {start d : ℕ} {depths truth cone used table : List ℕ} (G : Given m q start d depths truth cone used table) where
   pub state-small : {s : ℕ} → s < state-count m → s < 32
   state-small h = omega (arith, is-sized m (G .ready .model-accepted) .states)
@@ -99,11 +88,7 @@ module _ {m q : Bytes} {start d : ℕ} {depths truth cone used table : List ℕ}
   action-small s a o h u = omega (arith, fair m (G .ready .model-accepted) s a o h u .action, is-sized m (G .ready .model-accepted) .actions)
 
   pub uses-right : (s a : ℕ) {x : ℕ} → s < state-count m → a < 8 → x ≡ getD used (8 * s + a) 0 → x ≡ entries m s a
-  uses-right s a h g e =
-      let l : s < 32 = state-small h in
-      let y : (8 * s + a) / 8 ≡ s = omega arith in
-      let z : (8 * s + a) % 8 ≡ a = omega arith in
-      e ∙ G .uses .count (8 * s + a) (omega arith) ∙ ap₂ (entries m) y z
+  uses-right s a h g e = e ∙ used-at m (G .uses) s a (state-small h) g
 
   module _ {trail : List ℕ} {gains : List ℤ} {v : List ℕ} {h s k : ℕ} (H : Here m q start d cone trail gains v h s k) where
     pub path-length : length (take h trail) ≡ h
@@ -111,17 +96,8 @@ module _ {m q : Bytes} {start d : ℕ} {depths truth cone used table : List ℕ}
 
     -- ---- where the condition is decided
     module _ (dh : d ≤ h) where
-      value-here : known v (root-of cone) 0 ≡ value-of (model-of m) (formula q (root-of cone)) start (steps-of m start (take h trail))
+      value-here : (r : List Step) → known v (root-of cone) 0 ≡ on-path m q start cone (take h trail) r
       value-here = leaf-value (G .ready) (take h trail) gains v (H .knows) (omega (arith, path-length, G .looks))
-
-      value-on : (r : List Step) → onward m q start cone (take h trail) r ≡ known v (root-of cone) 0
-      value-on r =
-          let φ : Formula = formula q (root-of cone) in
-          let R : List Step = steps-of m start (take h trail) in
-          ap one-if
-          (sat-same (model-of m) φ h start (R ++ r) R (omega (arith, G .looks))
-          (take-append-le h R r (omega (arith, steps-length m start (take h trail), path-length))))
-          ∙ sym value-here
 
       module _ (buf : List ℕ) {at : ℕ} (room : Room k (plan-total (model-of m) k s) at (length buf)) where
         served : getD table (32 * k + s) 0 ≡ plan-total (model-of m) k s
@@ -134,24 +110,24 @@ module _ {m q : Bytes} {start d : ℕ} {depths truth cone used table : List ℕ}
               steps = omega (arith, H .steps);
               state = state-small (H .inside);
               part-of = denominator-small m (G .ready .model-accepted);
-              truth = rw value-here (one-if-small _);
+              truth = rw (value-here []) (one-if-small _);
               room = omega (arith, served, room .fits);
             }
 
         pub decided-written : {buf′ : List ℕ} {r : ℕ} → r ≡ getD table (32 * k + s) 0
             → buf′ ≡ splice buf at (replicate (getD table (32 * k + s) 0) (known v (root-of cone) 0 * byte m 5 ^ k))
-            → Written (totals (model-of m) k s (onward m q start cone (take h trail))) m q start cone h at trail trail gains v buf buf′ r
+            → Written (totals (model-of m) k s (on-path m q start cone (take h trail))) m q start cone h at trail trail gains v buf buf′ r
         decided-written {buf′} {r} e f =
             let X : List ℕ = replicate (plan-total (model-of m) k s) (known v (root-of cone) 0 * byte m 5 ^ k) in
-            let alike : totals (model-of m) k s (onward m q start cone (take h trail)) ≡ X =
+            let alike : totals (model-of m) k s (on-path m q start cone (take h trail)) ≡ X =
             totals-alike (model-of m) (is-accepted m (G .ready .model-accepted)) k s (rw (states-held m) (H .inside))
-            (onward m q start cone (take h trail)) (known v (root-of cone) 0) value-on
+            (on-path m q start cone (take h trail)) (known v (root-of cone) 0) (λ r. sym (value-here r))
             ∙ ap (λ z. replicate (plan-total (model-of m) k s) (known v (root-of cone) 0 * z ^ k)) (denominator-held m) in
             let g : buf′ ≡ splice buf at X = f ∙ ap (λ n. splice buf at (replicate n (known v (root-of cone) 0 * byte m 5 ^ k))) served in
             record {
               kept = refl;
               knows = H .knows;
-              count = e ∙ served ∙ sym (totals-length (model-of m) k s (onward m q start cone (take h trail)));
+              count = e ∙ served ∙ sym (totals-length (model-of m) k s (on-path m q start cone (take h trail)));
               listed =
                   subst (λ l. take (at + length l) buf′ ≡ take at buf ++ l) (sym alike)
                   (ap (take (at + length X)) g ∙ take-written buf at X (omega (arith, room .fits)));
@@ -168,48 +144,29 @@ module _ {m q : Bytes} {start d : ℕ} {depths truth cone used table : List ℕ}
     on-length : length (take h trail ++ (b ∷ [])) ≡ h + 1
     on-length = length-append (take h trail) (b ∷ []) ∙ omega (arith, path-length H)
 
-    the-step : step-of m (state-after m start (take h trail)) b ≡ outcome-of m s a o
-    unfolding step-of
-    the-step =
-        let l = outcome-small (G .ready) offered (H .knows) in
-        let x : (4 * a + o) / 4 ≡ a = omega arith in
-        let y : (4 * a + o) % 4 ≡ o = omega arith in
-        ap (λ z. outcome-of m z ((4 * a + o) / 4) ((4 * a + o) % 4)) (H .state) ∙ ap₂ (outcome-of m s) x y
-
-    steps-on : steps-of m start (take h trail ++ (b ∷ [])) ≡ steps-of m start (take h trail) ++ (outcome-of m s a o ∷ [])
-    unfolding steps-of
-    steps-on = steps-append m start (take h trail) (b ∷ []) ∙ ap (λ z. steps-of m start (take h trail) ++ (z ∷ [])) the-step
-
     module _ {trail₁ : List ℕ} {gains₁ : List ℤ} {v₁ : List ℕ} {t : ℕ} (S : Stepped m q start cone h s a o trail trail₁ gains₁ v₁ t) where
       longer : take (h + 1) trail₁ ≡ take h trail ++ (b ∷ [])
       longer = S .longer
 
       pub below-here : length trail₁ ≡ length trail → length gains₁ ≡ length gains → length v₁ ≡ length v → Here m q start d cone trail₁ gains₁ v₁ (h + 1) t k
-      unfolding state-after
       below-here e f g =
           record {
             steps = omega (arith, H .steps);
             deep = omega (arith, H .deep);
             inside = rw (S .state) (reached s a o (H .inside) u);
-            state = ap (state-after m start) longer ∙ state-append m start (take h trail) (b ∷ []) ∙ ap (λ z. z .target) the-step ∙ sym (S .state);
+            state = state-stepped (G .ready) offered (H .knows) S;
             roomy = record { steps = rw e (H .roomy .steps); sums = rw f (H .roomy .sums); places = rw g (H .roomy .places) };
             knows = S .knows;
           }
 
-      onward-on : (r : List Step) → onward m q start cone (take (h + 1) trail₁) r ≡ onward m q start cone (take h trail) (outcome-of m s a o ∷ r)
-      onward-on r =
-          let o : Step = outcome-of m s a o in
-          ap (λ l. value-of (model-of m) (formula q (root-of cone)) start (l ++ r)) (ap (steps-of m start) longer ∙ steps-on)
-          ∙ ap (value-of (model-of m) (formula q (root-of cone)) start) (append-assoc (steps-of m start (take h trail)) (o ∷ []) r)
-
       pub below-written : {at r : ℕ} {trail₂ : List ℕ} {gains₂ : List ℤ} {v₂ buf buf₂ : List ℕ}
-          → Written (totals (model-of m) k t (onward m q start cone (take (h + 1) trail₁))) m q start cone (h + 1) at trail₁ trail₂ gains₂ v₂ buf buf₂ r
-          → Written (totals (model-of m) k ((outcome-of m s a o) .target) (λ l. onward m q start cone (take h trail) (outcome-of m s a o ∷ l)))
+          → Written (totals (model-of m) k t (on-path m q start cone (take (h + 1) trail₁))) m q start cone (h + 1) at trail₁ trail₂ gains₂ v₂ buf buf₂ r
+          → Written (totals (model-of m) k ((outcome-of m s a o) .target) (λ l. on-path m q start cone (take h trail) (outcome-of m s a o ∷ l)))
           m q start cone h at trail trail₂ gains₂ v₂ buf buf₂ r
       below-written {at} {r} {trail₂} {gains₂} {v₂} {buf} {buf₂} W =
-          let X : List ℕ = totals (model-of m) k ((outcome-of m s a o) .target) (λ l. onward m q start cone (take h trail) (outcome-of m s a o ∷ l)) in
-          let same : totals (model-of m) k t (onward m q start cone (take (h + 1) trail₁)) ≡ X =
-          ap₂ (λ i f. totals (model-of m) k i f) (S .state) (fun-ext onward-on) in
+          let X : List ℕ = totals (model-of m) k ((outcome-of m s a o) .target) (λ l. on-path m q start cone (take h trail) (outcome-of m s a o ∷ l)) in
+          let same : totals (model-of m) k t (on-path m q start cone (take (h + 1) trail₁)) ≡ X =
+          ap₂ (λ i f. totals (model-of m) k i f) (S .state) (on-path-stepped (G .ready) offered (H .knows) S) in
           let n : length (take h trail) ≡ h = path-length H in
           let on : take (h + 1) trail₂ ≡ take h trail ++ (b ∷ []) = W .kept ∙ longer in
           record {

@@ -4,23 +4,17 @@ use mathlib.Core.Path.{_≡_}
 use mathlib.Core.List.{List, _++_, List·Memᴰ}
 use lib.IntN.{ℤ}
 use lib.ListN.{getD, length, take}
-use Rattle.logic.specs.Model.{Step}
 use Rattle.logic.specs.Formula.{depth}
-use Rattle.logic.specs.Total.{value-of}
 use Rattle.logic.specs.Limits.{plan-total}
 use Rattle.blocks.specs.Bytes.{Bytes, byte}
 use Rattle.models.specs.Layout.{state-count, model-of, outcome-of}
 use Rattle.models.specs.Used.{Used}
-use Rattle.evaluation.specs.Path.{steps-of, state-after}
+use Rattle.evaluation.specs.Path.{state-after}
 use Rattle.evaluation.specs.Reached.{formula, root-of, Ready}
 use Rattle.evaluation.specs.Learnt.{known}
 use Rattle.evaluation.specs.Known.{Knows, Roomy}
 use Rattle.equal.specs.Totals.{part}
 use Rattle.equal.specs.Room.{Room}
-
--- The value of the condition at the cone's root on the path that begins with the trail t and goes on with r.
-abbrev pub onward : (m q : Bytes) (start : ℕ) (cone t : List ℕ) → List Step → ℕ
-onward m q start cone t r = value-of (model-of m) (formula q (root-of cone)) start (steps-of m start t ++ r)
 
 -- A table of the numbers of plans, 32 states for each number of steps, right where they are served.
 pub record Counts (m : Bytes) (table : List ℕ) : Type 0 where

@@ -9,10 +9,10 @@ ghost use Rattle.logic.specs.Limits.{multiply, plan-total};
 ghost use Rattle.blocks.specs.Bytes.{byte};
 ghost use Rattle.models.specs.Layout.{model-of, entries, outcome-of};
 ghost use Rattle.evaluation.specs.Learnt as learnt;
-ghost use Rattle.evaluation.specs.Reached.{root-of};
+ghost use Rattle.evaluation.specs.Reached.{root-of, on-path};
 ghost use Rattle.equal.specs.Totals.{totals, combined, weighed, joined, part, splice};
 ghost use Rattle.equal.specs.Room.{Room};
-ghost use Rattle.equal.specs.Listing.{onward, Given, Here, Written, Longest, Decides, Grows};
+ghost use Rattle.equal.specs.Listing.{Given, Here, Written, Longest, Decides, Grows};
 use crate::spread::fill;
 use crate::spread::join;
 use crate::spread::shift;
@@ -121,7 +121,7 @@ pub fn list(
     requires { ⌜ Given (now m) (now q) start d (now depths) (now truth) (now cone) (now used) (now table) ⌝ }
     requires { ⌜ Here (now m) (now q) start d (now cone) (now trail) (now gains) (now v) h s k ⌝ }
     requires { ⌜ Room k (plan-total (model-of (now m)) k s) at (length (now buf)) ⌝ }
-    ensures { λ r. ⌜ Written (totals (model-of (now (m .entry))) k s (onward (now (m .entry)) (now (q .entry)) start (now (cone .entry)) (take h (now (trail .entry))))) (now (m .entry)) (now (q .entry)) start (now (cone .entry)) h at (now (trail .entry)) (now (trail .exit)) (now (gains .exit)) (now (v .exit)) (now (buf .entry)) (now (buf .exit)) r ⌝ }
+    ensures { λ r. ⌜ Written (totals (model-of (now (m .entry))) k s (on-path (now (m .entry)) (now (q .entry)) start (now (cone .entry)) (take h (now (trail .entry))))) (now (m .entry)) (now (q .entry)) start (now (cone .entry)) h at (now (trail .entry)) (now (trail .exit)) (now (gains .exit)) (now (v .exit)) (now (buf .entry)) (now (buf .exit)) r ⌝ }
 {
     if d <= h {
         return decided(m, table, cone, v, buf, s, k, at);
@@ -182,7 +182,7 @@ fn combine(
     requires { ⌜ Given (now m) (now q) start d (now depths) (now truth) (now cone) (now used) (now table) ⌝ }
     requires { ⌜ Here (now m) (now q) start d (now cone) (now trail) (now gains) (now v) h s (k + 1) × (0 < entries (now m) s a) ⌝ }
     requires { ⌜ Room (k + 1) (multiply (λ o. plan-total (model-of (now m)) k (o .target)) (outcomes (model-of (now m)) s a)) at (length (now buf)) ⌝ }
-    ensures { λ r. ⌜ Written (combined (weighed (model-of (now (m .entry))) k (onward (now (m .entry)) (now (q .entry)) start (now (cone .entry)) (take h (now (trail .entry))))) (outcomes (model-of (now (m .entry))) s a)) (now (m .entry)) (now (q .entry)) start (now (cone .entry)) h at (now (trail .entry)) (now (trail .exit)) (now (gains .exit)) (now (v .exit)) (now (buf .entry)) (now (buf .exit)) r ⌝ }
+    ensures { λ r. ⌜ Written (combined (weighed (model-of (now (m .entry))) k (on-path (now (m .entry)) (now (q .entry)) start (now (cone .entry)) (take h (now (trail .entry))))) (outcomes (model-of (now (m .entry))) s a)) (now (m .entry)) (now (q .entry)) start (now (cone .entry)) h at (now (trail .entry)) (now (trail .exit)) (now (gains .exit)) (now (v .exit)) (now (buf .entry)) (now (buf .exit)) r ⌝ }
 {
     let c = uses(used, s, a);
     let mut lo = longest(m, table, s, a, c, k);
@@ -274,7 +274,7 @@ fn grown(
     requires { ⌜ Given (now m) (now q) start d (now depths) (now truth) (now cone) (now used) (now table) ⌝ }
     requires { ⌜ Here (now m) (now q) start d (now cone) (now trail) (now gains) (now v) h s (k + 1) × (o < entries (now m) s a) ⌝ }
     requires { ⌜ Grows (now buf) at len (plan-total (model-of (now m)) k ((outcome-of (now m) s a o) .target)) k ⌝ }
-    ensures { λ r. ⌜ Written (joined right (part (now (buf .entry)) at len) (weighed (model-of (now (m .entry))) k (onward (now (m .entry)) (now (q .entry)) start (now (cone .entry)) (take h (now (trail .entry)))) (outcome-of (now (m .entry)) s a o))) (now (m .entry)) (now (q .entry)) start (now (cone .entry)) h at (now (trail .entry)) (now (trail .exit)) (now (gains .exit)) (now (v .exit)) (now (buf .entry)) (now (buf .exit)) r ⌝ }
+    ensures { λ r. ⌜ Written (joined right (part (now (buf .entry)) at len) (weighed (model-of (now (m .entry))) k (on-path (now (m .entry)) (now (q .entry)) start (now (cone .entry)) (take h (now (trail .entry)))) (outcome-of (now (m .entry)) s a o))) (now (m .entry)) (now (q .entry)) start (now (cone .entry)) h at (now (trail .entry)) (now (trail .exit)) (now (gains .exit)) (now (v .exit)) (now (buf .entry)) (now (buf .exit)) r ⌝ }
 {
     let n = count(table, k, target(m, s as usize, a as usize, o as usize));
     let end = at + len * n;
@@ -335,7 +335,7 @@ fn below(
     requires { ⌜ Given (now m) (now q) start d (now depths) (now truth) (now cone) (now used) (now table) ⌝ }
     requires { ⌜ Here (now m) (now q) start d (now cone) (now trail) (now gains) (now v) h s (k + 1) × (o < entries (now m) s a) ⌝ }
     requires { ⌜ Room k (plan-total (model-of (now m)) k ((outcome-of (now m) s a o) .target)) at (length (now buf)) ⌝ }
-    ensures { λ r. ⌜ Written (totals (model-of (now (m .entry))) k ((outcome-of (now (m .entry)) s a o) .target) (λ l. onward (now (m .entry)) (now (q .entry)) start (now (cone .entry)) (take h (now (trail .entry))) (outcome-of (now (m .entry)) s a o ∷ l))) (now (m .entry)) (now (q .entry)) start (now (cone .entry)) h at (now (trail .entry)) (now (trail .exit)) (now (gains .exit)) (now (v .exit)) (now (buf .entry)) (now (buf .exit)) r ⌝ }
+    ensures { λ r. ⌜ Written (totals (model-of (now (m .entry))) k ((outcome-of (now (m .entry)) s a o) .target) (λ l. on-path (now (m .entry)) (now (q .entry)) start (now (cone .entry)) (take h (now (trail .entry))) (outcome-of (now (m .entry)) s a o ∷ l))) (now (m .entry)) (now (q .entry)) start (now (cone .entry)) h at (now (trail .entry)) (now (trail .exit)) (now (gains .exit)) (now (v .exit)) (now (buf .entry)) (now (buf .exit)) r ⌝ }
 {
     let t = step(
         m,

@@ -2,13 +2,13 @@
 use Prim.Native.Nat.{ℕ, suc, _+_, _*_, _-_, _/_, _%_, _≤_, _<_}
 use native.Mathlib.Omega.{arith}
 use native.Mathlib.Numerals.{add-one}
-use mathlib.Core.Path.{_≡_, refl, sym, ap, ap₂, subst, _∙_}
+use mathlib.Core.Path.{_≡_, refl, sym, ap, ap₂, subst, _∙_, fun-ext}
 use mathlib.Core.Bool.{Bool, true, false, cond}
-use mathlib.Core.List.{List, [], _∷_, _++_}
+use mathlib.Core.List.{List, [], _∷_, _++_, append-assoc}
 use lib.IntN.{ℤ, pos, _+ℤ_}
 use lib.ListN.{length, getD, set, take, length-append}
-use lib.Seq.{take-suc-set, length-take-le}
-use Rattle.logic.specs.Model.{true-of}
+use lib.Seq.{take-suc-set, take-append-le, length-take-le}
+use Rattle.logic.specs.Model.{Step, true-of}
 use Rattle.blocks.specs.Bytes.{Bytes}
 use Rattle.models.specs.Layout.{state-count, action-count, pre-of, state-mask, post-count, entries, outcome-of, model-of}
 use Rattle.models.specs.Used.{Sized}
@@ -16,12 +16,13 @@ use Rattle.models.proofs.Passed.{passed-all, passed-sized}
 use Rattle.models.proofs.Laws.{entries-inside}
 use Rattle.logic.specs.Formula.{depth}
 use Rattle.logic.specs.Quantity.{sum}
-use Rattle.logic.specs.Total.{value-of}
+use Rattle.logic.specs.Total.{one-if, value-of}
+use Rattle.logic.proofs.Depth.{sat-same}
 use Rattle.evaluation.specs.Path.{step-of, steps-of, state-after, Trail, stop}
-use Rattle.evaluation.specs.Reached.{formula, root-of, itself, Ready}
+use Rattle.evaluation.specs.Reached.{formula, root-of, on-path, itself, Ready}
 use Rattle.evaluation.specs.Learnt.{known, learnt}
 use Rattle.evaluation.specs.Known.{Known, Gained, Knows, Roomy, Offered, Stepped}
-use Rattle.evaluation.proofs.Trails.{fair, state-inside, trail-longer, state-append}
+use Rattle.evaluation.proofs.Trails.{fair, state-inside, trail-longer, state-append, steps-append, steps-length}
 use Rattle.evaluation.proofs.Knowing.{known-all, known-none, known-longer, gained-longer}
 
 module _ {m q : Bytes} {start : ℕ} {depths truth cone : List ℕ} (ready : Ready m q start depths truth cone) where
@@ -46,13 +47,38 @@ module _ {m q : Bytes} {start : ℕ} {depths truth cone : List ℕ} (ready : Rea
     pub sizes-small : (s < 32) × (a < 8)
     sizes-small = omega (arith, sizes .states, sizes .actions, state-small, action-small)
 
+    abbrev b : ℕ
+    b = 4 * a + o
+
+    abbrev T : List ℕ
+    T = take h trail
+
+    pub the-step : step-of m (state-after m start T) b ≡ outcome-of m s a o
+    unfolding step-of
+    the-step =
+        let x : b / 4 ≡ a = omega (arith, outcome-small) in
+        let y : b % 4 ≡ o = omega (arith, outcome-small) in
+        ap (λ z. outcome-of m z (b / 4) (b % 4)) (offered .state) ∙ ap₂ (outcome-of m s) x y
+
+    pub state-on : state-after m start (T ++ (b ∷ [])) ≡ (outcome-of m s a o) .target
+    unfolding state-after
+    state-on = state-append m start T (b ∷ []) ∙ ap (λ z. z .target) the-step
+
+    -- After the step, the state is the one reached, and a path goes on as one from before it does with the step first.
+    module _ {trail′ : List ℕ} {gains′ : List ℤ} {v′ : List ℕ} {t : ℕ} (S : Stepped m q start cone h s a o trail trail′ gains′ v′ t) where
+      pub state-stepped : state-after m start (take (h + 1) trail′) ≡ t
+      state-stepped = ap (state-after m start) (S .longer) ∙ state-on ∙ sym (S .state)
+
+      pub on-path-stepped : on-path m q start cone (take (h + 1) trail′) ≡ λ r. on-path m q start cone T (outcome-of m s a o ∷ r)
+      unfolding steps-of
+      on-path-stepped =
+          fun-ext (λ r. ap (value-of (model-of m) (formula q (root-of cone)) start)
+          (ap (λ l. steps-of m start l ++ r) (S .longer)
+          ∙ ap (λ l. l ++ r) (steps-append m start T (b ∷ []))
+          ∙ append-assoc (steps-of m start T) (step-of m (state-after m start T) b ∷ []) r
+          ∙ ap (λ z. steps-of m start T ++ (z ∷ r)) the-step))
+
     module _ (roomy : Roomy trail gains v) where
-      abbrev b : ℕ
-      b = 4 * a + o
-
-      abbrev T : List ℕ
-      T = take h trail
-
       pub T-length : length T ≡ h
       T-length = length-take-le h trail (omega (arith, roomy .steps, offered .steps))
 
@@ -62,22 +88,11 @@ module _ {m q : Bytes} {start : ℕ} {depths truth cone : List ℕ} (ready : Rea
       longer : take (h + 1) (set trail h b) ≡ T ++ (b ∷ [])
       longer = ap (λ n. take n (set trail h b)) (add-one h) ∙ take-suc-set trail h b (omega (arith, roomy .steps, offered .steps))
 
-      pub the-step : step-of m (state-after m start T) b ≡ outcome-of m s a o
-      unfolding step-of
-      the-step =
-          let x : b / 4 ≡ a = omega (arith, outcome-small) in
-          let y : b % 4 ≡ o = omega (arith, outcome-small) in
-          ap (λ z. outcome-of m z (b / 4) (b % 4)) (offered .state) ∙ ap₂ (outcome-of m s) x y
-
       used-here : b % 4 < entries m (state-after m start T) (b / 4)
       used-here =
           let x : b / 4 ≡ a = omega (arith, outcome-small) in
           let y : b % 4 ≡ o = omega (arith, outcome-small) in
           rw (offered .state, x, y) (offered .used)
-
-      pub state-on : state-after m start (T ++ (b ∷ [])) ≡ (outcome-of m s a o) .target
-      unfolding state-after
-      state-on = state-append m start T (b ∷ []) ∙ ap (λ z. z .target) the-step
 
       pub followed-on : Trail m start (T ++ (b ∷ []))
       followed-on = trail-longer m (knows .followed) b used-here
@@ -114,8 +129,11 @@ module _ {m q : Bytes} {start : ℕ} {depths truth cone : List ℕ} (ready : Rea
         values = subst (Known m q start cone [] (length cone)) (sym e) (known-all ready [] trail refl (omega arith) gains stop gained v room (known-none m q start cone v));
       }
 
-  -- Where as many steps are taken as the condition looks ahead, its value at the first place is its value on the path.
+  -- Where as many steps are taken as the condition looks ahead, its value at the first place is its value on the path, however that goes on.
   pub leaf-value : (t : List ℕ) (gains : List ℤ) (v : List ℕ) → Knows m q start cone t gains v → depth (formula q (root-of cone)) ≤ length t
-      → known v (root-of cone) 0 ≡ value-of (model-of m) (formula q (root-of cone)) start (steps-of m start t)
+      → (r : List Step) → known v (root-of cone) 0 ≡ on-path m q start cone t r
   unfolding state-after
-  leaf-value t gains v K h = K .values .right (length cone - 1) 0 (omega (arith, ready .ordered .some)) (omega arith) (λ e. omega (arith, ready .ordered .some)) itself
+  leaf-value t gains v K h r =
+      let R : List Step = steps-of m start t in
+      K .values .right (length cone - 1) 0 (omega (arith, ready .ordered .some)) (omega arith) (λ e. omega (arith, ready .ordered .some)) itself
+      ∙ ap one-if (sat-same (model-of m) (formula q (root-of cone)) (length t) start R (R ++ r) h (sym (take-append-le (length t) R r (omega (arith, steps-length m start t)))))

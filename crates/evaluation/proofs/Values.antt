@@ -1,5 +1,6 @@
 -- Values as `learn` computes them: an operator that looks at no step has none, and a list of nodes is learnt one after the other.
 use Prim.Native.Nat.{ℕ, zero, suc, _+_, _*_, _-_, _≤_, _<_}
+use native.Mathlib.Omega.{arith}
 use native.Mathlib.Numerals.{add-one}
 use mathlib.Core.Path.{_≡_, refl, sym, ap, _∙_}
 use mathlib.Core.List.{List, [], _∷_, _++_}
@@ -9,9 +10,16 @@ use lib.Dec.{leb}
 use lib.ListN.{length, getD, set, take, length-set}
 use lib.Seq.{take-suc}
 use borrow.Author.Tests.{eq-eqb, ne-eqb, le-leb, lt-leb}
+use Rattle.logic.specs.Total.{one-if}
 use Rattle.blocks.specs.Bytes.{Bytes, byte}
 use Rattle.questions.specs.Layout.{node-of}
 use Rattle.evaluation.specs.Learnt.{value-by, value-at, learn-node, learnt}
+
+-- A value is 0 or 1.
+pub one-if-small : (t : Bool) → one-if t ≤ 1
+unfolding one-if
+one-if-small true = omega arith
+one-if-small false = omega arith
 
 pub other-value : (q trail : Bytes) (gains : List ℤ) (h k j op : ℕ) (v : List ℕ)
     → (op ≡ 3 → ⊥) → (op ≡ 4 → ⊥) → (op ≡ 5 → ⊥) → (op ≡ 6 → ⊥) → (op ≡ 7 → ⊥) → value-by q trail gains h k j op v ≡ 0

@@ -2,9 +2,10 @@
 use Prim.Native.Nat.{ℕ, _+_, _*_, _-_, _<_}
 use mathlib.Core.Path.{_≡_}
 use mathlib.Core.Bool.{Bool, true, false}
-use mathlib.Core.List.{List, [], _∷_}
+use mathlib.Core.List.{List, [], _∷_, _++_}
 use lib.ListN.{getD, length}
 use Rattle.logic.specs.Checked.{refusal}
+use Rattle.logic.specs.Model.{Step}
 use Rattle.logic.specs.Formula.{Formula, never, depth}
 use Rattle.logic.specs.Total.{value-of}
 use Rattle.blocks.specs.Bytes.{Bytes}
@@ -13,6 +14,7 @@ use Rattle.models.specs.Grounds.{read-model}
 use Rattle.questions.specs.Layout.{node-count, node-of, formulas-of}
 use Rattle.questions.specs.Grounds.{read-question}
 use Rattle.questions.specs.Tables.{table}
+use Rattle.evaluation.specs.Path.{steps-of}
 
 -- The formula of node j.
 abbrev pub formula : Bytes → ℕ → Formula
@@ -47,6 +49,10 @@ pub record Cone (q : Bytes) (cone : List ℕ) : Type 0 where
 
 abbrev pub root-of : List ℕ → ℕ
 root-of cone = getD cone (length cone - 1) 0
+
+-- The value of the condition at the cone's root on the path that begins with the trail t and goes on with r.
+abbrev pub on-path : (m q : Bytes) (start : ℕ) (cone t : List ℕ) → List Step → ℕ
+on-path m q start cone t r = value-of (model-of m) (formula q (root-of cone)) start (steps-of m start t ++ r)
 
 -- What a search from s for the condition at the root of a cone is handed. `truth` has 32 places a node: 1 where a state formula is true
 -- in a state, and it has to be right only where it is read.

@@ -2,7 +2,6 @@
 use Prim.Native.Nat.{ℕ, zero, suc, _+_, _*_, _-_, _≤_, _<_, min, zero-le}
 use native.Mathlib.Omega.{arith}
 use native.Mathlib.Numerals.{add-one}
-use native.Mathlib.Decide.{decLt}
 use native.Mathlib.Nat.{add-zero, suc-mul, mul-le-mul-right, le-refl, min-le-left, min-eq-left, not-suc-le-zero, le-of-suc-le-suc, eq-or-lt-of-le}
 use mathlib.Core.Path.{_≡_, refl, sym, ap, ap₂, subst, _∙_}
 use mathlib.Core.Bool.{Bool, true, false, cond}
@@ -11,7 +10,6 @@ use mathlib.Core.List.{List, [], _∷_, _++_, append-nil, append-assoc}
 use lib.Dec.{ltb}
 use lib.ListN.{length, getD, take, drop, set, length-append, length-drop, length-take, take-append-drop}
 use lib.Seq.{take-at, drop-append-add, drop-drop, length-take-le, set-split, getD-drop}
-use borrow.Author.Tests.{lt-ltb, le-ltb}
 use Rattle.logic.specs.Lists.{keep, count-from, tabulate}
 use Rattle.logic.specs.Model.{Model, Step, outcomes}
 use Rattle.logic.specs.Extension.{first-choice}
@@ -19,10 +17,10 @@ use Rattle.logic.proofs.Tests.{tabulate-more, count-more, keep-append, keep-sam
 use Rattle.blocks.specs.Bytes.{Bytes}
 use Rattle.models.specs.Layout.{state-count, outcome-of, entries, model-of}
 use Rattle.models.specs.Readable.{Readable}
-use Rattle.models.specs.Used.{Used}
-use Rattle.models.proofs.Laws.{entries-past-actions}
+use Rattle.models.specs.Used.{Used, count-in}
 use Rattle.models.proofs.Rows.{outcomes-are, enabled-are, entries-few}
-use Rattle.extension.specs.Choices.{Run, each, choice-at, after-choice, extend, count-in, first-in, splice, room, Ran}
+use Rattle.models.proofs.Table.{count-entries}
+use Rattle.extension.specs.Choices.{Run, each, choice-at, after-choice, extend, first-in, splice, room, Ran}
 
 -- ---- splices
 
@@ -200,32 +198,12 @@ room-most n h = room-rises n 6 h
 
 -- ---- the table of used entries
 
-module _ (used : List ℕ) (s a : ℕ) where
-  pub count-some : (x v : ℕ) → a < 8 → x ≡ a → v ≡ getD used (8 * s + x) 0 → v ≡ count-in used s a
-  unfolding count-in
-  count-some x v h e g = g ∙ ap (λ x. getD used (8 * s + x) 0) e ∙ ap (λ t. cond t (getD used (8 * s + a) 0) 0) (sym (lt-ltb a 8 h))
-
-  pub count-none : 8 ≤ a → 0 ≡ count-in used s a
-  unfolding count-in
-  count-none h = ap (λ t. cond t (getD used (8 * s + a) 0) 0) (sym (le-ltb a 8 h))
-
 module _ (b : Bytes) (r : Readable b) {used : List ℕ} (u : Used b used) (s : ℕ) (k : s < state-count b) where
-  pub count-entries : (a : ℕ) → count-in used s a ≡ entries b s a
-  unfolding count-in
-  count-entries a = go (decLt a 8)
-    where
-      go : Dec (a < 8) → cond (ltb a 8) (getD used (8 * s + a) 0) 0 ≡ entries b s a
-      go (yes h) =
-          ap (λ t. cond t (getD used (8 * s + a) 0) 0) (lt-ltb a 8 h)
-          ∙ u .count (8 * s + a) (omega (arith, r .states))
-          ∙ ap₂ (entries b) (omega arith) (omega arith)
-      go (no h) = ap (λ t. cond t (getD used (8 * s + a) 0) 0) (le-ltb a 8 (omega arith)) ∙ sym (entries-past-actions b s a (omega (arith, r .actions)))
-
   pub first-enabled : first-in used s ≡ first-choice (model-of b) s
   unfolding first-in first-choice
   first-enabled =
       ap (λ l. getD l 0 0)
-      (keep-same (λ a. ltb 0 (count-in used s a)) (λ a. ltb 0 (entries b s a)) (count-from 0 8) (λ a i. ap (ltb 0) (count-entries a))
+      (keep-same (λ a. ltb 0 (count-in used s a)) (λ a. ltb 0 (entries b s a)) (count-from 0 8) (λ a i. ap (ltb 0) (count-entries b r u s k a))
       ∙ sym (enabled-are b r s k))
 
 -- The first number that is kept.

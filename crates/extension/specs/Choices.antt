@@ -2,13 +2,13 @@
 -- (`Choices`).
 use Prim.Native.Nat.{ℕ, zero, suc, _+_, _*_, _-_, _≤_, min}
 use mathlib.Core.Path.{_≡_}
-use mathlib.Core.Bool.{cond}
 use mathlib.Core.List.{List, [], _∷_, _++_}
 use lib.Dec.{ltb}
 use lib.ListN.{getD, take, drop, length}
 use Rattle.logic.specs.Lists.{keep, count-from}
 use Rattle.logic.specs.Model.{Model, outcomes}
 use Rattle.logic.specs.Extension.{first-choice}
+use Rattle.models.specs.Used.{count-in}
 
 -- What is written, and what is left to read.
 abbrev pub Run : Type 0
@@ -36,9 +36,6 @@ extend m d (suc n) s cs =
     after-choice a (each (λ o. extend m (d - 1) n (o .target)) (outcomes m s a) (drop (min 1 d) cs))
 
 -- ---- by the table of used entries
-
-unfoldable pub count-in : List ℕ → ℕ → ℕ → ℕ
-count-in used s a = cond (ltb a 8) (getD used (8 * s + a) 0) 0
 
 unfoldable pub first-in : List ℕ → ℕ → ℕ
 first-in used s = getD (keep (λ a. ltb 0 (count-in used s a)) (count-from 0 8)) 0 0

@@ -6,10 +6,11 @@ ghost use Rattle.logic.specs.Model.{outcomes};
 ghost use Rattle.models.specs.Layout.{state-count, model-of};
 ghost use Rattle.models.specs.Readable.{Readable};
 ghost use Rattle.models.specs.Used.{Used};
-ghost use Rattle.extension.specs.Choices.{each, choice-at, count-in, first-in, splice, room, Ran};
+ghost use Rattle.extension.specs.Choices.{each, choice-at, first-in, splice, room, Ran};
 ghost use Rattle.extension.specs.Choices as spec;
 use blocks::byte;
 use models::target;
+use models::used_outcomes;
 
 // Where to read on, and where to write on.
 pub struct Cursor {
@@ -23,17 +24,6 @@ fn number(x: u8) -> usize
     x as usize
 }
 
-// How many outcomes an action has in a state; 0 if it is not enabled.
-fn count(used: &[u8; 264], s: usize, a: u8) -> usize
-    requires { ⌜ s < 32 ⌝ }
-    ensures { λ r. ⌜ r ≡ count-in (now (used .entry)) s a ⌝ }
-{
-    if a < 8 {
-        return number(used[8 * s + number(a)]);
-    }
-    0
-}
-
 // The first enabled action; 0 if there is none.
 fn first_choice(used: &[u8; 264], s: usize) -> u8
     requires { ⌜ s < 32 ⌝ }
@@ -41,7 +31,7 @@ fn first_choice(used: &[u8; 264], s: usize) -> u8
 {
     let mut a: u8 = 0;
     while a < 8 {
-        if count(used, s, a) > 0 {
+        if used_outcomes(used, s, a) > 0 {
             return a;
         }
         a += 1;
@@ -109,7 +99,7 @@ fn extend_below(
     requires { ⌜ (n < 6) × (from + 4 * room n ≤ 65536) × (at + 4 * room n ≤ length (now dst)) ⌝ }
     ensures { λ r. ⌜ Ran (each (λ o. spec.extend (model-of (now (m .entry))) d n (o .target)) (outcomes (model-of (now (m .entry))) s a) (drop from (now (src .entry)))) (4 * room n) (now (src .entry)) from (r .from) (now (dst .entry)) (now (dst .exit)) at (r .at) ⌝ }
 {
-    let c = count(used, s, a);
+    let c = number(used_outcomes(used, s, a));
     let mut read = from;
     let mut next = at;
     let mut i: usize = 0;

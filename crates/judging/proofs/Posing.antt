@@ -16,7 +16,7 @@ use Rattle.logic.specs.Quantity.{naturals, weights, order}
 use Rattle.logic.specs.Plan.{plans, choices}
 use Rattle.logic.specs.Limits.{plan-total}
 use Rattle.logic.specs.Recursion.{greatest}
-use Rattle.logic.specs.Total.{total, one-if, value-of}
+use Rattle.logic.specs.Total.{total, value-of}
 use Rattle.logic.proofs.Dictionary.{plan-count}
 use Rattle.blocks.specs.Bytes.{Bytes}
 use Rattle.models.specs.Layout.{state-count, denominator-of, model-of}
@@ -34,17 +34,13 @@ use Rattle.equal.specs.Totals.{totals}
 use Rattle.equal.specs.Listing as listing
 use Rattle.tables.specs.Need.{Given}
 use Rattle.tables.proofs.Marks.{given-question}
+use Rattle.evaluation.proofs.Values.{one-if-small}
 use Rattle.evaluation.proofs.Knowing.{depth-in}
 use Rattle.judging.specs.Asked.{Asked}
 use Rattle.judging.specs.Truth.{Told}
 use Rattle.judging.specs.declared.plans.Decision.{Decision}
 use Rattle.judging.specs.Decided.{condition, best, led-weight, Posed, Led, First, Placed, Decided}
 use Rattle.judging.proofs.Deciding.{Planned, plan-here, given-model, given-states, all-totals, first-led, never-led, led-truth, led-met, equal-truth}
-
-one-small : (t : Bool) → one-if t ≤ 1
-unfolding one-if
-one-small true = le-refl 1
-one-small false = omega arith
 
 pub posed-at : {m q : Bytes} {used counts depths truth : List ℕ} {j s : ℕ} → Asked m q used counts depths → j < node-count q → (node-of q j) .operator ≡ 8
     → s < state-count m → Told m q truth ((node-of q j) .left) s → Posed m q truth j s
@@ -96,7 +92,7 @@ module _ {m q : Bytes} {used truth : List ℕ} {j s : ℕ} (given : Given m q us
       let n : ℕ = (node-of q j) .n in
       let D : ℕ = model-of m .denominator in
       let g = greatest-small least (model-of m) (given-model given) d s (value-of (model-of m) (condition q j) s)
-      (subst (λ k. s < k) (sym (given-states given)) (posed .state)) (λ r. one-small _) in
+      (subst (λ k. s < k) (sym (given-states given)) (posed .state)) (λ r. one-if-small _) in
       let e : D ^ (n - d) * D ^ d ≡ denominator-of m ^ n = sym (pow-add D (n - d) d) ∙ power-sum (denominator-held m) (planned .deep) in
       le-trans (mul-le-mul-left (D ^ (n - d)) g) (subst (λ z. D ^ (n - d) * D ^ d ≤ z) e (le-refl _))
     where

@@ -4,7 +4,7 @@ use native.Mathlib.Omega.{arith}
 use native.Mathlib.Decide.{decLt}
 use native.Mathlib.Nat.{le-trans, add-zero, pow-suc, pow-succ', zero-div, div-one, div-div-eq-div-mul}
 use mathlib.Core.Path.{_≡_, refl, sym, ap, ap₂, _∙_}
-use mathlib.Core.Bool.{Bool, true, false}
+use mathlib.Core.Bool.{Bool}
 use mathlib.Core.Logic.{_⊎_, inl, inr, ⊎-elim}
 use lib.Bits.{bitXor, xor-shr, xor-mod}
 use lib.Dec.{eqb}
@@ -17,12 +17,8 @@ use Rattle.models.specs.Layout.{action-count, entries}
 use Rattle.models.specs.Used.{Sized}
 use Rattle.models.proofs.Laws.{entries-past-actions, entries-small}
 use Rattle.models.proofs.Passed.{passed-all, passed-sized}
+use Rattle.evaluation.proofs.Values.{one-if-small}
 use Rattle.lanes.specs.Lanes.{lane, Laned}
-
-one-if-small : (t : Bool) → one-if t < 2
-unfolding one-if
-one-if-small true = omega arith
-one-if-small false = omega arith
 
 -- ---- lanes by halving
 
@@ -90,7 +86,7 @@ module _ (f : ℕ → Bool) (n : ℕ) where
     built-more {y} {t} e g = record { below = room; right = at }
       where
         small : one-if t < 2
-        small = one-if-small t
+        small = omega (arith, one-if-small t)
 
         room : y < 2 ^ (n - (i - 1))
         room =

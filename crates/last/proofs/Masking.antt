@@ -263,7 +263,7 @@ module _ {m q : Bytes} {start : ℕ} {depths truth cone late : List ℕ} {reward
           right = λ k a o u d n.
               let z : k ≡ length (on a o u) = omega (arith, T-length a o u, on-length a o u) in
               let here : state-after m start (take k (on a o u)) ≡ (outcome-of m s a o) .target =
-              ap (state-after m start) (take-all k (on a o u) (omega arith)) ∙ stepping.state-on (B .ready) (offered a o u) (B .knows) (B .roomy) in
+              ap (state-after m start) (take-all k (on a o u) (omega arith)) ∙ stepping.state-on (B .ready) (offered a o u) (B .knows) in
               let rest : drop k (steps-of m start (on a o u)) ≡ [] = drop-of-length-le (steps-of m start (on a o u)) {i = k} (omega (arith, steps-length m start (on a o u))) in
               let at = state-after m start (take k (on a o u)) in
               let t : byte truth (32 * node i + (outcome-of m s a o) .target) ≡ value-of (model-of m) (formula q (node i)) at (drop k (steps-of m start (on a o u))) =
@@ -315,5 +315,5 @@ module _ {m q : Bytes} {start : ℕ} {depths truth cone late : List ℕ} {reward
             let W = M .right (length cone - 1) (omega (arith, B .ready .ordered .some)) (B .marked .root) in
             W .right 0 a o u (omega (arith, B .deep, T-length a o u)) itself
             ∙ ap (value-of (model-of m) (formula q (root-of cone)) start)
-            (steps-append m start T ((4 * a + o) ∷ []) ∙ ap (λ z. steps-of m start T ++ (z ∷ [])) (stepping.the-step (B .ready) (offered a o u) (B .knows) (B .roomy)));
+            (steps-append m start T ((4 * a + o) ∷ []) ∙ ap (λ z. steps-of m start T ++ (z ∷ [])) (stepping.the-step (B .ready) (offered a o u) (B .knows)));
       }

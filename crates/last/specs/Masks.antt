@@ -9,7 +9,7 @@ use Rattle.logic.specs.Total.{value-of}
 use Rattle.blocks.specs.Bytes.{Bytes}
 use Rattle.models.specs.Layout.{outcome-of, entries, model-of}
 use Rattle.evaluation.specs.Path.{steps-of, state-after}
-use Rattle.evaluation.specs.Reached.{formula, Reached, root-of, Ready}
+use Rattle.evaluation.specs.Reached.{formula, Reached, root-of, on-path, Ready}
 use Rattle.evaluation.specs.Known.{Knows, Roomy}
 use Rattle.lanes.specs.Lanes.{lane, Laned, Rewards}
 use Rattle.last.specs.Late.{Late}
@@ -38,4 +38,4 @@ pub record Masked (m q : Bytes) (start : ℕ) (cone late t : List ℕ) (s i : �
 
 -- The condition's own word: its value on the path that each outcome ends.
 abbrev pub Ended : (m q : Bytes) (start : ℕ) (cone t : List ℕ) (s x : ℕ) → Type 0
-Ended m q start cone t s x = Laned m s (λ a o. value-of (model-of m) (formula q (root-of cone)) start (steps-of m start t ++ (outcome-of m s a o ∷ []))) x
+Ended m q start cone t s x = Laned m s (λ a o. on-path m q start cone t (outcome-of m s a o ∷ [])) x

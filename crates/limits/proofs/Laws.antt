@@ -22,7 +22,6 @@ use Rattle.logic.proofs.Tests.{count-more, tabulate-more, keep-append}
 use Rattle.blocks.specs.Bytes.{Bytes}
 use Rattle.models.specs.Layout.{state-count, outcome-of, entries, model-of}
 use Rattle.models.specs.Readable.{Readable}
-use Rattle.models.specs.Used.{Used}
 use Rattle.models.proofs.Held.{states-held, tabulate-member}
 use Rattle.models.proofs.Rows.{outcomes-are, enabled-are}
 use Rattle.limits.specs.Totals.{total, none, joined, gather, step-total, limit, cap, Totals}
@@ -203,9 +202,6 @@ module _ (c : ℕ) (f : ℕ → ℕ) (t : ℕ → Bool) where
 -- ---- reading a choice's cell
 
 module _ (b : Bytes) where
-  pub used-at : {used : List ℕ} → Used b used → (s a : ℕ) → s < 32 → a < 8 → getD used (8 * s + a) 0 ≡ entries b s a
-  used-at u s a h g = u .count (8 * s + a) (omega arith) ∙ ap₂ (entries b) (omega arith) (omega arith)
-
   module _ (s a x : ℕ) where
     pub not-enabled : entries b s a ≡ 0 → 0 ≡ cond (ltb 0 (entries b s a)) x 0
     not-enabled e = rw e refl

@@ -1,64 +1,38 @@
 -- Paths of a search: a step more leads to the outcome's target, where the value of the rest is the value with the step taken; and after
 -- the search below, the trail is back.
-use Prim.Native.Nat.{ℕ, _+_, _*_, _/_, _%_, _≤_, _<_}
+use Prim.Native.Nat.{ℕ, _+_, _*_, _≤_, _<_}
 use native.Mathlib.Omega.{arith}
-use mathlib.Core.Path.{_≡_, refl, sym, ap, ap₂, subst, _∙_, fun-ext}
-use mathlib.Core.Bool.{Bool, true, false}
-use mathlib.Core.List.{List, [], _∷_, _++_, append-nil, append-assoc}
+use mathlib.Core.Path.{_≡_, refl, sym, ap, ap₂, subst, _∙_}
+use mathlib.Core.Bool.{Bool}
+use mathlib.Core.List.{List, [], _∷_}
 use lib.IntN.{ℤ}
 use lib.ListN.{length, getD, take}
 use lib.Seq.{length-take-le, take-take, take-at}
 use Rattle.logic.specs.Checked.{refusal}
-use Rattle.logic.specs.Formula.{sat}
-use Rattle.logic.specs.Model.{Step}
 use Rattle.logic.specs.Quantity.{weights, order}
 use Rattle.logic.specs.Plan.{choices}
 use Rattle.logic.specs.Recursion.{greatest}
-use Rattle.logic.specs.Total.{one-if}
 use Rattle.blocks.specs.Bytes.{Bytes}
 use Rattle.models.specs.Layout.{state-count, action-count, outcome-of, entries, model-of}
 use Rattle.models.specs.Grounds.{read-model}
 use Rattle.models.specs.Used.{Used}
 use Rattle.models.proofs.Passed.{passed-all, passed-sized}
 use Rattle.models.proofs.Laws.{entries-small}
-use Rattle.evaluation.specs.Path.{step-of, steps-of, state-after}
-use Rattle.evaluation.specs.Reached.{formula, root-of}
+use Rattle.models.proofs.Table.{used-at}
+use Rattle.evaluation.specs.Path.{state-after}
+use Rattle.evaluation.specs.Reached.{root-of, on-path}
 use Rattle.evaluation.specs.Learnt.{known}
 use Rattle.evaluation.specs.Known.{Knows, Offered, Stepped}
-use Rattle.evaluation.proofs.Trails.{steps-append, state-append, state-inside}
+use Rattle.evaluation.proofs.Trails.{state-inside}
 use Rattle.evaluation.proofs.Knowing.{knows-shorter}
-use Rattle.evaluation.proofs.Stepping.{leaf-value}
+use Rattle.evaluation.proofs.Stepping.{leaf-value, state-stepped, on-path-stepped}
 use Rattle.last.specs.Masks.{Before-last, Ended}
 use Rattle.extension.specs.Choices.{room}
-use Rattle.search.specs.Greatest.{on-path, best-choices}
+use Rattle.search.specs.Greatest.{best-choices}
 use Rattle.search.specs.Buffers.{Wrote, Setting, Back, Picked, Ends}
 use Rattle.search.specs.declared.Best.{Best}
 use Rattle.search.proofs.Stack.{wrote-none}
-use Rattle.search.proofs.Trying.{sizes-in, count-in}
-
-module _ (m q : Bytes) (start : ℕ) (cone : List ℕ) where
-  pub on-path-bit : (t : List ℕ) (r : List Step) → on-path m q start cone t r ≤ 1
-  unfolding on-path one-if
-  on-path-bit t r = go (sat (model-of m) (formula q (root-of cone)) start (steps-of m start t ++ r))
-    where
-      go : (b : Bool) → one-if b ≤ 1
-      go true = omega arith
-      go false = omega arith
-
-  -- A step more on the trail is a step less of the rest.
-  on-path-more : (t : List ℕ) (b : ℕ) → on-path m q start cone (t ++ (b ∷ [])) ≡ λ r. on-path m q start cone t (step-of m (state-after m start t) b ∷ r)
-  unfolding on-path steps-of
-  on-path-more t b =
-      fun-ext (λ r.
-      ap (λ p. one-if (sat (model-of m) (formula q (root-of cone)) start p))
-      (ap (λ p. p ++ r) (steps-append m start t (b ∷ [])) ∙ append-assoc (steps-of m start t) (step-of m (state-after m start t) b ∷ []) r))
-
-step-is : (m : Bytes) (s a o : ℕ) → o < 4 → step-of m s (4 * a + o) ≡ outcome-of m s a o
-unfolding step-of
-step-is m s a o h =
-    let x : (4 * a + o) / 4 ≡ a = omega arith in
-    let y : (4 * a + o) % 4 ≡ o = omega arith in
-    ap₂ (outcome-of m s) x y
+use Rattle.search.proofs.Trying.{sizes-in}
 
 module _ {m used q : Bytes} {depths truth cone late : List ℕ} {rewards : List ℤ} {start : ℕ} {trail : List ℕ} {gains : List ℤ} {v : List ℕ} {h s k : ℕ}
     (S : Setting m used q depths truth cone late rewards start trail gains v h s k) where
@@ -72,17 +46,14 @@ module _ {m used q : Bytes} {depths truth cone late : List ℕ} {rewards : List 
   few-here a = entries-small m (passed-sized m (passed-all m (S .ready .model-accepted))) s a
 
   pub count-here : (a n : ℕ) → a < 8 → n ≡ getD used (8 * s + a) 0 → n ≡ entries m s a
-  count-here a n h e = count-in m (S .ready .model-accepted) state-here (S .counted) a n h e
+  count-here a n h e = e ∙ used-at m (S .counted) s a (sizes-here .0) h
 
   length-here : length (take h trail) ≡ h
   length-here = length-take-le h trail (omega (arith, S .few, S .roomy .steps))
 
   -- Where no step is left, the value is known.
   leaf-here : k ≡ 0 → known v (root-of cone) 0 ≡ on-path m q start cone (take h trail) []
-  unfolding on-path
-  leaf-here e =
-      leaf-value (S .ready) (take h trail) gains v (S .knows) (omega (arith, S .deep, length-here))
-      ∙ ap (λ p. one-if (sat (model-of m) (formula q (root-of cone)) start p)) (sym (append-nil (steps-of m start (take h trail))))
+  leaf-here e = leaf-value (S .ready) (take h trail) gains v (S .knows) (omega (arith, S .deep, length-here)) []
 
   pub picked-leaf : (least : Bool) (b : Best) (at : ℕ) (c : List ℕ) → k ≡ 0 → (b .value ≡ known v (root-of cone) 0) × (b .end ≡ at)
       → Picked least m (on-path m q start cone (take h trail)) s k at c c b
@@ -112,7 +83,6 @@ module _ {m used q : Bytes} {depths truth cone late : List ℕ} {rewards : List 
 
     pub picked-last : {least : Bool} {x at : ℕ} {c c′ : List ℕ} {b : Best} → Ended m q start cone (take h trail) s x → Ends least m s x at c c′ b
         → Picked least m (on-path m q start cone (take h trail)) s k at c c′ b
-    unfolding on-path
     picked-last X E = rw e (E .picked (on-path m q start cone (take h trail)) X)
 
 -- The buffers after some searches below: as long as they were, with the trail back.
@@ -169,16 +139,9 @@ module _ {m used q : Bytes} {depths truth cone late : List ℕ} {rewards : List 
   pub offered : Offered m start trail h s a o
   offered = record { steps = omega (arith, S .few); state = S .state; used = used-here }
 
-  outcome-few : o < 4
-  outcome-few = omega (arith, used-here, few-here S a)
-
   module _ {trail′ : List ℕ} {gains′ : List ℤ} {v′ : List ℕ} {t : ℕ} (T : Stepped m q start cone h s a o trail trail′ gains′ v′ t) where
-    the-step : step-of m (state-after m start (take h trail)) (4 * a + o) ≡ outcome-of m s a o
-    the-step = ap (λ x. step-of m x (4 * a + o)) (S .state) ∙ step-is m s a o outcome-few
-
     pub setting-on : length trail′ ≡ length trail → length gains′ ≡ length gains → length v′ ≡ length v
         → Setting m used q depths truth cone late rewards start trail′ gains′ v′ (h + 1) t k
-    unfolding state-after
     setting-on e1 e2 e3 =
         record {
           ready = S .ready;
@@ -187,7 +150,7 @@ module _ {m used q : Bytes} {depths truth cone late : List ℕ} {rewards : List 
           rewarded = S .rewarded;
           roomy = record { steps = omega (arith, S .roomy .steps); sums = omega (arith, S .roomy .sums); places = omega (arith, S .roomy .places) };
           knows = T .knows;
-          state = ap (state-after m start) (T .longer) ∙ state-append m start (take h trail) ((4 * a + o) ∷ []) ∙ ap (λ x. x .target) the-step ∙ sym (T .state);
+          state = state-stepped (S .ready) offered (S .knows) T;
           deep = omega (arith, S .deep);
           few = omega (arith, S .few);
         }
@@ -205,10 +168,7 @@ module _ {m used q : Bytes} {depths truth cone late : List ℕ} {rewards : List 
     -- What is picked after the step is the best below the outcome; t0 is the trail that the first h steps were.
     module _ {t0 : List ℕ} (e : take h trail ≡ t0) where
       same-value : on-path m q start cone (take (h + 1) trail′) ≡ λ r. on-path m q start cone t0 (outcome-of m s a o ∷ r)
-      same-value =
-          ap (on-path m q start cone) (T .longer)
-          ∙ on-path-more m q start cone (take h trail) (4 * a + o)
-          ∙ ap₂ (λ t x r. on-path m q start cone t (x ∷ r)) e the-step
+      same-value = on-path-stepped (S .ready) offered (S .knows) T ∙ ap (λ t r. on-path m q start cone t (outcome-of m s a o ∷ r)) e
 
       module _ {least : Bool} {at : ℕ} {before after : List ℕ} {b : Best} (P : Picked least m (on-path m q start cone (take (h + 1) trail′)) t k at before after b) where
         pub picked-value : b .value ≡ greatest (weights (order least)) (model-of m) k ((outcome-of m s a o) .target) (λ r. on-path m q start cone t0 (outcome-of m s a o ∷ r))

@@ -1,5 +1,5 @@
 -- The choices tried so far: with one more, the best is the better of the two, and it stands at the bottom of the stack.
-use Prim.Native.Nat.{ℕ, suc, _+_, _*_, _/_, _%_, _≤_, _<_, zero-le}
+use Prim.Native.Nat.{ℕ, suc, _+_, _≤_, _<_, zero-le}
 use native.Mathlib.Omega.{arith}
 use native.Mathlib.Numerals.{add-one}
 use native.Mathlib.Nat.{pos-of-ne-zero}
@@ -7,7 +7,7 @@ use mathlib.Core.Path.{_≡_, refl, sym, ap, ap₂, subst, _∙_}
 use mathlib.Core.Bool.{Bool, true, false, not, cond, _||_, false≢true}
 use mathlib.Core.List.{List, [], _∷_, _++_, append-nil}
 use lib.Dec.{ltb}
-use lib.ListN.{length, getD, set}
+use lib.ListN.{length, set}
 use borrow.Author.Tests.{lt-ltb, le-ltb}
 use Rattle.logic.specs.Lists.{keep, is-empty, count-from}
 use Rattle.logic.specs.Checked.{refusal}
@@ -18,7 +18,6 @@ use Rattle.logic.proofs.Tests.{keep-append, count-more}
 use Rattle.blocks.specs.Bytes.{Bytes}
 use Rattle.models.specs.Layout.{state-count, action-count, entries, model-of}
 use Rattle.models.specs.Grounds.{read-model}
-use Rattle.models.specs.Used.{Used}
 use Rattle.models.proofs.Passed.{passed-all, passed-sized}
 use Rattle.models.proofs.Held.{states-held, enabled-entries, accepted}
 use Rattle.extension.specs.Choices.{room}
@@ -160,12 +159,6 @@ module _ (m : Bytes) (passed : refusal (read-model m) ≡ 0) {s : ℕ} (here : s
       let p = passed-all m passed in
       let some = (accepted m p) .some-choice s (rw (states-held m) here) in
       ap is-empty (sym (enabled-entries m p s here) ∙ some .2)
-
-  pub count-in : {used : Bytes} → Used m used → (a n : ℕ) → a < 8 → n ≡ getD used (8 * s + a) 0 → n ≡ entries m s a
-  count-in U a n h e =
-      let x : (8 * s + a) / 8 ≡ s = omega arith in
-      let y : (8 * s + a) % 8 ≡ a = omega arith in
-      e ∙ U .count (8 * s + a) (omega (arith, sizes-in)) ∙ ap₂ (entries m) x y
 
 module _ (least : Bool) (m : Bytes) (f : List Step → ℕ) (s k : ℕ) where
   pub tried-start : (at : ℕ) (c : List ℕ) → Tried least (model-of m) k s f (enabled-below m s 0) at c c (record { found = false; value = 0; end = at })

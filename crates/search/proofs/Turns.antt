@@ -21,20 +21,21 @@ use Rattle.questions.proofs.Accepted.{accepted}
 use Rattle.extension.specs.Choices.{room}
 use Rattle.extension.proofs.Laws.{room-step, room-most}
 use Rattle.evaluation.specs.Path.{steps-of, state-after}
-use Rattle.evaluation.specs.Reached.{formula, root-of, Cone, Ready}
+use Rattle.evaluation.specs.Reached.{formula, root-of, on-path, Cone, Ready}
 use Rattle.evaluation.specs.Learnt.{learnt}
 use Rattle.evaluation.specs.Known.{Knows, Roomy, Offered, Stepped}
+use Rattle.evaluation.proofs.Values.{one-if-small}
 use Rattle.evaluation.proofs.Stepping.{begun}
 use Rattle.lanes.specs.Lanes.{Rewards}
 use Rattle.last.specs.Late.{Late}
-use Rattle.search.specs.Greatest.{on-path, best-choices, Finds}
+use Rattle.search.specs.Greatest.{best-choices, Finds}
 use Rattle.search.specs.Buffers.{Setting, Back, Keeps, Picked, Walks}
 use Rattle.search.specs.declared.Best.{Best}
 use Rattle.search.specs.declared.Walked.{Walked}
 use Rattle.search.proofs.Bounds.{choices-few}
 use Rattle.search.proofs.Trying.{Tried, enabled-below, tried-start, turn-skipped, tried-room, keeps-inside, turn-taken, picked-all}
 use Rattle.search.proofs.Walking.{Walking, walking-more, walking-room, sum-fits, walked-value, walked-wrote}
-use Rattle.search.proofs.Paths.{on-path-bit, state-here, Kept, kept-none, setting-kept, kept-kept, offered, setting-on, back-on, picked-value, picked-wrote}
+use Rattle.search.proofs.Paths.{state-here, Kept, kept-none, setting-kept, kept-kept, offered, setting-on, back-on, picked-value, picked-wrote}
 
 -- Where two ways meet: what holds of the one that was taken holds.
 pub same : (P : List ℕ → List ℤ → List ℕ → List ℕ → Best → Type 0) {t t′ : List ℕ} {g g′ : List ℤ} {v v′ c c′ : List ℕ} {b b′ : Best}
@@ -69,13 +70,13 @@ module _ {m used q : Bytes} {depths truth cone late : List ℕ} {rewards : List 
 
       pub walk-fits : sum + w * b .value < 2 ^ 64
       walk-fits =
-          sum-fits least m s a k (on-path m q start cone (take h trail₀)) (S .ready .model-accepted) (state-here S) (omega (arith, S .few)) (on-path-bit m q start cone (take h trail₀))
+          sum-fits least m s a k (on-path m q start cone (take h trail₀)) (S .ready .model-accepted) (state-here S) (omega (arith, S .few)) (λ r. one-if-small _)
           o here at end (b .end) sum (b .value) choices₀ choices choices″ W (picked-value k N a o here T (K .back .kept) P) (picked-wrote k N a o here T (K .back .kept) P) w e
 
       pub walk-more : {x : ℕ} → x ≡ sum + w * b .value → Walking least m s a k (on-path m q start cone (take h trail₀)) (o + 1) at choices₀ choices″ x (b .end)
       walk-more g =
           subst (λ x. Walking least m s a k (on-path m q start cone (take h trail₀)) (o + 1) at choices₀ choices″ x (b .end)) (sym g)
-          (walking-more least m s a k (on-path m q start cone (take h trail₀)) (S .ready .model-accepted) (state-here S) (omega (arith, S .few)) (on-path-bit m q start cone (take h trail₀))
+          (walking-more least m s a k (on-path m q start cone (take h trail₀)) (S .ready .model-accepted) (state-here S) (omega (arith, S .few)) (λ r. one-if-small _)
           o here at end (b .end) sum (b .value) choices₀ choices choices″ W (picked-value k N a o here T (K .back .kept) P) (picked-wrote k N a o here T (K .back .kept) P) w e)
 
     pub walk-kept : {trail″ : List ℕ} {gains″ : List ℤ} {v″ choices″ : List ℕ} → Back m q start cone (h + 1) trail′ trail″ gains″ v″
@@ -188,7 +189,7 @@ setting-start {trail = trail} {gains} {v} {v′} R U L G e h F l g k =
 
 pub found : {m q : Bytes} {start d : ℕ} {cone before after : List ℕ} {least : Bool} {b : Best} → refusal (read-model m) ≡ 0 → d ≤ 6
     → Picked least m (on-path m q start cone []) start d 0 before after b → Finds least m q start cone d after (record { value = b .value; count = b .end })
-unfolding on-path steps-of best-choices
+unfolding steps-of best-choices
 found {m} {q} {start} {d} {cone} {least = least} passed h P =
     record {
       value = P .value;

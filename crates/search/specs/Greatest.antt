@@ -2,7 +2,7 @@
 use Prim.Native.Nat.{ℕ, _*_, _≤_}
 use mathlib.Core.Path.{_≡_}
 use mathlib.Core.Bool.{Bool}
-use mathlib.Core.List.{List, _∷_, _++_, flatMap}
+use mathlib.Core.List.{List, _∷_, flatMap}
 use lib.ListN.{take}
 use Rattle.logic.specs.Model.{Model, Step}
 use Rattle.logic.specs.Quantity.{sum, weights, order}
@@ -11,13 +11,8 @@ use Rattle.logic.specs.Recursion.{greatest, best-plan}
 use Rattle.logic.specs.Total.{value-of}
 use Rattle.blocks.specs.Bytes.{Bytes}
 use Rattle.models.specs.Layout.{model-of}
-use Rattle.evaluation.specs.Path.{steps-of}
 use Rattle.evaluation.specs.Reached.{formula, root-of}
 use Rattle.search.specs.declared.Found.{Found}
-
--- The value of the condition at the cone's root on the path that begins with the trail t and goes on with r.
-unfoldable pub on-path : (m q : Bytes) (start : ℕ) (cone t : List ℕ) → List Step → ℕ
-on-path m q start cone t r = value-of (model-of m) (formula q (root-of cone)) start (steps-of m start t ++ r)
 
 module _ (least : Bool) (M : Model) (k : ℕ) where
   -- The choices of the best plan of k steps; f is the value of its steps.

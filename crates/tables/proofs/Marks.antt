@@ -4,7 +4,7 @@
 use Prim.Native.Nat.{ℕ, suc, _+_, _*_, _-_, _/_, _%_, _≤_, _<_}
 use native.Mathlib.Omega.{arith}
 use native.Mathlib.Decide.{decLt, ℕ-discrete}
-use mathlib.Core.Path.{_≡_, sym, ap, ap₂, subst, _∙_}
+use mathlib.Core.Path.{_≡_, sym, ap, subst, _∙_}
 use mathlib.Core.Logic.{_⊎_, inl, inr, ⊎-elim}
 use mathlib.Core.List.{List}
 use lib.ListN.{getD, length, set, length-set, replicate, length-replicate, getD-replicate, List·getD-eq-default}
@@ -17,6 +17,7 @@ use Rattle.models.specs.Used.{Used}
 use Rattle.models.proofs.Readable.{readable}
 use Rattle.models.proofs.Laws.{entries-past-actions}
 use Rattle.models.proofs.Rows.{entries-few}
+use Rattle.models.proofs.Table.{used-at}
 use Rattle.questions.specs.Layout.{start-of, node-count, node-of}
 use Rattle.questions.proofs.Accepted as questions
 use Rattle.evaluation.specs.Reached.{Reached, itself, under-not, and-left, and-right, under-next}
@@ -93,12 +94,6 @@ by-outcome m r s P f a i h = go (decLt a (action-count m))
         subst (λ x. P x i) p (subst (λ y. P ((4 * a + i) / 4) y) q
         (f (4 * a + i) (omega arith) (subst (λ y. y < entries m s ((4 * a + i) / 4)) (sym q) (subst (λ x. i < entries m s x) (sym p) h))))
 
-pub used-at : (m : Bytes) (used : List ℕ) → Used m used → (s a : ℕ) → s < 32 → a < 8 → getD used (8 * s + a) 0 ≡ entries m s a
-used-at m used u s a h g =
-    let p : (8 * s + a) / 8 ≡ s = omega arith in
-    let q : (8 * s + a) % 8 ≡ a = omega arith in
-    u .count (8 * s + a) (omega arith) ∙ ap₂ (entries m) p q
-
 -- An outcome that is used has its target marked; of one that is not, nothing is asked.
 abbrev pub Outcome-done : (m need : List ℕ) (child s k : ℕ) → List ℕ → Type 0
 Outcome-done m need child s k need′ =
@@ -109,7 +104,7 @@ module _ (m used need : List ℕ) (child s k : ℕ) (r : Readable m) (u : Used m
   target-of = (outcome-of m s (k / 4) (k % 4)) .target
 
   entries-at : getD used (8 * s + k / 4) 0 ≡ entries m s (k / 4)
-  entries-at = used-at m used u s (k / 4) hs (omega arith)
+  entries-at = used-at m u s (k / 4) hs (omega arith)
 
   pub outcome-marked : (t : ℕ) → k % 4 < getD used (8 * s + k / 4) 0 → t ≡ target-of → Outcome-done m need child s k (set need (32 * child + t) 1)
   outcome-marked t l e =

@@ -15,7 +15,7 @@ use Rattle.logic.specs.Quantity.{naturals, sum}
 use Rattle.logic.specs.Plan.{Plan, plans, paths, weight}
 use Rattle.logic.specs.Choices.{read-each, read-plan, plan-of}
 use Rattle.logic.specs.Formula.{Formula, W}
-use Rattle.logic.specs.Total.{one-if, total, value-of}
+use Rattle.logic.specs.Total.{total, value-of}
 use Rattle.logic.specs.Accepted.{Accepted}
 use Rattle.logic.proofs.Checked.{not-ok, ok-same, bind-ok, guard-ok}
 use Rattle.logic.proofs.Sums.{naturals-additive, sum-pairs, total-zero, total-step}
@@ -26,6 +26,7 @@ use Rattle.models.specs.Layout.{state-count, denominator-of, model-of}
 use Rattle.models.specs.Grounds.{read-model}
 use Rattle.models.proofs.Passed.{passed-all}
 use Rattle.models.proofs.Held.{accepted, states-held, denominator-held}
+use Rattle.evaluation.proofs.Values.{one-if-small}
 use Rattle.weighing.specs.Sums.{Run, each, weigh}
 
 -- ---- a plan read
@@ -108,11 +109,6 @@ plan-there M n s cs = bind-there (read-plan M n s cs) _ (read-there M n s cs) (�
 
 -- ---- how much a plan weighs
 
-pub value-small : (t : Bool) → one-if t ≤ 1
-unfolding one-if
-value-small true = omega arith
-value-small false = omega arith
-
 sum-le : {A : Type 0} (f g : A → ℕ) (l : List A) → ((a : A) → f a ≤ g a) → sum naturals f l ≤ sum naturals g l
 unfolding sum
 sum-le f g [] h = le-refl 0
@@ -122,7 +118,7 @@ pub W-most : (M : Model) → Accepted M → (φ : Formula) (n s : ℕ) → s < l
 unfolding total
 W-most M A φ n s k π i =
     rw (W-total M φ n s π)
-    (le-trans (sum-le (λ r. weight r * value-of M φ s r) (λ r. weight r * 1) (paths M n s π) (λ r. mul-le-mul-left (weight r) (value-small _)))
+    (le-trans (sum-le (λ r. weight r * value-of M φ s r) (λ r. weight r * 1) (paths M n s π) (λ r. mul-le-mul-left (weight r) (one-if-small _)))
     (omega (arith, total-ones M A n s k π i)))
 
 -- The weight of the plan that choices spell, of an accepted model, is at most D to the n.

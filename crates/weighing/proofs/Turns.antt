@@ -1,44 +1,38 @@
 -- A turn of the loop over the outcomes: the step taken leads on from here, the sum below it is that of the definition, and what is known of
 -- the steps before it stays known.
-use Prim.Native.Nat.{ℕ, zero, suc, _+_, _*_, _-_, _/_, _%_, _^_, _≤_, _<_}
+use Prim.Native.Nat.{ℕ, zero, suc, _+_, _*_, _-_, _^_, _≤_, _<_}
 use native.Mathlib.Omega.{arith}
 use native.Mathlib.Numerals.{add-one}
-use native.Mathlib.Decide.{decLt}
 use native.Mathlib.Nat.{mul-le-mul, mul-le-mul-right}
-use mathlib.Core.Path.{_≡_, refl, sym, ap, ap₂, subst, _∙_, fun-ext}
-use mathlib.Core.Bool.{cond}
-use mathlib.Core.List.{List, [], _∷_, _++_, append-assoc, append-nil}
-use lib.Dec.{ltb}
+use mathlib.Core.Path.{_≡_, refl, sym, ap, ap₂, subst, _∙_}
+use mathlib.Core.List.{List, [], _∷_, _++_}
 use lib.IntN.{ℤ, pos}
 use lib.ListN.{length, getD, take, drop, drop-of-length-le}
 use lib.Seq.{length-take-le, take-take, take-at, getD-drop, drop-drop}
-use borrow.Author.Tests.{lt-ltb, le-ltb}
 use Rattle.logic.specs.Lists.{tabulate, count-from}
 use Rattle.logic.specs.Model.{Model, Step, outcomes}
 use Rattle.logic.specs.Checked.{ok}
 use Rattle.logic.specs.Plan.{Plan}
 use Rattle.logic.specs.Choices.{plan-of}
 use Rattle.logic.specs.Formula.{depth, W}
-use Rattle.logic.specs.Total.{value-of}
 use Rattle.logic.proofs.Tests.{tabulate-more}
 use Rattle.blocks.specs.Bytes.{Bytes}
 use Rattle.models.specs.Layout.{state-count, outcome-of, entries, model-of}
-use Rattle.models.specs.Readable.{Readable}
-use Rattle.models.specs.Used.{Used}
-use Rattle.models.proofs.Laws.{entries-past-actions}
+use Rattle.models.specs.Used.{Used, count-in}
 use Rattle.models.proofs.Readable.{readable}
 use Rattle.models.proofs.Rows.{outcomes-are, entries-few}
-use Rattle.evaluation.specs.Path.{step-of, steps-of, state-after}
-use Rattle.evaluation.specs.Reached.{formula, root-of, Ready}
+use Rattle.models.proofs.Table.{count-entries}
+use Rattle.evaluation.specs.Path.{steps-of, state-after}
+use Rattle.evaluation.specs.Reached.{formula, root-of, on-path, Ready}
 use Rattle.evaluation.specs.Learnt.{known, learnt}
 use Rattle.evaluation.specs.Known.{Knows, Roomy, Offered, Stepped}
-use Rattle.evaluation.proofs.Trails.{fair, state-inside, state-append, steps-append}
+use Rattle.evaluation.proofs.Trails.{fair, state-inside}
 use Rattle.evaluation.proofs.Knowing.{knows-shorter}
-use Rattle.evaluation.proofs.Stepping.{leaf-value, begun}
-use Rattle.evaluation.proofs.Values.{learnt-length}
-use Rattle.weighing.specs.Sums.{Run, each, weigh, count-in}
-use Rattle.weighing.specs.Places.{onward, Here, Ran}
-use Rattle.weighing.proofs.Plans.{value-small, plan-weighed}
+use Rattle.evaluation.proofs.Stepping.{leaf-value, begun, state-stepped, on-path-stepped}
+use Rattle.evaluation.proofs.Values.{one-if-small, learnt-length}
+use Rattle.weighing.specs.Sums.{Run, each, weigh}
+use Rattle.weighing.specs.Places.{Here, Ran}
+use Rattle.weighing.proofs.Plans.{plan-weighed}
 use Rattle.weighing.proofs.Fits.{each-more, outcomes-small, weigh-small, power-small}
 
 -- ---- the choice at a place
@@ -61,35 +55,12 @@ after-choice choices at = sym (drop-drop 1 at choices)
 pub after-end : (choices : List ℕ) (at : ℕ) → length choices ≤ at → drop at choices ≡ drop 1 (drop at choices)
 after-end choices at h = let e : drop at choices ≡ [] = drop-of-length-le choices {i = at} h in e ∙ sym (ap (drop 1) e)
 
--- ---- the table of used entries
-
-module _ (used : List ℕ) (s a : ℕ) where
-  pub count-some : a < 8 → getD used (8 * s + a) 0 ≡ count-in used s a
-  unfolding count-in
-  count-some h = ap (λ t. cond t (getD used (8 * s + a) 0) 0) (sym (lt-ltb a 8 h))
-
-  pub count-none : 8 ≤ a → 0 ≡ count-in used s a
-  unfolding count-in
-  count-none h = ap (λ t. cond t (getD used (8 * s + a) 0) 0) (sym (le-ltb a 8 h))
-
-module _ (m : Bytes) (r : Readable m) {used : List ℕ} (u : Used m used) (s : ℕ) (k : s < state-count m) where
-  count-entries : (a : ℕ) → count-in used s a ≡ entries m s a
-  unfolding count-in
-  count-entries a = go (decLt a 8)
-    where
-      go : Dec (a < 8) → cond (ltb a 8) (getD used (8 * s + a) 0) 0 ≡ entries m s a
-      go (yes h) =
-          ap (λ t. cond t (getD used (8 * s + a) 0) 0) (lt-ltb a 8 h)
-          ∙ u .count (8 * s + a) (omega (arith, r .states))
-          ∙ ap₂ (entries m) (omega arith) (omega arith)
-      go (no h) = ap (λ t. cond t (getD used (8 * s + a) 0) 0) (le-ltb a 8 (omega arith)) ∙ sym (entries-past-actions m s a (omega (arith, r .actions)))
-
 -- ---- the loop over the outcomes
 
 -- The sum below an outcome after the trail t, of k steps; and the sum below the first i outcomes of an action.
 module _ (m q : Bytes) (start : ℕ) (cone t : List ℕ) (k : ℕ) where
   abbrev pub below : Step → List ℕ → Run
-  below o = weigh (model-of m) k (o .target) (λ r. onward m q start cone t (o ∷ r))
+  below o = weigh (model-of m) k (o .target) (λ r. on-path m q start cone t (o ∷ r))
 
   abbrev pub runs : (s a i : ℕ) → List ℕ → Run
   runs s a i cs = each below (tabulate i (outcome-of m s a)) cs
@@ -112,22 +83,22 @@ module _ {m q : Bytes} {start : ℕ} {depths truth cone : List ℕ} (ready : Rea
 
     -- At the end of a path the condition has its value.
     pub weigh-done : (choices : List ℕ) (at x : ℕ) → k ≡ 0 → at ≤ length choices → x ≡ known v (root-of cone) 0
-        → Ran (weigh (model-of m) k s (onward m q start cone (take h trail)) (drop at choices)) m q start cone h trail trail gains v choices x at
+        → Ran (weigh (model-of m) k s (on-path m q start cone (take h trail)) (drop at choices)) m q start cone h trail trail gains v choices x at
     unfolding weigh
     weigh-done choices at x z l e =
         let T = take h trail in
         let d : depth (formula q (root-of cone)) ≤ length T = omega (arith, here .deep, trail-length) in
-        let f : x ≡ onward m q start cone T [] =
-        e ∙ leaf-value ready T gains v (here .knows) d ∙ ap (value-of (model-of m) (formula q (root-of cone)) start) (sym (append-nil (steps-of m start T))) in
+        let f : x ≡ on-path m q start cone T [] =
+        e ∙ leaf-value ready T gains v (here .knows) d [] in
         rw z (record { sum = f; left = refl; inside = l; kept = refl; knows = here .knows })
 
     -- A choice is read, and the sum is that below its outcomes.
     pub weigh-choice : {trail′ : List ℕ} {gains′ : List ℤ} {v′ : List ℕ} (choices : List ℕ) (at a next : ℕ) {x y : ℕ} → (k ≡ 0 → ⊥) → a ≡ getD choices at 0
         → drop next choices ≡ drop 1 (drop at choices)
-        → Ran (each (λ o. weigh (model-of m) (k - 1) (o .target) (λ r. onward m q start cone (take h trail) (o ∷ r))) (outcomes (model-of m) s a) (drop next choices)) m q start cone h trail trail′ gains′ v′ choices x y
-        → Ran (weigh (model-of m) k s (onward m q start cone (take h trail)) (drop at choices)) m q start cone h trail trail′ gains′ v′ choices x y
+        → Ran (each (λ o. weigh (model-of m) (k - 1) (o .target) (λ r. on-path m q start cone (take h trail) (o ∷ r))) (outcomes (model-of m) s a) (drop next choices)) m q start cone h trail trail′ gains′ v′ choices x y
+        → Ran (weigh (model-of m) k s (on-path m q start cone (take h trail)) (drop at choices)) m q start cone h trail trail′ gains′ v′ choices x y
     weigh-choice {trail′} {gains′} {v′} choices at a next {x} {y} n e f R =
-        subst (λ z. Ran z m q start cone h trail trail′ gains′ v′ choices x y) (weigh-step (model-of m) (onward m q start cone (take h trail)) choices k s at a next n e f) R
+        subst (λ z. Ran z m q start cone h trail trail′ gains′ v′ choices x y) (weigh-step (model-of m) (on-path m q start cone (take h trail)) choices k s at a next n e f) R
 
   -- ---- the loop
 
@@ -169,42 +140,29 @@ module _ {m q : Bytes} {start : ℕ} {depths truth cone : List ℕ} (ready : Rea
       abbrev b : ℕ
       b = 4 * a + i
 
-      the-step : step-of m (state-after m start T) b ≡ outcome-of m s a i
-      unfolding step-of
-      the-step =
-          let x : b / 4 ≡ a = omega (arith, few) in
-          let y : b % 4 ≡ i = omega (arith, few) in
-          ap (λ z. outcome-of m z (b / 4) (b % 4)) (here .state) ∙ ap₂ (outcome-of m s) x y
-
       module _ {trail′ : List ℕ} {gains′ : List ℤ} {v′ : List ℕ} {t : ℕ} (St : Stepped m q start cone h s a i trail trail′ gains′ v′ t) where
         longer : take (h + 1) trail′ ≡ T ++ (b ∷ [])
         longer = St .longer ∙ ap (λ l. l ++ ((4 * a + i) ∷ [])) (R .kept)
 
         pub here-next : Roomy trail′ gains′ v′ → Here m q start cone trail′ gains′ v′ (h + 1) t k
-        unfolding state-after
         here-next room =
             record {
               steps = omega (arith, here .steps);
               deep = omega (arith, here .deep);
-              state = ap (state-after m start) longer ∙ state-append m start T (b ∷ []) ∙ ap (λ o. o .target) the-step ∙ sym (St .state);
+              state = state-stepped ready offered known-here St;
               roomy = room;
               knows = St .knows;
             }
 
         -- The values of the steps to come are those of the step taken and the steps after it.
-        below-next : (cs : List ℕ) → weigh (model-of m) k t (onward m q start cone (take (h + 1) trail′)) cs ≡ under (outcome-of m s a i) cs
-        unfolding steps-of
+        below-next : (cs : List ℕ) → weigh (model-of m) k t (on-path m q start cone (take (h + 1) trail′)) cs ≡ under (outcome-of m s a i) cs
         below-next cs =
             ap₂ (λ t f. weigh (model-of m) k t f cs) (St .state)
-            (fun-ext (λ r. ap (value-of (model-of m) (formula q (root-of cone)) start)
-            (ap (λ l. steps-of m start l ++ r) longer
-            ∙ ap (λ l. l ++ r) (steps-append m start T (b ∷ []))
-            ∙ append-assoc (steps-of m start T) (step-of m (state-after m start T) b ∷ []) r
-            ∙ ap (λ o. steps-of m start T ++ (o ∷ r)) the-step)))
+            (on-path-stepped ready offered known-here St ∙ ap (λ l r. on-path m q start cone l (outcome-of m s a i ∷ r)) (R .kept))
 
         module _ {trail″ : List ℕ} {gains″ : List ℤ} {v″ : List ℕ} {x next′ : ℕ}
-            (C : Ran (weigh (model-of m) k t (onward m q start cone (take (h + 1) trail′)) (drop next choices)) m q start cone (h + 1) trail′ trail″ gains″ v″ choices x next′) where
-          part : weigh (model-of m) k t (onward m q start cone (take (h + 1) trail′)) (drop next choices) ≡ under (outcome-of m s a i) (upto i .1)
+            (C : Ran (weigh (model-of m) k t (on-path m q start cone (take (h + 1) trail′)) (drop next choices)) m q start cone (h + 1) trail′ trail″ gains″ v″ choices x next′) where
+          part : weigh (model-of m) k t (on-path m q start cone (take (h + 1) trail′)) (drop next choices) ≡ under (outcome-of m s a i) (upto i .1)
           part = below-next (drop next choices) ∙ ap (under (outcome-of m s a i)) (R .left)
 
           pub runs-fit : sum + (outcome-of m s a i) .weight * x < 2 ^ 64
@@ -212,7 +170,7 @@ module _ {m q : Bytes} {start : ℕ} {depths truth cone : List ℕ} (ready : Rea
               let A = ready .model-accepted in
               let B = 400 ^ k in
               let p : B ≤ 10240000000000 = power-small k (omega (arith, here .steps)) in
-              let f : (o : Step) (r : List Step) → onward m q start cone (take h trail₀) (o ∷ r) ≤ 1 = λ o r. value-small _ in
+              let f : (o : Step) (r : List Step) → on-path m q start cone (take h trail₀) (o ∷ r) ≤ 1 = λ o r. one-if-small _ in
               let y : x ≤ B = rw (C .sum ∙ ap (λ (z : Run). z .0) part) (weigh-small m A k ((outcome-of m s a i) .target) _ (f (outcome-of m s a i)) inside-here (upto i .1)) in
               let u : sum ≤ i * (100 * B) =
               rw (R .sum)
@@ -267,7 +225,7 @@ here-begun {m} {q} {start} {depths} {truth} {cone} ready trail gains v room g {v
     }
 
 pub all-weighed : {m q : Bytes} {start : ℕ} {cone : List ℕ} (n : ℕ) (trail : List ℕ) {trail′ : List ℕ} {gains′ : List ℤ} {v′ choices : List ℕ} {x next : ℕ}
-    → Ran (weigh (model-of m) n start (onward m q start cone (take 0 trail)) (drop 0 choices)) m q start cone 0 trail trail′ gains′ v′ choices x next
+    → Ran (weigh (model-of m) n start (on-path m q start cone (take 0 trail)) (drop 0 choices)) m q start cone 0 trail trail′ gains′ v′ choices x next
     → (π : Plan n) → plan-of (model-of m) n start choices ≡ ok π → x ≡ W (model-of m) (formula q (root-of cone)) n start π
 unfolding steps-of
 all-weighed {m} {q} {start} {cone} n trail {choices = choices} R π e = R .sum ∙ plan-weighed (model-of m) (formula q (root-of cone)) n start choices π e

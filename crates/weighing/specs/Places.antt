@@ -1,22 +1,15 @@
 -- A place on a path, with what is known there, and what a sum over the paths through it promises.
 use Prim.Native.Nat.{ℕ, _+_, _≤_}
 use mathlib.Core.Path.{_≡_}
-use mathlib.Core.List.{List, _++_}
+use mathlib.Core.List.{List}
 use lib.IntN.{ℤ}
 use lib.ListN.{length, take, drop}
-use Rattle.logic.specs.Model.{Step}
 use Rattle.logic.specs.Formula.{depth}
-use Rattle.logic.specs.Total.{value-of}
 use Rattle.blocks.specs.Bytes.{Bytes}
-use Rattle.models.specs.Layout.{model-of}
-use Rattle.evaluation.specs.Path.{steps-of, state-after}
+use Rattle.evaluation.specs.Path.{state-after}
 use Rattle.evaluation.specs.Reached.{formula, root-of}
 use Rattle.evaluation.specs.Known.{Knows, Roomy}
 use Rattle.weighing.specs.Sums.{Run}
-
--- The value of the condition at the cone's root on the path that begins with the trail t and goes on with r.
-abbrev pub onward : (m q : Bytes) (start : ℕ) (cone t : List ℕ) → List Step → ℕ
-onward m q start cone t r = value-of (model-of m) (formula q (root-of cone)) start (steps-of m start t ++ r)
 
 -- After h steps from the start, in the state s, with k steps to go.
 pub record Here (m q : Bytes) (start : ℕ) (cone trail : List ℕ) (gains : List ℤ) (v : List ℕ) (h s k : ℕ) : Type 0 where

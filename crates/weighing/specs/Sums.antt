@@ -1,9 +1,7 @@
 -- The total of the plan that choices spell, by its first step, and the choices left over. That it is W, where they spell a plan, is proved
 -- (`Plans`).
 use Prim.Native.Nat.{ℕ, zero, suc, _+_, _*_}
-use mathlib.Core.Bool.{cond}
 use mathlib.Core.List.{List, [], _∷_}
-use lib.Dec.{ltb}
 use lib.ListN.{getD, drop}
 use Rattle.logic.specs.Model.{Model, Step, outcomes}
 
@@ -20,7 +18,3 @@ each f (o ∷ os) cs = (o .weight * f o cs .0 + each f os (f o cs .1) .0, each f
 unfoldable pub weigh : Model → (n s : ℕ) → (List Step → ℕ) → List ℕ → Run
 weigh m zero s f cs = (f [], cs)
 weigh m (suc n) s f cs = each (λ o. weigh m n (o .target) (λ r. f (o ∷ r))) (outcomes m s (getD cs 0 0)) (drop 1 cs)
-
--- How many outcomes a choice has, by the table of used entries.
-unfoldable pub count-in : List ℕ → ℕ → ℕ → ℕ
-count-in used s a = cond (ltb a 8) (getD used (8 * s + a) 0) 0

@@ -10,30 +10,20 @@ ghost use Rattle.logic.specs.Choices.{plan-of};
 ghost use Rattle.logic.specs.Formula.{depth, W};
 ghost use Rattle.models.specs.Layout.{model-of, outcome-of};
 ghost use Rattle.models.specs.Used.{Used};
-ghost use Rattle.evaluation.specs.Reached.{formula, root-of, Ready};
+ghost use Rattle.evaluation.specs.Reached.{formula, root-of, on-path, Ready};
 ghost use Rattle.evaluation.specs.Learnt.{known};
-ghost use Rattle.weighing.specs.Sums.{each, weigh, count-in};
-ghost use Rattle.weighing.specs.Places.{onward, Here, Ran};
+ghost use Rattle.weighing.specs.Sums.{each, weigh};
+ghost use Rattle.weighing.specs.Places.{Here, Ran};
 use blocks::byte;
 use evaluation::learn;
 use evaluation::step;
+use models::used_outcomes;
 use models::weight;
 
 // A sum, and where to read on.
 pub struct Part {
     value: u64,
     next: usize,
-}
-
-// How many outcomes an action has in a state; 0 if it is not enabled.
-fn count(used: &[u8; 264], s: u8, a: u8) -> u8
-    requires { ⌜ s < 32 ⌝ }
-    ensures { λ r. ⌜ r ≡ count-in (now (used .entry)) s a ⌝ }
-{
-    if a < 8 {
-        return used[8 * s as usize + a as usize];
-    }
-    0
 }
 
 // One choice further, but not beyond the end.
@@ -84,7 +74,7 @@ fn weigh_from(
 ) -> Part
     requires { ⌜ Ready (now m) (now q) start (now depths) (now truth) (now cone) × Used (now m) (now used) ⌝ }
     requires { ⌜ Here (now m) (now q) start (now cone) (now trail) (now gains) (now v) h s k × (at ≤ length (now choices)) ⌝ }
-    ensures { λ r. ⌜ Ran (weigh (model-of (now (m .entry))) k s (onward (now (m .entry)) (now (q .entry)) start (now (cone .entry)) (take h (now (trail .entry)))) (drop at (now (choices .entry)))) (now (m .entry)) (now (q .entry)) start (now (cone .entry)) h (now (trail .entry)) (now (trail .exit)) (now (gains .exit)) (now (v .exit)) (now (choices .entry)) (r .value) (r .next) ⌝ }
+    ensures { λ r. ⌜ Ran (weigh (model-of (now (m .entry))) k s (on-path (now (m .entry)) (now (q .entry)) start (now (cone .entry)) (take h (now (trail .entry)))) (drop at (now (choices .entry)))) (now (m .entry)) (now (q .entry)) start (now (cone .entry)) h (now (trail .entry)) (now (trail .exit)) (now (gains .exit)) (now (v .exit)) (now (choices .entry)) (r .value) (r .next) ⌝ }
 {
     if k == 0 {
         return Part {
@@ -135,9 +125,9 @@ fn weigh_below(
 ) -> Part
     requires { ⌜ Ready (now m) (now q) start (now depths) (now truth) (now cone) × Used (now m) (now used) ⌝ }
     requires { ⌜ Here (now m) (now q) start (now cone) (now trail) (now gains) (now v) h s (k + 1) × (at ≤ length (now choices)) ⌝ }
-    ensures { λ r. ⌜ Ran (each (λ o. weigh (model-of (now (m .entry))) k (o .target) (λ r. onward (now (m .entry)) (now (q .entry)) start (now (cone .entry)) (take h (now (trail .entry))) (o ∷ r))) (outcomes (model-of (now (m .entry))) s a) (drop at (now (choices .entry)))) (now (m .entry)) (now (q .entry)) start (now (cone .entry)) h (now (trail .entry)) (now (trail .exit)) (now (gains .exit)) (now (v .exit)) (now (choices .entry)) (r .value) (r .next) ⌝ }
+    ensures { λ r. ⌜ Ran (each (λ o. weigh (model-of (now (m .entry))) k (o .target) (λ r. on-path (now (m .entry)) (now (q .entry)) start (now (cone .entry)) (take h (now (trail .entry))) (o ∷ r))) (outcomes (model-of (now (m .entry))) s a) (drop at (now (choices .entry)))) (now (m .entry)) (now (q .entry)) start (now (cone .entry)) h (now (trail .entry)) (now (trail .exit)) (now (gains .exit)) (now (v .exit)) (now (choices .entry)) (r .value) (r .next) ⌝ }
 {
-    let c = count(used, s, a);
+    let c = used_outcomes(used, s as usize, a);
     let mut sum: u64 = 0;
     let mut next = at;
     let mut o: u8 = 0;

@@ -6,9 +6,9 @@ use lib.ListN.{length, take, replicate}
 use borrow.Author.Needs.{needs}
 use Rattle.logic.specs.Limits.{plan-total}
 use Rattle.models.specs.Layout.{model-of}
+use Rattle.evaluation.specs.Reached.{on-path}
 use Rattle.evaluation.specs.Known.{Roomy}
 use Rattle.evaluation.proofs.Stepping.{begun}
-use Rattle.equal.specs.Listing.{onward}
 use Rattle.equal.proofs.Rooms.{room-whole}
 use Rattle.equal.proofs.Totals.{totals-length}
 use Rattle.equal.proofs.Searching.{begins, first-listed}
@@ -52,7 +52,7 @@ find-requires : tie.Need-find-requires
 find-requires c κs = let S = c .before .before .before .before .before .before .before .before .before .before .before .before .before .before .before .before .before .before .before .before .before .before in
     let x = c .before .before .before .before .before .before .list in
     let M = S .args .m .now in
-    let f = onward M (S .args .q .now) (S .args .start) (S .args .cone .now) (take 0 (replicate 6 0)) in
+    let f = on-path M (S .args .q .now) (S .args .start) (S .args .cone .now) (take 0 (replicate 6 0)) in
     omega
     (arith, x .ensures .count, totals-length (model-of M) (S .args .n) (S .args .start) f, x .kept .1 .1 .1 .1 .1 .1 .1 .1 .1 .1 .0, S .pre .1 .2, S .pre .1 .3)
 

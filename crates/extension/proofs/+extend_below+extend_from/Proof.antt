@@ -10,9 +10,11 @@ use borrow.Fn.Kinds.{In}
 use borrow.Fn.PlainCycle.{Measures, is, falls, and}
 use Rattle.models.specs.Layout.{outcome-of, entries, model-of}
 use Rattle.models.proofs.Rows.{entries-few}
+use Rattle.models.proofs.Table.{count-entries}
 use Rattle.models.proofs.target.Reads as target-reads
+use Rattle.models.proofs.used_outcomes.Reads as used-outcomes-reads
 use Rattle.extension.specs.Choices.{choice-at, room, Ran}
-use Rattle.extension.proofs.Laws.{runs, runs-none, runs-more, runs-all, room-more, room-step, target-inside, count-entries, first-enabled, extend-none, extend-choice, min-one}
+use Rattle.extension.proofs.Laws.{runs, runs-none, runs-more, runs-all, room-more, room-step, target-inside, first-enabled, extend-none, extend-choice, min-one}
 use Rattle.extension.proofs.extend_below.Reads as extend-below
 use Rattle.extension.proofs.extend_below.Kinds as extend-below-kinds
 use Rattle.extension.proofs.+extend_below+extend_from.Lts-extend_below as extend-below-lts
@@ -20,7 +22,6 @@ use Rattle.extension.proofs.extend_from.Reads as extend-from
 use Rattle.extension.proofs.extend_from.Kinds as extend-from-kinds
 use Rattle.extension.proofs.+extend_below+extend_from.Lts-extend_from as extend-from-lts
 use Rattle.extension.proofs.choice.Reads as choice-reads
-use Rattle.extension.proofs.count.Reads as count-reads
 use Rattle.extension.proofs.number.Reads as number-reads
 use Rattle.extension.proofs.taken.Reads as taken-reads
 use Rattle.extension.proofs.+extend_below+extend_from.{statement}
@@ -58,9 +59,9 @@ extend-below-Inv-loop m used src dst₀ s a d n from at c read₀ next₀ i₀ d
 abbrev extend-below-μ-loop : extend-below-lts.MeasureT-loop
 extend-below-μ-loop m used src dst₀ s a d n from at c read₀ next₀ i₀ dst read next i = c - i
 
-extend-below-count-requires : (t : ℕ) → extend-below-lts.Need-count-requires (
-  count-reads.Asked,
-  count-reads.Learnt,
+extend-below-used-outcomes-requires : (t : ℕ) → extend-below-lts.Need-used-outcomes-requires (
+  used-outcomes-reads.Asked,
+  used-outcomes-reads.Learnt,
   number-reads.Asked,
   number-reads.Learnt,
   target-reads.Asked,
@@ -68,25 +69,12 @@ extend-below-count-requires : (t : ℕ) → extend-below-lts.Need-count-requires
   extend-from-below t,
   extend-from.Post,
 ) (extend-below-at t) extend-below.Post extend-below-Inv-loop extend-below-μ-loop
-extend-below-count-requires t c κs = let S = c .before .before .before in
+extend-below-used-outcomes-requires t c κs = let S = c .before .before .before in
     omega (arith, (S .pre .1 .0 .0) .states)
 
-extend-below-loop-holds : (t : ℕ) → extend-below-lts.Need-loop-holds (
-  count-reads.Asked,
-  count-reads.Learnt,
-  number-reads.Asked,
-  number-reads.Learnt,
-  target-reads.Asked,
-  target-reads.Learnt,
-  extend-from-below t,
-  extend-from.Post,
-) (extend-below-at t) extend-below.Post extend-below-Inv-loop extend-below-μ-loop
-extend-below-loop-holds t c = let S = c .before .before .before .before in
-    (c .count .ensures ∙ count-entries (S .args .m .now) (S .pre .1 .0 .0) (S .pre .1 .0 .1) (S .args .s) (S .pre .1 .0 .2) (S .args .a), omega arith, runs-none (S .args .m .now) (S .args .s) (S .args .a) (S .args .d) (S .args .n) (S .args .src .now) (S .args .from) (S .args .at) (S .args .dst .now), refl)
-
 extend-below-number-requires : (t : ℕ) → extend-below-lts.Need-number-requires (
-  count-reads.Asked,
-  count-reads.Learnt,
+  used-outcomes-reads.Asked,
+  used-outcomes-reads.Learnt,
   number-reads.Asked,
   number-reads.Learnt,
   target-reads.Asked,
@@ -96,9 +84,9 @@ extend-below-number-requires : (t : ℕ) → extend-below-lts.Need-number-requir
 ) (extend-below-at t) extend-below.Post extend-below-Inv-loop extend-below-μ-loop
 extend-below-number-requires t c κs = search needs
 
-extend-below-target-requires : (t : ℕ) → extend-below-lts.Need-target-requires (
-  count-reads.Asked,
-  count-reads.Learnt,
+extend-below-loop-holds : (t : ℕ) → extend-below-lts.Need-loop-holds (
+  used-outcomes-reads.Asked,
+  used-outcomes-reads.Learnt,
   number-reads.Asked,
   number-reads.Learnt,
   target-reads.Asked,
@@ -106,12 +94,37 @@ extend-below-target-requires : (t : ℕ) → extend-below-lts.Need-target-requir
   extend-from-below t,
   extend-from.Post,
 ) (extend-below-at t) extend-below.Post extend-below-Inv-loop extend-below-μ-loop
-extend-below-target-requires t c κs = let S = c .before .before .before .before .before .before .before in
+extend-below-loop-holds t c = let S = c .before .before .before .before .before in
+    (c .number .ensures ∙ c .before .used-outcomes .ensures ∙ count-entries (S .args .m .now) (S .pre .1 .0 .0) (S .pre .1 .0 .1) (S .args .s) (S .pre .1 .0 .2) (S .args .a), omega arith, runs-none (S .args .m .now) (S .args .s) (S .args .a) (S .args .d) (S .args .n) (S .args .src .now) (S .args .from) (S .args .at) (S .args .dst .now), refl)
+
+extend-below-number-requires-2 : (t : ℕ) → extend-below-lts.Need-number-requires-2 (
+  used-outcomes-reads.Asked,
+  used-outcomes-reads.Learnt,
+  number-reads.Asked,
+  number-reads.Learnt,
+  target-reads.Asked,
+  target-reads.Learnt,
+  extend-from-below t,
+  extend-from.Post,
+) (extend-below-at t) extend-below.Post extend-below-Inv-loop extend-below-μ-loop
+extend-below-number-requires-2 t c κs = search needs
+
+extend-below-target-requires : (t : ℕ) → extend-below-lts.Need-target-requires (
+  used-outcomes-reads.Asked,
+  used-outcomes-reads.Learnt,
+  number-reads.Asked,
+  number-reads.Learnt,
+  target-reads.Asked,
+  target-reads.Learnt,
+  extend-from-below t,
+  extend-from.Post,
+) (extend-below-at t) extend-below.Post extend-below-Inv-loop extend-below-μ-loop
+extend-below-target-requires t c κs = let S = c .before .before .before .before .before .before .before .before in
     omega (arith, (S .pre .1 .0 .0) .states, entries-few (S .args .m .now) (S .pre .1 .0 .0) (S .args .s) (S .args .a))
 
 extend-below-extend-from-requires : (t : ℕ) → extend-below-lts.Need-extend-from-requires (
-  count-reads.Asked,
-  count-reads.Learnt,
+  used-outcomes-reads.Asked,
+  used-outcomes-reads.Learnt,
   number-reads.Asked,
   number-reads.Learnt,
   target-reads.Asked,
@@ -119,19 +132,19 @@ extend-below-extend-from-requires : (t : ℕ) → extend-below-lts.Need-extend-f
   extend-from-below t,
   extend-from.Post,
 ) (extend-below-at t) extend-below.Post extend-below-Inv-loop extend-below-μ-loop
-extend-below-extend-from-requires t c κs = let S = c .before .before .before .before .before .before .before .before .before in
+extend-below-extend-from-requires t c κs = let S = c .before .before .before .before .before .before .before .before .before .before in
     let L = c .before .before .before .before .loop in
-    let more = room-more (S .args .m .now) (S .args .s) (S .args .a) (S .args .d) (S .args .n) (S .args .src .now) (L .i) (c .before .before .before .before .before .count .result) (S .pre .1 .0 .0) (L .inv .0) (c .before .before .before .loop-test .taken) in (
+    let more = room-more (S .args .m .now) (S .args .s) (S .args .a) (S .args .d) (S .args .n) (S .args .src .now) (L .i) (c .before .before .before .before .before .number .result) (S .pre .1 .0 .0) (L .inv .0) (c .before .before .before .loop-test .taken) in (
       omega arith,
       (
-        (S .pre .1 .0 .0, S .pre .1 .0 .1, target-inside (S .args .m .now) (S .pre .1 .0 .0) (S .args .s) (S .args .a) (c .before .before .number .result) (L .i) (c .before .before .before .before .before .count .result) (c .before .target .result) (c .before .before .number .ensures) (L .inv .0) (c .before .before .before .loop-test .taken) (c .before .target .ensures .0)),
+        (S .pre .1 .0 .0, S .pre .1 .0 .1, target-inside (S .args .m .now) (S .pre .1 .0 .0) (S .args .s) (S .args .a) (c .before .before .number2 .result) (L .i) (c .before .before .before .before .before .number .result) (c .before .target .result) (c .before .before .number2 .ensures) (L .inv .0) (c .before .before .before .loop-test .taken) (c .before .target .ensures .0)),
         (omega arith, omega (arith, (L .inv .2) .near), omega (arith, (L .inv .2) .next, (L .inv .2) .size, L .inv .3)),
       ),
     )
 
 extend-below-add-i : (t : ℕ) → extend-below-lts.Need-add-i (
-  count-reads.Asked,
-  count-reads.Learnt,
+  used-outcomes-reads.Asked,
+  used-outcomes-reads.Learnt,
   number-reads.Asked,
   number-reads.Learnt,
   target-reads.Asked,
@@ -142,8 +155,8 @@ extend-below-add-i : (t : ℕ) → extend-below-lts.Need-add-i (
 extend-below-add-i t c = search needs
 
 extend-below-loop-less : (t : ℕ) → extend-below-lts.Need-loop-less (
-  count-reads.Asked,
-  count-reads.Learnt,
+  used-outcomes-reads.Asked,
+  used-outcomes-reads.Learnt,
   number-reads.Asked,
   number-reads.Learnt,
   target-reads.Asked,
@@ -154,8 +167,8 @@ extend-below-loop-less : (t : ℕ) → extend-below-lts.Need-loop-less (
 extend-below-loop-less t c = search needs
 
 extend-below-loop-again : (t : ℕ) → extend-below-lts.Need-loop-again (
-  count-reads.Asked,
-  count-reads.Learnt,
+  used-outcomes-reads.Asked,
+  used-outcomes-reads.Learnt,
   number-reads.Asked,
   number-reads.Learnt,
   target-reads.Asked,
@@ -163,20 +176,20 @@ extend-below-loop-again : (t : ℕ) → extend-below-lts.Need-loop-again (
   extend-from-below t,
   extend-from.Post,
 ) (extend-below-at t) extend-below.Post extend-below-Inv-loop extend-below-μ-loop
-extend-below-loop-again t c = let S = c .before .before .before .before .before .before .before .before .before .before .before .before in
+extend-below-loop-again t c = let S = c .before .before .before .before .before .before .before .before .before .before .before .before .before in
     let L = c .before .before .before .before .before .before .before .loop in
     let ran = c .before .before .extend-from in
-    let more = room-more (S .args .m .now) (S .args .s) (S .args .a) (S .args .d) (S .args .n) (S .args .src .now) (L .i) (c .before .before .before .before .before .before .before .before .count .result) (S .pre .1 .0 .0) (L .inv .0) (c .before .before .before .before .before .before .loop-test .taken) in (
+    let more = room-more (S .args .m .now) (S .args .s) (S .args .a) (S .args .d) (S .args .n) (S .args .src .now) (L .i) (c .before .before .before .before .before .before .before .before .number .result) (S .pre .1 .0 .0) (L .inv .0) (c .before .before .before .before .before .before .loop-test .taken) in (
       L .inv .0,
       omega arith,
       runs-more (S .args .m .now) (S .args .s) (S .args .a) (S .args .d) (S .args .n) (S .args .src .now) (L .i) (c .before .before .before .before .target .result) (S .args .from) (L .read) (ran .result .from) (S .args .at) (L .next) (ran .result .at)
-          (S .args .dst .now) (L .dst) (ran .last .1 .1 .1 .0) (c .before .before .before .before .target .ensures .0 ∙ ap (λ x. (outcome-of (S .args .m .now) (S .args .s) x (L .i)) .target) (c .before .before .before .before .before .number .ensures)) (omega arith) (L .inv .2) (ran .ensures),
+          (S .args .dst .now) (L .dst) (ran .last .1 .1 .1 .0) (c .before .before .before .before .target .ensures .0 ∙ ap (λ x. (outcome-of (S .args .m .now) (S .args .s) x (L .i)) .target) (c .before .before .before .before .before .number2 .ensures)) (omega arith) (L .inv .2) (ran .ensures),
       ran .kept .1 .1 .1 .0 ∙ L .inv .3,
     )
 
 extend-below-same-length : (t : ℕ) → extend-below-lts.Need-same-length (
-  count-reads.Asked,
-  count-reads.Learnt,
+  used-outcomes-reads.Asked,
+  used-outcomes-reads.Learnt,
   number-reads.Asked,
   number-reads.Learnt,
   target-reads.Asked,
@@ -187,8 +200,8 @@ extend-below-same-length : (t : ℕ) → extend-below-lts.Need-same-length (
 extend-below-same-length t c = search needs
 
 extend-below-returns : (t : ℕ) → extend-below-lts.Need-returns (
-  count-reads.Asked,
-  count-reads.Learnt,
+  used-outcomes-reads.Asked,
+  used-outcomes-reads.Learnt,
   number-reads.Asked,
   number-reads.Learnt,
   target-reads.Asked,
@@ -196,9 +209,9 @@ extend-below-returns : (t : ℕ) → extend-below-lts.Need-returns (
   extend-from-below t,
   extend-from.Post,
 ) (extend-below-at t) extend-below.Post extend-below-Inv-loop extend-below-μ-loop
-extend-below-returns t c = let S = c .before .before .before .before .before .before in
+extend-below-returns t c = let S = c .before .before .before .before .before .before .before in
     let L = c .before .loop in
-    runs-all (S .args .m .now) (S .args .s) (S .args .a) (S .args .d) (S .args .n) (S .args .src .now) (c .before .before .count .result) (L .i) (S .args .from) (L .read) (S .args .at) (L .next) (S .args .dst .now) (L .dst) (S .pre .1 .0 .0) (L .inv .0) (omega arith) (L .inv .2)
+    runs-all (S .args .m .now) (S .args .s) (S .args .a) (S .args .d) (S .args .n) (S .args .src .now) (c .before .before .number .result) (L .i) (S .args .from) (L .read) (S .args .at) (L .next) (S .args .dst .now) (L .dst) (S .pre .1 .0 .0) (L .inv .0) (omega arith) (L .inv .2)
 
 extend-from-returns : (t : ℕ) → extend-from-lts.Need-returns (
   choice-reads.Asked,
@@ -331,8 +344,8 @@ extend-from-returns-2 t c = let S = c .before .before .before .before .before .b
 
 pub +extend-below+extend-from-spec : {M : Type 1} → statement M
 +extend-below+extend-from-spec = close μ-extend-below μ-extend-from (λ t. extend-below-lts.spec (
-  count-reads.Asked,
-  count-reads.Learnt,
+  used-outcomes-reads.Asked,
+  used-outcomes-reads.Learnt,
   number-reads.Asked,
   number-reads.Learnt,
   target-reads.Asked,
@@ -344,9 +357,10 @@ pub +extend-below+extend-from-spec : {M : Type 1} → statement M
     extend-below.Post
     extend-below-Inv-loop
     extend-below-μ-loop
-    (extend-below-count-requires t)
-    (extend-below-loop-holds t)
+    (extend-below-used-outcomes-requires t)
     (extend-below-number-requires t)
+    (extend-below-loop-holds t)
+    (extend-below-number-requires-2 t)
     (extend-below-target-requires t)
     (extend-below-extend-from-requires t)
     (extend-below-add-i t)

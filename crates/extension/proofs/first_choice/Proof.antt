@@ -8,7 +8,8 @@ use lib.Dec.{ltb}
 use borrow.Author.Tests.{lt-ltb, le-ltb}
 use borrow.Author.Needs.{needs}
 use Rattle.logic.specs.Lists.{keep, count-from}
-use Rattle.extension.specs.Choices.{first-in, count-in}
+use Rattle.models.specs.Used.{count-in}
+use Rattle.extension.specs.Choices.{first-in}
 use Rattle.extension.proofs.Laws.{first-kept, none-kept}
 use Rattle.extension.proofs.first_choice.Statement.{statement}
 use Rattle.extension.proofs.first_choice.Tie as tie
@@ -23,15 +24,15 @@ loop-holds : tie.Need-loop-holds Inv-loop μ-loop
 unfolding keep count-from
 loop-holds c = (omega arith, refl)
 
-count-requires : tie.Need-count-requires Inv-loop μ-loop
-count-requires c κs = search needs
+used-outcomes-requires : tie.Need-used-outcomes-requires Inv-loop μ-loop
+used-outcomes-requires c κs = search needs
 
 returns : tie.Need-returns Inv-loop μ-loop
 unfolding first-in
 returns c =
     let S = c .before .before .before .before in
     let L = c .before .before .before .loop in
-    first-kept (λ a. ltb 0 (count-in (S .args .used .now) (S .args .s) a)) (L .a) 8 (L .inv .1) (lt-ltb 0 (count-in (S .args .used .now) (S .args .s) (L .a)) (omega (arith, c .before .count .ensures))) (omega arith)
+    first-kept (λ a. ltb 0 (count-in (S .args .used .now) (S .args .s) a)) (L .a) 8 (L .inv .1) (lt-ltb 0 (count-in (S .args .used .now) (S .args .s) (L .a)) (omega (arith, c .before .used-outcomes .ensures))) (omega arith)
 
 add-a : tie.Need-add-a Inv-loop μ-loop
 add-a c = search needs
@@ -43,7 +44,7 @@ loop-again : tie.Need-loop-again Inv-loop μ-loop
 loop-again c =
     let S = c .before .before .before .before in
     let L = c .before .before .before .loop in
-    (omega arith, none-kept (λ a. ltb 0 (count-in (S .args .used .now) (S .args .s) a)) (L .a) (L .inv .1) (le-ltb 0 (count-in (S .args .used .now) (S .args .s) (L .a)) (omega (arith, c .before .count .ensures))))
+    (omega arith, none-kept (λ a. ltb 0 (count-in (S .args .used .now) (S .args .s) a)) (L .a) (L .inv .1) (le-ltb 0 (count-in (S .args .used .now) (S .args .s) (L .a)) (omega (arith, c .before .used-outcomes .ensures))))
 
 returns-2 : tie.Need-returns-2 Inv-loop μ-loop
 unfolding first-in
@@ -59,7 +60,7 @@ first-choice-spec =
     Inv-loop
     μ-loop
     loop-holds
-    count-requires
+    used-outcomes-requires
     returns
     add-a
     loop-less

@@ -10,8 +10,8 @@ use borrow.Fn.PlainCycle.{Measures, is, falls, and}
 use Rattle.models.specs.Layout.{model-of}
 use Rattle.models.proofs.Readable.{readable}
 use Rattle.models.proofs.Rows.{entries-few}
+use Rattle.models.proofs.Table.{used-at}
 use Rattle.models.proofs.target.Reads as target-reads
-use Rattle.limits.proofs.Laws.{used-at}
 use Rattle.extension.proofs.Laws.{room-step}
 use Rattle.ranking.proofs.Written.{Underway, below-start, below-more, below-end, divides, quotient, fits, below-turn, from-none, from-choice}
 use Rattle.ranking.proofs.nth_below.Reads as nth-below

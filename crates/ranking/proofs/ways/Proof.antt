@@ -8,7 +8,8 @@ use borrow.Author.Needs.{needs}
 use Rattle.models.specs.Layout.{entries, model-of}
 use Rattle.models.proofs.Readable.{readable}
 use Rattle.models.proofs.Rows.{entries-few}
-use Rattle.limits.proofs.Laws.{used-at, not-enabled, is-enabled}
+use Rattle.models.proofs.Table.{used-at}
+use Rattle.limits.proofs.Laws.{not-enabled, is-enabled}
 use Rattle.ranking.specs.Places.{ways}
 use Rattle.ranking.proofs.Laws.{ways-left, ways-most, count-start, count-here, count-turn, count-end}
 use Rattle.ranking.proofs.ways.Statement.{statement}

@@ -7,7 +7,7 @@ use mathlib.Core.Logic.{⊎-elim}
 use borrow.Author.Needs.{needs}
 use lib.ListN.{take, length-set}
 use Rattle.models.specs.Layout.{action-count, entries}
-use Rattle.search.specs.Greatest.{on-path}
+use Rattle.evaluation.specs.Reached.{on-path}
 use Rattle.search.proofs.Walking.{Walking, walking-none}
 use Rattle.search.proofs.Paths.{sizes-here, few-here, count-here, picked-leaf, before-last, last-asked, picked-last, Kept, back-none, kept-none}
 use Rattle.search.proofs.Turns.{step-asked, pick-room, pick-setting, walk-fits, walk-more, walk-kept, walked-all, Turned, turned-none, walk-room, walk-setting, turned-all, turned-skipped, keep-asked, turned-taken, same}

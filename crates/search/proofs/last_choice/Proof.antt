@@ -5,7 +5,8 @@ use mathlib.Core.Path.{_≡_, sym, _∙_}
 use mathlib.Core.Logic.{⊎-elim}
 use borrow.Author.Needs.{needs}
 use Rattle.models.specs.Layout.{action-count}
-use Rattle.search.proofs.Trying.{sizes-in, count-in}
+use Rattle.models.proofs.Table.{used-at}
+use Rattle.search.proofs.Trying.{sizes-in}
 use Rattle.search.proofs.Ending.{Ending, ending-none, ending-skipped, ending-won, ending-lost, ending-all}
 use Rattle.search.proofs.last_choice.Statement.{statement}
 use Rattle.search.proofs.last_choice.Tie as tie
@@ -48,7 +49,7 @@ loop-again : tie.Need-loop-again Inv-loop μ-loop
 loop-again c = let S = c .before .before .before .before .before .before .before in
     let L = c .before .before .before .loop in
     let less : L .a < 8 = omega (arith, sizes-in (S .args .m .now) (S .pre .0) (S .pre .2) .1, L .inv .0, c .before .before .loop-test .taken) in
-    let n = count-in (S .args .m .now) (S .pre .0) (S .pre .2) (S .pre .1) (L .a) (c .before .count .result) less (c .before .count .ensures) in
+    let n = c .before .count .ensures ∙ used-at (S .args .m .now) (S .pre .1) (S .args .s) (L .a) (sizes-in (S .args .m .now) (S .pre .0) (S .pre .2) .0) less in
     let more : L .a + 1 ≤ c .before .before .before .before .byte .result = omega (arith, c .before .before .loop-test .taken) in (
       L .inv .0,
       more,

@@ -19,9 +19,9 @@ use Rattle.weighing.proofs.weigh_from.Reads as weigh-from
 use Rattle.weighing.proofs.weigh_from.Kinds as weigh-from-kinds
 use Rattle.weighing.proofs.+weigh_below+weigh_from.Lts-weigh_from as weigh-from-lts
 use Rattle.blocks.proofs.byte.Reads as byte-reads
+use Rattle.models.proofs.used_outcomes.Reads as used-outcomes-reads
 use Rattle.evaluation.proofs.step.Reads as step-reads
 use Rattle.weighing.proofs.after.Reads as after-reads
-use Rattle.weighing.proofs.count.Reads as count-reads
 use Rattle.weighing.proofs.leaf.Reads as leaf-reads
 use Rattle.weighing.proofs.plus.Reads as plus-reads
 use Rattle.weighing.proofs.+weigh_below+weigh_from.{statement}
@@ -57,9 +57,9 @@ weigh-below-Inv-loop m used q depths truth cone choices trail₀ gains₀ v₀ s
 abbrev weigh-below-μ-loop : weigh-below-lts.MeasureT-loop
 weigh-below-μ-loop m used q depths truth cone choices trail₀ gains₀ v₀ start h s k a at c sum₀ next₀ o₀ trail gains v sum next o = c - o
 
-weigh-below-count-requires : (t : ℕ) → weigh-below-lts.Need-count-requires (
-  count-reads.Asked,
-  count-reads.Learnt,
+weigh-below-used-outcomes-requires : (t : ℕ) → weigh-below-lts.Need-used-outcomes-requires (
+  used-outcomes-reads.Asked,
+  used-outcomes-reads.Learnt,
   step-reads.Asked,
   step-reads.Learnt,
   weigh-from-below t,
@@ -67,12 +67,12 @@ weigh-below-count-requires : (t : ℕ) → weigh-below-lts.Need-count-requires (
   plus-reads.Asked,
   plus-reads.Learnt,
 ) (weigh-below-at t) weigh-below.Post weigh-below-Inv-loop weigh-below-μ-loop
-weigh-below-count-requires t c κs = let S = c .before .before .before .before .before .before .before .before in
+weigh-below-used-outcomes-requires t c κs = let S = c .before .before .before .before .before .before .before .before in
     state-few (S .pre .1 .0 .0) (S .pre .1 .1 .0)
 
 weigh-below-loop-holds : (t : ℕ) → weigh-below-lts.Need-loop-holds (
-  count-reads.Asked,
-  count-reads.Learnt,
+  used-outcomes-reads.Asked,
+  used-outcomes-reads.Learnt,
   step-reads.Asked,
   step-reads.Learnt,
   weigh-from-below t,
@@ -81,11 +81,11 @@ weigh-below-loop-holds : (t : ℕ) → weigh-below-lts.Need-loop-holds (
   plus-reads.Learnt,
 ) (weigh-below-at t) weigh-below.Post weigh-below-Inv-loop weigh-below-μ-loop
 weigh-below-loop-holds t c = let S = c .before .before .before .before .before .before .before .before .before in
-    (c .count .ensures ∙ count-here (S .pre .1 .0 .0) (S .pre .1 .1 .0) (S .pre .1 .0 .1) (S .args .a), omega arith, runs-none (S .pre .1 .0 .0) (S .args .k) (S .pre .1 .1 .0) (S .args .choices .now) (S .args .at) (S .args .a) (S .pre .1 .1 .1), refl, refl, refl)
+    (c .used-outcomes .ensures ∙ count-here (S .pre .1 .0 .0) (S .pre .1 .1 .0) (S .pre .1 .0 .1) (S .args .a), omega arith, runs-none (S .pre .1 .0 .0) (S .args .k) (S .pre .1 .1 .0) (S .args .choices .now) (S .args .at) (S .args .a) (S .pre .1 .1 .1), refl, refl, refl)
 
 weigh-below-step-requires : (t : ℕ) → weigh-below-lts.Need-step-requires (
-  count-reads.Asked,
-  count-reads.Learnt,
+  used-outcomes-reads.Asked,
+  used-outcomes-reads.Learnt,
   step-reads.Asked,
   step-reads.Learnt,
   weigh-from-below t,
@@ -110,8 +110,8 @@ weigh-below-step-requires t c κs = let S = c .before .before .before .before .b
     )
 
 weigh-below-add-weigh-from : (t : ℕ) → weigh-below-lts.Need-add-weigh-from (
-  count-reads.Asked,
-  count-reads.Learnt,
+  used-outcomes-reads.Asked,
+  used-outcomes-reads.Learnt,
   step-reads.Asked,
   step-reads.Learnt,
   weigh-from-below t,
@@ -123,8 +123,8 @@ weigh-below-add-weigh-from t c = let S = c .before .before .before .before .befo
     omega (arith, (S .pre .1 .1 .0) .steps)
 
 weigh-below-weigh-from-requires : (t : ℕ) → weigh-below-lts.Need-weigh-from-requires (
-  count-reads.Asked,
-  count-reads.Learnt,
+  used-outcomes-reads.Asked,
+  used-outcomes-reads.Learnt,
   step-reads.Asked,
   step-reads.Learnt,
   weigh-from-below t,
@@ -158,8 +158,8 @@ weigh-below-weigh-from-requires t c κs = let S = c .before .before .before .bef
     )
 
 weigh-below-plus-requires : (t : ℕ) → weigh-below-lts.Need-plus-requires (
-  count-reads.Asked,
-  count-reads.Learnt,
+  used-outcomes-reads.Asked,
+  used-outcomes-reads.Learnt,
   step-reads.Asked,
   step-reads.Learnt,
   weigh-from-below t,
@@ -185,8 +185,8 @@ weigh-below-plus-requires t c κs = let S = c .before .before .before .before .b
     {trail″ = t2} {gains″ = g2} {v″ = v2} (C .ensures)
 
 weigh-below-add-o : (t : ℕ) → weigh-below-lts.Need-add-o (
-  count-reads.Asked,
-  count-reads.Learnt,
+  used-outcomes-reads.Asked,
+  used-outcomes-reads.Learnt,
   step-reads.Asked,
   step-reads.Learnt,
   weigh-from-below t,
@@ -197,8 +197,8 @@ weigh-below-add-o : (t : ℕ) → weigh-below-lts.Need-add-o (
 weigh-below-add-o t c = search needs
 
 weigh-below-loop-less : (t : ℕ) → weigh-below-lts.Need-loop-less (
-  count-reads.Asked,
-  count-reads.Learnt,
+  used-outcomes-reads.Asked,
+  used-outcomes-reads.Learnt,
   step-reads.Asked,
   step-reads.Learnt,
   weigh-from-below t,
@@ -209,8 +209,8 @@ weigh-below-loop-less : (t : ℕ) → weigh-below-lts.Need-loop-less (
 weigh-below-loop-less t c = search needs
 
 weigh-below-loop-again : (t : ℕ) → weigh-below-lts.Need-loop-again (
-  count-reads.Asked,
-  count-reads.Learnt,
+  used-outcomes-reads.Asked,
+  used-outcomes-reads.Learnt,
   step-reads.Asked,
   step-reads.Learnt,
   weigh-from-below t,
@@ -242,8 +242,8 @@ weigh-below-loop-again t c = let S = c .before .before .before .before .before .
     )
 
 weigh-below-same-length : (t : ℕ) → weigh-below-lts.Need-same-length (
-  count-reads.Asked,
-  count-reads.Learnt,
+  used-outcomes-reads.Asked,
+  used-outcomes-reads.Learnt,
   step-reads.Asked,
   step-reads.Learnt,
   weigh-from-below t,
@@ -254,8 +254,8 @@ weigh-below-same-length : (t : ℕ) → weigh-below-lts.Need-same-length (
 weigh-below-same-length t c = search needs
 
 weigh-below-same-length-2 : (t : ℕ) → weigh-below-lts.Need-same-length-2 (
-  count-reads.Asked,
-  count-reads.Learnt,
+  used-outcomes-reads.Asked,
+  used-outcomes-reads.Learnt,
   step-reads.Asked,
   step-reads.Learnt,
   weigh-from-below t,
@@ -266,8 +266,8 @@ weigh-below-same-length-2 : (t : ℕ) → weigh-below-lts.Need-same-length-2 (
 weigh-below-same-length-2 t c = search needs
 
 weigh-below-same-length-3 : (t : ℕ) → weigh-below-lts.Need-same-length-3 (
-  count-reads.Asked,
-  count-reads.Learnt,
+  used-outcomes-reads.Asked,
+  used-outcomes-reads.Learnt,
   step-reads.Asked,
   step-reads.Learnt,
   weigh-from-below t,
@@ -278,8 +278,8 @@ weigh-below-same-length-3 : (t : ℕ) → weigh-below-lts.Need-same-length-3 (
 weigh-below-same-length-3 t c = search needs
 
 weigh-below-returns : (t : ℕ) → weigh-below-lts.Need-returns (
-  count-reads.Asked,
-  count-reads.Learnt,
+  used-outcomes-reads.Asked,
+  used-outcomes-reads.Learnt,
   step-reads.Asked,
   step-reads.Learnt,
   weigh-from-below t,
@@ -289,7 +289,7 @@ weigh-below-returns : (t : ℕ) → weigh-below-lts.Need-returns (
 ) (weigh-below-at t) weigh-below.Post weigh-below-Inv-loop weigh-below-μ-loop
 weigh-below-returns t c = let S = c .before .before .before .before .before .before .before .before .before .before .before in
     let L = c .before .loop in
-    runs-all (S .pre .1 .0 .0) (S .args .k) (S .pre .1 .1 .0) (S .args .choices .now) (S .args .at) (S .args .a) (c .before .before .count .result) (L .o) (L .inv .0) (omega arith) (L .inv .2)
+    runs-all (S .pre .1 .0 .0) (S .args .k) (S .pre .1 .1 .0) (S .args .choices .now) (S .args .at) (S .args .a) (c .before .before .used-outcomes .result) (L .o) (L .inv .0) (omega arith) (L .inv .2)
 
 weigh-from-leaf-requires : (t : ℕ) → weigh-from-lts.Need-leaf-requires (
   leaf-reads.Asked,
@@ -439,8 +439,8 @@ weigh-from-returns-2 t c = let S = c .before .before .before .before .before .be
 
 pub +weigh-below+weigh-from-spec : {M : Type 1} → statement M
 +weigh-below+weigh-from-spec = close μ-weigh-below μ-weigh-from (λ t. weigh-below-lts.spec (
-  count-reads.Asked,
-  count-reads.Learnt,
+  used-outcomes-reads.Asked,
+  used-outcomes-reads.Learnt,
   step-reads.Asked,
   step-reads.Learnt,
   weigh-from-below t,
@@ -452,7 +452,7 @@ pub +weigh-below+weigh-from-spec : {M : Type 1} → statement M
     weigh-below.Post
     weigh-below-Inv-loop
     weigh-below-μ-loop
-    (weigh-below-count-requires t)
+    (weigh-below-used-outcomes-requires t)
     (weigh-below-loop-holds t)
     (weigh-below-step-requires t)
     (weigh-below-add-weigh-from t)

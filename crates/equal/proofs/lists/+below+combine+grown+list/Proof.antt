@@ -18,7 +18,7 @@ use Rattle.models.proofs.weight.Reads as weight-reads
 use Rattle.evaluation.proofs.step.Reads as step-reads
 use Rattle.equal.specs.Room.{Room}
 use Rattle.equal.specs.Totals.{combined, weighed}
-use Rattle.equal.specs.Listing.{onward}
+use Rattle.evaluation.specs.Reached.{on-path}
 use Rattle.equal.proofs.Taking.{placed, count-right, span-outcome, Spanned, ways, outcomes-few, first-room, first-shifts, first-before, first-spanned, span-end, span-grows, span-wider, grown-joins, grown-written}
 use Rattle.equal.proofs.Writing.{action-small, uses-right, state-small, reached, offered, below-here, below-written, decides, decided-written, rebased}
 use Rattle.equal.proofs.Passing.{action-few, Listed, listed-none, passed-over, action-room, action-here, action-listed, listed-all}
@@ -725,7 +725,7 @@ combine-returns t c = let S = c .before .before .before .before .before .before 
     let w = c .before .before .before .before .before .weight in
     let h = c .before .before .before .before .shift in
     let M = S .args .m .now in
-    let f : List ℕ → List Step → ℕ = onward M (S .args .q .now) (S .args .start) (S .args .cone .now) in
+    let f : List ℕ → List Step → ℕ = on-path M (S .args .q .now) (S .args .start) (S .args .cone .now) in
     rebased (λ T. combined (weighed (model-of M) (S .args .k) (f T)) (outcomes (model-of M) (S .args .s) (S .args .a)))
     (b .ensures .kept) (first-before G P R (lo .result) l (S .args .buf .now) refl H (b .ensures) (b .kept .1 .1 .1 .1 .1 .1 .1 .1 .1 .1 .0) (w .ensures .0) (h .ensures))
     (span-end G P R (c .before .loop .inv) (h .kept .0 ∙ b .kept .1 .1 .1 .1 .1 .1 .1 .1 .1 .1 .0) (omega arith))

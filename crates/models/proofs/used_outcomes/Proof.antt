@@ -1,8 +1,8 @@
--- `count`: the table has 8 places for a state, and no action from 8 on.
-use Rattle.weighing.proofs.Turns.{count-some, count-none}
+-- `used_outcomes`: the table has 8 places for a state, and no action from 8 on.
 use borrow.Author.Needs.{needs}
-use Rattle.weighing.proofs.count.Statement.{statement}
-use Rattle.weighing.proofs.count.Tie as tie
+use Rattle.models.proofs.Table.{count-some, count-none}
+use Rattle.models.proofs.used_outcomes.Statement.{statement}
+use Rattle.models.proofs.used_outcomes.Tie as tie
 
 mul-result : tie.Need-mul-result
 mul-result c = search needs
@@ -21,5 +21,5 @@ returns-2 : tie.Need-returns-2
 returns-2 c = let S = c .before in
     count-none (S .args .used .now) (S .args .s) (S .args .a) (c .if1 .left)
 
-pub count-spec : {M : Type 1} → statement M
-count-spec = tie.close (tie.spec mul-result add-result element-copy-out-result returns returns-2)
+pub used-outcomes-spec : {M : Type 1} → statement M
+used-outcomes-spec = tie.close (tie.spec mul-result add-result element-copy-out-result returns returns-2)
