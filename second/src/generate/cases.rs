@@ -313,9 +313,8 @@ fn nested_shallow() -> Vec<String> {
     nodes
 }
 
-/// Plan nodes that need the one below in every state, each with a gain.
-/// As many "plan" nodes as 40 nodes allow, each a search six steps deep in
-/// every state: all ask for the same gain and for the node before.
+/// 18 "plan" nodes, each a search six steps deep in every state: all ask for
+/// the same gain and for the node before.
 fn nested_one_gain() -> Vec<String> {
     let mut nodes = words(&["gain 6 steps greater 0", "plan 0 steps 6 greater 1/1000"]);
     while nodes.len() + 5 <= 40 {
@@ -330,6 +329,7 @@ fn nested_one_gain() -> Vec<String> {
     nodes
 }
 
+/// Plan nodes that need the one below in every state, each with a gain.
 fn nested_deep(relation: &str, gain: u8) -> Vec<String> {
     let mut nodes = words(&["proposition 0"]);
     while nodes.len() + 4 <= 40 {
