@@ -1,5 +1,5 @@
 // The search for the relation "equal": the totals of all plans in dictionary order, and the first that meets the bound.
-ghost use Prim.Native.Nat.{_≤_};
+ghost use Prim.Native.Nat.{_+_, _≤_};
 ghost use lib.ListN.{length, take};
 ghost use Rattle.logic.specs.Limits.{plan-total};
 ghost use Rattle.logic.specs.Total.{value-of};
@@ -11,6 +11,7 @@ ghost use Rattle.equal.specs.Listing.{Given, First};
 mod lists;
 mod spread;
 
+use crate::lists::count;
 use crate::lists::list;
 use evaluation::learn;
 
@@ -29,8 +30,8 @@ fn find(buf: &[u64], len: usize, x: u64) -> usize
     len
 }
 
-// The place of the first plan in dictionary order, of all n-step plans from the start, whose total is x; where there is none, their number.
-pub fn first_equal(
+// `first_equal` in a lent buffer, which has room for the list and for what is made beside it.
+fn first_within(
     m: &[u8],
     q: &[u8],
     depths: &[u32],
@@ -45,7 +46,7 @@ pub fn first_equal(
     x: u64,
 ) -> usize
     requires { ⌜ Given (now m) (now q) start d (now depths) (now truth) (now cone) (now used) (now table) ⌝ }
-    requires { ⌜ (d ≤ n) × (n ≤ 6) × (plan-total (model-of (now m)) n start ≤ 65536) × (65818 ≤ length (now buf)) ⌝ }
+    requires { ⌜ (d ≤ n) × (n ≤ 6) × (plan-total (model-of (now m)) n start ≤ 65536) × (plan-total (model-of (now m)) n start + 282 ≤ length (now buf)) ⌝ }
     ensures { λ r. ⌜ First (totals (model-of (now (m .entry))) n start (value-of (model-of (now (m .entry))) (formula (now (q .entry)) (root-of (now (cone .entry)))) start)) x r ⌝ }
 {
     let mut trail = [0u8; 6];
@@ -72,4 +73,36 @@ pub fn first_equal(
         0,
     );
     find(buf, len, x)
+}
+
+// The place of the first plan in dictionary order, of all n-step plans from s, whose total is x; where there is none, their number. The
+// buffer has one of three lengths, by their number and 282 beside: to clear the longest takes longer than to search few plans.
+pub fn first_equal(
+    m: &[u8],
+    q: &[u8],
+    depths: &[u32],
+    truth: &[u8],
+    cone: &[u8],
+    used: &[u8; 264],
+    table: &[u64; 224],
+    s: u8,
+    d: u8,
+    n: u8,
+    x: u64,
+) -> usize
+    requires { ⌜ Given (now m) (now q) s d (now depths) (now truth) (now cone) (now used) (now table) ⌝ }
+    requires { ⌜ (d ≤ n) × (n ≤ 6) × (plan-total (model-of (now m)) n s ≤ 65536) ⌝ }
+    ensures { λ r. ⌜ First (totals (model-of (now (m .entry))) n s (value-of (model-of (now (m .entry))) (formula (now (q .entry)) (root-of (now (cone .entry)))) s)) x r ⌝ }
+{
+    let all = count(table, n, s as usize);
+    if all <= 1024 {
+        let mut buf = [0u64; 1306];
+        return first_within(m, q, depths, truth, cone, used, table, &mut buf, s, d, n, x);
+    }
+    if all <= 8192 {
+        let mut buf = [0u64; 8474];
+        return first_within(m, q, depths, truth, cone, used, table, &mut buf, s, d, n, x);
+    }
+    let mut buf = [0u64; 65818];
+    first_within(m, q, depths, truth, cone, used, table, &mut buf, s, d, n, x)
 }

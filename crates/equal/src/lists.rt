@@ -25,7 +25,7 @@ use models::target;
 use models::weight;
 
 // The number of plans of k steps from a state, by the table.
-fn count(table: &[u64; 224], k: u8, t: usize) -> usize
+pub fn count(table: &[u64; 224], k: u8, t: usize) -> usize
     requires { ⌜ (k ≤ 6) × (t < 32) ⌝ }
     ensures { λ r. ⌜ r ≡ getD (now (table .entry)) (32 * k + t) 0 ⌝ }
 {

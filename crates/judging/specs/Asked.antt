@@ -30,7 +30,6 @@ pub record Served (m q : Bytes) : Type 0 where
   pub question-accepted : refusal (read-question (state-count m) (action-count m) (prop-count m) q) ≡ 0
   pub within : refusal (limits (model-of m) (formulas-of q)) ≡ 0
 
--- The scratch of the searches is long enough: for a list of the totals of all plans, and for the choices of three plans. What is left in it
--- is never promised.
-abbrev pub Scratch : List ℕ → List ℕ → Type 0
-Scratch lists scratch = (65818 ≤ length lists) × (4095 ≤ length scratch)
+-- The scratch of the searches is long enough for the choices of three plans. What is left in it is never promised.
+abbrev pub Scratch : List ℕ → Type 0
+Scratch scratch = 4095 ≤ length scratch

@@ -83,14 +83,13 @@ fn root_truth(
     used: &[u8; 264],
     counts: &[u64; 224],
     depths: &[u32],
-    lists: &mut [u64],
     scratch: &mut [u8],
 ) -> [u8; 1280]
-    requires { ⌜ Asked (now m) (now q) (now used) (now counts) (now depths) × Scratch (now lists) (now scratch) ⌝ }
+    requires { ⌜ Asked (now m) (now q) (now used) (now counts) (now depths) × Scratch (now scratch) ⌝ }
     ensures { λ r. ⌜ Supplied (now (m .entry)) (now (q .entry)) r (root (now (q .entry))) (start-of (now (q .entry))) ⌝ }
 {
     let need = needed(m, q, used);
-    truth_table(m, q, used, counts, depths, &need, lists, scratch)
+    truth_table(m, q, used, counts, depths, &need, scratch)
 }
 
 // Writes the choices of the plan that a search found for node j in s, and tells of it.
@@ -138,7 +137,6 @@ fn at_node(
     counts: &[u64; 224],
     depths: &[u32],
     truth: &[u8],
-    lists: &mut [u64],
     scratch: &mut [u8],
     choices: &mut [u8],
     j: u8,
@@ -146,14 +144,14 @@ fn at_node(
 ) -> Outcome
     requires { ⌜ Asked (now m) (now q) (now used) (now counts) (now depths) × (j < node-count (now q)) × (s < state-count (now m)) ⌝ }
     requires { ⌜ Supplied (now m) (now q) (now truth) j s × (depth (formula (now q) j) ≡ 0) ⌝ }
-    requires { ⌜ Scratch (now lists) (now scratch) × (1365 ≤ length (now choices)) ⌝ }
+    requires { ⌜ Scratch (now scratch) × (1365 ≤ length (now choices)) ⌝ }
     ensures { λ r. ⌜ Announces (verdict (model-of (now (m .entry))) s (formula (now (q .entry)) j)) r (now (choices .entry)) (now (choices .exit)) ⌝ }
 {
     if operator(q, j) != 8 {
-        let x = truth_at(m, q, used, counts, depths, truth, lists, scratch, j, s);
+        let x = truth_at(m, q, used, counts, depths, truth, scratch, j, s);
         return plain(x == 1, 0);
     }
-    let r = decide(m, q, used, counts, depths, truth, lists, scratch, j, s);
+    let r = decide(m, q, used, counts, depths, truth, scratch, j, s);
     let met = r.met;
     let place = r.place;
     if met {
@@ -170,12 +168,11 @@ fn at_root(
     counts: &[u64; 224],
     depths: &[u32],
     truth: &[u8],
-    lists: &mut [u64],
     scratch: &mut [u8],
     choices: &mut [u8],
 ) -> Outcome
     requires { ⌜ Asked (now m) (now q) (now used) (now counts) (now depths) × Supplied (now m) (now q) (now truth) (root (now q)) (start-of (now q)) ⌝ }
-    requires { ⌜ Scratch (now lists) (now scratch) × (1365 ≤ length (now choices)) ⌝ }
+    requires { ⌜ Scratch (now scratch) × (1365 ≤ length (now choices)) ⌝ }
     ensures { λ r. ⌜ Announces (root-verdict (now (m .entry)) (now (q .entry))) r (now (choices .entry)) (now (choices .exit)) ⌝ }
 {
     let j = node_count(q) - 1;
@@ -186,7 +183,6 @@ fn at_root(
         counts,
         depths,
         truth,
-        lists,
         scratch,
         choices,
         j,
@@ -203,20 +199,9 @@ fn judged_as_shared(m: &[u8], q: &[u8], choices: &mut [u8]) -> Outcome
     let used = used_entries(m);
     let counts = plan_totals(m, &used);
     let depths = depth_table(q);
-    let mut lists = [0u64; 65818];
     let mut scratch = [0u8; 4095];
-    let truth = root_truth(m, q, &used, &counts, &depths, &mut lists, &mut scratch);
-    at_root(
-        m,
-        q,
-        &used,
-        &counts,
-        &depths,
-        &truth,
-        &mut lists,
-        &mut scratch,
-        choices,
-    )
+    let truth = root_truth(m, q, &used, &counts, &depths, &mut scratch);
+    at_root(m, q, &used, &counts, &depths, &truth, &mut scratch, choices)
 }
 
 // Judges a question: the verdict, and the choices of a shown plan from the beginning of `choices` on. Every "and" of a node with itself is
@@ -267,8 +252,7 @@ pub fn sheet_weight(m: &[u8], q: &[u8], choices: &[u8]) -> u64
     let used = used_entries(m);
     let counts = plan_totals(m, &used);
     let depths = depth_table(q);
-    let mut lists = [0u64; 65818];
     let mut scratch = [0u8; 4095];
-    let truth = root_truth(m, q, &used, &counts, &depths, &mut lists, &mut scratch);
+    let truth = root_truth(m, q, &used, &counts, &depths, &mut scratch);
     root_weight(m, q, &used, &depths, &truth, choices)
 }

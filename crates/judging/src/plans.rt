@@ -2,7 +2,7 @@
 ghost use mathlib.Core.Path.{_≡_};
 ghost use Prim.Native.Nat.{_+_, _*_, _≤_, _<_};
 ghost use mathlib.Core.List.{[]};
-ghost use lib.ListN.{getD, length};
+ghost use lib.ListN.{getD};
 ghost use Rattle.logic.specs.Formula.{depth, sat};
 ghost use Rattle.models.specs.Layout.{state-count, model-of};
 ghost use Rattle.questions.specs.Layout.{node-count, node-of, formulas-of};
@@ -45,7 +45,7 @@ fn led(
     s: u8,
 ) -> Decision
     requires { ⌜ Given (now m) (now q) (now used) × (now depths ≡ table depth (formulas-of (now q))) × Posed (now m) (now q) (now truth) j s ⌝ }
-    requires { ⌜ (node-of (now q) j .right ≡ 2 → ⊥) × (4095 ≤ length (now scratch)) ⌝ }
+    requires { ⌜ (node-of (now q) j .right ≡ 2 → ⊥) × Scratch (now scratch) ⌝ }
     ensures { λ r. ⌜ Led (now (m .entry)) (now (q .entry)) j s (now (scratch .exit)) r ⌝ }
 {
     let c = left(q, j);
@@ -89,12 +89,11 @@ fn first(
     counts: &[u64; 224],
     depths: &[u32],
     truth: &[u8],
-    lists: &mut [u64],
     j: u8,
     s: u8,
 ) -> Decision
     requires { ⌜ Asked (now m) (now q) (now used) (now counts) (now depths) × Posed (now m) (now q) (now truth) j s ⌝ }
-    requires { ⌜ (node-of (now q) j .right ≡ 2) × (65818 ≤ length (now lists)) ⌝ }
+    requires { ⌜ node-of (now q) j .right ≡ 2 ⌝ }
     ensures { λ r. ⌜ Placed (now (m .entry)) (now (q .entry)) j s r ⌝ }
 {
     let n = steps(q, j);
@@ -121,7 +120,6 @@ fn first(
         &nodes[..k],
         used,
         counts,
-        lists,
         s,
         d,
         n,
@@ -143,17 +141,16 @@ pub fn decide(
     counts: &[u64; 224],
     depths: &[u32],
     truth: &[u8],
-    lists: &mut [u64],
     scratch: &mut [u8],
     j: u8,
     s: u8,
 ) -> Decision
     requires { ⌜ Asked (now m) (now q) (now used) (now counts) (now depths) × Posed (now m) (now q) (now truth) j s ⌝ }
-    requires { ⌜ Scratch (now lists) (now scratch) ⌝ }
+    requires { ⌜ Scratch (now scratch) ⌝ }
     ensures { λ r. ⌜ Decided (now (m .entry)) (now (q .entry)) j s (now (scratch .exit)) r ⌝ }
 {
     if right(q, j) == 2 {
-        return first(m, q, used, counts, depths, truth, lists, j, s);
+        return first(m, q, used, counts, depths, truth, j, s);
     }
     led(m, q, used, depths, truth, scratch, j, s)
 }
@@ -166,16 +163,15 @@ pub fn plan_true(
     counts: &[u64; 224],
     depths: &[u32],
     truth: &[u8],
-    lists: &mut [u64],
     scratch: &mut [u8],
     j: u8,
     s: u8,
 ) -> bool
     requires { ⌜ Asked (now m) (now q) (now used) (now counts) (now depths) × (j < node-count (now q)) × (s < state-count (now m)) ⌝ }
     requires { ⌜ (node-of (now q) j .operator ≡ 8) × Told (now m) (now q) (now truth) (node-of (now q) j .left) s ⌝ }
-    requires { ⌜ Scratch (now lists) (now scratch) ⌝ }
+    requires { ⌜ Scratch (now scratch) ⌝ }
     ensures { λ r. ⌜ r ≡ sat (model-of (now (m .entry))) (formula (now (q .entry)) j) s [] ⌝ }
 {
-    let r = decide(m, q, used, counts, depths, truth, lists, scratch, j, s);
+    let r = decide(m, q, used, counts, depths, truth, scratch, j, s);
     r.met
 }

@@ -38,13 +38,12 @@ pub fn truth_at(
     counts: &[u64; 224],
     depths: &[u32],
     truth: &[u8],
-    lists: &mut [u64],
     scratch: &mut [u8],
     j: u8,
     s: u8,
 ) -> u8
     requires { ⌜ Asked (now m) (now q) (now used) (now counts) (now depths) × (j < question.node-count (now q)) × (s < state-count (now m)) ⌝ }
-    requires { ⌜ Supplied (now m) (now q) (now truth) j s × Scratch (now lists) (now scratch) ⌝ }
+    requires { ⌜ Supplied (now m) (now q) (now truth) j s × Scratch (now scratch) ⌝ }
     ensures { λ r. ⌜ (depth (formula (now (q .entry)) j) ≡ 0 → r ≡ value-of (model-of (now (m .entry))) (formula (now (q .entry)) j) s []) ⌝ }
 {
     let op = operator(q, j);
@@ -52,7 +51,7 @@ pub fn truth_at(
         2 => bit(holds(m, s, left(q, j))),
         3 => bit(byte(truth, place(left(q, j), s)) == 0),
         4 => byte(truth, place(left(q, j), s)) & byte(truth, place(right(q, j), s)),
-        8 => bit(plan_true(m, q, used, counts, depths, truth, lists, scratch, j, s)),
+        8 => bit(plan_true(m, q, used, counts, depths, truth, scratch, j, s)),
         _ => 0,
     }
 }
@@ -66,12 +65,11 @@ fn truth_if(
     depths: &[u32],
     need: &[u8],
     truth: &[u8],
-    lists: &mut [u64],
     scratch: &mut [u8],
     k: usize,
 ) -> u8
     requires { ⌜ Asked (now m) (now q) (now used) (now counts) (now depths) × (k < 32 * question.node-count (now q)) ⌝ }
-    requires { ⌜ Needs (now m) (now q) (now need) × Right (now m) (now q) (now need) (now truth) k × Scratch (now lists) (now scratch) ⌝ }
+    requires { ⌜ Needs (now m) (now q) (now need) × Right (now m) (now q) (now need) (now truth) k × Scratch (now scratch) ⌝ }
     ensures { λ r. ⌜ (getD (now (need .entry)) k 0 ≡ 1 → depth (formula (now (q .entry)) (k / 32)) ≡ 0 → r ≡ value-of (model-of (now (m .entry))) (formula (now (q .entry)) (k / 32)) (k % 32) []) ⌝ }
 {
     if byte(need, k) != 1 {
@@ -84,7 +82,6 @@ fn truth_if(
         counts,
         depths,
         truth,
-        lists,
         scratch,
         (k / 32) as u8,
         (k % 32) as u8,
@@ -99,17 +96,16 @@ pub fn truth_table(
     counts: &[u64; 224],
     depths: &[u32],
     need: &[u8],
-    lists: &mut [u64],
     scratch: &mut [u8],
 ) -> [u8; 1280]
-    requires { ⌜ Asked (now m) (now q) (now used) (now counts) (now depths) × Needs (now m) (now q) (now need) × Scratch (now lists) (now scratch) ⌝ }
+    requires { ⌜ Asked (now m) (now q) (now used) (now counts) (now depths) × Needs (now m) (now q) (now need) × Scratch (now scratch) ⌝ }
     ensures { λ r. ⌜ Right (now (m .entry)) (now (q .entry)) (now (need .entry)) r (32 * (question.node-count (now (q .entry)) - 1)) ⌝ }
 {
     let end = place(node_count(q) - 1, 0);
     let mut truth = [0u8; 1280];
     let mut k: usize = 0;
     while k < end {
-        let x = truth_if(m, q, used, counts, depths, need, &truth, lists, scratch, k);
+        let x = truth_if(m, q, used, counts, depths, need, &truth, scratch, k);
         truth[k] = x;
         k += 1;
     }

@@ -1,80 +1,71 @@
--- `first_equal`: at the start nothing is known but what `learn` adds, and the buffer has room for the whole list.
+-- `first_equal`: the table has the number of plans, and each buffer has 282 numbers beside as many.
+use Prim.Native.Nat.{ℕ, _+_, _*_}
 use native.Mathlib.Omega.{arith}
-use mathlib.Core.Path.{_≡_, refl}
-use lib.IntN.{pos}
-use lib.ListN.{length, take, replicate}
+use mathlib.Core.Path.{_≡_, _∙_}
+use lib.ListN.{getD, length-replicate}
 use borrow.Author.Needs.{needs}
 use Rattle.logic.specs.Limits.{plan-total}
 use Rattle.models.specs.Layout.{model-of}
-use Rattle.evaluation.specs.Reached.{on-path}
-use Rattle.evaluation.specs.Known.{Roomy}
-use Rattle.evaluation.proofs.Stepping.{begun}
-use Rattle.equal.proofs.Rooms.{room-whole}
-use Rattle.equal.proofs.Totals.{totals-length}
-use Rattle.equal.proofs.Searching.{begins, first-listed}
+use Rattle.equal.proofs.Writing.{state-small}
 use Rattle.equal.proofs.first_equal.Statement.{statement}
 use Rattle.equal.proofs.first_equal.Tie as tie
 
-slice-aggregate-learn : tie.Need-slice-aggregate-learn
-slice-aggregate-learn c = search needs
+-- The table's number of plans is their number.
+number : (S : tie.Start) {all : ℕ} → all ≡ getD (S .args .table .now) (32 * S .args .n + S .args .s) 0
+    → all ≡ plan-total (model-of (S .args .m .now)) (S .args .n) (S .args .s)
+number S e = let G = S .pre .0 in
+    e ∙ G .counts .right (S .args .n) (S .args .s) (S .pre .1 .1) (G .ready .state) (S .pre .1 .2)
 
-slice-aggregate-learn-2 : tie.Need-slice-aggregate-learn-2
-slice-aggregate-learn-2 c = search needs
+count-requires : tie.Need-count-requires
+count-requires c κs = let S = c .before .before .before .before .before in
+    (S .pre .1 .1, state-small (S .pre .0) (S .pre .0 .ready .state))
 
-slice-aggregate-learn-3 : tie.Need-slice-aggregate-learn-3
-slice-aggregate-learn-3 c = search needs
+slice-aggregate-first-within : tie.Need-slice-aggregate-first-within
+slice-aggregate-first-within c = search needs
 
-learn-requires : tie.Need-learn-requires
-learn-requires c κs = search needs
-
-slice-aggregate-list : tie.Need-slice-aggregate-list
-slice-aggregate-list c = search needs
-
-slice-aggregate-list-2 : tie.Need-slice-aggregate-list-2
-slice-aggregate-list-2 c = search needs
-
-slice-aggregate-list-3 : tie.Need-slice-aggregate-list-3
-slice-aggregate-list-3 c = search needs
-
-list-requires : tie.Need-list-requires
-list-requires c κs = let S = c .before .before .before .before .before .before .before .before .before .before .before .before .before .before .before in
-    let G = S .pre .0 in
-    let x = c .before .before .before .before .before .learn in
-    let v = x .last .1 .1 .1 .1 .1 .1 .0 in
-    let n : length v ≡ 280 = x .kept .1 .1 .1 .1 .1 .1 .0 in
-    let knows = begun (G .ready) (replicate 6 0) (replicate 7 (pos 0)) (replicate 280 0) v refl (omega arith) (x .ensures) in
-    let roomy : Roomy (replicate 6 0) (replicate 7 (pos 0)) v = record { steps = omega arith; sums = omega arith; places = omega arith } in
-    let total = plan-total (model-of (S .args .m .now)) (S .args .n) (S .args .start) in
-    let room = room-whole (S .args .n) total (length (S .args .buf .now)) (S .pre .1 .1) (S .pre .1 .2) (S .pre .1 .3) in
-    (G, (begins G (replicate 6 0) (replicate 7 (pos 0)) v (S .pre .1 .0) (S .pre .1 .1) roomy knows, room))
-
-find-requires : tie.Need-find-requires
-find-requires c κs = let S = c .before .before .before .before .before .before .before .before .before .before .before .before .before .before .before .before .before .before .before .before .before .before in
-    let x = c .before .before .before .before .before .before .list in
-    let M = S .args .m .now in
-    let f = on-path M (S .args .q .now) (S .args .start) (S .args .cone .now) (take 0 (replicate 6 0)) in
-    omega
-    (arith, x .ensures .count, totals-length (model-of M) (S .args .n) (S .args .start) f, x .kept .1 .1 .1 .1 .1 .1 .1 .1 .1 .1 .0, S .pre .1 .2, S .pre .1 .3)
-
-same-length : tie.Need-same-length
-same-length c = search needs
+first-within-requires : tie.Need-first-within-requires
+first-within-requires c κs = let N = c .before .before in
+    let S = N .before .before .before .before .before .before in
+    let P = S .pre .1 in
+    (S .pre .0, (P .0, P .1, P .2, omega (arith, number S (N .count .ensures), length-replicate {A = ℕ} 1306 0)))
 
 returns : tie.Need-returns
-returns c = let S = c .before .before .before .before .before .before .before .before .before .before .before .before .before .before .before .before .before .before .before .before .before .before .before in
-    first-listed (S .pre .0) (S .args .n) (S .args .x) (c .before .before .before .before .before .before .before .list .ensures) (c .find .ensures)
+returns c = search needs
+
+slice-aggregate-first-within-2 : tie.Need-slice-aggregate-first-within-2
+slice-aggregate-first-within-2 c = search needs
+
+first-within-requires-2 : tie.Need-first-within-requires-2
+first-within-requires-2 c κs = let N = c .before .before .before in
+    let S = N .before .before .before .before .before .before in
+    let P = S .pre .1 in
+    (S .pre .0, (P .0, P .1, P .2, omega (arith, number S (N .count .ensures), length-replicate {A = ℕ} 8474 0)))
+
+returns-2 : tie.Need-returns-2
+returns-2 c = search needs
+
+slice-aggregate-first-within-3 : tie.Need-slice-aggregate-first-within-3
+slice-aggregate-first-within-3 c = search needs
+
+first-within-requires-3 : tie.Need-first-within-requires-3
+first-within-requires-3 c κs = let S = c .before .before .before .before .before .before .before .before .before in
+    let P = S .pre .1 in
+    (S .pre .0, (P .0, P .1, P .2, omega (arith, P .2, length-replicate {A = ℕ} 65818 0)))
+
+returns-3 : tie.Need-returns-3
+returns-3 c = search needs
 
 pub first-equal-spec : {M : Type 1} → statement M
 first-equal-spec =
     tie.close
     (tie.spec
-    slice-aggregate-learn
-    slice-aggregate-learn-2
-    slice-aggregate-learn-3
-    learn-requires
-    slice-aggregate-list
-    slice-aggregate-list-2
-    slice-aggregate-list-3
-    list-requires
-    find-requires
-    same-length
-    returns)
+    count-requires
+    slice-aggregate-first-within
+    first-within-requires
+    returns
+    slice-aggregate-first-within-2
+    first-within-requires-2
+    returns-2
+    slice-aggregate-first-within-3
+    first-within-requires-3
+    returns-3)

@@ -25,68 +25,59 @@ plain-requires c κs = search needs
 same-length : tie.Need-same-length
 same-length c = search needs
 
-same-length-2 : tie.Need-same-length-2
-same-length-2 c = search needs
-
 returns : tie.Need-returns
-returns c = let T = c .before .before .before .before .before in
-    let S = T .before .before .before .before .before .before .before .before .before .before .before .before in
+returns c = let T = c .before .before .before in
+    let S = T .before .before .before .before .before .before .before .before .before .before in
     let P = S .pre .0 in
     let N = S .pre .1 in
-    let n : (node-of (S .args .q .now) (S .args .j)) .operator ≡ 8 → ⊥ = λ o. T .before .before .before .if1 .taken (T .before .before .before .before .operator .ensures ∙ o) in
+    let n : (node-of (S .args .q .now) (S .args .j)) .operator ≡ 8 → ⊥ = λ o. T .before .before .if1 .taken (T .before .before .before .operator .ensures ∙ o) in
     announces-truth (sat (model-of (S .args .m .now)) (formula (S .args .q .now) (S .args .j)) (S .args .s) []) (S .args .choices .now)
     (other-verdict (P .0 .given) (S .args .j) (S .args .s) (P .1) n) (T .truth-at .ensures (N .0 .1)) (c .plain .ensures)
 
 decide-requires : tie.Need-decide-requires
-decide-requires c κs = let S = c .before .before .before .before .before .before .before .before .before .before .before in
+decide-requires c κs = let S = c .before .before .before .before .before .before .before .before .before in
     let P = S .pre .0 in
     let N = S .pre .1 in
-    let o = sym (c .before .before .before .operator .ensures) ∙ c .before .before .if1 .left in
+    let o = sym (c .before .before .operator .ensures) ∙ c .before .if1 .left in
     ((P .0, posed-at (P .0) (P .1) o (P .2) (N .0 .0 .under-plan o)), N .1 .0)
 
 show-requires : tie.Need-show-requires
-show-requires c κs = let D = c .before .before .before .before .before .before .before in
-    let S = D .before .before .before .before .before .before .before .before .before .before .before .before in
+show-requires c κs = let D = c .before .before .before .before .before in
+    let S = D .before .before .before .before .before .before .before .before .before .before in
     let P = S .pre .0 in
     let N = S .pre .1 in
-    let o = sym (D .before .before .before .before .operator .ensures) ∙ D .before .before .before .if1 .left in
+    let o = sym (D .before .before .before .operator .ensures) ∙ D .before .before .if1 .left in
     ((P .0, D .decide .ensures, c .before .before .if2 .taken), (P .1, o, P .2, N .1 .1))
+
+same-length-2 : tie.Need-same-length-2
+same-length-2 c = search needs
 
 same-length-3 : tie.Need-same-length-3
 same-length-3 c = search needs
-
-same-length-4 : tie.Need-same-length-4
-same-length-4 c = search needs
-
-same-length-5 : tie.Need-same-length-5
-same-length-5 c = search needs
 
 returns-2 : tie.Need-returns-2
 returns-2 c = search needs
 
 cast-plain : tie.Need-cast-plain
-cast-plain c = let D = c .before .before .before .before .before in
-    let S = D .before .before .before .before .before .before .before .before .before .before .before .before in
+cast-plain c = let D = c .before .before .before in
+    let S = D .before .before .before .before .before .before .before .before .before .before in
     let P = S .pre .0 in
     let N = S .pre .1 in
-    let o = sym (D .before .before .before .before .operator .ensures) ∙ D .before .before .before .if1 .left in
+    let o = sym (D .before .before .before .operator .ensures) ∙ D .before .before .if1 .left in
     record { fits = omega (arith, place-few (P .0) (S .args .j) (S .args .s) (P .1) o (P .2) (D .decide .ensures)) }
 
 plain-requires-2 : tie.Need-plain-requires-2
 plain-requires-2 c κs = search needs
 
-same-length-6 : tie.Need-same-length-6
-same-length-6 c = search needs
-
-same-length-7 : tie.Need-same-length-7
-same-length-7 c = search needs
+same-length-4 : tie.Need-same-length-4
+same-length-4 c = search needs
 
 returns-3 : tie.Need-returns-3
-returns-3 c = let D = c .before .before .before .before .before .before in
-    let S = D .before .before .before .before .before .before .before .before .before .before .before .before in
+returns-3 c = let D = c .before .before .before .before in
+    let S = D .before .before .before .before .before .before .before .before .before .before in
     let P = S .pre .0 in
     let N = S .pre .1 in
-    let o = sym (D .before .before .before .before .operator .ensures) ∙ D .before .before .before .if1 .left in
+    let o = sym (D .before .before .before .operator .ensures) ∙ D .before .before .if1 .left in
     let v = no-verdict (P .0) (S .args .j) (S .args .s) (P .1) o (P .2) (D .decide .ensures) (c .before .if2 .left) in
     announces-no (S .args .choices .now) v (c .plain2 .ensures)
 
@@ -98,16 +89,13 @@ at-node-spec =
     truth-at-requires
     plain-requires
     same-length
-    same-length-2
     returns
     decide-requires
     show-requires
+    same-length-2
     same-length-3
-    same-length-4
-    same-length-5
     returns-2
     cast-plain
     plain-requires-2
-    same-length-6
-    same-length-7
+    same-length-4
     returns-3)

@@ -26,14 +26,11 @@ slice-aggregate-root-truth c = search needs
 slice-aggregate-root-truth-2 : tie.Need-slice-aggregate-root-truth-2
 slice-aggregate-root-truth-2 c = search needs
 
-slice-aggregate-root-truth-3 : tie.Need-slice-aggregate-root-truth-3
-slice-aggregate-root-truth-3 c = search needs
-
 root-truth-requires : tie.Need-root-truth-requires
-root-truth-requires c κs = let D = c .before .before .before .before .before in
+root-truth-requires c κs = let D = c .before .before .before .before in
     let S = D .before .before .before .before .before .before .before in
     let a = asked-at (S .pre .0) (D .before .before .before .used-entries .ensures) (D .before .plan-totals .ensures) (D .depth-table .ensures) in
-    (a, (le-of-eq (sym (length-replicate {A = ℕ} 65818 0)), le-of-eq (sym (length-replicate {A = ℕ} 4095 0))))
+    (a, le-of-eq (sym (length-replicate {A = ℕ} 4095 0)))
 
 slice-aggregate-at-root : tie.Need-slice-aggregate-at-root
 slice-aggregate-at-root c = search needs
@@ -44,18 +41,13 @@ slice-aggregate-at-root-2 c = search needs
 slice-aggregate-at-root-3 : tie.Need-slice-aggregate-at-root-3
 slice-aggregate-at-root-3 c = search needs
 
-slice-aggregate-at-root-4 : tie.Need-slice-aggregate-at-root-4
-slice-aggregate-at-root-4 c = search needs
-
 at-root-requires : tie.Need-at-root-requires
-at-root-requires c κs = let R = c .before .before .before .before .before .before .before .before .before in
-    let D = R .before .before .before .before .before .before in
+at-root-requires c κs = let R = c .before .before .before .before .before .before .before in
+    let D = R .before .before .before .before .before in
     let S = D .before .before .before .before .before .before .before in
     let a = asked-at (S .pre .0) (D .before .before .before .used-entries .ensures) (D .before .plan-totals .ensures) (D .depth-table .ensures) in
-    let k = R .root-truth .kept .1 .1 .1 .1 .1 in
-    let l = le-of-eq (sym (k .0 ∙ length-replicate {A = ℕ} 65818 0)) in
-    let c = le-of-eq (sym (k .1 .0 ∙ length-replicate {A = ℕ} 4095 0)) in
-    ((a, R .root-truth .ensures), ((l, c), S .pre .1))
+    let l = le-of-eq (sym (R .root-truth .kept .1 .1 .1 .1 .1 .0 ∙ length-replicate {A = ℕ} 4095 0)) in
+    ((a, R .root-truth .ensures), (l, S .pre .1))
 
 same-length : tie.Need-same-length
 same-length c = search needs
@@ -72,12 +64,10 @@ judged-as-shared-spec =
     depth-table-requires
     slice-aggregate-root-truth
     slice-aggregate-root-truth-2
-    slice-aggregate-root-truth-3
     root-truth-requires
     slice-aggregate-at-root
     slice-aggregate-at-root-2
     slice-aggregate-at-root-3
-    slice-aggregate-at-root-4
     at-root-requires
     same-length
     returns)

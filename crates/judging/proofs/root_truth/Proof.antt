@@ -17,13 +17,10 @@ truth-table-requires c κs = search needs
 same-length : tie.Need-same-length
 same-length c = search needs
 
-same-length-2 : tie.Need-same-length-2
-same-length-2 c = search needs
-
 returns : tie.Need-returns
-returns c = let T = c .before .before .before .before in
-    let N = T .before .before .before .before in
-    root-supplied (N .before .before .before .before .before .before .pre .0 .given) (N .needed .ensures) _ (T .truth-table .ensures) (le-refl _)
+returns c = let T = c .before .before in
+    let N = T .before .before .before in
+    root-supplied (N .before .before .before .before .before .pre .0 .given) (N .needed .ensures) _ (T .truth-table .ensures) (le-refl _)
 
 pub root-truth-spec : {M : Type 1} → statement M
 root-truth-spec =
@@ -33,5 +30,4 @@ root-truth-spec =
     slice-aggregate-truth-table
     truth-table-requires
     same-length
-    same-length-2
     returns)

@@ -26,14 +26,11 @@ slice-aggregate-root-truth c = search needs
 slice-aggregate-root-truth-2 : tie.Need-slice-aggregate-root-truth-2
 slice-aggregate-root-truth-2 c = search needs
 
-slice-aggregate-root-truth-3 : tie.Need-slice-aggregate-root-truth-3
-slice-aggregate-root-truth-3 c = search needs
-
 root-truth-requires : tie.Need-root-truth-requires
-root-truth-requires c κs = let D = c .before .before .before .before .before in
+root-truth-requires c κs = let D = c .before .before .before .before in
     let S = D .before .before .before .before .before .before .before in
     let a = asked-at (S .pre .0) (D .before .before .before .used-entries .ensures) (D .before .plan-totals .ensures) (D .depth-table .ensures) in
-    (a, (le-of-eq (sym (length-replicate {A = ℕ} 65818 0)), le-of-eq (sym (length-replicate {A = ℕ} 4095 0))))
+    (a, le-of-eq (sym (length-replicate {A = ℕ} 4095 0)))
 
 slice-aggregate-root-weight : tie.Need-slice-aggregate-root-weight
 slice-aggregate-root-weight c = search needs
@@ -42,8 +39,8 @@ slice-aggregate-root-weight-2 : tie.Need-slice-aggregate-root-weight-2
 slice-aggregate-root-weight-2 c = search needs
 
 root-weight-requires : tie.Need-root-weight-requires
-root-weight-requires c κs = let R = c .before .before .before .before .before in
-    let D = R .before .before .before .before .before .before in
+root-weight-requires c κs = let R = c .before .before .before .before in
+    let D = R .before .before .before .before .before in
     let S = D .before .before .before .before .before .before .before in
     let a = asked-at (S .pre .0) (D .before .before .before .used-entries .ensures) (D .before .plan-totals .ensures) (D .depth-table .ensures) in
     ((a .given, a .deep), root-posed (a .given) (R .root-truth .ensures) (S .pre .1))
@@ -60,7 +57,6 @@ sheet-weight-spec =
     depth-table-requires
     slice-aggregate-root-truth
     slice-aggregate-root-truth-2
-    slice-aggregate-root-truth-3
     root-truth-requires
     slice-aggregate-root-weight
     slice-aggregate-root-weight-2

@@ -10,18 +10,15 @@ right-requires c κs = search needs
 first-requires : tie.Need-first-requires
 first-requires c κs = search needs
 
-same-length : tie.Need-same-length
-same-length c = search needs
-
 returns : tie.Need-returns
-returns c = let e = sym (c .before .before .before .before .before .right .ensures) ∙ c .before .before .before .before .if1 .taken in
-    record { led = λ n. absurd (n e); placed = λ f. c .before .before .first .ensures }
+returns c = let e = sym (c .before .before .right .ensures) ∙ c .before .if1 .taken in
+    record { led = λ n. absurd (n e); placed = λ f. c .first .ensures }
 
 led-requires : tie.Need-led-requires
 led-requires c κs = search needs
 
-same-length-2 : tie.Need-same-length-2
-same-length-2 c = search needs
+same-length : tie.Need-same-length
+same-length c = search needs
 
 returns-2 : tie.Need-returns-2
 returns-2 c = let n = c .before .before .before .before .if1 .left in
@@ -33,8 +30,7 @@ decide-spec =
     (tie.spec
     right-requires
     first-requires
-    same-length
     returns
     led-requires
-    same-length-2
+    same-length
     returns-2)

@@ -24,20 +24,20 @@ number : (S : tie.Start) {x n : ℕ} → x ≡ getD (S .args .counts .now) (32 *
     → x ≡ plan-total (model-of (S .args .m .now)) ((node-of (S .args .q .now) (S .args .j)) .n) (S .args .s)
 number S e f = let P = S .pre .0 in
     e ∙ ap (λ (i : ℕ). getD (S .args .counts .now) (32 * i + S .args .s) 0) f
-    ∙ counted-plans (P .0) (S .args .j) (S .args .s) (P .1 .node) (P .1 .is-plan) (S .pre .1 .0) (P .1 .state)
+    ∙ counted-plans (P .0) (S .args .j) (S .args .s) (P .1 .node) (P .1 .is-plan) (S .pre .1) (P .1 .state)
 
 steps-requires : tie.Need-steps-requires
 steps-requires c κs = search needs
 
 plans-requires : tie.Need-plans-requires
-plans-requires c κs = let P = c .before .before .before .before .before .before .pre .0 in
+plans-requires c κs = let P = c .before .before .before .before .before .pre .0 in
     (omega (arith, planned (P .0 .given) (P .1) .few, c .steps .ensures), omega (arith, P .1 .state, given-readable (P .0 .given) .states))
 
 exact-total-requires : tie.Need-exact-total-requires
-exact-total-requires c κs = let P = c .before .before .before .before .before .before .before .pre .0 in bounded (P .0 .given) (P .1)
+exact-total-requires c κs = let P = c .before .before .before .before .before .before .pre .0 in bounded (P .0 .given) (P .1)
 
 returns : tie.Need-returns
-returns c = let S = c .before .before .before .before .before .before .before .before .before .before in
+returns c = let S = c .before .before .before .before .before .before .before .before .before in
     let P = S .pre .0 in
     placed-never (P .0 .given) (P .1) (c .before .before .exact-total .ensures)
     (number S (c .before .before .before .plans .ensures) (c .before .before .before .before .steps .ensures)) (not-true _ (c .if1 .taken))
@@ -49,7 +49,7 @@ depth-at-requires : tie.Need-depth-at-requires
 depth-at-requires c κs = search needs
 
 cast-d : tie.Need-cast-d
-cast-d c = let P = c .before .before .before .before .before .before .before .before .before .before .before .before .pre .0 in
+cast-d c = let P = c .before .before .before .before .before .before .before .before .before .before .before .pre .0 in
     let d = looks (P .0 .given) (P .1) (P .0 .deep) (c .before .left .ensures) (c .depth-at .ensures) in
     record { fits = omega (arith, planned (P .0 .given) (P .1) .deep, planned (P .0 .given) (P .1) .few) }
 
@@ -57,7 +57,7 @@ slice-aggregate-cone : tie.Need-slice-aggregate-cone
 slice-aggregate-cone c = search needs
 
 cone-requires : tie.Need-cone-requires
-cone-requires c κs = let P = c .before .before .before .before .before .before .before .before .before .before .before .before .before .pre .0 in
+cone-requires c κs = let P = c .before .before .before .before .before .before .before .before .before .before .before .before .pre .0 in
     let l = before (P .0 .given) (P .1) .0 in
     (given-ordered (P .0 .given), P .0 .deep, omega (arith, c .before .before .left .ensures), refl)
 
@@ -69,14 +69,14 @@ slice-aggregate-first-equal c = let K = c .before .before in
     sym (length-take-le _ _ (omega (arith, K .cone .ensures .0, K .cone .kept .1 .1 .1 .0)))
 
 first-equal-requires : tie.Need-first-equal-requires
-first-equal-requires c κs = let K = c .before .before .before in
-    let S = K .before .before .before .before .before .before .before .before .before .before .before .before .before .before in
+first-equal-requires c κs = let K = c .before .before in
+    let S = K .before .before .before .before .before .before .before .before .before .before .before .before .before in
     let A = S .pre .0 .0 in
     let P = S .pre .0 .1 in
     let top = K .cone .ensures .2 ∙ K .before .before .before .left .ensures in
     let d = looks (A .given) P (A .deep) (K .before .before .before .left .ensures) (K .before .before .depth-at .ensures) in
     let n = K .before .before .before .before .before .before .before .before .steps .ensures in
-    let few = few-plans A (S .args .j) (S .args .s) (P .node) (P .is-plan) (S .pre .1 .0) (P .state) in (
+    let few = few-plans A (S .args .j) (S .args .s) (P .node) (P .is-plan) (S .pre .1) (P .state) in (
       record {
         ready = ready (A .given) P (A .deep) (K .cone .ensures .1) top;
         uses = A .given .used-right;
@@ -87,24 +87,19 @@ first-equal-requires c κs = let K = c .before .before .before in
         omega (arith, planned (A .given) P .deep),
         omega (arith, planned (A .given) P .few),
         subst (λ (i : ℕ). plan-total (model-of (S .args .m .now)) i (S .args .s) ≤ 65536) (sym n) few,
-        S .pre .1 .1,
       ),
     )
 
-same-length : tie.Need-same-length
-same-length c = search needs
-
 returns-2 : tie.Need-returns-2
-returns-2 c = let F = c .before .before in
-    let K = F .before .before .before .before in
+returns-2 c = let K = c .before .before .before in
     let X = K .before .before .before .before .before .before in
-    let S = X .before .before .before .before .before .before .before .before in
+    let S = X .before .before .before .before .before .before .before in
     let P = S .pre .0 in
     let n = X .before .before .steps .ensures in
     let all = number S (X .before .plans .ensures) n in
     let top = K .cone .ensures .2 ∙ K .before .before .before .left .ensures in
     placed-at (P .0 .given) (P .1) (X .exact-total .ensures) all (take (K .cone .result) (K .cone .last .1 .1 .1 .0))
-    (not-false _ (K .before .before .before .before .if1 .left)) n top (F .first-equal .ensures)
+    (not-false _ (K .before .before .before .before .if1 .left)) n top (c .first-equal .ensures)
 
 pub first-spec : {M : Type 1} → statement M
 first-spec =
@@ -122,5 +117,4 @@ first-spec =
     array-share-prefix-nodes
     slice-aggregate-first-equal
     first-equal-requires
-    same-length
     returns-2)

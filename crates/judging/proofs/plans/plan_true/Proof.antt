@@ -10,12 +10,9 @@ decide-requires c κs = search needs
 same-length : tie.Need-same-length
 same-length c = search needs
 
-same-length-2 : tie.Need-same-length-2
-same-length-2 c = search needs
-
 returns : tie.Need-returns
-returns c = let P = c .before .before .before .before .before .before .before .before .before .before .before .before .before .pre in
-    decided-truth (P .0 .0 .given) (posed-at (P .0 .0) (P .0 .1) (P .1 .0 .0) (P .0 .2) (P .1 .0 .1)) (c .before .before .before .before .decide .ensures)
+returns c = let P = c .before .before .before .before .before .before .before .before .before .pre in
+    decided-truth (P .0 .0 .given) (posed-at (P .0 .0) (P .0 .1) (P .1 .0 .0) (P .0 .2) (P .1 .0 .1)) (c .before .before .decide .ensures)
 
 pub plan-true-spec : {M : Type 1} → statement M
-plan-true-spec = tie.close (tie.spec decide-requires same-length same-length-2 returns)
+plan-true-spec = tie.close (tie.spec decide-requires same-length returns)

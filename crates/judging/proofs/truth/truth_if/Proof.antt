@@ -14,26 +14,23 @@ returns : tie.Need-returns
 returns c e = absurd (c .if1 .taken (c .before .byte .ensures ∙ e))
 
 cast-truth-at : tie.Need-cast-truth-at
-cast-truth-at c = omega (arith, (given-question (c .before .before .before .before .before .before .before .before .before .before .before .pre .0 .0 .given)) .few-nodes)
+cast-truth-at c = omega (arith, (given-question (c .before .before .before .before .before .before .before .before .before .pre .0 .0 .given)) .few-nodes)
 
 cast-truth-at-2 : tie.Need-cast-truth-at-2
 cast-truth-at-2 c = search needs
 
 truth-at-requires : tie.Need-truth-at-requires
-truth-at-requires c κs = let S = c .before .before .before .before .before .before .before .before .before .before .before in
+truth-at-requires c κs = let S = c .before .before .before .before .before .before .before .before .before in
     let P = S .pre .0 in
     let N = S .pre .1 in
-    let e = sym (c .before .before .before .byte .ensures) ∙ c .before .before .if1 .left in
+    let e = sym (c .before .before .byte .ensures) ∙ c .before .if1 .left in
     ((P .0, omega arith, N .0 .inside (S .args .k) e .1), (supplied (P .0 .given) (N .0) (S .args .k) (N .1) (S .args .k) (omega arith) (P .1) e, N .2))
 
 same-length : tie.Need-same-length
 same-length c = search needs
 
-same-length-2 : tie.Need-same-length-2
-same-length-2 c = search needs
-
 returns-2 : tie.Need-returns-2
-returns-2 c e = c .before .before .before .before .truth-at .ensures
+returns-2 c e = c .before .before .truth-at .ensures
 
 pub truth-if-spec : {M : Type 1} → statement M
 truth-if-spec =
@@ -45,5 +42,4 @@ truth-if-spec =
     cast-truth-at-2
     truth-at-requires
     same-length
-    same-length-2
     returns-2)

@@ -12,34 +12,34 @@ use Rattle.judging.proofs.truth.truth_table.Statement.{statement}
 use Rattle.judging.proofs.truth.truth_table.Tie as tie
 
 abbrev Inv-loop : tie.InvT-loop
-Inv-loop m q used counts depths need lists₀ scratch₀ end truth₀ k₀ lists scratch truth k =
-    (end ≡ 32 * (node-count q - 1)) × (k ≤ end) × (length truth ≡ 1280) × Right m q need truth k × (length lists ≡ length lists₀) × (length scratch ≡ length scratch₀)
+Inv-loop m q used counts depths need scratch₀ end truth₀ k₀ scratch truth k =
+    (end ≡ 32 * (node-count q - 1)) × (k ≤ end) × (length truth ≡ 1280) × Right m q need truth k × (length scratch ≡ length scratch₀)
 
 abbrev μ-loop : tie.MeasureT-loop
-μ-loop m q used counts depths need lists₀ scratch₀ end truth₀ k₀ lists scratch truth k = end - k
+μ-loop m q used counts depths need scratch₀ end truth₀ k₀ scratch truth k = end - k
 
 node-count-requires : tie.Need-node-count-requires Inv-loop μ-loop
 node-count-requires c κs = search needs
 
 sub-place : tie.Need-sub-place Inv-loop μ-loop
-sub-place c = omega (arith, c .node-count .ensures, (given-question (c .before .before .before .before .before .before .before .pre .0 .given)) .some-node)
+sub-place c = omega (arith, c .node-count .ensures, (given-question (c .before .before .before .before .before .before .pre .0 .given)) .some-node)
 
 place-requires : tie.Need-place-requires Inv-loop μ-loop
 place-requires c κs = search needs
 
 loop-holds : tie.Need-loop-holds Inv-loop μ-loop
-loop-holds c = (omega (arith, c .place .ensures, c .before .node-count .ensures), omega arith, length-replicate {A = ℕ} 1280 0, right-none _ _ _ _, refl, refl)
+loop-holds c = (omega (arith, c .place .ensures, c .before .node-count .ensures), omega arith, length-replicate {A = ℕ} 1280 0, right-none _ _ _ _, refl)
 
 slice-aggregate-truth-if : tie.Need-slice-aggregate-truth-if Inv-loop μ-loop
 slice-aggregate-truth-if c = sym (c .before .before .loop .inv .2)
 
 truth-if-requires : tie.Need-truth-if-requires Inv-loop μ-loop
-truth-if-requires c κs = let P = c .before .before .before .before .before .before .before .before .before .before .before .before .before .pre in
-    let L = c .before .before .before .before .loop in
-    ((P .0, omega arith), (P .1, L .inv .3, (omega (arith, L .inv .4, P .2 .0), omega (arith, L .inv .5, P .2 .1))))
+truth-if-requires c κs = let P = c .before .before .before .before .before .before .before .before .before .before .before .pre in
+    let L = c .before .before .before .loop in
+    ((P .0, omega arith), (P .1, L .inv .3, omega (arith, L .inv .4, P .2)))
 
 array-write-truth : tie.Need-array-write-truth Inv-loop μ-loop
-array-write-truth c = omega (arith, (given-question (c .before .before .before .before .before .before .before .before .before .before .before .before .before .before .before .before .before .before .pre .0 .given)) .few-nodes)
+array-write-truth c = omega (arith, (given-question (c .before .before .before .before .before .before .before .before .before .before .before .before .before .before .pre .0 .given)) .few-nodes)
 
 add-k : tie.Need-add-k Inv-loop μ-loop
 add-k c = omega arith
@@ -48,21 +48,18 @@ loop-less : tie.Need-loop-less Inv-loop μ-loop
 loop-less c = omega arith
 
 loop-again : tie.Need-loop-again Inv-loop μ-loop
-loop-again c = let L = c .before .before .before .before .before .before .before .before .before .loop in
-    let few = (given-question (c .before .before .before .before .before .before .before .before .before .before .before .before .before .before .before .before .before .before .pre .0 .given)) .few-nodes in
-    let n = c .before .before .before .before .truth-if in
+loop-again c = let L = c .before .before .before .before .before .before .loop in
+    let few = (given-question (c .before .before .before .before .before .before .before .before .before .before .before .before .before .before .pre .0 .given)) .few-nodes in
+    let n = c .before .before .truth-if in
     let v = n .result in
-    (L .inv .0, omega arith, length-set (L .truth) (L .k) v ∙ L .inv .2, right-more v (L .inv .3) (omega arith) (n .ensures), n .kept .1 .1 .1 .1 .1 .1 .1 .0 ∙ L .inv .4, n .kept .1 .1 .1 .1 .1 .1 .1 .1 .0 ∙ L .inv .5)
+    (L .inv .0, omega arith, length-set (L .truth) (L .k) v ∙ L .inv .2, right-more v (L .inv .3) (omega arith) (n .ensures), n .kept .1 .1 .1 .1 .1 .1 .1 .0 ∙ L .inv .4)
 
 same-length : tie.Need-same-length Inv-loop μ-loop
 same-length c = c .before .loop .inv .4
 
-same-length-2 : tie.Need-same-length-2 Inv-loop μ-loop
-same-length-2 c = c .before .loop .inv .5
-
 returns : tie.Need-returns Inv-loop μ-loop
 returns c = let L = c .before .loop in
-    let S = c .before .before .before .before .before .before .before .before .before .before in
+    let S = c .before .before .before .before .before .before .before .before .before in
     let e : L .k ≡ 32 * (node-count (S .args .q .now) - 1) = omega arith in
     subst (Right (S .args .m .now) (S .args .q .now) (S .args .need .now) (L .truth)) e (L .inv .3)
 
@@ -83,5 +80,4 @@ truth-table-spec =
     loop-less
     loop-again
     same-length
-    same-length-2
     returns)
