@@ -1,24 +1,30 @@
 -- Demand 2 for every session whose replies are those that document 01 describes by the history: judging makes the tests one by one, and
 -- its verdict says yes exactly where the formula is true, for a "plan" root since there is a shown plan just where it is true.
-use Prim.Native.Nat.{ℕ}
+use Prim.Native.Nat.{ℕ, _<_}
 use mathlib.Core.Path.{_≡_, refl, sym, ap, _∙_}
 use mathlib.Core.Logic.{_↔_}
 use mathlib.Core.Bool.{Bool, true, false, cond}
 use mathlib.Core.Option.{Option, none, some}
 use mathlib.Core.List.{List, []}
+use lib.ListN.{length}
 use Rattle.logic.specs.Checked.{Checked, ok, refused}
 use Rattle.logic.specs.Model.{Model}
+use Rattle.logic.specs.Accepted.{Accepted}
+use Rattle.logic.specs.Quantity.{Relation, naturals}
+use Rattle.logic.specs.Policy.{Policy, policy-weight}
 use Rattle.logic.specs.Plan.{Plan}
-use Rattle.logic.specs.Formula.{Formula, never, prop, neg, both, does, next, gain, plan, sat}
+use Rattle.logic.specs.Formula.{Formula, never, prop, neg, both, does, next, gain, plan, sat, meets}
 use Rattle.logic.specs.Verdict.{Goal, plan-goal, goal, Verdict, no, yes, shown, announced, verdict}
 use Rattle.logic.specs.Limits.{limits}
 use Rattle.logic.proofs.Tests.{not-true, none≢some}
 use Rattle.logic.proofs.Shown.{sat-shown}
+use Rattle.logic.proofs.Policies.{sat-policy}
 use Rattle.questions.specs.Layout.{Question}
 use Rattle.calls.specs.Calls.{Call, judge, Held, Answer, judged, replied, yields, do-judge}
 use Rattle.calls.specs.History.{after}
 use Rattle.calls.specs.Demand3.{Session}
 use Rattle.calls.specs.Demand2.{says-yes, judge-answer, Demand-2-always}
+use Rattle.calls.proofs.Held.{model-accepted, start-inside}
 
 -- ---- the verdict says yes exactly where the formula is true
 
@@ -45,6 +51,15 @@ says-true m s (gain n b p) = says-told (sat m (gain n b p) s [])
 says-true m s (plan n φ r p q) =
     let g = plan-goal m s n φ r p q in
     says-shown m s g (sat m (plan n φ r p q) s []) (shown m s g) (sat-shown m s n φ r p q [])
+
+-- For a "plan" root, where some policy meets the bound.
+says-by-policy : {m : Model} → Accepted m → (s : ℕ) → s < length (m .states) → (φ : Formula) (n : ℕ) (ψ : Formula) (r : Relation) (p d : ℕ)
+    → φ ≡ plan n ψ r p d
+    → (says-yes (verdict m s φ) ≡ true) ↔ ((π : Policy m n s) × (meets naturals m n r p d (policy-weight m ψ n s π) ≡ true))
+says-by-policy {m} a s k φ n ψ r p d e =
+    let e′ = says-true m s φ ∙ ap (λ x. sat m x s []) e in
+    let w = sat-policy a n s k ψ r p d [] in
+    (λ h. w .0 (sym e′ ∙ h), λ π. e′ ∙ w .1 π)
 
 -- ---- judging by what is held
 
@@ -89,6 +104,7 @@ module _ (session : Session) (yielding : (calls : List Call) (c : Call) → sess
               said = verdict m (q .start) (q .root);
               answers = told calls (ok (verdict m (q .start) (q .root))) (judge-is (after calls) m e q f l);
               as-true = says-true m (q .start) (q .root);
+              by-policy = says-by-policy (model-accepted calls m e) (q .start) (start-inside calls m e q f) (q .root);
               as-defined = refl;
             };
       }

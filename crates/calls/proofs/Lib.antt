@@ -1,4 +1,5 @@
 pub mod Histories
+pub mod Held
 pub mod Refusals
 pub mod Demand2
 pub mod Demand3

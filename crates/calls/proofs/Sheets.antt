@@ -41,6 +41,7 @@ use Rattle.sheets.proofs.Small.{sheet-small}
 use Rattle.calls.specs.Calls.{Call}
 use Rattle.calls.specs.Demand3.{Plan-question}
 use Rattle.calls.proofs.Histories.{model-told, question-told}
+use Rattle.calls.proofs.Held as held
 use Rattle.calls.proofs.Demand3.{Reads-back}
 
 -- ---- how many choices
@@ -220,8 +221,7 @@ module _ {calls : List Call} (x : Plan-question calls) where
       (plan-steps (length (x .model .states)) (length (x .model .actions)) (x .model .propositions) c asked (node-count c - 1) last-node (ap is-plan root-plan))
 
   start-inside : s < length (x .model .states)
-  unfolding question-of
-  start-inside = subst (λ q. q .start < length (x .model .states)) (sym same-question) (asked .starts)
+  start-inside = held.start-inside calls (x .model) (x .held-model) (x .question) (x .held-question)
 
   outcomes-few : (t a : ℕ) → length (outcomes (x .model) t a) ≤ 4
   outcomes-few t a =

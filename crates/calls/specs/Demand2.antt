@@ -5,12 +5,15 @@
 -- Document 01: "Demands 2 and 3 speak of desks that such lists, even empty ones, give back". The clauses stand beside the parts.
 use Prim.Native.Nat.{ℕ}
 use mathlib.Core.Path.{_≡_}
+use mathlib.Core.Logic.{_↔_}
 use mathlib.Core.Bool.{Bool, true, false}
 use mathlib.Core.List.{List, []}
 use mathlib.Core.Option.{none, some}
 use Rattle.logic.specs.Checked.{ok, refused}
 use Rattle.logic.specs.Model.{Model}
-use Rattle.logic.specs.Formula.{sat}
+use Rattle.logic.specs.Quantity.{Relation, naturals}
+use Rattle.logic.specs.Formula.{Formula, plan, sat, meets}
+use Rattle.logic.specs.Policy.{Policy, policy-weight}
 use Rattle.logic.specs.Verdict.{Verdict, no, yes, yes-plan, verdict}
 use Rattle.logic.specs.Limits.{limits}
 use Rattle.questions.specs.Layout.{Question}
@@ -29,6 +32,9 @@ pub record Judged (m : Model) (q : Question) (answer : Answer) : Type 0 where
   pub answers : answer ≡ judged said
   -- "yes if the formula is true in the asked state, no if it is false"
   pub as-true : says-yes said ≡ sat m (q .root) (q .start) []
+  -- "the published definitions": for a "plan" root, yes exactly if the measure of some policy of Definition 2 meets the bound
+  pub by-policy : (n : ℕ) (φ : Formula) (r : Relation) (p d : ℕ) → q .root ≡ plan n φ r p d
+      → (says-yes said ≡ true) ↔ ((π : Policy m n (q .start)) × (meets naturals m n r p d (policy-weight m φ n (q .start) π) ≡ true))
   -- "the shown plan is the one that document 01 singles out, and each count is the one defined there": `verdict` has both
   pub as-defined : said ≡ verdict m (q .start) (q .root)
 

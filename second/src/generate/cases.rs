@@ -278,6 +278,7 @@ pub fn bench_cases() -> Vec<Case> {
         case("nested-shallow-37", &ten, &nested_shallow()),
         case("nested-deep-gains", &ten, &nested_deep("greater", 6)),
         case("nested-one-gain", &ten, &nested_one_gain()),
+        case("nested-both-ways", &ten, &nested_both_ways()),
         case("nested-equal", &levels, &nested_deep("equal", 3)),
     ]
 }
@@ -321,6 +322,28 @@ fn nested_one_gain() -> Vec<String> {
         let last = nodes.len() - 1;
         nodes.push(format!("and 0 {last}"));
         nodes.push(format!("plan {} steps 6 greater 1/1000", last + 1));
+    }
+    let last = nodes.len() - 1;
+    nodes.push(format!("next {last}"));
+    nodes.push(format!("next {}", last + 1));
+    nodes.push(format!("plan {} steps 2 greater 1/1000", last + 2));
+    nodes
+}
+
+/// 14 "plan" nodes, each a search six steps deep in every state: seven gains,
+/// each asked for a greater and for a less chance together with the nodes
+/// before.
+fn nested_both_ways() -> Vec<String> {
+    let mut nodes = words(&["gain 6 steps greater 0"]);
+    for own in 1..8 {
+        let last = nodes.len() - 1;
+        nodes.push(format!("plan {last} steps 6 greater 1/1000"));
+        nodes.push(format!("plan {last} steps 6 less 999/1000"));
+        nodes.push(format!("and {} {}", last + 1, last + 2));
+        if own < 7 {
+            nodes.push(format!("gain 6 steps greater {}", -own));
+            nodes.push(format!("and {} {}", last + 3, last + 4));
+        }
     }
     let last = nodes.len() - 1;
     nodes.push(format!("next {last}"));
