@@ -29,7 +29,7 @@ use Rattle.blocks.specs.Bytes.{Bytes}
 use Rattle.questions.specs.Layout.{Question}
 use Rattle.sheets.specs.Layout.{Sheet, sheet-bytes}
 use Rattle.sheets.specs.Grounds.{read-sheet}
-use Rattle.calls.specs.Calls.{Call, check, judge, write, Held, Answer, judged, written, accepted, refuse, Reply, replied, yields, same, shown-sheet, do-write, do-check}
+use Rattle.calls.specs.Calls.{Call, check, judge, write, Held, Answer, judged, written, accepted, refuse, Reply, replied, yields, same, shown-sheet, do-write, check-on, do-check}
 use Rattle.calls.specs.History.{after}
 use Rattle.calls.specs.Demand3.{Session, All-bytes, Plan-question, path-weights, meets-bound, Claims, Accepts, Differs, Meeting-sheet, Says-yes, Writes-shown, Demand-3-always}
 use Rattle.calls.proofs.Histories.{verdict-told}
@@ -117,7 +117,7 @@ module _ (h : Held) (m : Model) (q : Question) (e : h .model ≡ some m) (f : h 
 
     check-is : limits m (q .nodes) ≡ ok tt → (b : Bytes) → do-check h b
         ≡ (read-sheet (g .steps) (q .start) b >>= (λ x. plan-of m (g .steps) (q .start) (x .choices) >>= (λ π. guard 11 (same (x .weight) (g .total π)) >> ok (g .met π))))
-    unfolding do-check
+    unfolding do-check check-on
     check-is l b = rw (e, f, r, l)
 
 -- A sheet of a plan is read back from what is written of it, which is bytes.

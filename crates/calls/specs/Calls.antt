@@ -82,17 +82,21 @@ do-write h size = do
 unfoldable pub same : ℤ → ℤ → Bool
 same a b = leZ a b && leZ b a
 
--- Whether the sheet's total meets the bound.
-unfoldable pub do-check : Held → Bytes → Checked Bool
-do-check h b = do
-  m ← held 20 (h .model)
-  q ← held 21 (h .question)
+-- What check does with a sheet where a model and a question are held: whether its total meets the bound.
+unfoldable pub check-on : Model → Question → Bytes → Checked Bool
+check-on m q b = do
   g ← goal m (q .start) (q .root)
   limits m (q .nodes)
   x ← read-sheet (g .steps) (q .start) b
   π ← plan-of m (g .steps) (q .start) (x .choices)
   guard 11 (same (x .weight) (g .total π))
   ok (g .met π)
+
+unfoldable pub do-check : Held → Bytes → Checked Bool
+do-check h b = do
+  m ← held 20 (h .model)
+  q ← held 21 (h .question)
+  check-on m q b
 
 -- ---- what each call yields
 

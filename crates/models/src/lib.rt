@@ -3,8 +3,6 @@ ghost use mathlib.Core.Path.{_≡_};
 ghost use Prim.Native.Nat.{_+_, _*_, _<_, _≤_};
 ghost use mathlib.Core.Bool.{true};
 ghost use lib.Signed.{mag};
-ghost use lib.Signed.{mag};
-ghost use lib.Signed.{mag};
 ghost use Rattle.logic.specs.Model.{true-of};
 ghost use Rattle.logic.specs.Checked.{refusal};
 ghost use Rattle.blocks.specs.Block.{whole-blocks};

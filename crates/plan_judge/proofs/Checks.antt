@@ -24,7 +24,7 @@ use Rattle.sheets.specs.Layout.{Sheet, weight-of, sheet-of}
 use Rattle.sheets.specs.Grounds.{read-sheet}
 use Rattle.sheets.specs.Reader.{Blocks, Gathered}
 use Rattle.sheets.proofs.Laws.{sheet-passed}
-use Rattle.calls.specs.Calls.{same, do-check}
+use Rattle.calls.specs.Calls.{same, check-on, do-check}
 use Rattle.bounds.specs.Bounded.{Bounded, meets-at}
 use Rattle.weighing.proofs.Plans.{plan-there, weight-most}
 use Rattle.judging.specs.Asked.{Served}
@@ -33,7 +33,7 @@ use Rattle.plan_judge.specs.declared.Desk.{Desk}
 use Rattle.plan_judge.specs.declared.Checking.the-variants.{Accepted, Refused}
 use Rattle.plan_judge.specs.View.{view}
 use Rattle.plan_judge.specs.Values.{checking, checked-by}
-use Rattle.plan_judge.specs.State.{held-goal, PlanRoot, plan-on, check-on}
+use Rattle.plan_judge.specs.State.{held-goal, PlanRoot, plan-on}
 use Rattle.plan_judge.proofs.Returns.{said-bytes}
 use Rattle.plan_judge.proofs.Grounds.{bind-refused, bind-passed, then-refused, limits-passed, both-asked, both-held, both-passed, goal-refused, root-node, condition, asked-goal, goal-is}
 
@@ -99,7 +99,7 @@ other-weight a b h = by (leb a b) (leb b a) refl refl
 -- The grounds of the state, and what is left past them.
 module _ (d : Desk) (b : Bytes) where
   pub check-state : (k : ℕ) → k ≡ refusal (held-goal (view d)) → (k ≡ 0 → ⊥) → Refused k ≡ checked-by d b
-  unfolding do-check checked-by
+  unfolding do-check check-on checked-by
   check-state k e h = refused-by (do-check (view d) b) k (goal-refused (view d) (check-for b) k e h) h
 
   pub check-past : refusal (held-goal (view d)) ≡ 0 → checking (check-on (model-of (said-bytes d)) (question-of (d .question)) b) ≡ checked-by d b

@@ -10,5 +10,6 @@ pub mod Ran
 pub mod EveryList
 pub mod CodeDemand2
 pub mod CodeDemand3
+pub mod Offered
 pub mod Listed
 pub mod CSteps

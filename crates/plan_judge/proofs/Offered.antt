@@ -5,7 +5,8 @@ use mathlib.Core.Path.{_≡_}
 use lib.ListN.{length}
 use contract.Lifetimes.{Lfts}
 use Rattle.plan_judge.specs.declared.Desk.{Desk}
-use Rattle.plan_judge.specs.Values.{shown-count}
+use Rattle.plan_judge.specs.View.{view}
+use Rattle.plan_judge.specs.State.{shown-size}
 use Rattle.plan_judge.specs.CCall.{c-call, Tells}
 use Rattle.plan_judge.proofs.Ran.{Slice}
 use Rattle.plan_judge.proofs.c_call.plan_judge.Reads as c-reads
@@ -15,3 +16,6 @@ pub c-call-tells : (κ : Lfts 3) (model question found left : Slice) (r : ℕ)
     → (c-reads.Pre κ (model, (question, (found, tt))) → c-reads.Post κ (model, (question, (found, tt))) r (model, (question, (left, tt))))
     → Tells (c-call (model .now) (question .now) (length (found .now))) (found .now) (left .now) r
 c-call-tells κ model question found left r p = p tt
+
+pub shown-choices-are : (d : Desk) (r : ℕ) → (shown-reads.Pre tt (d, tt) → shown-reads.Post tt (d, tt) r (d, tt)) → r ≡ shown-size ((view d) .verdict)
+shown-choices-are d r p = p tt

@@ -26,7 +26,7 @@ unfoldable pub said-taken : Taken → Answer
 said-taken Done = done
 said-taken (Refused k) = refuse k
 
--- A verdict is said with the choices beside it. (One that says nothing, as only a desk put together by hand can hold, has no number.)
+-- A verdict is said with the choices beside it. (There is always one: `Kept.verdict-back`, proved of every desk; none has no number.)
 unfoldable pub said-verdict : Option logic.Verdict → Answer
 said-verdict none = refuse 0
 said-verdict (some v) = judged v

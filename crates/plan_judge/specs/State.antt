@@ -2,16 +2,15 @@
 -- verdict.
 use Prim.Native.Nat.{ℕ, _-_}
 use mathlib.Core.Path.{_≡_}
-use mathlib.Core.Bool.{Bool, cond}
+use mathlib.Core.Bool.{cond}
 use mathlib.Core.List.{List}
 use mathlib.Core.Option.{Option, none, some}
 use lib.ListN.{length, take}
-use Rattle.logic.specs.Checked.{Checked, ok, refused, refusal, _>>=_, _>>_, held, guard}
+use Rattle.logic.specs.Checked.{Checked, ok, refused, refusal, _>>=_, held}
 use Rattle.logic.specs.Model.{Model}
 use Rattle.logic.specs.Plan.{Plan, choices}
 use Rattle.logic.specs.Verdict.{Goal, goal}
 use Rattle.logic.specs.Verdict as logic
-use Rattle.logic.specs.Limits.{limits}
 use Rattle.logic.specs.Choices.{plan-of}
 use Rattle.blocks.specs.Bytes.{Bytes}
 use Rattle.models.specs.Layout.{state-count, action-count, prop-count}
@@ -19,7 +18,7 @@ use Rattle.models.specs.Grounds.{read-model}
 use Rattle.questions.specs.Layout.{Question, node-count, node-of}
 use Rattle.questions.specs.Grounds.{read-question}
 use Rattle.sheets.specs.Grounds.{read-sheet}
-use Rattle.calls.specs.Calls.{Held, same}
+use Rattle.calls.specs.Calls.{Held}
 use Rattle.judging.specs.declared.Outcome.{Outcome}
 use Rattle.plan_judge.specs.declared.Verdict.{Verdict}
 use Rattle.plan_judge.specs.declared.Verdict.the-variants.{No, Yes, YesPlan}
@@ -74,16 +73,6 @@ unfoldable pub plan-on : Model → (n start : ℕ) → Bytes → Checked (Plan n
 plan-on m n start b = do
   x ← read-sheet n start b
   plan-of m n start (x .choices)
-
--- What check does with a sheet past the grounds 20 and 21.
-unfoldable pub check-on : Model → Question → Bytes → Checked Bool
-check-on m q b = do
-  g ← goal m (q .start) (q .root)
-  limits m (q .nodes)
-  x ← read-sheet (g .steps) (q .start) b
-  π ← plan-of m (g .steps) (q .start) (x .choices)
-  guard 11 (same (x .weight) (g .total π))
-  ok (g .met π)
 
 -- ---- the verdict that an outcome of judging tells
 

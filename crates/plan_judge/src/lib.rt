@@ -14,12 +14,12 @@ ghost use Rattle.questions.specs.Layout.{start-of, node-of, node-count, questio
 ghost use Rattle.questions.specs.Grounds.{read-question};
 ghost use Rattle.sheets.specs.Layout.{blocks-for, sheet-of};
 ghost use Rattle.sheets.specs.Reader.{Blocks};
-ghost use Rattle.calls.specs.Calls.{do-judge};
+ghost use Rattle.calls.specs.Calls.{do-judge, check-on};
 ghost use Rattle.judging.specs.Asked.{Served};
 ghost use Rattle.judging.specs.Announced.{Weighs};
 ghost use Rattle.plan_judge.specs.View.{held-size, choices-in, view};
 ghost use Rattle.plan_judge.specs.Values.{nothing, loaded-by, put-by, judged-by, written-by, filled-by, checking, checked-by};
-ghost use Rattle.plan_judge.specs.State.{held-both, held-goal, plan-size, size-in, shown-size, shown-weight, PlanRoot, Spells, plan-on, check-on, verdict-from};
+ghost use Rattle.plan_judge.specs.State.{held-both, held-goal, plan-size, size-in, shown-size, shown-weight, PlanRoot, Spells, plan-on, verdict-from};
 
 pub mod c_call;
 
@@ -36,7 +36,8 @@ pub enum Verdict {
     YesPlan(PlanRecord),
 }
 
-// The blocks of a model (none: 0 blocks), the block of a question, and a verdict with its choices beside it. What is not held is zero.
+// The desk, document 01's word for the judge's state: the blocks of a model (none: 0 blocks), the block of a question, and a verdict with
+// its choices beside it. What is not held is zero.
 pub struct Desk {
     pub blocks: usize,
     pub model: [u8; 6144],
