@@ -16,6 +16,7 @@ ghost use Rattle.judging.specs.Truth.{Supplied};
 ghost use Rattle.judging.specs.Decided.{Posed, Decided};
 ghost use Rattle.judging.specs.Announced.{root, root-verdict, Announces, Weighs};
 
+mod conditions;
 mod plans;
 mod truth;
 
