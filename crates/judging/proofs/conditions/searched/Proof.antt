@@ -1,7 +1,7 @@
 -- The cone's root is the condition, and the search goes as deep as it looks.
 use Prim.Native.Nat.{ℕ}
 use native.Mathlib.Omega.{arith}
-use mathlib.Core.Path.{_≡_, refl, sym, ap, subst, _∙_}
+use mathlib.Core.Path.{refl, sym, ap, _∙_}
 use lib.Seq.{length-take-le}
 use Rattle.logic.specs.Formula.{depth}
 use Rattle.evaluation.specs.Reached.{formula}
