@@ -45,6 +45,7 @@ use Rattle.limits.specs.Totals.{fits}
 use Rattle.limits.specs.Totals as totals
 use Rattle.limits.proofs.Nodes.{nodes-all}
 use Rattle.evaluation.specs.Reached.{formula}
+use Rattle.bounds.specs.Bounded.{Bounded, meets-at}
 use Rattle.tables.specs.Need.{Given}
 use Rattle.tables.proofs.Marks.{given-question}
 use Rattle.judging.specs.Asked.{Asked}
@@ -208,19 +209,27 @@ pub record Planned (q : Bytes) (j : ℕ) : Type 0 where
   pub few : (node-of q j) .n ≤ 6
   pub range : questions.PlanRange j (node-of q j)
 
+pub plan-bounded : {m q : Bytes} {j : ℕ} → Bounded m q j → Planned q j
+plan-bounded {m} {q} {j} b =
+    let S = state-count m in
+    let A = action-count m in
+    let N = prop-count m in
+    let asks = questions.accepted S A N q (b .question-accepted) in
+    let r = asks .in-range j (b .node) .of-plan (b .is-plan) in
+    record {
+      here = questions.at-plan S A N q asks j (b .node) (b .is-plan);
+      deep = questions.plan-depth S A N q asks j (b .node) (b .is-plan);
+      few = r .compares .few-steps;
+      range = r;
+    }
+
 module _ {m q : Bytes} {used : List ℕ} (given : Given m q used) where
   abbrev asks : questions.Accepted (state-count m) (action-count m) (prop-count m) q
   asks = given-question given
 
   pub plan-here : (j : ℕ) → j < node-count q → (node-of q j) .operator ≡ 8 → Planned q j
   plan-here j h o =
-      let r = asks .in-range j h .of-plan o in
-      record {
-        here = questions.at-plan (state-count m) (action-count m) (prop-count m) q asks j h o;
-        deep = questions.plan-depth (state-count m) (action-count m) (prop-count m) q asks j h o;
-        few = r .compares .few-steps;
-        range = r;
-      }
+      plan-bounded (record { model-accepted = given .model-accepted; question-accepted = given .question-accepted; node = h; is-plan = o })
 
   -- ---- the model
 
@@ -285,13 +294,19 @@ module _ {m q : Bytes} {used : List ℕ} (given : Given m q used) where
           ap (verdict M s) here-extreme
           ∙ decides-no M child (node .n) s (extreme least) (nonnegative (node .p)) (node .q) node-led (extreme-counts-not least) t
 
+      led-meets : {w : ℕ} → w ≡ weight → meets-at m q j w ≡ meets naturals M (node .n) (extreme least) (nonnegative (node .p)) (node .q) weight
+      led-meets f =
+          let c = plan-here j h o .range .compares in
+          ap₂ (λ r w. meets naturals M (node .n) r (nonnegative (node .p)) (node .q) w)
+          (extreme-numbered (node .right) (c .relation-from) (c .relation-to) e) f
+
       pub led-met : {scratch : List ℕ} {d : Decision} → Led m q j s scratch d
           → d .met ≡ meets naturals M (node .n) (extreme least) (nonnegative (node .p)) (node .q) weight
-      led-met p =
-          let c = plan-here j h o .range .compares in
-          p .bounds
-          ∙ ap₂ (λ r w. meets naturals M (node .n) r (nonnegative (node .p)) (node .q) w)
-          (extreme-numbered (node .right) (c .relation-from) (c .relation-to) e) (p .weighs)
+      led-met p = p .bounds ∙ led-meets (p .weighs)
+
+      -- Whether its total meets the bound is whether the node is true.
+      pub led-decides : {w : ℕ} → w ≡ weight → meets-at m q j w ≡ sat M (formula q j) s []
+      led-decides f = led-meets f ∙ sym led-truth
 
     -- The node is "equal": the first place of the one total that meets the bound decides.
     module _ (e : node .right ≡ 2) {x r : ℕ} (f : First M child (node .n) s (nonnegative (node .p)) (node .q) x r) where

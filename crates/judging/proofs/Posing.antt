@@ -2,57 +2,81 @@
 -- where they read it. A total is at most the denominator to the steps, so that it fits. What they give decides the node.
 use Prim.Native.Nat.{ℕ, _+_, _*_, _-_, _^_, _≤_, _<_}
 use native.Mathlib.Omega.{arith}
-use native.Mathlib.Decide.{ℕ-discrete}
-use native.Mathlib.Nat.{le-refl, le-trans, le-of-eq, mul-le-mul-left}
+use native.Mathlib.Nat.{le-trans, le-of-eq, mul-le-mul-left, mul-zero}
 use mathlib.Core.Path.{_≡_, refl, sym, ap, ap₂, subst, _∙_}
 use mathlib.Core.Bool.{Bool, true, false}
 use mathlib.Core.List.{List, []}
 use lib.Dec.{eqb, ltb}
-use lib.ListN.{getD, length, take, length-map}
+use lib.ListN.{getD, length, length-map}
 use lib.Pow.{pow-add}
 use borrow.Author.Tests.{le-ltb}
 use Rattle.logic.specs.Formula.{depth, sat, nonnegative}
-use Rattle.logic.specs.Quantity.{naturals, weights, order}
+use Rattle.logic.specs.Quantity.{naturals}
 use Rattle.logic.specs.Plan.{plans, choices}
 use Rattle.logic.specs.Limits.{plan-total}
-use Rattle.logic.specs.Recursion.{greatest}
 use Rattle.logic.specs.Total.{total, value-of}
 use Rattle.logic.proofs.Dictionary.{plan-count}
 use Rattle.blocks.specs.Bytes.{Bytes}
-use Rattle.models.specs.Layout.{state-count, denominator-of, model-of}
+use Rattle.models.specs.Layout.{state-count, action-count, prop-count, denominator-of, model-of}
 use Rattle.models.proofs.Held.{denominator-held}
 use Rattle.questions.specs.Layout.{node-count, node-of, formulas-of}
 use Rattle.questions.specs.Tables.{table}
-use Rattle.evaluation.specs.Reached.{formula, Reached, Cone, root-of, Ready}
+use Rattle.questions.proofs.Accepted as questions
+use Rattle.evaluation.specs.Reached.{formula, Cone, root-of, Ready}
 use Rattle.bounds.specs.Bounded.{Bounded, meets-at, Exactly}
 use Rattle.bounds.proofs.Meeting.{small}
 use Rattle.bounds.proofs.Powers.{power-le}
 use Rattle.search.specs.declared.Found.{Found}
-use Rattle.search.specs.Greatest.{Finds}
-use Rattle.search.proofs.Bounds.{greatest-small}
 use Rattle.equal.specs.Totals.{totals}
 use Rattle.equal.specs.Listing as listing
 use Rattle.tables.specs.Need.{Given}
 use Rattle.tables.proofs.Marks.{given-question}
-use Rattle.evaluation.proofs.Values.{one-if-small}
 use Rattle.evaluation.proofs.Knowing.{depth-in}
 use Rattle.judging.specs.Asked.{Asked}
 use Rattle.judging.specs.Truth.{Told}
 use Rattle.judging.specs.declared.plans.Decision.{Decision}
-use Rattle.judging.specs.Decided.{condition, best, led-weight, Posed, Led, First, Placed, Decided}
-use Rattle.judging.proofs.Deciding.{Planned, plan-here, given-model, given-states, all-totals, first-led, never-led, led-truth, led-met, equal-truth}
+use Rattle.judging.specs.declared.conditions.Peeled.{Peeled}
+use Rattle.judging.specs.Decided.{condition, best, Posed, Lengthened, Led, First, Placed}
+use Rattle.judging.specs.Conditions.{Stands, Same, Peels, best-total, Searched}
+use Rattle.judging.proofs.Deciding.{Planned, plan-bounded, plan-here, all-totals, first-led, never-led, led-decides, equal-truth}
+use Rattle.judging.proofs.Remembering.{same-best, never-best, best-small}
+use Rattle.judging.proofs.Remembering as remembering
 
 pub posed-at : {m q : Bytes} {used counts depths truth : List ℕ} {j s : ℕ} → Asked m q used counts depths → j < node-count q → (node-of q j) .operator ≡ 8
     → s < state-count m → Told m q truth ((node-of q j) .left) s → Posed m q truth j s
 posed-at a h o l t = record { node = h; is-plan = o; state = l; told = t }
 
--- The depth of a "plan" node's condition, by the table.
+-- ---- a total over more steps
+
+module _ {m q : Bytes} {j : ℕ} (b : Bounded m q j) where
+  -- The depth of a "plan" node's condition, by the table.
+  pub looks-there : {depths : List ℕ} {c d : ℕ} → depths ≡ table depth (formulas-of q) → c ≡ (node-of q j) .left → d ≡ getD depths c 0 → d ≡ depth (condition q j)
+  looks-there {depths} deep e f =
+      let l : (node-of q j) .left < j = plan-bounded b .range .child in
+      let h : j < node-count q = b .node in
+      let n : node-count q ≤ 40 = questions.accepted (state-count m) (action-count m) (prop-count m) q (b .question-accepted) .few-nodes in
+      f ∙ ap (λ i. getD depths i 0) e ∙ depth-in q depths deep ((node-of q j) .left) (omega arith)
+
+  pub power-fits : denominator-of m ^ (node-of q j) .n < 2 ^ 64
+  power-fits = let p : denominator-of m ^ (node-of q j) .n ≤ 100 ^ 6 = power-le (denominator-of m) ((node-of q j) .n) 6 (small m q j b) (plan-bounded b .few) in omega arith
+
+  pub lengthened : {d k e x v : ℕ} → d ≡ depth (condition q j) → k ≡ (node-of q j) .n → e ≡ denominator-of m → x ≡ e ^ (k - d)
+      → v ≤ denominator-of m ^ depth (condition q j) → Lengthened m q j v (x * v)
+  lengthened {e = e} {v = v} deep steps base power l =
+      let z = power ∙ ap₂ (λ k d. e ^ (k - d)) steps deep ∙ ap (λ e. e ^ ((node-of q j) .n - depth (condition q j))) base in
+      record {
+        weighs = ap (λ x. x * v) (z ∙ ap (λ e. e ^ ((node-of q j) .n - depth (condition q j))) (sym (denominator-held m)));
+        small = subst (λ x. x * v ≤ denominator-of m ^ (node-of q j) .n) (sym z)
+            (le-trans (mul-le-mul-left (denominator-of m ^ ((node-of q j) .n - depth (condition q j))) l) (le-of-eq (power-sum (denominator-of m) (plan-bounded b .deep))));
+      }
+    where
+      power-sum : (D : ℕ) {d n : ℕ} → d ≤ n → D ^ (n - d) * D ^ d ≡ D ^ n
+      power-sum D {d} {n} l = let f : n - d + d ≡ n = omega arith in sym (pow-add D (n - d) d) ∙ ap (λ i. D ^ i) f
+
 pub depth-there : {m q : Bytes} {used counts depths : List ℕ} {j : ℕ} → Asked m q used counts depths → j < node-count q → (node-of q j) .operator ≡ 8
     → {c d : ℕ} → c ≡ (node-of q j) .left → d ≡ getD depths c 0 → d ≡ depth (condition q j)
-depth-there {q = q} {depths = depths} {j} a h o e f =
-    let l : (node-of q j) .left < j = plan-here (a .given) j h o .range .child in
-    let n : node-count q ≤ 40 = given-question (a .given) .few-nodes in
-    f ∙ ap (λ i. getD depths i 0) e ∙ depth-in q depths (a .deep) ((node-of q j) .left) (omega arith)
+depth-there a h o e f =
+    looks-there (record { model-accepted = a .given .model-accepted; question-accepted = a .given .question-accepted; node = h; is-plan = o }) (a .deep) e f
 
 module _ {m q : Bytes} {used truth : List ℕ} {j s : ℕ} (given : Given m q used) (posed : Posed m q truth j s) where
   pub planned : Planned q j
@@ -69,69 +93,77 @@ module _ {m q : Bytes} {used truth : List ℕ} {j s : ℕ} (given : Given m q us
       let f : node-count q ≤ 40 = given-question given .few-nodes in
       (omega arith, omega arith)
 
+  pub stands-there : {c : ℕ} → c ≡ (node-of q j) .left → Stands m q truth c s
+  stands-there e =
+      subst (λ i. Stands m q truth i s) (sym e)
+      (record { accepted = given .question-accepted; node = before .0; state = posed .state; told = posed .told })
+
   module _ {depths : List ℕ} (deep : depths ≡ table depth (formulas-of q)) where
     pub looks : {c d : ℕ} → c ≡ (node-of q j) .left → d ≡ getD depths c 0 → d ≡ depth (condition q j)
-    looks e f = f ∙ ap (λ i. getD depths i 0) e ∙ depth-in q depths deep ((node-of q j) .left) (before .1)
+    looks e f = looks-there bounded deep e f
 
     pub ready : {l : List ℕ} → Cone q l → root-of l ≡ (node-of q j) .left → Ready m q s depths truth l
-    ready {l} cone e =
+    ready cone e = remembering.ready given (stands-there refl) deep cone e
+
+  -- ---- what a search for the least or the greatest weight is handed, and found
+
+  pub few-there : {c : ℕ} → c ≡ (node-of q j) .left → depth (formula q c) ≤ 6
+  few-there e = omega (arith, ap (λ i. depth (formula q i)) e, planned .deep, planned .few)
+
+  best-there : (least : Bool) → best-total m q ((node-of q j) .left) s least ≤ denominator-of m ^ depth (condition q j)
+  best-there least = best-small given (stands-there refl) least
+
+  module _ {c i : ℕ} (top : c ≡ (node-of q j) .left) (same : i ≡ (node-of q j) .right) where
+    total-there : best-total m q c s (eqb i 1) ≡ best-total m q ((node-of q j) .left) s (eqb ((node-of q j) .right) 1)
+    total-there = ap₂ (λ c i. best-total m q c s (eqb i 1)) top same
+
+    pub found-small : {after : List ℕ} {r : Found} → Searched m q c s (eqb i 1) after r → r .value ≤ denominator-of m ^ depth (condition q j)
+    found-small f = subst (λ v. v ≤ denominator-of m ^ depth (condition q j)) (sym (f .value ∙ total-there)) (best-there (eqb ((node-of q j) .right) 1))
+
+    pub found-led : {after : List ℕ} {r : Found} {w : ℕ} {t : Bool} → Searched m q c s (eqb i 1) after r → Lengthened m q j (r .value) w → t ≡ meets-at m q j w
+        → Led m q j s after (record { met = t; weight = w; place = 0; count = r .count })
+    found-led f l e =
         record {
-          model-accepted = given .model-accepted;
-          question-accepted = given .question-accepted;
-          state = posed .state;
-          depths-right = deep;
-          ordered = cone;
-          truth-right = λ i t r d. posed .told .right i t (subst (λ c. Reached m q c s i t) e r) d;
+          weighs = l .weighs ∙ ap (λ v. model-of m .denominator ^ ((node-of q j) .n - depth (condition q j)) * v) (f .value ∙ total-there);
+          bounds = e;
+          unplaced = refl;
+          chosen = f .chosen ∙ ap₂ (λ c i. choices (depth (formula q c)) (best (model-of m) (formula q c) (depth (formula q c)) s (eqb i 1))) top same;
         }
 
-  -- ---- totals
+  -- What is left of the condition decides.
+  module _ (e : (node-of q j) .right ≡ 2 → ⊥) {c : ℕ} (top : c ≡ (node-of q j) .left) where
+    truth-there : {v w : ℕ} → v ≡ best-total m q ((node-of q j) .left) s (eqb ((node-of q j) .right) 1)
+        → w ≡ model-of m .denominator ^ ((node-of q j) .n - depth (condition q j)) * v → meets-at m q j w ≡ sat (model-of m) (formula q j) s []
+    truth-there f g =
+        led-decides given j s (posed .node) (posed .is-plan) e (posed .state)
+        (g ∙ ap (λ v. model-of m .denominator ^ ((node-of q j) .n - depth (condition q j)) * v) f)
 
-  pub led-small : (least : Bool) → led-weight (model-of m) (condition q j) (depth (condition q j)) ((node-of q j) .n) s least ≤ denominator-of m ^ (node-of q j) .n
-  led-small least =
-      let d : ℕ = depth (condition q j) in
-      let n : ℕ = (node-of q j) .n in
-      let D : ℕ = model-of m .denominator in
-      let g = greatest-small least (model-of m) (given-model given) d s (value-of (model-of m) (condition q j) s)
-      (subst (λ k. s < k) (sym (given-states given)) (posed .state)) (λ r. one-if-small _) in
-      let e : D ^ (n - d) * D ^ d ≡ denominator-of m ^ n = sym (pow-add D (n - d) d) ∙ power-sum (denominator-held m) (planned .deep) in
-      le-trans (mul-le-mul-left (D ^ (n - d)) g) (subst (λ z. D ^ (n - d) * D ^ d ≤ z) e (le-refl _))
-    where
-      power-sum : {D E d n : ℕ} → D ≡ E → d ≤ n → D ^ (n - d + d) ≡ E ^ n
-      power-sum {D} {E} {d} {n} e l = let f : n - d + d ≡ n = omega arith in rw (e, f) refl
+    pub dead-truth : {r : Peeled} {t : Bool} → Peels q truth c s r → r .dead ≡ true → t ≡ meets-at m q j 0 → t ≡ sat (model-of m) (formula q j) s []
+    dead-truth p d f =
+        f ∙ truth-there
+        (sym (ap (λ c. best-total m q c s (eqb ((node-of q j) .right) 1)) (sym top)
+        ∙ never-best m q c s (eqb ((node-of q j) .right) 1) (p .never m (stands-there top) d)))
+        (sym (mul-zero (model-of m .denominator ^ ((node-of q j) .n - depth (condition q j)))))
 
-  pub power-fits : denominator-of m ^ (node-of q j) .n < 2 ^ 64
-  power-fits = let p : denominator-of m ^ (node-of q j) .n ≤ 100 ^ 6 = power-le (denominator-of m) ((node-of q j) .n) 6 (small m q j bounded) (planned .few) in omega arith
+    module _ {r : Peeled} (p : Peels q truth c s r) (d : r .dead ≡ false) where
+      left-there : Same m q truth c s (r .node)
+      left-there = p .left m (stands-there top) d
 
-  -- ---- what a search for the least or the greatest weight found
+      pub left-stands : Stands m q truth (r .node) s
+      left-stands = left-there .stands
 
-  module _ {l after : List ℕ} {least : Bool} {d : ℕ} {r : Found} (finds : Finds least m q s l d after r) (top : root-of l ≡ (node-of q j) .left)
-      (same : least ≡ eqb ((node-of q j) .right) 1) (long : d ≡ depth (condition q j)) where
-    found-value : r .value ≡ greatest (weights (order (eqb ((node-of q j) .right) 1))) (model-of m) (depth (condition q j)) s (value-of (model-of m) (condition q j) s)
-    found-value =
-        finds .value
-        ∙ ap (λ c. greatest (weights (order least)) (model-of m) d s (value-of (model-of m) (formula q c) s)) top
-        ∙ ap₂ (λ t k. greatest (weights (order t)) (model-of m) k s (value-of (model-of m) (condition q j) s)) same long
+      pub left-few : depth (formula q (r .node)) ≤ 6
+      left-few = omega (arith, left-there .looks, few-there top)
 
-    pub found-choices : take (r .count) after
-        ≡ choices (depth (condition q j)) (best (model-of m) (condition q j) (depth (condition q j)) s (eqb ((node-of q j) .right) 1))
-    found-choices =
-        finds .chosen
-        ∙ ap (λ c. choices d (best (model-of m) (formula q c) d s least)) top
-        ∙ ap₂ (λ t k. choices k (best (model-of m) (condition q j) k s t)) same long
+      module _ {i v : ℕ} (same : i ≡ (node-of q j) .right) (f : v ≡ best-total m q (r .node) s (eqb i 1)) where
+        left-total : v ≡ best-total m q ((node-of q j) .left) s (eqb ((node-of q j) .right) 1)
+        left-total = f ∙ same-best (eqb i 1) left-there ∙ total-there top same
 
-    module _ {b k x : ℕ} (power : x ≡ b ^ (k - d)) (base : b ≡ denominator-of m) (steps : k ≡ (node-of q j) .n) where
-      pub found-weight : x * r .value
-          ≡ led-weight (model-of m) (condition q j) (depth (condition q j)) ((node-of q j) .n) s (eqb ((node-of q j) .right) 1)
-      found-weight =
-          ap₂ _*_ (power ∙ ap₂ (λ e i. e ^ (k - i)) (base ∙ sym (denominator-held m)) long
-          ∙ ap (λ i. model-of m .denominator ^ (i - depth (condition q j))) steps) found-value
+        pub left-small : v ≤ denominator-of m ^ depth (condition q j)
+        left-small = subst (λ v. v ≤ denominator-of m ^ depth (condition q j)) (sym left-total) (best-there (eqb ((node-of q j) .right) 1))
 
-      pub found-small : x * r .value ≤ denominator-of m ^ (node-of q j) .n
-      found-small = subst (λ w. w ≤ denominator-of m ^ (node-of q j) .n) (sym found-weight) (led-small (eqb ((node-of q j) .right) 1))
-
-      pub found-led : {t : Bool} → t ≡ meets-at m q j (x * r .value)
-          → Led m q j s after (record { met = t; weight = x * r .value; place = 0; count = r .count })
-      found-led e = record { weighs = found-weight; bounds = e; unplaced = refl; chosen = found-choices }
+        pub left-truth : {w : ℕ} {t : Bool} → Lengthened m q j v w → t ≡ meets-at m q j w → t ≡ sat (model-of m) (formula q j) s []
+        left-truth l g = g ∙ truth-there left-total (l .weighs)
 
   -- ---- what a search for a total found
 
@@ -166,11 +198,5 @@ module _ {m q : Bytes} {used truth : List ℕ} {j s : ℕ} (given : Given m q us
 
   -- ---- the truth of the node
 
-  pub decided-truth : {scratch : List ℕ} {r : Decision} → Decided m q j s scratch r → r .met ≡ sat (model-of m) (formula q j) s []
-  decided-truth {scratch} {r} x = go (ℕ-discrete ((node-of q j) .right) 2)
-    where
-      go : Dec ((node-of q j) .right ≡ 2) → r .met ≡ sat (model-of m) (formula q j) s []
-      go (yes e) = let p = x .placed e in p .bounds ∙ sym (equal-truth given j s (posed .node) (posed .is-plan) e (p .first))
-      go (no e) =
-          led-met given j s (posed .node) (posed .is-plan) e (posed .state) (x .led e)
-          ∙ sym (led-truth given j s (posed .node) (posed .is-plan) e (posed .state))
+  pub placed-truth : {r : Decision} → (node-of q j) .right ≡ 2 → Placed m q j s r → r .met ≡ sat (model-of m) (formula q j) s []
+  placed-truth e p = p .bounds ∙ sym (equal-truth given j s (posed .node) (posed .is-plan) e (p .first))

@@ -16,7 +16,7 @@ use Rattle.logic.specs.Extension.{first-plan, extended}
 use Rattle.logic.specs.Verdict.{plan-goal, shown}
 use Rattle.logic.specs.Limits.{plan-total}
 use Rattle.blocks.specs.Bytes.{Bytes}
-use Rattle.models.specs.Layout.{state-count, model-of}
+use Rattle.models.specs.Layout.{state-count, denominator-of, model-of}
 use Rattle.questions.specs.Layout.{node-count, node-of}
 use Rattle.evaluation.specs.Reached.{formula}
 use Rattle.bounds.specs.Bounded.{meets-at}
@@ -46,6 +46,11 @@ led-weight M φ d n s least = M .denominator ^ (n - d) * greatest (weights (orde
 
 abbrev pub led-plan : Model → Formula → (d n s : ℕ) → (least : Bool) → Plan n
 led-plan M φ d n s least = extended M d n s (best M φ d s least)
+
+-- A total of the condition of node j over as many steps as it looks ahead, and what it is over all steps.
+pub record Lengthened (m q : Bytes) (j : ℕ) (value r : ℕ) : Type 0 where
+  pub weighs : r ≡ model-of m .denominator ^ ((node-of q j) .n - depth (condition q j)) * value
+  pub small : r ≤ denominator-of m ^ (node-of q j) .n
 
 -- The search as deep as the condition looks: its total over all steps, whether that meets the bound, and the choices of the plan found.
 pub record Led (m q : Bytes) (j s : ℕ) (scratch : List ℕ) (r : Decision) : Type 0 where

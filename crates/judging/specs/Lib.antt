@@ -1,4 +1,5 @@
 pub mod Asked
 pub mod Truth
 pub mod Decided
+pub mod Conditions
 pub mod Announced

@@ -14,8 +14,10 @@ ghost use Rattle.tables.specs.Need.{Given};
 ghost use Rattle.judging.specs.Asked.{Asked, Served, Scratch};
 ghost use Rattle.judging.specs.Truth.{Supplied};
 ghost use Rattle.judging.specs.Decided.{Posed, Decided};
+ghost use Rattle.judging.specs.Conditions.{Remembers};
 ghost use Rattle.judging.specs.Announced.{root, root-verdict, Announces, Weighs};
 
+mod conditions;
 mod plans;
 mod truth;
 
@@ -84,12 +86,13 @@ fn root_truth(
     counts: &[u64; 224],
     depths: &[u32],
     scratch: &mut [u8],
+    memo: &mut [u64; 2560],
 ) -> [u8; 1280]
-    requires { ⌜ Asked (now m) (now q) (now used) (now counts) (now depths) × Scratch (now scratch) ⌝ }
-    ensures { λ r. ⌜ Supplied (now (m .entry)) (now (q .entry)) r (root (now (q .entry))) (start-of (now (q .entry))) ⌝ }
+    requires { ⌜ Asked (now m) (now q) (now used) (now counts) (now depths) × Scratch (now scratch) × Remembers (now m) (now q) (now memo) ⌝ }
+    ensures { λ r. ⌜ Supplied (now (m .entry)) (now (q .entry)) r (root (now (q .entry))) (start-of (now (q .entry))) × Remembers (now (m .entry)) (now (q .entry)) (now (memo .exit)) ⌝ }
 {
     let need = needed(m, q, used);
-    truth_table(m, q, used, counts, depths, &need, scratch)
+    truth_table(m, q, used, counts, depths, &need, scratch, memo)
 }
 
 // Writes the choices of the plan that a search found for node j in s, and tells of it.
@@ -138,17 +141,18 @@ fn at_node(
     depths: &[u32],
     truth: &[u8],
     scratch: &mut [u8],
+    memo: &mut [u64; 2560],
     choices: &mut [u8],
     j: u8,
     s: u8,
 ) -> Outcome
     requires { ⌜ Asked (now m) (now q) (now used) (now counts) (now depths) × (j < node-count (now q)) × (s < state-count (now m)) ⌝ }
     requires { ⌜ Supplied (now m) (now q) (now truth) j s × (depth (formula (now q) j) ≡ 0) ⌝ }
-    requires { ⌜ Scratch (now scratch) × (1365 ≤ length (now choices)) ⌝ }
+    requires { ⌜ Scratch (now scratch) × Remembers (now m) (now q) (now memo) × (1365 ≤ length (now choices)) ⌝ }
     ensures { λ r. ⌜ Announces (verdict (model-of (now (m .entry))) s (formula (now (q .entry)) j)) r (now (choices .entry)) (now (choices .exit)) ⌝ }
 {
     if operator(q, j) != 8 {
-        let x = truth_at(m, q, used, counts, depths, truth, scratch, j, s);
+        let x = truth_at(m, q, used, counts, depths, truth, scratch, memo, j, s);
         return plain(x == 1, 0);
     }
     let r = decide(m, q, used, counts, depths, truth, scratch, j, s);
@@ -169,10 +173,11 @@ fn at_root(
     depths: &[u32],
     truth: &[u8],
     scratch: &mut [u8],
+    memo: &mut [u64; 2560],
     choices: &mut [u8],
 ) -> Outcome
     requires { ⌜ Asked (now m) (now q) (now used) (now counts) (now depths) × Supplied (now m) (now q) (now truth) (root (now q)) (start-of (now q)) ⌝ }
-    requires { ⌜ Scratch (now scratch) × (1365 ≤ length (now choices)) ⌝ }
+    requires { ⌜ Scratch (now scratch) × Remembers (now m) (now q) (now memo) × (1365 ≤ length (now choices)) ⌝ }
     ensures { λ r. ⌜ Announces (root-verdict (now (m .entry)) (now (q .entry))) r (now (choices .entry)) (now (choices .exit)) ⌝ }
 {
     let j = node_count(q) - 1;
@@ -184,6 +189,7 @@ fn at_root(
         depths,
         truth,
         scratch,
+        memo,
         choices,
         j,
         start(q),
@@ -200,8 +206,19 @@ fn judged_as_shared(m: &[u8], q: &[u8], choices: &mut [u8]) -> Outcome
     let counts = plan_totals(m, &used);
     let depths = depth_table(q);
     let mut scratch = [0u8; 4095];
-    let truth = root_truth(m, q, &used, &counts, &depths, &mut scratch);
-    at_root(m, q, &used, &counts, &depths, &truth, &mut scratch, choices)
+    let mut memo = [0u64; 2560];
+    let truth = root_truth(m, q, &used, &counts, &depths, &mut scratch, &mut memo);
+    at_root(
+        m,
+        q,
+        &used,
+        &counts,
+        &depths,
+        &truth,
+        &mut scratch,
+        &mut memo,
+        choices,
+    )
 }
 
 // Judges a question: the verdict, and the choices of a shown plan from the beginning of `choices` on. Every "and" of a node with itself is
@@ -253,6 +270,7 @@ pub fn sheet_weight(m: &[u8], q: &[u8], choices: &[u8]) -> u64
     let counts = plan_totals(m, &used);
     let depths = depth_table(q);
     let mut scratch = [0u8; 4095];
-    let truth = root_truth(m, q, &used, &counts, &depths, &mut scratch);
+    let mut memo = [0u64; 2560];
+    let truth = root_truth(m, q, &used, &counts, &depths, &mut scratch, &mut memo);
     root_weight(m, q, &used, &depths, &truth, choices)
 }

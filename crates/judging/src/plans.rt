@@ -1,17 +1,22 @@
 // The truth of "plan" nodes, by search: for "less" and "greater" as deep as the condition looks, for "equal" among all plans.
 ghost use mathlib.Core.Path.{_≡_};
-ghost use Prim.Native.Nat.{_+_, _*_, _≤_, _<_};
+ghost use Prim.Native.Nat.{_+_, _*_, _^_, _≤_, _<_};
 ghost use mathlib.Core.List.{[]};
 ghost use lib.ListN.{getD};
 ghost use Rattle.logic.specs.Formula.{depth, sat};
-ghost use Rattle.models.specs.Layout.{state-count, model-of};
+ghost use Rattle.models.specs.Layout.{state-count, denominator-of, model-of};
 ghost use Rattle.questions.specs.Layout.{node-count, node-of, formulas-of};
 ghost use Rattle.questions.specs.Tables.{table};
 ghost use Rattle.evaluation.specs.Reached.{formula};
 ghost use Rattle.tables.specs.Need.{Given};
+ghost use Rattle.bounds.specs.Bounded.{Bounded};
 ghost use Rattle.judging.specs.Asked.{Asked, Scratch};
 ghost use Rattle.judging.specs.Truth.{Told};
-ghost use Rattle.judging.specs.Decided.{Posed, Led, Placed, Decided};
+ghost use Rattle.judging.specs.Decided.{condition, Posed, Lengthened, Led, Placed, Decided};
+ghost use Rattle.judging.specs.Conditions.{Remembers};
+use crate::conditions::best_value;
+use crate::conditions::peel;
+use crate::conditions::searched;
 use blocks::wide;
 use bounds::exact_total;
 use bounds::meets;
@@ -21,7 +26,6 @@ use evaluation::depth_at;
 use questions::left;
 use questions::right;
 use questions::steps;
-use search::find;
 use tables::cone;
 
 // What deciding a "plan" node in a state came to: whether it is true, the weight of the plan found, its place for "equal" (from 0; the
@@ -31,6 +35,16 @@ pub struct Decision {
     pub weight: u64,
     pub place: usize,
     pub count: usize,
+}
+
+// A total of the condition of node j, over as many steps as it looks ahead, as one over all steps of the node.
+fn over_all_steps(m: &[u8], q: &[u8], depths: &[u32], j: u8, value: u64) -> u64
+    requires { ⌜ Bounded (now m) (now q) j × (now depths ≡ table depth (formulas-of (now q))) ⌝ }
+    requires { ⌜ value ≤ denominator-of (now m) ^ depth (condition (now q) j) ⌝ }
+    ensures { λ r. ⌜ Lengthened (now (m .entry)) (now (q .entry)) j value r ⌝ }
+{
+    let d = depth_at(depths, left(q, j)) as u8;
+    power(wide(m, 5), steps(q, j) - d) * value
 }
 
 // "less" and "greater": the plan of least or of greatest weight decides, and a search as deep as the condition looks finds it.
@@ -48,29 +62,50 @@ fn led(
     requires { ⌜ (node-of (now q) j .right ≡ 2 → ⊥) × Scratch (now scratch) ⌝ }
     ensures { λ r. ⌜ Led (now (m .entry)) (now (q .entry)) j s (now (scratch .exit)) r ⌝ }
 {
-    let c = left(q, j);
-    let d = depth_at(depths, c) as u8;
-    let mut nodes = [0u8; 40];
-    let k = cone(q, depths, c, &mut nodes);
-    let r = find(
+    let r = searched(
         m,
-        used,
         q,
+        used,
         depths,
         truth,
-        &nodes[..k],
         scratch,
+        left(q, j),
         s,
-        d,
         right(q, j) == 1,
     );
-    let weight = power(wide(m, 5), steps(q, j) - d) * r.value;
+    let weight = over_all_steps(m, q, depths, j, r.value);
     Decision {
         met: meets(m, q, j, weight),
         weight: weight,
         place: 0,
         count: r.count,
     }
+}
+
+// Whether the "plan" node j, "less" or "greater", is true in s: by what is left of its condition there, searched once.
+fn plan_led(
+    m: &[u8],
+    q: &[u8],
+    used: &[u8; 264],
+    depths: &[u32],
+    truth: &[u8],
+    scratch: &mut [u8],
+    memo: &mut [u64; 2560],
+    j: u8,
+    s: u8,
+) -> bool
+    requires { ⌜ Given (now m) (now q) (now used) × (now depths ≡ table depth (formulas-of (now q))) × Posed (now m) (now q) (now truth) j s ⌝ }
+    requires { ⌜ (node-of (now q) j .right ≡ 2 → ⊥) × Scratch (now scratch) × Remembers (now m) (now q) (now memo) ⌝ }
+    ensures { λ r. ⌜ (r ≡ sat (model-of (now (m .entry))) (formula (now (q .entry)) j) s []) × Remembers (now (m .entry)) (now (q .entry)) (now (memo .exit)) ⌝ }
+{
+    let rest = peel(q, depths, truth, left(q, j), s);
+    let c = rest.node;
+    if rest.dead {
+        return meets(m, q, j, 0);
+    }
+    let least = right(q, j) == 1;
+    let x = best_value(m, q, used, depths, truth, scratch, memo, c, s, least);
+    meets(m, q, j, over_all_steps(m, q, depths, j, x))
 }
 
 // How many plans of n steps there are from s, by the table.
@@ -164,14 +199,18 @@ pub fn plan_true(
     depths: &[u32],
     truth: &[u8],
     scratch: &mut [u8],
+    memo: &mut [u64; 2560],
     j: u8,
     s: u8,
 ) -> bool
     requires { ⌜ Asked (now m) (now q) (now used) (now counts) (now depths) × (j < node-count (now q)) × (s < state-count (now m)) ⌝ }
     requires { ⌜ (node-of (now q) j .operator ≡ 8) × Told (now m) (now q) (now truth) (node-of (now q) j .left) s ⌝ }
-    requires { ⌜ Scratch (now scratch) ⌝ }
-    ensures { λ r. ⌜ r ≡ sat (model-of (now (m .entry))) (formula (now (q .entry)) j) s [] ⌝ }
+    requires { ⌜ Scratch (now scratch) × Remembers (now m) (now q) (now memo) ⌝ }
+    ensures { λ r. ⌜ (r ≡ sat (model-of (now (m .entry))) (formula (now (q .entry)) j) s []) × Remembers (now (m .entry)) (now (q .entry)) (now (memo .exit)) ⌝ }
 {
-    let r = decide(m, q, used, counts, depths, truth, scratch, j, s);
-    r.met
+    if right(q, j) == 2 {
+        let r = first(m, q, used, counts, depths, truth, j, s);
+        return r.met;
+    }
+    plan_led(m, q, used, depths, truth, scratch, memo, j, s)
 }

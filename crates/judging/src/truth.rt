@@ -12,6 +12,7 @@ ghost use Rattle.evaluation.specs.Reached.{formula};
 ghost use Rattle.tables.specs.Need.{Needs};
 ghost use Rattle.judging.specs.Asked.{Asked, Scratch};
 ghost use Rattle.judging.specs.Truth.{Supplied, Right};
+ghost use Rattle.judging.specs.Conditions.{Remembers};
 use crate::plans::plan_true;
 use blocks::byte;
 use evaluation::bit;
@@ -39,19 +40,20 @@ pub fn truth_at(
     depths: &[u32],
     truth: &[u8],
     scratch: &mut [u8],
+    memo: &mut [u64; 2560],
     j: u8,
     s: u8,
 ) -> u8
     requires { ⌜ Asked (now m) (now q) (now used) (now counts) (now depths) × (j < question.node-count (now q)) × (s < state-count (now m)) ⌝ }
-    requires { ⌜ Supplied (now m) (now q) (now truth) j s × Scratch (now scratch) ⌝ }
-    ensures { λ r. ⌜ (depth (formula (now (q .entry)) j) ≡ 0 → r ≡ value-of (model-of (now (m .entry))) (formula (now (q .entry)) j) s []) ⌝ }
+    requires { ⌜ Supplied (now m) (now q) (now truth) j s × Scratch (now scratch) × Remembers (now m) (now q) (now memo) ⌝ }
+    ensures { λ r. ⌜ (depth (formula (now (q .entry)) j) ≡ 0 → r ≡ value-of (model-of (now (m .entry))) (formula (now (q .entry)) j) s []) × Remembers (now (m .entry)) (now (q .entry)) (now (memo .exit)) ⌝ }
 {
     let op = operator(q, j);
     match op {
         2 => bit(holds(m, s, left(q, j))),
         3 => bit(byte(truth, place(left(q, j), s)) == 0),
         4 => byte(truth, place(left(q, j), s)) & byte(truth, place(right(q, j), s)),
-        8 => bit(plan_true(m, q, used, counts, depths, truth, scratch, j, s)),
+        8 => bit(plan_true(m, q, used, counts, depths, truth, scratch, memo, j, s)),
         _ => 0,
     }
 }
@@ -66,11 +68,12 @@ fn truth_if(
     need: &[u8],
     truth: &[u8],
     scratch: &mut [u8],
+    memo: &mut [u64; 2560],
     k: usize,
 ) -> u8
     requires { ⌜ Asked (now m) (now q) (now used) (now counts) (now depths) × (k < 32 * question.node-count (now q)) ⌝ }
-    requires { ⌜ Needs (now m) (now q) (now need) × Right (now m) (now q) (now need) (now truth) k × Scratch (now scratch) ⌝ }
-    ensures { λ r. ⌜ (getD (now (need .entry)) k 0 ≡ 1 → depth (formula (now (q .entry)) (k / 32)) ≡ 0 → r ≡ value-of (model-of (now (m .entry))) (formula (now (q .entry)) (k / 32)) (k % 32) []) ⌝ }
+    requires { ⌜ Needs (now m) (now q) (now need) × Right (now m) (now q) (now need) (now truth) k × Scratch (now scratch) × Remembers (now m) (now q) (now memo) ⌝ }
+    ensures { λ r. ⌜ (getD (now (need .entry)) k 0 ≡ 1 → depth (formula (now (q .entry)) (k / 32)) ≡ 0 → r ≡ value-of (model-of (now (m .entry))) (formula (now (q .entry)) (k / 32)) (k % 32) []) × Remembers (now (m .entry)) (now (q .entry)) (now (memo .exit)) ⌝ }
 {
     if byte(need, k) != 1 {
         return 0;
@@ -83,6 +86,7 @@ fn truth_if(
         depths,
         truth,
         scratch,
+        memo,
         (k / 32) as u8,
         (k % 32) as u8,
     )
@@ -97,15 +101,16 @@ pub fn truth_table(
     depths: &[u32],
     need: &[u8],
     scratch: &mut [u8],
+    memo: &mut [u64; 2560],
 ) -> [u8; 1280]
-    requires { ⌜ Asked (now m) (now q) (now used) (now counts) (now depths) × Needs (now m) (now q) (now need) × Scratch (now scratch) ⌝ }
-    ensures { λ r. ⌜ Right (now (m .entry)) (now (q .entry)) (now (need .entry)) r (32 * (question.node-count (now (q .entry)) - 1)) ⌝ }
+    requires { ⌜ Asked (now m) (now q) (now used) (now counts) (now depths) × Needs (now m) (now q) (now need) × Scratch (now scratch) × Remembers (now m) (now q) (now memo) ⌝ }
+    ensures { λ r. ⌜ Right (now (m .entry)) (now (q .entry)) (now (need .entry)) r (32 * (question.node-count (now (q .entry)) - 1)) × Remembers (now (m .entry)) (now (q .entry)) (now (memo .exit)) ⌝ }
 {
     let end = place(node_count(q) - 1, 0);
     let mut truth = [0u8; 1280];
     let mut k: usize = 0;
     while k < end {
-        let x = truth_if(m, q, used, counts, depths, need, &truth, scratch, k);
+        let x = truth_if(m, q, used, counts, depths, need, &truth, scratch, memo, k);
         truth[k] = x;
         k += 1;
     }

@@ -27,12 +27,12 @@ same-length c = search needs
 
 returns : tie.Need-returns
 returns c = let T = c .before .before .before in
-    let S = T .before .before .before .before .before .before .before .before .before .before in
+    let S = T .before .before .before .before .before .before .before .before .before .before .before in
     let P = S .pre .0 in
     let N = S .pre .1 in
-    let n : (node-of (S .args .q .now) (S .args .j)) .operator ≡ 8 → ⊥ = λ o. T .before .before .if1 .taken (T .before .before .before .operator .ensures ∙ o) in
+    let n : (node-of (S .args .q .now) (S .args .j)) .operator ≡ 8 → ⊥ = λ o. T .before .before .before .if1 .taken (T .before .before .before .before .operator .ensures ∙ o) in
     announces-truth (sat (model-of (S .args .m .now)) (formula (S .args .q .now) (S .args .j)) (S .args .s) []) (S .args .choices .now)
-    (other-verdict (P .0 .given) (S .args .j) (S .args .s) (P .1) n) (T .truth-at .ensures (N .0 .1)) (c .plain .ensures)
+    (other-verdict (P .0 .given) (S .args .j) (S .args .s) (P .1) n) (T .truth-at .ensures .0 (N .0 .1)) (c .plain .ensures)
 
 decide-requires : tie.Need-decide-requires
 decide-requires c κs = let S = c .before .before .before .before .before .before .before .before .before in
@@ -47,7 +47,7 @@ show-requires c κs = let D = c .before .before .before .before .before in
     let P = S .pre .0 in
     let N = S .pre .1 in
     let o = sym (D .before .before .before .operator .ensures) ∙ D .before .before .if1 .left in
-    ((P .0, D .decide .ensures, c .before .before .if2 .taken), (P .1, o, P .2, N .1 .1))
+    ((P .0, D .decide .ensures, c .before .before .if2 .taken), (P .1, o, P .2, N .1 .2))
 
 same-length-2 : tie.Need-same-length-2
 same-length-2 c = search needs

@@ -4,6 +4,7 @@ use native.Mathlib.Nat.{le-of-eq}
 use mathlib.Core.Path.{sym, _∙_}
 use lib.ListN.{length-replicate}
 use Rattle.models.proofs.Readable.{readable}
+use Rattle.judging.proofs.Remembering.{remembers-none}
 use Rattle.judging.proofs.Announcing.{asked-at}
 use borrow.Author.Needs.{needs}
 use Rattle.judging.proofs.judged_as_shared.Statement.{statement}
@@ -27,10 +28,10 @@ slice-aggregate-root-truth-2 : tie.Need-slice-aggregate-root-truth-2
 slice-aggregate-root-truth-2 c = search needs
 
 root-truth-requires : tie.Need-root-truth-requires
-root-truth-requires c κs = let D = c .before .before .before .before in
+root-truth-requires c κs = let D = c .before .before .before .before .before in
     let S = D .before .before .before .before .before .before .before in
     let a = asked-at (S .pre .0) (D .before .before .before .used-entries .ensures) (D .before .plan-totals .ensures) (D .depth-table .ensures) in
-    (a, le-of-eq (sym (length-replicate {A = ℕ} 4095 0)))
+    (a, le-of-eq (sym (length-replicate {A = ℕ} 4095 0)), remembers-none (S .args .m .now) (S .args .q .now))
 
 slice-aggregate-at-root : tie.Need-slice-aggregate-at-root
 slice-aggregate-at-root c = search needs
@@ -42,12 +43,12 @@ slice-aggregate-at-root-3 : tie.Need-slice-aggregate-at-root-3
 slice-aggregate-at-root-3 c = search needs
 
 at-root-requires : tie.Need-at-root-requires
-at-root-requires c κs = let R = c .before .before .before .before .before .before .before in
-    let D = R .before .before .before .before .before in
+at-root-requires c κs = let R = c .before .before .before .before .before .before .before .before in
+    let D = R .before .before .before .before .before .before in
     let S = D .before .before .before .before .before .before .before in
     let a = asked-at (S .pre .0) (D .before .before .before .used-entries .ensures) (D .before .plan-totals .ensures) (D .depth-table .ensures) in
     let l = le-of-eq (sym (R .root-truth .kept .1 .1 .1 .1 .1 .0 ∙ length-replicate {A = ℕ} 4095 0)) in
-    ((a, R .root-truth .ensures), (l, S .pre .1))
+    ((a, R .root-truth .ensures .0), (l, R .root-truth .ensures .1, S .pre .1))
 
 same-length : tie.Need-same-length
 same-length c = search needs

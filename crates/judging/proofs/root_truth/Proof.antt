@@ -19,8 +19,8 @@ same-length c = search needs
 
 returns : tie.Need-returns
 returns c = let T = c .before .before in
-    let N = T .before .before .before in
-    root-supplied (N .before .before .before .before .before .pre .0 .given) (N .needed .ensures) _ (T .truth-table .ensures) (le-refl _)
+    let N = T .before .before .before .before in
+    (root-supplied (N .before .before .before .before .before .pre .0 .given) (N .needed .ensures) _ (T .truth-table .ensures .0) (le-refl _), T .truth-table .ensures .1)
 
 pub root-truth-spec : {M : Type 1} → statement M
 root-truth-spec =

@@ -4,6 +4,7 @@ use native.Mathlib.Nat.{le-of-eq}
 use mathlib.Core.Path.{sym}
 use lib.ListN.{length-replicate}
 use Rattle.models.proofs.Readable.{readable}
+use Rattle.judging.proofs.Remembering.{remembers-none}
 use Rattle.judging.proofs.Announcing.{asked-at, root-posed}
 use borrow.Author.Needs.{needs}
 use Rattle.judging.proofs.sheet_weight.Statement.{statement}
@@ -27,10 +28,10 @@ slice-aggregate-root-truth-2 : tie.Need-slice-aggregate-root-truth-2
 slice-aggregate-root-truth-2 c = search needs
 
 root-truth-requires : tie.Need-root-truth-requires
-root-truth-requires c κs = let D = c .before .before .before .before in
+root-truth-requires c κs = let D = c .before .before .before .before .before in
     let S = D .before .before .before .before .before .before .before in
     let a = asked-at (S .pre .0) (D .before .before .before .used-entries .ensures) (D .before .plan-totals .ensures) (D .depth-table .ensures) in
-    (a, le-of-eq (sym (length-replicate {A = ℕ} 4095 0)))
+    (a, le-of-eq (sym (length-replicate {A = ℕ} 4095 0)), remembers-none (S .args .m .now) (S .args .q .now))
 
 slice-aggregate-root-weight : tie.Need-slice-aggregate-root-weight
 slice-aggregate-root-weight c = search needs
@@ -40,10 +41,10 @@ slice-aggregate-root-weight-2 c = search needs
 
 root-weight-requires : tie.Need-root-weight-requires
 root-weight-requires c κs = let R = c .before .before .before .before in
-    let D = R .before .before .before .before .before in
+    let D = R .before .before .before .before .before .before in
     let S = D .before .before .before .before .before .before .before in
     let a = asked-at (S .pre .0) (D .before .before .before .used-entries .ensures) (D .before .plan-totals .ensures) (D .depth-table .ensures) in
-    ((a .given, a .deep), root-posed (a .given) (R .root-truth .ensures) (S .pre .1))
+    ((a .given, a .deep), root-posed (a .given) (R .root-truth .ensures .0) (S .pre .1))
 
 returns : tie.Need-returns
 returns c = search needs

@@ -66,45 +66,51 @@ byte-requires-3 : tie.Need-byte-requires-3
 byte-requires-3 c κs = search needs
 
 plan-true-requires : tie.Need-plan-true-requires
-plan-true-requires c κs = let S = c .before .before .before .before .before .before .before .before in
-    let o = sym (c .before .before .operator .ensures) ∙ c .before .match .keys4 in
-    (S .pre .0, ((o, S .pre .1 .0 .under-plan o), S .pre .1 .1))
+plan-true-requires c κs = let S = c .before .before .before .before .before .before .before .before .before in
+    let o = sym (c .before .before .before .operator .ensures) ∙ c .before .before .match .keys4 in
+    (S .pre .0, ((o, S .pre .1 .0 .under-plan o), (S .pre .1 .1, S .pre .1 .2)))
 
 bit-requires-3 : tie.Need-bit-requires-3
 bit-requires-3 c κs = search needs
 
 returns : tie.Need-returns
-returns c d = let S = c .before .before .before .before .before .before .before .before .before .before in
-    let P = S .pre .0 in
-    c .bit .ensures ∙ ap one-if (c .before .holds .ensures ∙ ap (prop-in (model-of (S .args .m .now)) (S .args .s)) (c .before .before .left .ensures))
-    ∙ truth-prop (P .0 .given) (S .args .j) (S .args .s) (P .1) (sym (c .before .before .before .before .operator .ensures) ∙ c .before .before .before .match .keys1)
+returns c = let S = c .before .before .before .before .before .before .before .before .before .before in
+    let P = S .pre .0 in (
+      (λ d. c .bit .ensures ∙ ap one-if (c .before .holds .ensures ∙ ap (prop-in (model-of (S .args .m .now)) (S .args .s)) (c .before .before .left .ensures))
+          ∙ truth-prop (P .0 .given) (S .args .j) (S .args .s) (P .1) (sym (c .before .before .before .before .operator .ensures) ∙ c .before .before .before .match .keys1)),
+      S .pre .1 .2,
+    )
 
 returns-2 : tie.Need-returns-2
-returns-2 c d = let S = c .before .before .before .before .before .before .before .before .before .before .before in
+returns-2 c = let S = c .before .before .before .before .before .before .before .before .before .before .before in
     let P = S .pre .0 in
-    let o = sym (c .before .before .before .before .before .operator .ensures) ∙ c .before .before .before .before .match .keys2 in
-    c .bit2 .ensures ∙ ap (λ (x : ℕ). one-if (eqb x 0)) (at-child S (c .before .byte .ensures) (c .before .before .place .ensures) (c .before .before .before .left2 .ensures))
-    ∙ truth-not (P .0 .given) (S .args .j) (S .args .s) (P .1) (S .args .truth .now) d o (S .pre .1 .0 .under-not o)
+    let o = sym (c .before .before .before .before .before .operator .ensures) ∙ c .before .before .before .before .match .keys2 in (
+      (λ d. c .bit2 .ensures ∙ ap (λ (x : ℕ). one-if (eqb x 0)) (at-child S (c .before .byte .ensures) (c .before .before .place .ensures) (c .before .before .before .left2 .ensures))
+          ∙ truth-not (P .0 .given) (S .args .j) (S .args .s) (P .1) (S .args .truth .now) d o (S .pre .1 .0 .under-not o)),
+      S .pre .1 .2,
+    )
 
 returns-3 : tie.Need-returns-3
-returns-3 c d = let S = c .before .before .before .before .before .before .before .before .before .before .before .before .before in
+returns-3 c = let S = c .before .before .before .before .before .before .before .before .before .before .before .before .before in
     let P = S .pre .0 in
-    let o = sym (c .before .before .before .before .before .before .before .operator .ensures) ∙ c .before .before .before .before .before .before .match .keys3 in
-    ap₂ bitAnd (at-child S (c .before .before .before .byte2 .ensures) (c .before .before .before .before .place2 .ensures) (c .before .before .before .before .before .left3 .ensures)) (at-child S (c .byte3 .ensures) (c .before .place3 .ensures) (c .before .before .right .ensures))
-    ∙ truth-and (P .0 .given) (S .args .j) (S .args .s) (P .1) (S .args .truth .now) d o (S .pre .1 .0 .and-left o) (S .pre .1 .0 .and-right o)
+    let o = sym (c .before .before .before .before .before .before .before .operator .ensures) ∙ c .before .before .before .before .before .before .match .keys3 in (
+      (λ d. ap₂ bitAnd (at-child S (c .before .before .before .byte2 .ensures) (c .before .before .before .before .place2 .ensures) (c .before .before .before .before .before .left3 .ensures)) (at-child S (c .byte3 .ensures) (c .before .place3 .ensures) (c .before .before .right .ensures))
+          ∙ truth-and (P .0 .given) (S .args .j) (S .args .s) (P .1) (S .args .truth .now) d o (S .pre .1 .0 .and-left o) (S .pre .1 .0 .and-right o)),
+      S .pre .1 .2,
+    )
 
 same-length : tie.Need-same-length
 same-length c = search needs
 
 returns-4 : tie.Need-returns-4
-returns-4 c d = c .bit3 .ensures ∙ ap one-if (c .before .before .before .plan-true .ensures)
+returns-4 c = let T = c .before .before .before in ((λ d. c .bit3 .ensures ∙ ap one-if (T .plan-true .ensures .0)), T .plan-true .ensures .1)
 
 returns-5 : tie.Need-returns-5
-returns-5 c d = let S = c .before .before .before .before .before .before .before in
+returns-5 c = let S = c .before .before .before .before .before .before .before in
     let P = S .pre .0 in
     let n = c .match .rest in
     let e = c .before .operator .ensures in
-    truth-none (P .0 .given) (S .args .j) (S .args .s) (P .1) d (λ o. n .0 .0 .0 .1 (e ∙ o)) (λ o. n .0 .0 .1 (e ∙ o)) (λ o. n .0 .1 (e ∙ o)) (λ o. n .1 (e ∙ o))
+    ((λ d. truth-none (P .0 .given) (S .args .j) (S .args .s) (P .1) d (λ o. n .0 .0 .0 .1 (e ∙ o)) (λ o. n .0 .0 .1 (e ∙ o)) (λ o. n .0 .1 (e ∙ o)) (λ o. n .1 (e ∙ o))), S .pre .1 .2)
 
 pub truth-at-spec : {M : Type 1} → statement M
 truth-at-spec =

@@ -11,26 +11,26 @@ byte-requires : tie.Need-byte-requires
 byte-requires c κs = search needs
 
 returns : tie.Need-returns
-returns c e = absurd (c .if1 .taken (c .before .byte .ensures ∙ e))
+returns c = ((λ e. absurd (c .if1 .taken (c .before .byte .ensures ∙ e))), c .before .before .before .before .before .before .before .before .pre .1 .3)
 
 cast-truth-at : tie.Need-cast-truth-at
-cast-truth-at c = omega (arith, (given-question (c .before .before .before .before .before .before .before .before .before .pre .0 .0 .given)) .few-nodes)
+cast-truth-at c = omega (arith, (given-question (c .before .before .before .before .before .before .before .before .before .before .pre .0 .0 .given)) .few-nodes)
 
 cast-truth-at-2 : tie.Need-cast-truth-at-2
 cast-truth-at-2 c = search needs
 
 truth-at-requires : tie.Need-truth-at-requires
-truth-at-requires c κs = let S = c .before .before .before .before .before .before .before .before .before in
+truth-at-requires c κs = let S = c .before .before .before .before .before .before .before .before .before .before in
     let P = S .pre .0 in
     let N = S .pre .1 in
-    let e = sym (c .before .before .byte .ensures) ∙ c .before .if1 .left in
-    ((P .0, omega arith, N .0 .inside (S .args .k) e .1), (supplied (P .0 .given) (N .0) (S .args .k) (N .1) (S .args .k) (omega arith) (P .1) e, N .2))
+    let e = sym (c .before .before .before .byte .ensures) ∙ c .before .before .if1 .left in
+    ((P .0, omega arith, N .0 .inside (S .args .k) e .1), (supplied (P .0 .given) (N .0) (S .args .k) (N .1) (S .args .k) (omega arith) (P .1) e, N .2, N .3))
 
 same-length : tie.Need-same-length
 same-length c = search needs
 
 returns-2 : tie.Need-returns-2
-returns-2 c e = c .before .before .truth-at .ensures
+returns-2 c = let T = c .before .before in ((λ e. T .truth-at .ensures .0), T .truth-at .ensures .1)
 
 pub truth-if-spec : {M : Type 1} → statement M
 truth-if-spec =

@@ -1,0 +1,130 @@
+// Conditions in a state: what is left of one when the state formulas that it joins are read there, and its best total, searched once.
+ghost use mathlib.Core.Path.{_≡_};
+ghost use Prim.Native.Nat.{_≤_, _<_};
+ghost use Rattle.logic.specs.Formula.{depth};
+ghost use Rattle.questions.specs.Layout.{formulas-of};
+ghost use Rattle.questions.specs.Tables.{table};
+ghost use Rattle.evaluation.specs.Reached.{formula};
+ghost use Rattle.tables.specs.Need.{Given};
+ghost use Rattle.judging.specs.Asked.{Scratch};
+ghost use Rattle.judging.specs.Conditions.{Stands, Peels, best-total, Searched, memo-place, Remembers};
+use blocks::byte;
+use evaluation::bit;
+use evaluation::depth_at;
+use questions::left;
+use questions::operator;
+use questions::right;
+use search::Found;
+use search::find;
+use tables::cone;
+use tables::place;
+
+// What is left of a condition in a state: nothing where it is false on every path, else a node that means the same there.
+pub struct Peeled {
+    pub dead: bool,
+    pub node: u8,
+}
+
+// Takes one state formula off c, where c is "and" of one and another node.
+fn peel_one(q: &[u8], depths: &[u32], truth: &[u8], c: u8, s: u8) -> Peeled
+    requires { ⌜ now depths ≡ table depth (formulas-of (now q)) ⌝ }
+    ensures { λ r. ⌜ Peels (now (q .entry)) (now (truth .entry)) c s r ⌝ }
+{
+    if operator(q, c) != 4 {
+        return Peeled {
+            dead: false,
+            node: c,
+        };
+    }
+    let a = left(q, c);
+    let b = right(q, c);
+    if depth_at(depths, a) == 0 {
+        let x = byte(truth, place(a, s));
+        return Peeled {
+            dead: x == 0,
+            node: b,
+        };
+    }
+    if depth_at(depths, b) == 0 {
+        let x = byte(truth, place(b, s));
+        return Peeled {
+            dead: x == 0,
+            node: a,
+        };
+    }
+    Peeled {
+        dead: false,
+        node: c,
+    }
+}
+
+// Takes all state formulas off c that it joins.
+pub fn peel(q: &[u8], depths: &[u32], truth: &[u8], c: u8, s: u8) -> Peeled
+    requires { ⌜ now depths ≡ table depth (formulas-of (now q)) ⌝ }
+    ensures { λ r. ⌜ Peels (now (q .entry)) (now (truth .entry)) c s r ⌝ }
+{
+    let mut at = c;
+    let mut r = peel_one(q, depths, truth, at, s);
+    while !r.dead && r.node < at {
+        at = r.node;
+        r = peel_one(q, depths, truth, at, s);
+    }
+    r
+}
+
+// Searches for the plan of greatest weight, or of least, as deep as condition c looks.
+pub fn searched(
+    m: &[u8],
+    q: &[u8],
+    used: &[u8; 264],
+    depths: &[u32],
+    truth: &[u8],
+    scratch: &mut [u8],
+    c: u8,
+    s: u8,
+    least: bool,
+) -> Found
+    requires { ⌜ Given (now m) (now q) (now used) × (now depths ≡ table depth (formulas-of (now q))) × Stands (now m) (now q) (now truth) c s ⌝ }
+    requires { ⌜ (depth (formula (now q) c) ≤ 6) × Scratch (now scratch) ⌝ }
+    ensures { λ r. ⌜ Searched (now (m .entry)) (now (q .entry)) c s least (now (scratch .exit)) r ⌝ }
+{
+    let d = depth_at(depths, c) as u8;
+    let mut nodes = [0u8; 40];
+    let k = cone(q, depths, c, &mut nodes);
+    find(m, used, q, depths, truth, &nodes[..k], scratch, s, d, least)
+}
+
+// Where the best total of c in s is remembered.
+fn memo_at(c: u8, s: u8, least: bool) -> usize
+    ensures { λ r. ⌜ r ≡ memo-place c s least ⌝ }
+{
+    64 * c as usize + 2 * s as usize + bit(least) as usize
+}
+
+// The best total of condition c in s: remembered, or searched and remembered.
+pub fn best_value(
+    m: &[u8],
+    q: &[u8],
+    used: &[u8; 264],
+    depths: &[u32],
+    truth: &[u8],
+    scratch: &mut [u8],
+    memo: &mut [u64; 2560],
+    c: u8,
+    s: u8,
+    least: bool,
+) -> u64
+    requires { ⌜ Given (now m) (now q) (now used) × (now depths ≡ table depth (formulas-of (now q))) × Stands (now m) (now q) (now truth) c s ⌝ }
+    requires { ⌜ (depth (formula (now q) c) ≤ 6) × Scratch (now scratch) × Remembers (now m) (now q) (now memo) ⌝ }
+    ensures { λ r. ⌜ (r ≡ best-total (now (m .entry)) (now (q .entry)) c s least) × Remembers (now (m .entry)) (now (q .entry)) (now (memo .exit)) ⌝ }
+{
+    let k = memo_at(c, s, least);
+    let known = memo[k];
+    if known != 0 {
+        return known - 1;
+    }
+    let r = searched(m, q, used, depths, truth, scratch, c, s, least);
+    let value = r.value;
+    memo[k] = 1 + value;
+    value
+}
