@@ -3,6 +3,7 @@ use Prim.Native.Nat.{ℕ, _≤_}
 use mathlib.Core.Path.{_≡_}
 use mathlib.Core.Bool.{true}
 use mathlib.Core.List.{List}
+use lib.IntN.{ℤ}
 use lib.ListN.{length}
 use Rattle.logic.specs.Checked.{refusal}
 use Rattle.logic.specs.Formula.{depth}
@@ -14,6 +15,7 @@ use Rattle.questions.specs.Layout.{formulas-of}
 use Rattle.questions.specs.Grounds.{read-question}
 use Rattle.questions.specs.Tables.{table}
 use Rattle.limits.specs.Totals.{Totals}
+use Rattle.lanes.specs.Lanes.{Rewards, Sums}
 use Rattle.tables.specs.Need.{Given}
 
 -- What is judged: an accepted question for an accepted model, within the limits, with the tables of used outcomes, of the numbers of plans
@@ -30,6 +32,9 @@ pub record Served (m q : Bytes) : Type 0 where
   pub question-accepted : refusal (read-question (state-count m) (action-count m) (prop-count m) q) ≡ 0
   pub within : refusal (limits (model-of m) (formulas-of q)) ≡ 0
 
--- The scratch of the searches is long enough for the choices of three plans. What is left in it is never promised.
-abbrev pub Scratch : List ℕ → Type 0
-Scratch scratch = 4095 ≤ length scratch
+-- What searches work with: the tables for their last step, the rewards of the outcomes and the summed weights of their patterns, and a
+-- scratch long enough for the choices of three plans. What is left in it is never promised.
+pub record Equipped (m : Bytes) (rewards : List ℤ) (sums scratch : List ℕ) : Type 0 where
+  pub rewarded : Rewards m rewards
+  pub summed : Sums m sums
+  pub roomy : 4095 ≤ length scratch

@@ -6,7 +6,7 @@ ghost use Rattle.questions.specs.Layout.{formulas-of};
 ghost use Rattle.questions.specs.Tables.{table};
 ghost use Rattle.evaluation.specs.Reached.{formula};
 ghost use Rattle.tables.specs.Need.{Given};
-ghost use Rattle.judging.specs.Asked.{Scratch};
+ghost use Rattle.judging.specs.Asked.{Equipped};
 ghost use Rattle.judging.specs.Conditions.{Stands, Peels, best-total, Searched, memo-place, Remembers};
 use blocks::byte;
 use evaluation::bit;
@@ -78,6 +78,8 @@ pub fn searched(
     q: &[u8],
     used: &[u8; 264],
     depths: &[u32],
+    rewards: &[i32; 1024],
+    sums: &[u16; 4096],
     truth: &[u8],
     scratch: &mut [u8],
     c: u8,
@@ -85,13 +87,26 @@ pub fn searched(
     least: bool,
 ) -> Found
     requires { ⌜ Given (now m) (now q) (now used) × (now depths ≡ table depth (formulas-of (now q))) × Stands (now m) (now q) (now truth) c s ⌝ }
-    requires { ⌜ (depth (formula (now q) c) ≤ 6) × Scratch (now scratch) ⌝ }
+    requires { ⌜ (depth (formula (now q) c) ≤ 6) × Equipped (now m) (now rewards) (now sums) (now scratch) ⌝ }
     ensures { λ r. ⌜ Searched (now (m .entry)) (now (q .entry)) c s least (now (scratch .exit)) r ⌝ }
 {
     let d = depth_at(depths, c) as u8;
     let mut nodes = [0u8; 40];
     let k = cone(q, depths, c, &mut nodes);
-    find(m, used, q, depths, truth, &nodes[..k], scratch, s, d, least)
+    find(
+        m,
+        used,
+        q,
+        depths,
+        truth,
+        &nodes[..k],
+        rewards,
+        sums,
+        scratch,
+        s,
+        d,
+        least,
+    )
 }
 
 // Where the best total of c in s is remembered.
@@ -107,6 +122,8 @@ pub fn best_value(
     q: &[u8],
     used: &[u8; 264],
     depths: &[u32],
+    rewards: &[i32; 1024],
+    sums: &[u16; 4096],
     truth: &[u8],
     scratch: &mut [u8],
     memo: &mut [u64; 2560],
@@ -115,7 +132,7 @@ pub fn best_value(
     least: bool,
 ) -> u64
     requires { ⌜ Given (now m) (now q) (now used) × (now depths ≡ table depth (formulas-of (now q))) × Stands (now m) (now q) (now truth) c s ⌝ }
-    requires { ⌜ (depth (formula (now q) c) ≤ 6) × Scratch (now scratch) × Remembers (now m) (now q) (now memo) ⌝ }
+    requires { ⌜ (depth (formula (now q) c) ≤ 6) × Equipped (now m) (now rewards) (now sums) (now scratch) × Remembers (now m) (now q) (now memo) ⌝ }
     ensures { λ r. ⌜ (r ≡ best-total (now (m .entry)) (now (q .entry)) c s least) × Remembers (now (m .entry)) (now (q .entry)) (now (memo .exit)) ⌝ }
 {
     let k = memo_at(c, s, least);
@@ -123,7 +140,19 @@ pub fn best_value(
     if known != 0 {
         return known - 1;
     }
-    let r = searched(m, q, used, depths, truth, scratch, c, s, least);
+    let r = searched(
+        m,
+        q,
+        used,
+        depths,
+        rewards,
+        sums,
+        truth,
+        scratch,
+        c,
+        s,
+        least,
+    );
     let value = r.value;
     memo[k] = 1 + value;
     value

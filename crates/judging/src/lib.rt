@@ -11,7 +11,7 @@ ghost use Rattle.questions.specs.Layout.{start-of, node-count, node-of, formula
 ghost use Rattle.questions.specs.Tables.{table};
 ghost use Rattle.evaluation.specs.Reached.{formula};
 ghost use Rattle.tables.specs.Need.{Given};
-ghost use Rattle.judging.specs.Asked.{Asked, Served, Scratch};
+ghost use Rattle.judging.specs.Asked.{Asked, Served, Equipped};
 ghost use Rattle.judging.specs.Truth.{Supplied};
 ghost use Rattle.judging.specs.Decided.{Posed, Decided};
 ghost use Rattle.judging.specs.Conditions.{Remembers};
@@ -27,6 +27,8 @@ use crate::truth::truth_at;
 use crate::truth::truth_table;
 use evaluation::depth_at;
 use extension::extend;
+use lanes::rewards;
+use lanes::sums;
 use limits::plan_totals;
 use models::used_entries;
 use questions::depth_table;
@@ -85,14 +87,27 @@ fn root_truth(
     used: &[u8; 264],
     counts: &[u64; 224],
     depths: &[u32],
+    rewards: &[i32; 1024],
+    sums: &[u16; 4096],
     scratch: &mut [u8],
     memo: &mut [u64; 2560],
 ) -> [u8; 1280]
-    requires { ⌜ Asked (now m) (now q) (now used) (now counts) (now depths) × Scratch (now scratch) × Remembers (now m) (now q) (now memo) ⌝ }
+    requires { ⌜ Asked (now m) (now q) (now used) (now counts) (now depths) × Equipped (now m) (now rewards) (now sums) (now scratch) × Remembers (now m) (now q) (now memo) ⌝ }
     ensures { λ r. ⌜ Supplied (now (m .entry)) (now (q .entry)) r (root (now (q .entry))) (start-of (now (q .entry))) × Remembers (now (m .entry)) (now (q .entry)) (now (memo .exit)) ⌝ }
 {
     let need = needed(m, q, used);
-    truth_table(m, q, used, counts, depths, &need, scratch, memo)
+    truth_table(
+        m,
+        q,
+        used,
+        counts,
+        depths,
+        rewards,
+        sums,
+        &need,
+        scratch,
+        memo,
+    )
 }
 
 // Writes the choices of the plan that a search found for node j in s, and tells of it.
@@ -139,6 +154,8 @@ fn at_node(
     used: &[u8; 264],
     counts: &[u64; 224],
     depths: &[u32],
+    rewards: &[i32; 1024],
+    sums: &[u16; 4096],
     truth: &[u8],
     scratch: &mut [u8],
     memo: &mut [u64; 2560],
@@ -148,14 +165,39 @@ fn at_node(
 ) -> Outcome
     requires { ⌜ Asked (now m) (now q) (now used) (now counts) (now depths) × (j < node-count (now q)) × (s < state-count (now m)) ⌝ }
     requires { ⌜ Supplied (now m) (now q) (now truth) j s × (depth (formula (now q) j) ≡ 0) ⌝ }
-    requires { ⌜ Scratch (now scratch) × Remembers (now m) (now q) (now memo) × (1365 ≤ length (now choices)) ⌝ }
+    requires { ⌜ Equipped (now m) (now rewards) (now sums) (now scratch) × Remembers (now m) (now q) (now memo) × (1365 ≤ length (now choices)) ⌝ }
     ensures { λ r. ⌜ Announces (verdict (model-of (now (m .entry))) s (formula (now (q .entry)) j)) r (now (choices .entry)) (now (choices .exit)) ⌝ }
 {
     if operator(q, j) != 8 {
-        let x = truth_at(m, q, used, counts, depths, truth, scratch, memo, j, s);
+        let x = truth_at(
+            m,
+            q,
+            used,
+            counts,
+            depths,
+            rewards,
+            sums,
+            truth,
+            scratch,
+            memo,
+            j,
+            s,
+        );
         return plain(x == 1, 0);
     }
-    let r = decide(m, q, used, counts, depths, truth, scratch, j, s);
+    let r = decide(
+        m,
+        q,
+        used,
+        counts,
+        depths,
+        rewards,
+        sums,
+        truth,
+        scratch,
+        j,
+        s,
+    );
     let met = r.met;
     let place = r.place;
     if met {
@@ -171,13 +213,15 @@ fn at_root(
     used: &[u8; 264],
     counts: &[u64; 224],
     depths: &[u32],
+    rewards: &[i32; 1024],
+    sums: &[u16; 4096],
     truth: &[u8],
     scratch: &mut [u8],
     memo: &mut [u64; 2560],
     choices: &mut [u8],
 ) -> Outcome
     requires { ⌜ Asked (now m) (now q) (now used) (now counts) (now depths) × Supplied (now m) (now q) (now truth) (root (now q)) (start-of (now q)) ⌝ }
-    requires { ⌜ Scratch (now scratch) × Remembers (now m) (now q) (now memo) × (1365 ≤ length (now choices)) ⌝ }
+    requires { ⌜ Equipped (now m) (now rewards) (now sums) (now scratch) × Remembers (now m) (now q) (now memo) × (1365 ≤ length (now choices)) ⌝ }
     ensures { λ r. ⌜ Announces (root-verdict (now (m .entry)) (now (q .entry))) r (now (choices .entry)) (now (choices .exit)) ⌝ }
 {
     let j = node_count(q) - 1;
@@ -187,6 +231,8 @@ fn at_root(
         used,
         counts,
         depths,
+        rewards,
+        sums,
         truth,
         scratch,
         memo,
@@ -205,15 +251,29 @@ fn judged_as_shared(m: &[u8], q: &[u8], choices: &mut [u8]) -> Outcome
     let used = used_entries(m);
     let counts = plan_totals(m, &used);
     let depths = depth_table(q);
+    let rewards = rewards(m);
+    let sums = sums(m);
     let mut scratch = [0u8; 4095];
     let mut memo = [0u64; 2560];
-    let truth = root_truth(m, q, &used, &counts, &depths, &mut scratch, &mut memo);
+    let truth = root_truth(
+        m,
+        q,
+        &used,
+        &counts,
+        &depths,
+        &rewards,
+        &sums,
+        &mut scratch,
+        &mut memo,
+    );
     at_root(
         m,
         q,
         &used,
         &counts,
         &depths,
+        &rewards,
+        &sums,
         &truth,
         &mut scratch,
         &mut memo,
@@ -269,8 +329,20 @@ pub fn sheet_weight(m: &[u8], q: &[u8], choices: &[u8]) -> u64
     let used = used_entries(m);
     let counts = plan_totals(m, &used);
     let depths = depth_table(q);
+    let rewards = rewards(m);
+    let sums = sums(m);
     let mut scratch = [0u8; 4095];
     let mut memo = [0u64; 2560];
-    let truth = root_truth(m, q, &used, &counts, &depths, &mut scratch, &mut memo);
+    let truth = root_truth(
+        m,
+        q,
+        &used,
+        &counts,
+        &depths,
+        &rewards,
+        &sums,
+        &mut scratch,
+        &mut memo,
+    );
     root_weight(m, q, &used, &depths, &truth, choices)
 }

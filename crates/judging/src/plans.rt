@@ -10,7 +10,7 @@ ghost use Rattle.questions.specs.Tables.{table};
 ghost use Rattle.evaluation.specs.Reached.{formula};
 ghost use Rattle.tables.specs.Need.{Given};
 ghost use Rattle.bounds.specs.Bounded.{Bounded};
-ghost use Rattle.judging.specs.Asked.{Asked, Scratch};
+ghost use Rattle.judging.specs.Asked.{Asked, Equipped};
 ghost use Rattle.judging.specs.Truth.{Told};
 ghost use Rattle.judging.specs.Decided.{condition, Posed, Lengthened, Led, Placed, Decided};
 ghost use Rattle.judging.specs.Conditions.{Remembers};
@@ -53,13 +53,15 @@ fn led(
     q: &[u8],
     used: &[u8; 264],
     depths: &[u32],
+    rewards: &[i32; 1024],
+    sums: &[u16; 4096],
     truth: &[u8],
     scratch: &mut [u8],
     j: u8,
     s: u8,
 ) -> Decision
     requires { ⌜ Given (now m) (now q) (now used) × (now depths ≡ table depth (formulas-of (now q))) × Posed (now m) (now q) (now truth) j s ⌝ }
-    requires { ⌜ (node-of (now q) j .right ≡ 2 → ⊥) × Scratch (now scratch) ⌝ }
+    requires { ⌜ (node-of (now q) j .right ≡ 2 → ⊥) × Equipped (now m) (now rewards) (now sums) (now scratch) ⌝ }
     ensures { λ r. ⌜ Led (now (m .entry)) (now (q .entry)) j s (now (scratch .exit)) r ⌝ }
 {
     let r = searched(
@@ -67,6 +69,8 @@ fn led(
         q,
         used,
         depths,
+        rewards,
+        sums,
         truth,
         scratch,
         left(q, j),
@@ -88,6 +92,8 @@ fn plan_led(
     q: &[u8],
     used: &[u8; 264],
     depths: &[u32],
+    rewards: &[i32; 1024],
+    sums: &[u16; 4096],
     truth: &[u8],
     scratch: &mut [u8],
     memo: &mut [u64; 2560],
@@ -95,7 +101,7 @@ fn plan_led(
     s: u8,
 ) -> bool
     requires { ⌜ Given (now m) (now q) (now used) × (now depths ≡ table depth (formulas-of (now q))) × Posed (now m) (now q) (now truth) j s ⌝ }
-    requires { ⌜ (node-of (now q) j .right ≡ 2 → ⊥) × Scratch (now scratch) × Remembers (now m) (now q) (now memo) ⌝ }
+    requires { ⌜ (node-of (now q) j .right ≡ 2 → ⊥) × Equipped (now m) (now rewards) (now sums) (now scratch) × Remembers (now m) (now q) (now memo) ⌝ }
     ensures { λ r. ⌜ (r ≡ sat (model-of (now (m .entry))) (formula (now (q .entry)) j) s []) × Remembers (now (m .entry)) (now (q .entry)) (now (memo .exit)) ⌝ }
 {
     let rest = peel(q, depths, truth, left(q, j), s);
@@ -104,7 +110,20 @@ fn plan_led(
         return meets(m, q, j, 0);
     }
     let least = right(q, j) == 1;
-    let x = best_value(m, q, used, depths, truth, scratch, memo, c, s, least);
+    let x = best_value(
+        m,
+        q,
+        used,
+        depths,
+        rewards,
+        sums,
+        truth,
+        scratch,
+        memo,
+        c,
+        s,
+        least,
+    );
     meets(m, q, j, over_all_steps(m, q, depths, j, x))
 }
 
@@ -175,19 +194,21 @@ pub fn decide(
     used: &[u8; 264],
     counts: &[u64; 224],
     depths: &[u32],
+    rewards: &[i32; 1024],
+    sums: &[u16; 4096],
     truth: &[u8],
     scratch: &mut [u8],
     j: u8,
     s: u8,
 ) -> Decision
     requires { ⌜ Asked (now m) (now q) (now used) (now counts) (now depths) × Posed (now m) (now q) (now truth) j s ⌝ }
-    requires { ⌜ Scratch (now scratch) ⌝ }
+    requires { ⌜ Equipped (now m) (now rewards) (now sums) (now scratch) ⌝ }
     ensures { λ r. ⌜ Decided (now (m .entry)) (now (q .entry)) j s (now (scratch .exit)) r ⌝ }
 {
     if right(q, j) == 2 {
         return first(m, q, used, counts, depths, truth, j, s);
     }
-    led(m, q, used, depths, truth, scratch, j, s)
+    led(m, q, used, depths, rewards, sums, truth, scratch, j, s)
 }
 
 // Whether the "plan" node j is true in s.
@@ -197,6 +218,8 @@ pub fn plan_true(
     used: &[u8; 264],
     counts: &[u64; 224],
     depths: &[u32],
+    rewards: &[i32; 1024],
+    sums: &[u16; 4096],
     truth: &[u8],
     scratch: &mut [u8],
     memo: &mut [u64; 2560],
@@ -205,12 +228,24 @@ pub fn plan_true(
 ) -> bool
     requires { ⌜ Asked (now m) (now q) (now used) (now counts) (now depths) × (j < node-count (now q)) × (s < state-count (now m)) ⌝ }
     requires { ⌜ (node-of (now q) j .operator ≡ 8) × Told (now m) (now q) (now truth) (node-of (now q) j .left) s ⌝ }
-    requires { ⌜ Scratch (now scratch) × Remembers (now m) (now q) (now memo) ⌝ }
+    requires { ⌜ Equipped (now m) (now rewards) (now sums) (now scratch) × Remembers (now m) (now q) (now memo) ⌝ }
     ensures { λ r. ⌜ (r ≡ sat (model-of (now (m .entry))) (formula (now (q .entry)) j) s []) × Remembers (now (m .entry)) (now (q .entry)) (now (memo .exit)) ⌝ }
 {
     if right(q, j) == 2 {
         let r = first(m, q, used, counts, depths, truth, j, s);
         return r.met;
     }
-    plan_led(m, q, used, depths, truth, scratch, memo, j, s)
+    plan_led(
+        m,
+        q,
+        used,
+        depths,
+        rewards,
+        sums,
+        truth,
+        scratch,
+        memo,
+        j,
+        s,
+    )
 }

@@ -10,7 +10,7 @@ ghost use Rattle.models.specs.Layout.{state-count, model-of};
 ghost use Rattle.questions.specs.Layout as question;
 ghost use Rattle.evaluation.specs.Reached.{formula};
 ghost use Rattle.tables.specs.Need.{Needs};
-ghost use Rattle.judging.specs.Asked.{Asked, Scratch};
+ghost use Rattle.judging.specs.Asked.{Asked, Equipped};
 ghost use Rattle.judging.specs.Truth.{Supplied, Right};
 ghost use Rattle.judging.specs.Conditions.{Remembers};
 use crate::plans::plan_true;
@@ -38,6 +38,8 @@ pub fn truth_at(
     used: &[u8; 264],
     counts: &[u64; 224],
     depths: &[u32],
+    rewards: &[i32; 1024],
+    sums: &[u16; 4096],
     truth: &[u8],
     scratch: &mut [u8],
     memo: &mut [u64; 2560],
@@ -45,7 +47,7 @@ pub fn truth_at(
     s: u8,
 ) -> u8
     requires { ⌜ Asked (now m) (now q) (now used) (now counts) (now depths) × (j < question.node-count (now q)) × (s < state-count (now m)) ⌝ }
-    requires { ⌜ Supplied (now m) (now q) (now truth) j s × Scratch (now scratch) × Remembers (now m) (now q) (now memo) ⌝ }
+    requires { ⌜ Supplied (now m) (now q) (now truth) j s × Equipped (now m) (now rewards) (now sums) (now scratch) × Remembers (now m) (now q) (now memo) ⌝ }
     ensures { λ r. ⌜ (depth (formula (now (q .entry)) j) ≡ 0 → r ≡ value-of (model-of (now (m .entry))) (formula (now (q .entry)) j) s []) × Remembers (now (m .entry)) (now (q .entry)) (now (memo .exit)) ⌝ }
 {
     let op = operator(q, j);
@@ -53,7 +55,20 @@ pub fn truth_at(
         2 => bit(holds(m, s, left(q, j))),
         3 => bit(byte(truth, place(left(q, j), s)) == 0),
         4 => byte(truth, place(left(q, j), s)) & byte(truth, place(right(q, j), s)),
-        8 => bit(plan_true(m, q, used, counts, depths, truth, scratch, memo, j, s)),
+        8 => bit(plan_true(
+            m,
+            q,
+            used,
+            counts,
+            depths,
+            rewards,
+            sums,
+            truth,
+            scratch,
+            memo,
+            j,
+            s,
+        )),
         _ => 0,
     }
 }
@@ -65,6 +80,8 @@ fn truth_if(
     used: &[u8; 264],
     counts: &[u64; 224],
     depths: &[u32],
+    rewards: &[i32; 1024],
+    sums: &[u16; 4096],
     need: &[u8],
     truth: &[u8],
     scratch: &mut [u8],
@@ -72,7 +89,7 @@ fn truth_if(
     k: usize,
 ) -> u8
     requires { ⌜ Asked (now m) (now q) (now used) (now counts) (now depths) × (k < 32 * question.node-count (now q)) ⌝ }
-    requires { ⌜ Needs (now m) (now q) (now need) × Right (now m) (now q) (now need) (now truth) k × Scratch (now scratch) × Remembers (now m) (now q) (now memo) ⌝ }
+    requires { ⌜ Needs (now m) (now q) (now need) × Right (now m) (now q) (now need) (now truth) k × Equipped (now m) (now rewards) (now sums) (now scratch) × Remembers (now m) (now q) (now memo) ⌝ }
     ensures { λ r. ⌜ (getD (now (need .entry)) k 0 ≡ 1 → depth (formula (now (q .entry)) (k / 32)) ≡ 0 → r ≡ value-of (model-of (now (m .entry))) (formula (now (q .entry)) (k / 32)) (k % 32) []) × Remembers (now (m .entry)) (now (q .entry)) (now (memo .exit)) ⌝ }
 {
     if byte(need, k) != 1 {
@@ -84,6 +101,8 @@ fn truth_if(
         used,
         counts,
         depths,
+        rewards,
+        sums,
         truth,
         scratch,
         memo,
@@ -99,18 +118,33 @@ pub fn truth_table(
     used: &[u8; 264],
     counts: &[u64; 224],
     depths: &[u32],
+    rewards: &[i32; 1024],
+    sums: &[u16; 4096],
     need: &[u8],
     scratch: &mut [u8],
     memo: &mut [u64; 2560],
 ) -> [u8; 1280]
-    requires { ⌜ Asked (now m) (now q) (now used) (now counts) (now depths) × Needs (now m) (now q) (now need) × Scratch (now scratch) × Remembers (now m) (now q) (now memo) ⌝ }
+    requires { ⌜ Asked (now m) (now q) (now used) (now counts) (now depths) × Needs (now m) (now q) (now need) × Equipped (now m) (now rewards) (now sums) (now scratch) × Remembers (now m) (now q) (now memo) ⌝ }
     ensures { λ r. ⌜ Right (now (m .entry)) (now (q .entry)) (now (need .entry)) r (32 * (question.node-count (now (q .entry)) - 1)) × Remembers (now (m .entry)) (now (q .entry)) (now (memo .exit)) ⌝ }
 {
     let end = place(node_count(q) - 1, 0);
     let mut truth = [0u8; 1280];
     let mut k: usize = 0;
     while k < end {
-        let x = truth_if(m, q, used, counts, depths, need, &truth, scratch, memo, k);
+        let x = truth_if(
+            m,
+            q,
+            used,
+            counts,
+            depths,
+            rewards,
+            sums,
+            need,
+            &truth,
+            scratch,
+            memo,
+            k,
+        );
         truth[k] = x;
         k += 1;
     }
