@@ -9,15 +9,17 @@ ghost use Rattle.logic.specs.Checked.{refusal};
 ghost use Rattle.logic.specs.Formula.{depth};
 ghost use Rattle.logic.specs.Quantity.{order};
 ghost use Rattle.models.specs.Grounds.{read-model};
-ghost use Rattle.models.specs.Layout.{state-count};
+ghost use Rattle.models.specs.Layout.{state-count, denominator-of};
 ghost use Rattle.models.specs.Used.{Used};
 ghost use Rattle.extension.specs.Choices.{room};
 ghost use Rattle.evaluation.specs.Learnt as learnt;
 ghost use Rattle.evaluation.specs.Reached.{formula, root-of, on-path, Ready};
-ghost use Rattle.search.specs.Greatest.{Finds};
+ghost use Rattle.search.specs.Greatest.{Finds, best-left};
 ghost use Rattle.search.specs.Buffers.{Keeps, Setting, Back, Picked, Walks, Ends};
 ghost use Rattle.search.specs.Buffers as spec;
 use blocks::byte;
+use blocks::wide;
+use bounds::power;
 use evaluation::known;
 use evaluation::learn;
 use evaluation::step;
@@ -64,6 +66,25 @@ fn wins(found: bool, other: u64, value: u64, least: bool) -> bool
         return exceeds(value, other, least);
     }
     true
+}
+
+// Whether an action cannot win any more: its outcomes walked so far come to `sum`, and `rest` is what those left weigh.
+fn hopeless(
+    m: &[u8],
+    found: bool,
+    other: u64,
+    sum: u64,
+    rest: u64,
+    k: u8,
+    least: bool,
+) -> bool
+    requires { ⌜ (denominator-of (now m) ≤ 100) × (k ≤ 6) × (sum + rest * denominator-of (now m) ^ k < 2 ^ 64) ⌝ }
+    ensures { λ r. ⌜ r ≡ not (spec.wins found other (best-left least (denominator-of (now (m .entry))) k sum rest) least) ⌝ }
+{
+    if least {
+        return !wins(found, other, sum, least);
+    }
+    !wins(found, other, sum + rest * power(wide(m, 5), k), least)
 }
 
 // Moves n bytes down to a place, which they may overlap.
