@@ -1,3 +1,4 @@
 pub mod Words
 pub mod Spare
 pub mod Gains
+pub mod Patterns

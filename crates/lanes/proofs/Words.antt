@@ -2,7 +2,7 @@
 use Prim.Native.Nat.{ℕ, zero, suc, _+_, _*_, _-_, _/_, _%_, _^_, _≤_, _<_}
 use native.Mathlib.Omega.{arith}
 use native.Mathlib.Decide.{decLt}
-use native.Mathlib.Nat.{le-trans, add-zero, pow-suc, pow-succ', zero-div, div-one, div-div-eq-div-mul}
+use native.Mathlib.Nat.{le-trans, pow-suc, pow-succ', zero-div, div-one, div-div-eq-div-mul}
 use mathlib.Core.Path.{_≡_, refl, sym, ap, ap₂, _∙_}
 use mathlib.Core.Bool.{Bool}
 use mathlib.Core.Logic.{_⊎_, inl, inr, ⊎-elim}
@@ -33,10 +33,6 @@ lane-suc x i = ap (λ y. y % 2) (ap (λ p. x / p) (pow-succ' 2 i) ∙ sym (div-d
 pub lane-shr : (x j i : ℕ) → lane (x / 2 ^ j) i ≡ lane x (j + i)
 unfolding lane
 lane-shr x j i = ap (λ y. y % 2) (shr-shr x j i)
-
--- The lowest lane after two shifts.
-pub lane-first : (x j k : ℕ) → lane (x / 2 ^ j / 2 ^ k) 0 ≡ lane x (j + k)
-lane-first x j k = lane-shr (x / 2 ^ j) k 0 ∙ lane-shr x j (k + 0) ∙ ap (λ i. lane x (j + i)) (add-zero k)
 
 pub lane-bit : (x i : ℕ) → (lane x i ≡ 0) ⊎ (lane x i ≡ 1)
 unfolding lane

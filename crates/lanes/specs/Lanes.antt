@@ -4,6 +4,7 @@ use mathlib.Core.Path.{_≡_}
 use mathlib.Core.List.{List}
 use lib.IntN.{ℤ, pos}
 use lib.ListN.{getD}
+use Rattle.blocks.specs.Block.{sum-below}
 use Rattle.blocks.specs.Bytes.{Bytes}
 use Rattle.models.specs.Layout.{state-count, action-count, outcome-of, entries}
 
@@ -26,3 +27,16 @@ pub record Rewarded (m : Bytes) (end : ℕ) (r : List ℤ) : Type 0 where
 -- The table of the rewards of all outcomes.
 abbrev pub Rewards : Bytes → List ℤ → Type 0
 Rewards m r = Rewarded m (32 * state-count m) r
+
+-- The weights of an action's outcomes whose lanes in the pattern y are 1, summed.
+abbrev pub weighed : (m : Bytes) (s a y : ℕ) → ℕ
+weighed m s a y = sum-below (entries m s a) (λ o. (outcome-of m s a o) .weight * lane y o)
+
+-- A table of those sums, 128 places a state, 16 of them an action, one for each pattern of its four lanes: below `end` it has those of the
+-- model's actions.
+pub record Summed (m : Bytes) (end : ℕ) (t : List ℕ) : Type 0 where
+  pub right : (k : ℕ) → k < end → k / 16 % 8 < action-count m → getD t k 0 ≡ weighed m (k / 128) (k / 16 % 8) (k % 16)
+
+-- The table of the sums of all actions.
+abbrev pub Sums : Bytes → List ℕ → Type 0
+Sums m t = Summed m (128 * state-count m) t

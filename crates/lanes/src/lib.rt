@@ -15,7 +15,7 @@ ghost use Rattle.blocks.specs.Block.{sum-below};
 ghost use Rattle.blocks.specs.Bytes as bytes;
 ghost use Rattle.models.specs.Grounds.{read-model};
 ghost use Rattle.models.specs.Layout.{state-count, action-count, outcome-of, entries};
-ghost use Rattle.lanes.specs.Lanes.{Lanes, Laned, Rewarded, Rewards};
+ghost use Rattle.lanes.specs.Lanes.{Lanes, Laned, Rewarded, Rewards, Summed, Sums};
 ghost use Rattle.lanes.specs.Lanes as spec;
 use blocks::byte;
 use blocks::wide;
@@ -119,24 +119,81 @@ pub fn met(x: u32, y: u32) -> u32
 
 // ---- what the lanes weigh
 
-// The weight of the lowest lane's outcome, if the lane is 1.
-fn part(m: &[u8], s: u8, a: u8, o: u8, y: u32) -> u64
-    requires { ⌜ (s < 32) × (a < 8) × (o < 4) ⌝ }
-    ensures { λ r. ⌜ (r ≡ (outcome-of (now (m .entry)) s a o) .weight * spec.lane y 0) × (r < 256) ⌝ }
+// A weight, if the lowest lane is 1.
+fn part(w: u16, y: u16) -> u16
+    requires { ⌜ w < 256 ⌝ }
+    ensures { λ r. ⌜ (r ≡ w * spec.lane y 0) × (r < 256) ⌝ }
 {
-    weight(m, s as usize, a as usize, o as usize) as u64 * (y & 1) as u64
+    w * (y & 1)
 }
 
-// The weights of an action's outcomes whose lanes are 1, summed: what is not used weighs 0.
-pub fn total(m: &[u8], x: u32, s: u8, a: u8) -> u64
-    requires { ⌜ (refusal (read-model (now m)) ≡ 0) × (s < state-count (now m)) × (s < 32) × (a < 8) ⌝ }
+// The four weights whose lanes are 1, summed.
+fn parts(w0: u16, w1: u16, w2: u16, w3: u16, y: u16) -> u16
+    requires { ⌜ (w0 < 256) × (w1 < 256) × (w2 < 256) × (w3 < 256) ⌝ }
+    ensures { λ r. ⌜ r ≡ w0 * spec.lane y 0 + w1 * spec.lane y 1 + w2 * spec.lane y 2 + w3 * spec.lane y 3 ⌝ }
+{
+    part(w0, y) + part(w1, y >> 1) + part(w2, y >> 2) + part(w3, y >> 3)
+}
+
+// Puts the sums of an action's weights for the 16 patterns of its lanes: what is not used weighs 0.
+fn sum_cell(m: &[u8], t: &mut [u16], s: usize, a: usize)
+    requires { ⌜ (refusal (read-model (now m)) ≡ 0) × (s < state-count (now m)) × (s < 32) × (a < 8) × (length (now t) ≡ 4096) × Summed (now m) (128 * s + 16 * a) (now t) ⌝ }
+    ensures { λ _. ⌜ Summed (now (m .entry)) (128 * s + 16 * a + 16) (now (t .exit)) ⌝ }
+{
+    let w0 = weight(m, s, a, 0) as u16;
+    let w1 = weight(m, s, a, 1) as u16;
+    let w2 = weight(m, s, a, 2) as u16;
+    let w3 = weight(m, s, a, 3) as u16;
+    let at = 128 * s + 16 * a;
+    let mut y: u16 = 0;
+    while y < 16 {
+        t[at + y as usize] = parts(w0, w1, w2, w3, y);
+        y += 1;
+    }
+}
+
+// Puts those of all n actions of a state.
+fn sum_row(m: &[u8], t: &mut [u16], s: usize, n: usize)
+    requires { ⌜ (refusal (read-model (now m)) ≡ 0) × (s < state-count (now m)) × (s < 32) × (n ≡ action-count (now m)) × (n ≤ 8) × (length (now t) ≡ 4096) × Summed (now m) (128 * s) (now t) ⌝ }
+    ensures { λ _. ⌜ Summed (now (m .entry)) (128 * s + 128) (now (t .exit)) ⌝ }
+{
+    let mut a: usize = 0;
+    while a < n {
+        sum_cell(m, t, s, a);
+        a += 1;
+    }
+}
+
+// The sums of all actions.
+pub fn sums(m: &[u8]) -> [u16; 4096]
+    requires { ⌜ (refusal (read-model (now m)) ≡ 0) × (state-count (now m) ≤ 32) × (action-count (now m) ≤ 8) ⌝ }
+    ensures { λ r. ⌜ Sums (now (m .entry)) r ⌝ }
+{
+    let mut t = [0u16; 4096];
+    let states = wide(m, 2);
+    let n = wide(m, 3);
+    let mut s: usize = 0;
+    while s < states {
+        sum_row(m, &mut t, s, n);
+        s += 1;
+    }
+    t
+}
+
+// A sum of the table, as a number to compare.
+fn widened(x: u16) -> u64
+    ensures { λ r. ⌜ r ≡ x ⌝ }
+{
+    x as u64
+}
+
+// The weights of an action's outcomes whose lanes are 1, summed.
+pub fn total(m: &[u8], sums: &[u16; 4096], x: u32, s: u8, a: u8) -> u64
+    requires { ⌜ (refusal (read-model (now m)) ≡ 0) × (s < state-count (now m)) × (s < 32) × (a < action-count (now m)) × (a < 8) × Sums (now m) (now sums) ⌝ }
     ensures { λ r. ⌜ r ≡ sum-below (entries (now (m .entry)) s a) (λ o. (outcome-of (now (m .entry)) s a o) .weight * spec.lane x (4 * a + o)) ⌝ }
 {
-    let y = x >> (4 * a as u32);
-    part(m, s, a, 0, y)
-        + part(m, s, a, 1, y >> 1)
-        + part(m, s, a, 2, y >> 2)
-        + part(m, s, a, 3, y >> 3)
+    let y = (x >> (4 * a as u32)) % 16;
+    widened(sums[128 * s as usize + 16 * a as usize + y as usize])
 }
 
 // ---- the rewards

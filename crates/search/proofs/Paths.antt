@@ -8,14 +8,11 @@ use mathlib.Core.List.{List, [], _∷_}
 use lib.IntN.{ℤ}
 use lib.ListN.{length, getD, take}
 use lib.Seq.{length-take-le, take-take, take-at}
-use Rattle.logic.specs.Checked.{refusal}
 use Rattle.logic.specs.Quantity.{weights, order}
 use Rattle.logic.specs.Plan.{choices}
 use Rattle.logic.specs.Recursion.{greatest}
 use Rattle.blocks.specs.Bytes.{Bytes}
 use Rattle.models.specs.Layout.{state-count, action-count, outcome-of, entries, model-of}
-use Rattle.models.specs.Grounds.{read-model}
-use Rattle.models.specs.Used.{Used}
 use Rattle.models.proofs.Passed.{passed-all, passed-sized}
 use Rattle.models.proofs.Laws.{entries-small}
 use Rattle.models.proofs.Table.{used-at}
@@ -26,16 +23,15 @@ use Rattle.evaluation.specs.Known.{Knows, Offered, Stepped}
 use Rattle.evaluation.proofs.Trails.{state-inside}
 use Rattle.evaluation.proofs.Knowing.{knows-shorter}
 use Rattle.evaluation.proofs.Stepping.{leaf-value, state-stepped, on-path-stepped}
-use Rattle.last.specs.Masks.{Before-last, Ended}
 use Rattle.extension.specs.Choices.{room}
 use Rattle.search.specs.Greatest.{best-choices}
-use Rattle.search.specs.Buffers.{Wrote, Setting, Back, Picked, Ends}
+use Rattle.search.specs.Buffers.{Wrote, Setting, Back, Picked}
 use Rattle.search.specs.declared.Best.{Best}
 use Rattle.search.proofs.Stack.{wrote-none}
 use Rattle.search.proofs.Trying.{sizes-in}
 
-module _ {m used q : Bytes} {depths truth cone late : List ℕ} {rewards : List ℤ} {start : ℕ} {trail : List ℕ} {gains : List ℤ} {v : List ℕ} {h s k : ℕ}
-    (S : Setting m used q depths truth cone late rewards start trail gains v h s k) where
+module _ {m used q : Bytes} {depths truth cone late : List ℕ} {rewards : List ℤ} {sums : List ℕ} {start : ℕ} {trail : List ℕ} {gains : List ℤ} {v : List ℕ} {h s k : ℕ}
+    (S : Setting m used q depths truth cone late rewards sums start trail gains v h s k) where
   pub state-here : s < state-count m
   state-here = subst (λ x. x < state-count m) (S .state) (state-inside m (S .ready .model-accepted) (S .knows .followed) (S .ready .state))
 
@@ -62,29 +58,6 @@ module _ {m used q : Bytes} {depths truth cone late : List ℕ} {rewards : List 
       let none : Wrote (best-choices least (model-of m) k s (on-path m q start cone (take h trail))) at c c at = rw e (wrote-none at c) in
       record { value = g .0 ∙ leaf-here e ∙ rw e refl; wrote = rw (g .1) none }
 
-  -- Where one step is left, the lanes have the values.
-  module _ (e : k ≡ 1) where
-    pub before-last : Before-last m q start depths truth cone late rewards trail gains v h s
-    before-last =
-        record {
-          ready = S .ready;
-          marked = S .marked;
-          rewarded = S .rewarded;
-          roomy = S .roomy;
-          knows = S .knows;
-          state = S .state;
-          deep = omega (arith, S .deep);
-          few = omega (arith, S .few);
-        }
-
-    pub last-asked : (at : ℕ) (c : List ℕ) → at + 3 * room k ≤ length c → (refusal (read-model m) ≡ 0) × Used m used × (s < state-count m) × (at + 3 ≤ length c)
-    unfolding room
-    last-asked at c r = let one : room k ≡ 1 = ap room e in (S .ready .model-accepted, S .counted, state-here, omega arith)
-
-    pub picked-last : {least : Bool} {x at : ℕ} {c c′ : List ℕ} {b : Best} → Ended m q start cone (take h trail) s x → Ends least m s x at c c′ b
-        → Picked least m (on-path m q start cone (take h trail)) s k at c c′ b
-    picked-last X E = rw e (E .picked (on-path m q start cone (take h trail)) X)
-
 -- The buffers after some searches below: as long as they were, with the trail back.
 pub record Kept (m q : Bytes) (start : ℕ) (cone : List ℕ) (h : ℕ) (trail : List ℕ) (gains : List ℤ) (v choices trail′ : List ℕ) (gains′ : List ℤ)
     (v′ choices′ : List ℕ) : Type 0 where
@@ -94,8 +67,8 @@ pub record Kept (m q : Bytes) (start : ℕ) (cone : List ℕ) (h : ℕ) (trail :
   pub places : length v′ ≡ length v
   pub room : length choices′ ≡ length choices
 
-module _ {m used q : Bytes} {depths truth cone late : List ℕ} {rewards : List ℤ} {start : ℕ} {trail : List ℕ} {gains : List ℤ} {v : List ℕ} {h s k : ℕ}
-    (S : Setting m used q depths truth cone late rewards start trail gains v h s k) where
+module _ {m used q : Bytes} {depths truth cone late : List ℕ} {rewards : List ℤ} {sums : List ℕ} {start : ℕ} {trail : List ℕ} {gains : List ℤ} {v : List ℕ} {h s k : ℕ}
+    (S : Setting m used q depths truth cone late rewards sums start trail gains v h s k) where
   pub back-none : Back m q start cone h trail trail gains v
   back-none = record { kept = refl; knows = S .knows }
 
@@ -103,7 +76,7 @@ module _ {m used q : Bytes} {depths truth cone late : List ℕ} {rewards : List 
   kept-none choices = record { back = back-none; steps = refl; sums = refl; places = refl; room = refl }
 
   pub setting-kept : {choices trail′ : List ℕ} {gains′ : List ℤ} {v′ choices′ : List ℕ} → Kept m q start cone h trail gains v choices trail′ gains′ v′ choices′
-      → Setting m used q depths truth cone late rewards start trail′ gains′ v′ h s k
+      → Setting m used q depths truth cone late rewards sums start trail′ gains′ v′ h s k
   setting-kept {gains′ = gains′} {v′} K =
       let B = K .back in
       record {
@@ -111,6 +84,7 @@ module _ {m used q : Bytes} {depths truth cone late : List ℕ} {rewards : List 
         counted = S .counted;
         marked = S .marked;
         rewarded = S .rewarded;
+        summed = S .summed;
         roomy = record { steps = omega (arith, S .roomy .steps, K .steps); sums = omega (arith, S .roomy .sums, K .sums); places = omega (arith, S .roomy .places, K .places) };
         knows = subst (λ t. Knows m q start cone t gains′ v′) (sym (B .kept)) (B .knows);
         state = ap (state-after m start) (B .kept) ∙ S .state;
@@ -134,20 +108,21 @@ kept-kept {m} {q} {start} {cone = cone} {g2 = g2} {v2 = v2} K B et eg ev ec =
 
 -- ---- a step
 
-module _ {m used q : Bytes} {depths truth cone late : List ℕ} {rewards : List ℤ} {start : ℕ} {trail : List ℕ} {gains : List ℤ} {v : List ℕ} {h s : ℕ} (k : ℕ)
-    (S : Setting m used q depths truth cone late rewards start trail gains v h s (k + 1)) (a o : ℕ) (used-here : o < entries m s a) where
+module _ {m used q : Bytes} {depths truth cone late : List ℕ} {rewards : List ℤ} {sums : List ℕ} {start : ℕ} {trail : List ℕ} {gains : List ℤ} {v : List ℕ} {h s : ℕ} (k : ℕ)
+    (S : Setting m used q depths truth cone late rewards sums start trail gains v h s (k + 1)) (a o : ℕ) (used-here : o < entries m s a) where
   pub offered : Offered m start trail h s a o
   offered = record { steps = omega (arith, S .few); state = S .state; used = used-here }
 
   module _ {trail′ : List ℕ} {gains′ : List ℤ} {v′ : List ℕ} {t : ℕ} (T : Stepped m q start cone h s a o trail trail′ gains′ v′ t) where
     pub setting-on : length trail′ ≡ length trail → length gains′ ≡ length gains → length v′ ≡ length v
-        → Setting m used q depths truth cone late rewards start trail′ gains′ v′ (h + 1) t k
+        → Setting m used q depths truth cone late rewards sums start trail′ gains′ v′ (h + 1) t k
     setting-on e1 e2 e3 =
         record {
           ready = S .ready;
           counted = S .counted;
           marked = S .marked;
           rewarded = S .rewarded;
+          summed = S .summed;
           roomy = record { steps = omega (arith, S .roomy .steps); sums = omega (arith, S .roomy .sums); places = omega (arith, S .roomy .places) };
           knows = T .knows;
           state = state-stepped (S .ready) offered (S .knows) T;

@@ -14,7 +14,6 @@ use Rattle.blocks.specs.Bytes.{Bytes}
 use Rattle.models.specs.Layout.{state-count, action-count, prop-count, outcome-of, entries, model-of}
 use Rattle.models.specs.Grounds.{read-model}
 use Rattle.models.specs.Used.{Used}
-use Rattle.models.proofs.Passed.{passed-all, passed-sized}
 use Rattle.questions.specs.Layout.{node-count, formulas-of}
 use Rattle.questions.specs.Tables.{table}
 use Rattle.questions.proofs.Accepted.{accepted}
@@ -26,7 +25,7 @@ use Rattle.evaluation.specs.Learnt.{learnt}
 use Rattle.evaluation.specs.Known.{Knows, Roomy, Offered, Stepped}
 use Rattle.evaluation.proofs.Values.{one-if-small}
 use Rattle.evaluation.proofs.Stepping.{begun}
-use Rattle.lanes.specs.Lanes.{Rewards}
+use Rattle.lanes.specs.Lanes.{Rewards, Sums}
 use Rattle.last.specs.Late.{Late}
 use Rattle.search.specs.Greatest.{best-choices, Finds}
 use Rattle.search.specs.Buffers.{Setting, Back, Keeps, Picked, Walks}
@@ -35,7 +34,7 @@ use Rattle.search.specs.declared.Walked.{Walked}
 use Rattle.search.proofs.Bounds.{choices-few}
 use Rattle.search.proofs.Trying.{Tried, enabled-below, tried-start, turn-skipped, tried-room, keeps-inside, turn-taken, picked-all}
 use Rattle.search.proofs.Walking.{Walking, walking-more, walking-room, sum-fits, walked-value, walked-wrote}
-use Rattle.search.proofs.Paths.{state-here, Kept, kept-none, setting-kept, kept-kept, offered, setting-on, back-on, picked-value, picked-wrote}
+use Rattle.search.proofs.Paths.{state-here, Kept, back-none, kept-none, setting-kept, kept-kept, offered, setting-on, back-on, picked-value, picked-wrote}
 
 -- Where two ways meet: what holds of the one that was taken holds.
 pub same : (P : List ℕ → List ℤ → List ℕ → List ℕ → Best → Type 0) {t t′ : List ℕ} {g g′ : List ℤ} {v v′ c c′ : List ℕ} {b b′ : Best}
@@ -48,8 +47,14 @@ same P {t} {t′} {g} {g′} {v} {v′} {c} {c′} {b} et eg ev ec eb x =
 
 -- ---- an outcome walked
 
-module _ {m used q : Bytes} {depths truth cone late : List ℕ} {rewards : List ℤ} {start : ℕ} {trail₀ : List ℕ} {gains₀ : List ℤ} {v₀ choices₀ : List ℕ} {h s : ℕ} (k : ℕ)
-    (S : Setting m used q depths truth cone late rewards start trail₀ gains₀ v₀ h s (k + 1)) {least : Bool} {a o at sum end : ℕ} {trail : List ℕ} {gains : List ℤ}
+-- The best plan below the outcome, and the buffers after the search for it.
+pub record Below (least : Bool) (m q : Bytes) (start : ℕ) (cone : List ℕ) (h s k at : ℕ) (trail : List ℕ) (gains : List ℤ) (v choices trail′ : List ℕ)
+    (gains′ : List ℤ) (v′ choices′ : List ℕ) (b : Best) : Type 0 where
+  pub picked : Picked least m (on-path m q start cone (take h trail)) s k at choices choices′ b
+  pub kept : Kept m q start cone h trail gains v choices trail′ gains′ v′ choices′
+
+module _ {m used q : Bytes} {depths truth cone late : List ℕ} {rewards : List ℤ} {sums : List ℕ} {start : ℕ} {trail₀ : List ℕ} {gains₀ : List ℤ} {v₀ choices₀ : List ℕ} {h s : ℕ} (k : ℕ)
+    (S : Setting m used q depths truth cone late rewards sums start trail₀ gains₀ v₀ h s (k + 1)) {least : Bool} {a o at sum end : ℕ} {trail : List ℕ} {gains : List ℤ}
     {v choices : List ℕ} (K : Kept m q start cone h trail₀ gains₀ v₀ choices₀ trail gains v choices)
     (W : Walking least m s a k (on-path m q start cone (take h trail₀)) o at choices₀ choices sum end) (here : o < entries m s a) where
   pub step-asked : Ready m q start depths truth cone × Roomy trail gains v × Offered m start trail h s a o × Knows m q start cone (take h trail) gains v
@@ -58,35 +63,53 @@ module _ {m used q : Bytes} {depths truth cone late : List ℕ} {rewards : List 
   pub pick-room : at + 6 * room k ≤ length choices₀ → end + 3 * room k ≤ length choices
   pick-room r = omega (arith, walking-room least m s a k _ (S .ready .model-accepted) o at sum end choices₀ choices W here, K .room)
 
-  module _ {trail′ : List ℕ} {gains′ : List ℤ} {v′ : List ℕ} {t : ℕ} (T : Stepped m q start cone h s a o trail trail′ gains′ v′ t) where
-    pub pick-setting : length trail′ ≡ length trail → length gains′ ≡ length gains → length v′ ≡ length v
-        → Setting m used q depths truth cone late rewards start trail′ gains′ v′ (h + 1) t k
-    pick-setting et eg ev = setting-on k (setting-kept S K) a o here T et eg ev
+  pub last-room : k ≡ 1 → at + 6 * room k ≤ length choices₀ → end + 3 * room 1 ≤ length choices
+  last-room e r = subst (λ j. end + 3 * room j ≤ length choices) e (pick-room r)
 
-    module _ {choices″ : List ℕ} {b : Best} (P : Picked least m (on-path m q start cone (take (h + 1) trail′)) t k end choices choices″ b)
-        (w : ℕ) (e : w ≡ (outcome-of m s a o) .weight) where
-      abbrev N : Setting m used q depths truth cone late rewards start trail gains v h s (k + 1)
+  module _ {trail′ : List ℕ} {gains′ : List ℤ} {v′ : List ℕ} {t : ℕ} (T : Stepped m q start cone h s a o trail trail′ gains′ v′ t)
+      (et : length trail′ ≡ length trail) (eg : length gains′ ≡ length gains) (ev : length v′ ≡ length v) where
+    pub pick-setting : Setting m used q depths truth cone late rewards sums start trail′ gains′ v′ (h + 1) t k
+    pick-setting = setting-on k (setting-kept S K) a o here T et eg ev
+
+    pub last-setting : k ≡ 1 → Setting m used q depths truth cone late rewards sums start trail′ gains′ v′ (h + 1) t 1
+    last-setting e = subst (Setting m used q depths truth cone late rewards sums start trail′ gains′ v′ (h + 1) t) e pick-setting
+
+    -- Where one step was left, only the choices changed.
+    pub below-last : {choices″ : List ℕ} {b : Best} → k ≡ 1 → Picked least m (on-path m q start cone (take (h + 1) trail′)) t 1 end choices choices″ b
+        → length choices″ ≡ length choices → Below least m q start cone (h + 1) t k end trail′ gains′ v′ choices trail′ gains′ v′ choices″ b
+    below-last {choices″} {b} e P ec =
+        record {
+          picked = subst (λ j. Picked least m (on-path m q start cone (take (h + 1) trail′)) t j end choices choices″ b) (sym e) P;
+          kept = record { back = back-none pick-setting; steps = refl; sums = refl; places = refl; room = ec };
+        }
+
+    module _ {trail″ : List ℕ} {gains″ : List ℤ} {v″ choices″ : List ℕ} {b : Best}
+        (P : Below least m q start cone (h + 1) t k end trail′ gains′ v′ choices trail″ gains″ v″ choices″ b) where
+      abbrev N : Setting m used q depths truth cone late rewards sums start trail gains v h s (k + 1)
       N = setting-kept S K
 
-      pub walk-fits : sum + w * b .value < 2 ^ 64
-      walk-fits =
-          sum-fits least m s a k (on-path m q start cone (take h trail₀)) (S .ready .model-accepted) (state-here S) (omega (arith, S .few)) (λ r. one-if-small _)
-          o here at end (b .end) sum (b .value) choices₀ choices choices″ W (picked-value k N a o here T (K .back .kept) P) (picked-wrote k N a o here T (K .back .kept) P) w e
+      module _ (w : ℕ) (e : w ≡ (outcome-of m s a o) .weight) where
+        pub walk-fits : sum + w * b .value < 2 ^ 64
+        walk-fits =
+            sum-fits least m s a k (on-path m q start cone (take h trail₀)) (S .ready .model-accepted) (state-here S) (omega (arith, S .few)) (λ r. one-if-small _)
+            o here at end (b .end) sum (b .value) choices₀ choices choices″ W (picked-value k N a o here T (K .back .kept) (P .picked))
+            (picked-wrote k N a o here T (K .back .kept) (P .picked)) w e
 
-      pub walk-more : {x : ℕ} → x ≡ sum + w * b .value → Walking least m s a k (on-path m q start cone (take h trail₀)) (o + 1) at choices₀ choices″ x (b .end)
-      walk-more g =
-          subst (λ x. Walking least m s a k (on-path m q start cone (take h trail₀)) (o + 1) at choices₀ choices″ x (b .end)) (sym g)
-          (walking-more least m s a k (on-path m q start cone (take h trail₀)) (S .ready .model-accepted) (state-here S) (omega (arith, S .few)) (λ r. one-if-small _)
-          o here at end (b .end) sum (b .value) choices₀ choices choices″ W (picked-value k N a o here T (K .back .kept) P) (picked-wrote k N a o here T (K .back .kept) P) w e)
+        pub walk-more : {x : ℕ} → x ≡ sum + w * b .value → Walking least m s a k (on-path m q start cone (take h trail₀)) (o + 1) at choices₀ choices″ x (b .end)
+        walk-more g =
+            subst (λ x. Walking least m s a k (on-path m q start cone (take h trail₀)) (o + 1) at choices₀ choices″ x (b .end)) (sym g)
+            (walking-more least m s a k (on-path m q start cone (take h trail₀)) (S .ready .model-accepted) (state-here S) (omega (arith, S .few)) (λ r. one-if-small _)
+            o here at end (b .end) sum (b .value) choices₀ choices choices″ W (picked-value k N a o here T (K .back .kept) (P .picked))
+            (picked-wrote k N a o here T (K .back .kept) (P .picked)) w e)
 
-    pub walk-kept : {trail″ : List ℕ} {gains″ : List ℤ} {v″ choices″ : List ℕ} → Back m q start cone (h + 1) trail′ trail″ gains″ v″
-        → length trail″ ≡ length trail → length gains″ ≡ length gains → length v″ ≡ length v → length choices″ ≡ length choices
-        → Kept m q start cone h trail₀ gains₀ v₀ choices₀ trail″ gains″ v″ choices″
-    walk-kept B et eg ev ec = kept-kept K (back-on k (setting-kept S K) a o here T B) et eg ev ec
+      pub walk-kept : Kept m q start cone h trail₀ gains₀ v₀ choices₀ trail″ gains″ v″ choices″
+      walk-kept =
+          let B = P .kept in
+          kept-kept K (back-on k N a o here T (B .back)) (B .steps ∙ et) (B .sums ∙ eg) (B .places ∙ ev) (B .room)
 
 -- All outcomes are walked.
-pub walked-all : {m used q : Bytes} {depths truth cone late : List ℕ} {rewards : List ℤ} {start : ℕ} {trail : List ℕ} {gains : List ℤ} {v choices₀ choices : List ℕ} {h s j : ℕ}
-    → Setting m used q depths truth cone late rewards start trail gains v h s j → {least : Bool} {a o at sum end k : ℕ}
+pub walked-all : {m used q : Bytes} {depths truth cone late : List ℕ} {rewards : List ℤ} {sums : List ℕ} {start : ℕ} {trail : List ℕ} {gains : List ℤ} {v choices₀ choices : List ℕ} {h s j : ℕ}
+    → Setting m used q depths truth cone late rewards sums start trail gains v h s j → {least : Bool} {a o at sum end k : ℕ}
     → Walking least m s a k (on-path m q start cone (take h trail)) o at choices₀ choices sum end → o ≡ entries m s a
     → Walks least m (on-path m q start cone (take h trail)) s a k at choices₀ choices (record { value = sum; end = end })
 walked-all {m} {q = q} {cone = cone} {start} {trail} {choices₀ = choices₀} {choices} {h} {s} S {least} {a} {o} {at} {sum} {end} {k} W e =
@@ -105,14 +128,14 @@ pub record Turned (least : Bool) (m q : Bytes) (start : ℕ) (cone : List ℕ) (
   pub tried : Tried least (model-of m) (k - 1) s (on-path m q start cone (take h trail₀)) (enabled-below m s a) at choices₀ choices b
   pub kept : Kept m q start cone h trail₀ gains₀ v₀ choices₀ trail gains v choices
 
-module _ {m used q : Bytes} {depths truth cone late : List ℕ} {rewards : List ℤ} {start : ℕ} {trail₀ : List ℕ} {gains₀ : List ℤ} {v₀ : List ℕ} {h s k : ℕ}
-    (S : Setting m used q depths truth cone late rewards start trail₀ gains₀ v₀ h s k) where
+module _ {m used q : Bytes} {depths truth cone late : List ℕ} {rewards : List ℤ} {sums : List ℕ} {start : ℕ} {trail₀ : List ℕ} {gains₀ : List ℤ} {v₀ : List ℕ} {h s k : ℕ}
+    (S : Setting m used q depths truth cone late rewards sums start trail₀ gains₀ v₀ h s k) where
   pub turned-none : {least : Bool} (at : ℕ) (choices : List ℕ)
       → Turned least m q start cone h s k at trail₀ gains₀ v₀ choices 0 trail₀ gains₀ v₀ choices (record { found = false; value = 0; end = at })
   turned-none {least} at choices = record { tried = tried-start least m (on-path m q start cone (take h trail₀)) s (k - 1) at choices; kept = kept-none S choices }
 
-module _ {m used q : Bytes} {depths truth cone late : List ℕ} {rewards : List ℤ} {start : ℕ} {trail₀ : List ℕ} {gains₀ : List ℤ} {v₀ choices₀ : List ℕ} {h s k : ℕ}
-    (S : Setting m used q depths truth cone late rewards start trail₀ gains₀ v₀ h s k) (some : k ≡ 0 → ⊥) {least : Bool} {a at : ℕ} {trail : List ℕ} {gains : List ℤ}
+module _ {m used q : Bytes} {depths truth cone late : List ℕ} {rewards : List ℤ} {sums : List ℕ} {start : ℕ} {trail₀ : List ℕ} {gains₀ : List ℤ} {v₀ choices₀ : List ℕ} {h s k : ℕ}
+    (S : Setting m used q depths truth cone late rewards sums start trail₀ gains₀ v₀ h s k) (some : k ≡ 0 → ⊥) {least : Bool} {a at : ℕ} {trail : List ℕ} {gains : List ℤ}
     {v choices : List ℕ} {b : Best} (U : Turned least m q start cone h s k at trail₀ gains₀ v₀ choices₀ a trail gains v choices b) where
   abbrev f : List Step → ℕ
   f = on-path m q start cone (take h trail₀)
@@ -128,7 +151,7 @@ module _ {m used q : Bytes} {depths truth cone late : List ℕ} {rewards : List 
       let z = room-step k some in
       (omega (arith, U .kept .room), omega (arith, U .kept .room))
 
-  pub walk-setting : Setting m used q depths truth cone late rewards start trail gains v h s (k - 1 + 1)
+  pub walk-setting : Setting m used q depths truth cone late rewards sums start trail gains v h s (k - 1 + 1)
   walk-setting = let e : k - 1 + 1 ≡ k = omega (arith, one-less) in rw e (setting-kept S (U .kept))
 
   -- All are tried.
@@ -161,25 +184,23 @@ module _ {m used q : Bytes} {depths truth cone late : List ℕ} {rewards : List 
 
 -- ---- from the start
 
--- What the tables of the last step ask.
-module _ {m q : Bytes} {start : ℕ} {depths truth cone : List ℕ} (R : Ready m q start depths truth cone) where
-  pub late-asked : Cone q cone × (depths ≡ table depth (formulas-of q)) × (node-count q ≤ 40)
-  late-asked = (R .ordered, R .depths-right, (accepted (state-count m) (action-count m) (prop-count m) q (R .question-accepted)) .few-nodes)
+-- What the marks of the last step ask.
+pub late-asked : {m q : Bytes} {start : ℕ} {depths truth cone : List ℕ} → Ready m q start depths truth cone
+    → Cone q cone × (depths ≡ table depth (formulas-of q)) × (node-count q ≤ 40)
+late-asked {m} {q} R = (R .ordered, R .depths-right, (accepted (state-count m) (action-count m) (prop-count m) q (R .question-accepted)) .few-nodes)
 
-  pub rewards-asked : (state-count m ≤ 32) × (action-count m ≤ 8)
-  rewards-asked = let z = passed-sized m (passed-all m (R .model-accepted)) in (z .states, z .actions)
-
-pub setting-start : {m used q : Bytes} {depths truth cone late : List ℕ} {rewards : List ℤ} {start d : ℕ} {trail : List ℕ} {gains : List ℤ} {v v′ : List ℕ}
-    → Ready m q start depths truth cone → Used m used → Late q cone late → Rewards m rewards → d ≡ depth (formula q (root-of cone)) → d ≤ 6 → Roomy trail gains v → length v′ ≡ length v
+pub setting-start : {m used q : Bytes} {depths truth cone late : List ℕ} {rewards : List ℤ} {sums : List ℕ} {start d : ℕ} {trail : List ℕ} {gains : List ℤ} {v v′ : List ℕ}
+    → Ready m q start depths truth cone → Used m used → Late q cone late → Rewards m rewards → Sums m sums → d ≡ depth (formula q (root-of cone)) → d ≤ 6 → Roomy trail gains v → length v′ ≡ length v
     → getD gains 0 (pos 0) ≡ pos 0 → v′ ≡ learnt q depths truth trail gains 0 start cone v
-    → Setting m used q depths truth cone late rewards start trail gains v′ 0 start d
+    → Setting m used q depths truth cone late rewards sums start trail gains v′ 0 start d
 unfolding state-after
-setting-start {trail = trail} {gains} {v} {v′} R U L G e h F l g k =
+setting-start {trail = trail} {gains} {v} {v′} R U L G T e h F l g k =
     record {
       ready = R;
       counted = U;
       marked = L;
       rewarded = G;
+      summed = T;
       roomy = record { steps = F .steps; sums = F .sums; places = omega (arith, F .places) };
       knows = begun R trail gains v v′ g (F .places) k;
       state = refl;

@@ -16,7 +16,7 @@ use Rattle.models.specs.Used.{Used}
 use Rattle.evaluation.specs.Path.{state-after}
 use Rattle.evaluation.specs.Reached.{formula, root-of, Ready}
 use Rattle.evaluation.specs.Known.{Knows, Roomy}
-use Rattle.lanes.specs.Lanes.{Laned, Rewards}
+use Rattle.lanes.specs.Lanes.{Laned, Rewards, Sums}
 use Rattle.last.specs.Late.{Late}
 use Rattle.search.specs.Greatest.{worth, below, best-choices}
 use Rattle.search.specs.declared.Best.{Best}
@@ -39,12 +39,13 @@ pub record Keeps (b : Best) (w : Walked) (at : ℕ) (least : Bool) (before after
   pub left : wins (b .found) (b .value) (w .value) least ≡ false → (r ≡ b) × (after ≡ before)
 
 -- A search of k steps goes on in the state s, where the first h bytes of the trail lead.
-pub record Setting (m used q : Bytes) (depths truth cone late : List ℕ) (rewards : List ℤ) (start : ℕ) (trail : List ℕ) (gains : List ℤ) (v : List ℕ)
+pub record Setting (m used q : Bytes) (depths truth cone late : List ℕ) (rewards : List ℤ) (sums : List ℕ) (start : ℕ) (trail : List ℕ) (gains : List ℤ) (v : List ℕ)
     (h s k : ℕ) : Type 0 where
   pub ready : Ready m q start depths truth cone
   pub counted : Used m used
   pub marked : Late q cone late
   pub rewarded : Rewards m rewards
+  pub summed : Sums m sums
   pub roomy : Roomy trail gains v
   pub knows : Knows m q start cone (take h trail) gains v
   pub state : state-after m start (take h trail) ≡ s

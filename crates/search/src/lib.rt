@@ -14,6 +14,7 @@ ghost use Rattle.models.specs.Used.{Used};
 ghost use Rattle.extension.specs.Choices.{room};
 ghost use Rattle.evaluation.specs.Learnt as learnt;
 ghost use Rattle.evaluation.specs.Reached.{formula, root-of, on-path, Ready};
+ghost use Rattle.lanes.specs.Lanes.{Rewards, Sums};
 ghost use Rattle.search.specs.Greatest.{Finds, best-left};
 ghost use Rattle.search.specs.Buffers.{Keeps, Setting, Back, Picked, Walks, Ends};
 ghost use Rattle.search.specs.Buffers as spec;
@@ -23,7 +24,6 @@ use bounds::power;
 use evaluation::known;
 use evaluation::learn;
 use evaluation::step;
-use lanes::rewards;
 use lanes::total;
 use last::late;
 use last::masks::mask;
@@ -157,13 +157,14 @@ fn leaf(cone: &[u8], v: &[u8], at: usize) -> Best
 fn last_choice(
     m: &[u8],
     used: &[u8; 264],
+    sums: &[u16; 4096],
     choices: &mut [u8],
     x: u32,
     s: u8,
     at: usize,
     least: bool,
 ) -> Best
-    requires { ⌜ (refusal (read-model (now m)) ≡ 0) × Used (now m) (now used) × (s < state-count (now m)) × (at + 3 ≤ length (now choices)) ⌝ }
+    requires { ⌜ (refusal (read-model (now m)) ≡ 0) × Used (now m) (now used) × (s < state-count (now m)) × (at + 3 ≤ length (now choices)) × Sums (now m) (now sums) ⌝ }
     ensures { λ r. ⌜ Ends least (now (m .entry)) s x at (now (choices .entry)) (now (choices .exit)) r ⌝ }
 {
     let n = byte(m, 3);
@@ -173,7 +174,7 @@ fn last_choice(
     let mut a: u8 = 0;
     while a < n {
         if count(used, s, a) != 0 {
-            let v = total(m, x, s, a);
+            let v = total(m, sums, x, s, a);
             if wins(found, value, v, least) {
                 found = true;
                 value = v;
@@ -190,6 +191,49 @@ fn last_choice(
     }
 }
 
+// Picks the best choice where one step is left, for all outcomes at once. Its one call is in `walk`, into which it is built for speed.
+fn pick_last(
+    m: &[u8],
+    used: &[u8; 264],
+    q: &[u8],
+    depths: &[u32],
+    truth: &[u8],
+    cone: &[u8],
+    late: &[u8; 40],
+    rewards: &[i32; 1024],
+    sums: &[u16; 4096],
+    trail: &[u8],
+    gains: &[i32],
+    v: &[u8],
+    choices: &mut [u8],
+    start: u8,
+    h: u8,
+    s: u8,
+    at: usize,
+    least: bool,
+) -> Best
+    requires { ⌜ Setting (now m) (now used) (now q) (now depths) (now truth) (now cone) (now late) (now rewards) (now sums) start (now trail) (now gains) (now v) h s 1 ⌝ }
+    requires { ⌜ at + 3 * room 1 ≤ length (now choices) ⌝ }
+    ensures { λ r. ⌜ Picked least (now (m .entry)) (on-path (now (m .entry)) (now (q .entry)) start (now (cone .entry)) (take h (now (trail .entry)))) s 1 at (now (choices .entry)) (now (choices .exit)) r ⌝ }
+{
+    let x = mask(
+        m,
+        q,
+        depths,
+        truth,
+        cone,
+        late,
+        rewards,
+        trail,
+        gains,
+        v,
+        start,
+        h,
+        s,
+    );
+    last_choice(m, used, sums, choices, x, s, at, least)
+}
+
 // Picks the best choice in the state s, with k steps left, and writes its plan's choices from `at` on.
 fn pick(
     m: &[u8],
@@ -200,6 +244,7 @@ fn pick(
     cone: &[u8],
     late: &[u8; 40],
     rewards: &[i32; 1024],
+    sums: &[u16; 4096],
     trail: &mut [u8],
     gains: &mut [i32],
     v: &mut [u8],
@@ -211,31 +256,13 @@ fn pick(
     at: usize,
     least: bool,
 ) -> Best
-    requires { ⌜ Setting (now m) (now used) (now q) (now depths) (now truth) (now cone) (now late) (now rewards) start (now trail) (now gains) (now v) h s k ⌝ }
+    requires { ⌜ Setting (now m) (now used) (now q) (now depths) (now truth) (now cone) (now late) (now rewards) (now sums) start (now trail) (now gains) (now v) h s k ⌝ }
     requires { ⌜ at + 3 * room k ≤ length (now choices) ⌝ }
     ensures { λ r. ⌜ Picked least (now (m .entry)) (on-path (now (m .entry)) (now (q .entry)) start (now (cone .entry)) (take h (now (trail .entry)))) s k at (now (choices .entry)) (now (choices .exit)) r ⌝ }
     ensures { λ r. ⌜ Back (now (m .entry)) (now (q .entry)) start (now (cone .entry)) h (now (trail .entry)) (now (trail .exit)) (now (gains .exit)) (now (v .exit)) ⌝ }
 {
     if k == 0 {
         return leaf(cone, v, at);
-    }
-    if k == 1 {
-        let x = mask(
-            m,
-            q,
-            depths,
-            truth,
-            cone,
-            late,
-            rewards,
-            trail,
-            gains,
-            v,
-            start,
-            h,
-            s,
-        );
-        return last_choice(m, used, choices, x, s, at, least);
     }
     let n = byte(m, 3);
     let mut best = Best {
@@ -257,6 +284,7 @@ fn pick(
                 cone,
                 late,
                 rewards,
+                sums,
                 trail,
                 gains,
                 v,
@@ -286,6 +314,7 @@ fn walk(
     cone: &[u8],
     late: &[u8; 40],
     rewards: &[i32; 1024],
+    sums: &[u16; 4096],
     trail: &mut [u8],
     gains: &mut [i32],
     v: &mut [u8],
@@ -298,8 +327,8 @@ fn walk(
     at: usize,
     least: bool,
 ) -> Walked
-    requires { ⌜ Setting (now m) (now used) (now q) (now depths) (now truth) (now cone) (now late) (now rewards) start (now trail) (now gains) (now v) h s (k + 1) ⌝ }
-    requires { ⌜ (a < 8) × (1 ≤ k) × (at + 6 * room k ≤ length (now choices)) ⌝ }
+    requires { ⌜ Setting (now m) (now used) (now q) (now depths) (now truth) (now cone) (now late) (now rewards) (now sums) start (now trail) (now gains) (now v) h s (k + 1) ⌝ }
+    requires { ⌜ (a < 8) × (at + 6 * room k ≤ length (now choices)) ⌝ }
     ensures { λ r. ⌜ Walks least (now (m .entry)) (on-path (now (m .entry)) (now (q .entry)) start (now (cone .entry)) (take h (now (trail .entry)))) s a k at (now (choices .entry)) (now (choices .exit)) r ⌝ }
     ensures { λ r. ⌜ Back (now (m .entry)) (now (q .entry)) start (now (cone .entry)) h (now (trail .entry)) (now (trail .exit)) (now (gains .exit)) (now (v .exit)) ⌝ }
 {
@@ -323,26 +352,50 @@ fn walk(
             a,
             o,
         );
-        let b = pick(
-            m,
-            used,
-            q,
-            depths,
-            truth,
-            cone,
-            late,
-            rewards,
-            trail,
-            gains,
-            v,
-            choices,
-            start,
-            h + 1,
-            t,
-            k,
-            end,
-            least,
-        );
+        let b = if k == 1 {
+            pick_last(
+                m,
+                used,
+                q,
+                depths,
+                truth,
+                cone,
+                late,
+                rewards,
+                sums,
+                trail,
+                gains,
+                v,
+                choices,
+                start,
+                h + 1,
+                t,
+                end,
+                least,
+            )
+        } else {
+            pick(
+                m,
+                used,
+                q,
+                depths,
+                truth,
+                cone,
+                late,
+                rewards,
+                sums,
+                trail,
+                gains,
+                v,
+                choices,
+                start,
+                h + 1,
+                t,
+                k,
+                end,
+                least,
+            )
+        };
         sum = add_mul(sum, weight(m, s as usize, a as usize, o as usize), b.value);
         end = b.end;
         o += 1;
@@ -361,17 +414,18 @@ pub fn find(
     depths: &[u32],
     truth: &[u8],
     cone: &[u8],
+    rewards: &[i32; 1024],
+    sums: &[u16; 4096],
     choices: &mut [u8],
     start: u8,
     d: u8,
     least: bool,
 ) -> Found
-    requires { ⌜ Ready (now m) (now q) start (now depths) (now truth) (now cone) × Used (now m) (now used) ⌝ }
+    requires { ⌜ Ready (now m) (now q) start (now depths) (now truth) (now cone) × Used (now m) (now used) × Rewards (now m) (now rewards) × Sums (now m) (now sums) ⌝ }
     requires { ⌜ (d ≡ depth (formula (now q) (root-of (now cone)))) × (d ≤ 6) × (4095 ≤ length (now choices)) ⌝ }
     ensures { λ r. ⌜ Finds least (now (m .entry)) (now (q .entry)) start (now (cone .entry)) d (now (choices .exit)) r ⌝ }
 {
     let marks = late(q, depths, cone);
-    let table = rewards(m);
     let mut trail = [0u8; 6];
     let mut gains = [0i32; 7];
     let mut v = [0u8; 280];
@@ -384,7 +438,8 @@ pub fn find(
         truth,
         cone,
         &marks,
-        &table,
+        rewards,
+        sums,
         &mut trail,
         &mut gains,
         &mut v,

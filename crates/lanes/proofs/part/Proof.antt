@@ -1,29 +1,25 @@
+-- A byte times a bit is a byte.
 use Prim.Native.Nat.{_*_, _<_}
-use mathlib.Core.Path.{sym, ap₂, _∙_}
+use mathlib.Core.Path.{_≡_, sym, ap, _∙_}
 use mathlib.Core.Logic.{⊎-elim}
-use Rattle.lanes.proofs.Words.{lane-zero, lane-bit}
 use native.Mathlib.Omega.{arith}
 use lib.Bits.{bitAnd, and-mask}
-use borrow.Author.Needs.{needs}
+use Rattle.lanes.specs.Lanes.{lane}
+use Rattle.lanes.proofs.Words.{lane-zero, lane-bit}
 use Rattle.lanes.proofs.part.Statement.{statement}
 use Rattle.lanes.proofs.part.Tie as tie
 
-weight-requires : tie.Need-weight-requires
-weight-requires c κs = search needs
+bit-is : (c : tie.Start) → bitAnd (c .args .y) 1 ≡ lane (c .args .y) 0
+bit-is c = and-mask (c .args .y) 1 ∙ sym (lane-zero (c .args .y))
 
-cast-result : tie.Need-cast-result
-cast-result c = rw (and-mask (c .before .before .args .y) 1) (omega arith)
-
--- A byte times a bit is a byte.
-product-small : (c : tie.After-weight) → c .weight .result * bitAnd (c .before .before .args .y) 1 < 256
-product-small c = let y = c .before .before .args .y in
-    rw (and-mask y 1 ∙ sym (lane-zero y)) (⊎-elim (λ e. rw e (omega arith)) (λ e. rw e (omega arith)) (lane-bit y 0))
+product-small : (c : tie.Start) → c .args .w * bitAnd (c .args .y) 1 < 256
+product-small c = let p = c .pre in rw (bit-is c) (⊎-elim (λ e. rw e (omega arith)) (λ e. rw e (omega arith)) (lane-bit (c .args .y) 0))
 
 mul-result : tie.Need-mul-result
 mul-result c = record { fits = omega (arith, product-small c) }
 
 returns : tie.Need-returns
-returns c = let y = c .before .before .args .y in (ap₂ _*_ (c .weight .ensures .0) (and-mask y 1 ∙ sym (lane-zero y)), product-small c)
+returns c = (ap (λ b. c .args .w * b) (bit-is c), product-small c)
 
 pub part-spec : {M : Type 1} → statement M
-part-spec = tie.close (tie.spec weight-requires cast-result mul-result returns)
+part-spec = tie.close (tie.spec mul-result returns)

@@ -2,16 +2,13 @@
 use native.Mathlib.Omega.{arith}
 use mathlib.Core.Path.{refl}
 use Rattle.extension.proofs.Laws.{room-most}
-use Rattle.search.proofs.Turns.{late-asked, rewards-asked, setting-start, found}
+use Rattle.search.proofs.Turns.{late-asked, setting-start, found}
 use borrow.Author.Needs.{needs}
 use Rattle.search.proofs.find.Statement.{statement}
 use Rattle.search.proofs.find.Tie as tie
 
 late-requires : tie.Need-late-requires
 late-requires c κs = late-asked (c .before .before .before .before .before .before .pre .0 .0)
-
-rewards-requires : tie.Need-rewards-requires
-rewards-requires c κs = rewards-asked (c .before .before .before .before .before .before .before .pre .0 .0)
 
 slice-aggregate-learn : tie.Need-slice-aggregate-learn
 slice-aggregate-learn c = search needs
@@ -35,9 +32,9 @@ slice-aggregate-pick-3 : tie.Need-slice-aggregate-pick-3
 slice-aggregate-pick-3 c = search needs
 
 pick-requires : tie.Need-pick-requires
-pick-requires c κs = let S = c .before .before .before .before .before .before .before .before .before .before .before .before .before .before .before .before .before .before .before in
-    let n = c .before .before .before .before .before .before .before .learn in (
-      setting-start (S .pre .0 .0) (S .pre .0 .1) (c .before .before .before .before .before .before .before .before .before .before .before .before .late .ensures) (c .before .before .before .before .before .before .before .before .before .before .before .rewards .ensures) (S .pre .1 .0) (S .pre .1 .1) (record { steps = omega arith; sums = omega arith; places = omega arith }) (n .kept .1 .1 .1 .1 .1 .1 .0) refl (n .ensures),
+pick-requires c κs = let S = c .before .before .before .before .before .before .before .before .before .before .before .before .before .before .before .before .before in
+    let n = c .before .before .before .before .before .before .learn in (
+      setting-start (S .pre .0 .0) (S .pre .0 .1) (c .before .before .before .before .before .before .before .before .before .before .late .ensures) (S .pre .0 .2) (S .pre .0 .3) (S .pre .1 .0) (S .pre .1 .1) (record { steps = omega arith; sums = omega arith; places = omega arith }) (n .kept .1 .1 .1 .1 .1 .1 .0) refl (n .ensures),
       omega (arith, S .pre .1 .2, room-most (S .args .d) (S .pre .1 .1)),
     )
 
@@ -45,7 +42,7 @@ same-length : tie.Need-same-length
 same-length c = search needs
 
 returns : tie.Need-returns
-returns c = let S = c .before .before .before .before .before .before .before .before .before .before .before .before .before .before .before .before .before .before .before .before .before .before .before .before .before in
+returns c = let S = c .before .before .before .before .before .before .before .before .before .before .before .before .before .before .before .before .before .before .before .before .before .before .before in
     found ((S .pre .0 .0) .model-accepted) (S .pre .1 .1) (c .before .before .before .before .before .pick .ensures .0)
 
 pub find-spec : {M : Type 1} → statement M
@@ -53,7 +50,6 @@ find-spec =
     tie.close
     (tie.spec
     late-requires
-    rewards-requires
     slice-aggregate-learn
     slice-aggregate-learn-2
     slice-aggregate-learn-3

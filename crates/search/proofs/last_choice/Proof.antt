@@ -12,11 +12,11 @@ use Rattle.search.proofs.last_choice.Statement.{statement}
 use Rattle.search.proofs.last_choice.Tie as tie
 
 abbrev Inv-loop : tie.InvT-loop
-Inv-loop m used choices x s at least n found₀ value₀ action₀ a₀ found value action a =
+Inv-loop m used sums choices x s at least n found₀ value₀ action₀ a₀ found value action a =
     (n ≡ action-count m) × (a ≤ n) × Ending least m s x a found value action
 
 abbrev μ-loop : tie.MeasureT-loop
-μ-loop m used choices x s at least n found₀ value₀ action₀ a₀ found value action a = n - a
+μ-loop m used sums choices x s at least n found₀ value₀ action₀ a₀ found value action a = n - a
 
 byte-requires : tie.Need-byte-requires Inv-loop μ-loop
 byte-requires c κs = search needs
@@ -34,7 +34,8 @@ total-requires : tie.Need-total-requires Inv-loop μ-loop
 total-requires c κs = let S = c .before .before .before .before .before .before .before in
     let L = c .before .before .before .loop in
     let z = sizes-in (S .args .m .now) (S .pre .0) (S .pre .2) in
-    (S .pre .0, S .pre .2, z .0, omega (arith, z .1, L .inv .0, c .before .before .loop-test .taken))
+    let inside : L .a < action-count (S .args .m .now) = omega (arith, L .inv .0, c .before .before .loop-test .taken) in
+    (S .pre .0, S .pre .2, z .0, inside, omega (arith, z .1, inside), S .pre .4)
 
 wins-requires : tie.Need-wins-requires Inv-loop μ-loop
 wins-requires c κs = search needs
@@ -64,8 +65,8 @@ loop-again c = let S = c .before .before .before .before .before .before .before
 slice-write-choices : tie.Need-slice-write-choices Inv-loop μ-loop
 slice-write-choices c = search needs
 
-add-t18 : tie.Need-add-t18 Inv-loop μ-loop
-add-t18 c = search needs
+add-t19 : tie.Need-add-t19 Inv-loop μ-loop
+add-t19 c = search needs
 
 same-length : tie.Need-same-length Inv-loop μ-loop
 same-length c = search needs
@@ -90,6 +91,6 @@ last-choice-spec =
     loop-less
     loop-again
     slice-write-choices
-    add-t18
+    add-t19
     same-length
     returns)
