@@ -2,35 +2,37 @@
 -- so where even that does not win, neither does all that the action comes to.
 use Prim.Native.Nat.{ℕ, zero, suc, _+_, _*_, _-_, _^_, _≤_, _<_}
 use native.Mathlib.Omega.{arith}
-use native.Mathlib.Nat.{le-refl, add-zero, add-mul, mul-le-mul-left}
-use mathlib.Core.Path.{_≡_, refl, sym, ap, ap₂, subst, _∙_}
-use mathlib.Core.Bool.{Bool, true, false, not, _&&_, _||_, cond, false≢true}
-use mathlib.Core.List.{List, [], _∷_}
-use lib.Dec.{eqb, leb}
-use lib.ListN.{length}
+use native.Mathlib.Nat.{le-refl, add-zero, add-mul, mul-le-mul, mul-le-mul-left}
+use native.Mathlib.Numerals.{add-one}
+use mathlib.Core.Path.{_≡_, refl, sym, ap, subst, _∙_}
+use mathlib.Core.Bool.{Bool, true, false, not}
+use mathlib.Core.List.{List, _∷_}
+use lib.Dec.{eqb}
 use borrow.Author.Tests.{le-leb}
 use Rattle.logic.specs.Lists.{tabulate, every}
 use Rattle.logic.specs.Checked.{refusal}
 use Rattle.logic.specs.Model.{Model, Step, true-of, outcomes}
 use Rattle.logic.specs.Quantity.{weights, order}
 use Rattle.logic.specs.Recursion.{greatest}
-use Rattle.logic.proofs.Tests.{T→true, true→T, not-true, and-both, eqb-eq, ne-eqb, tabulate-more}
+use Rattle.logic.proofs.Tests.{T→true, true→T, and-both, eqb-eq, ne-eqb, tabulate-more}
 use Rattle.blocks.specs.Bytes.{Bytes}
 use Rattle.blocks.specs.Block.{sum-below}
 use Rattle.models.specs.Layout.{state-count, denominator-of, state-mask, post-of, outcome-of, entries, model-of}
 use Rattle.models.specs.Grounds.{read-model, cell-consistent}
 use Rattle.models.proofs.Passed.{passed-all, cell-passed}
 use Rattle.models.proofs.Held.{states-held, denominator-held, accepted}
-use Rattle.models.proofs.Rows.{outcomes-are}
+use Rattle.models.proofs.Readable.{readable}
+use Rattle.models.proofs.Rows.{outcomes-are, entries-few}
+use Rattle.bounds.proofs.Powers.{power-le}
 use Rattle.evaluation.proofs.Trails.{fair}
 use Rattle.search.specs.Greatest.{worth, best-left}
 use Rattle.search.specs.Buffers.{wins}
 use Rattle.search.proofs.Orders.{ordered}
-use Rattle.search.proofs.Bounds.{greatest-small}
+use Rattle.search.proofs.Bounds.{greatest-small, denominator-most}
 use Rattle.search.proofs.Walking.{worth-more}
 
 -- What is no better than what does not win does not win.
-pub wins-not : (found : Bool) (other x y : ℕ) (least : Bool) → order least x y ≡ true → wins found other y least ≡ false → wins found other x least ≡ false
+wins-not : (found : Bool) (other x y : ℕ) (least : Bool) → order least x y ≡ true → wins found other y least ≡ false → wins found other x least ≡ false
 unfolding wins
 wins-not false other x y least h e = e
 wins-not true other x y least h e =
@@ -40,20 +42,29 @@ wins-not true other x y least h e =
     beaten true e = refl
     beaten false e = sym e
 
--- What lies between what is walked and what can be added is no better than the limit.
+-- What lies between what is walked and what can be added to it is no better than the limit.
 no-better : (least : Bool) (D k sum rest all : ℕ) → sum ≤ all → all ≤ sum + rest * D ^ k
     → (order least all (best-left least D k sum rest) ≡ true) × (order least sum (best-left least D k sum rest) ≡ true)
 unfolding best-left
 no-better true D k sum rest all h g = (le-leb sum all h, le-leb sum sum (le-refl sum))
 no-better false D k sum rest all h g = (le-leb all (sum + rest * D ^ k) g, le-leb sum (sum + rest * D ^ k) (omega arith))
 
+below-on : (f : ℕ → ℕ) (i j : ℕ) → sum-below i f ≤ sum-below (i + j) f
+unfolding sum-below
+below-on f i zero = rw (add-zero i) (le-refl _)
+below-on f i (suc j) = let q : i + suc j ≡ suc (i + j) = omega arith in rw q (omega (arith, below-on f i j))
+
 -- What the first i outcomes of an action weigh.
 abbrev pub weighed : (m : Bytes) (s a i : ℕ) → ℕ
 weighed m s a i = sum-below i (λ o. (outcome-of m s a o) .weight)
 
+pub weighed-none : (m : Bytes) (s a : ℕ) → weighed m s a 0 ≡ 0
+unfolding sum-below
+weighed-none m s a = refl
+
 module _ (m : Bytes) (passed : refusal (read-model m) ≡ 0) (s a : ℕ) (here : s < state-count m) where
   -- All of them weigh D.
-  pub weighed-all : 0 < entries m s a → weighed m s a (entries m s a) ≡ denominator-of m
+  weighed-all : 0 < entries m s a → weighed m s a (entries m s a) ≡ denominator-of m
   unfolding cell-consistent
   weighed-all some =
       let n = entries m s a in
@@ -61,6 +72,22 @@ module _ (m : Bytes) (passed : refusal (read-model m) ≡ 0) (s a : ℕ) (here :
       let e = and-both (every n f) _ (cell-passed m (passed-all m passed) s a here (fair m passed s a 0 here some .action)) .1 in
       let z : eqb n 0 ≡ false = ne-eqb n 0 (λ q. omega arith) in
       eqb-eq _ _ (rw z at e)
+
+  -- Those up to one and that one weigh no more.
+  weighed-most : (i : ℕ) → i < entries m s a → weighed m s a i + (outcome-of m s a i) .weight ≤ denominator-of m
+  unfolding sum-below
+  weighed-most i u =
+      let n = entries m s a in
+      let j : suc i + (n - suc i) ≡ n = omega arith in
+      omega (arith, below-on (λ o. (outcome-of m s a o) .weight) (suc i) (n - suc i), ap (weighed m s a) j, weighed-all (omega arith))
+
+  -- What is left weighs, one outcome further, as much less as that one weighs.
+  pub rest-less : (i rest w : ℕ) → i < entries m s a → rest + weighed m s a i ≡ denominator-of m → w ≡ (outcome-of m s a i) .weight
+      → (w ≤ rest) × (rest - w + weighed m s a (i + 1) ≡ denominator-of m)
+  unfolding sum-below
+  rest-less i rest w u left e =
+      let h = weighed-most i u in
+      (omega (arith, h), omega (arith, h, ap (weighed m s a) (add-one i)))
 
   module _ (least : Bool) (k : ℕ) (f : List Step → ℕ) (bits : (r : List Step) → f r ≤ 1) where
     abbrev M : Model
@@ -73,6 +100,7 @@ module _ (m : Bytes) (passed : refusal (read-model m) ≡ 0) (s a : ℕ) (here :
     abbrev come : ℕ → ℕ
     come i = worth least M k f (tabulate i (outcome-of m s a))
 
+    -- One more.
     come-more : (i : ℕ) → i < entries m s a → (come i ≤ come (suc i)) × (come (suc i) ≤ come i + (outcome-of m s a i) .weight * all-after)
     come-more i u =
         let o : Step = outcome-of m s a i in
@@ -102,6 +130,14 @@ module _ (m : Bytes) (passed : refusal (read-model m) ≡ 0) (s a : ℕ) (here :
 
       abbrev all : ℕ
       all = worth least M k f (outcomes M s a)
+
+      -- The limit fits its type.
+      pub limit-fits : k ≤ 5 → sum ≤ i * 100 ^ 6 → (denominator-of m ≤ 100) × (sum + rest * all-after < 2 ^ 64)
+      limit-fits few small =
+          let d = denominator-most m (passed-all m passed .sizes) in
+          let r : rest ≤ 100 = omega arith in
+          let p : rest * all-after ≤ 100 * 100 ^ 5 = mul-le-mul r (power-le (denominator-of m) k 5 d few) in
+          (d, omega (arith, entries-few m (readable m passed) s a))
 
       -- All of them come to `sum` and more, and to no more than those left can add.
       between : (sum ≤ all) × (all ≤ sum + rest * all-after)

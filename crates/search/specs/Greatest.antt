@@ -27,8 +27,8 @@ module _ (least : Bool) (M : Model) (k : ℕ) where
     unfoldable pub below : List Step → List ℕ
     below l = flatMap (λ o. best-choices (o .target) (λ r. f (o ∷ r))) l
 
--- What an action can come to at best, by weights D of which `rest` are left: its outcomes walked so far come to `sum`, and those left, with
--- k steps after them, to nothing where the least total leads, else to D to the k each.
+-- What an action can come to at best: its outcomes walked so far come to `sum`; those left weigh `rest`, and the best total below one of them
+-- is anything from 0 to D to the k, the weights of k steps.
 unfoldable pub best-left : (least : Bool) (D k sum rest : ℕ) → ℕ
 best-left least D k sum rest = cond least sum (sum + rest * D ^ k)
 
