@@ -49,7 +49,7 @@ greatest-small least M accepted n s f k h =
     (le-trans (sum-le (order least) (λ r. weight r * f r) (λ r. weight r * 1) (paths M n s (w .0)) (λ r. mul-le-mul-left (weight r) (h r)))
     (omega (arith, total-ones M accepted n s k (w .0) (w .1))))
 
-denominator-most : (m : Bytes) → sizes-right m ≡ true → denominator-of m ≤ 100
+pub denominator-most : (m : Bytes) → sizes-right m ≡ true → denominator-of m ≤ 100
 unfolding sizes-right
 denominator-most m e =
     let three = within 1 32 (state-count m) && within 1 8 (action-count m) && within 1 32 (prop-count m) in

@@ -4,6 +4,7 @@ pub mod Steps
 pub mod Bounds
 pub mod Trying
 pub mod Walking
+pub mod Losing
 pub mod Ending
 pub mod Paths
 pub mod Turns

@@ -21,7 +21,7 @@ use Rattle.models.specs.Grounds.{read-model}
 use Rattle.models.proofs.Passed.{passed-all, passed-sized}
 use Rattle.models.proofs.Held.{states-held, enabled-entries, accepted}
 use Rattle.extension.specs.Choices.{room}
-use Rattle.search.specs.Buffers.{Wrote, Keeps, wins, Picked, Walks}
+use Rattle.search.specs.Buffers.{Wrote, Keeps, wins, Picked, Candidate, walked, lost}
 use Rattle.search.specs.declared.Best.{Best}
 use Rattle.search.specs.declared.Walked.{Walked}
 use Rattle.search.proofs.Orders.{ordered, better, first-best-more}
@@ -89,24 +89,24 @@ module _ (least : Bool) (M : Model) (k s : ℕ) (f : List Step → ℕ) where
   unfolding so-far is-empty
   tried-none at c = record { found = refl; value = λ e. absurd (false≢true (sym e)); wrote = wrote-none at c }
 
-  -- The best of l stands at `at`, the candidate a behind it, and the better of them has been kept.
-  module _ (l : List ℕ) (a at : ℕ) (c0 c1 c2 c3 : List ℕ) (b r : Best) (w : Walked) (inside : at ≤ length c0) (T : Tried least M k s f l at c0 c1 b)
-      (value : w .value ≡ worth-of least M k s f a) (wrote : Wrote (plan-from least M k s f a) (b .end) c1 c2 (w .end)) (K : Keeps b w at least c2 c3 r) where
-    won : (l′ : List ℕ) → is-empty l′ ≡ false → best l′ ≡ a
+  -- The best of l stands at `at`, the candidate behind it, and the better of them has been kept.
+  module _ (l : List ℕ) (at : ℕ) (c0 c1 c2 c3 : List ℕ) (b r : Best) (w : Walked) (inside : at ≤ length c0) (T : Tried least M k s f l at c0 c1 b)
+      (x : List ℕ) (wrote : Wrote x (b .end) c1 c2 (w .end)) (K : Keeps b w at least c2 c3 r) where
+    won : (a : ℕ) → w .value ≡ worth-of least M k s f a → x ≡ plan-from least M k s f a → (l′ : List ℕ) → is-empty l′ ≡ false → best l′ ≡ a
         → wins (b .found) (b .value) (w .value) least ≡ true → Tried least M k s f l′ at c0 c3 r
     unfolding so-far
-    won l′ e h t =
+    won a value p l′ e h t =
         let u = K .taken t in
         record {
           found = ap (λ z. z .found) (u .0) ∙ sym (ap not e);
           value = λ _. ap (λ z. z .value) (u .0) ∙ value ∙ sym (ap (worth-of least M k s f) h);
-          wrote = rw (e, h) (subst (λ z. Wrote (plan-from least M k s f a) at c0 c3 (z .end)) (sym (u .0)) (wrote-over (T .wrote) wrote inside c3 (u .1)));
+          wrote = rw (e, h) (subst (λ z. Wrote z at c0 c3 (r .end)) p (subst (λ z. Wrote x at c0 c3 (z .end)) (sym (u .0)) (wrote-over (T .wrote) wrote inside c3 (u .1))));
         }
 
-    lost : (l′ : List ℕ) → is-empty l′ ≡ is-empty l → best l′ ≡ best l
+    left : (l′ : List ℕ) → is-empty l′ ≡ is-empty l → best l′ ≡ best l
         → wins (b .found) (b .value) (w .value) least ≡ false → Tried least M k s f l′ at c0 c3 r
     unfolding so-far
-    lost l′ e h t =
+    left l′ e h t =
         let u = K .left t in
         record {
           found = ap (λ z. z .found) (u .0) ∙ T .found ∙ sym (ap not e);
@@ -115,19 +115,25 @@ module _ (least : Bool) (M : Model) (k s : ℕ) (f : List Step → ℕ) where
         }
 
   -- One choice more is tried.
-  pub tried-more : (l : List ℕ) (a at : ℕ) (c0 c1 c2 c3 : List ℕ) (b r : Best) (w : Walked) → at ≤ length c0 → Tried least M k s f l at c0 c1 b
-      → w .value ≡ worth-of least M k s f a → Wrote (plan-from least M k s f a) (b .end) c1 c2 (w .end) → Keeps b w at least c2 c3 r
-      → Tried least M k s f (l ++ (a ∷ [])) at c0 c3 r
-  tried-more l a at c0 c1 c2 c3 b r w h T v W K = go (wins (b .found) (b .value) (w .value) least) refl
-    where
-      go : (t : Bool) → wins (b .found) (b .value) (w .value) least ≡ t → Tried least M k s f (l ++ (a ∷ [])) at c0 c3 r
-      go true e =
-          won l a at c0 c1 c2 c3 b r w h T v W K (l ++ (a ∷ [])) (more-some l a)
-          (best-more least M k s f l a (b .found) (b .value) (w .value) (T .found) (T .value) v true e) e
-      go false e =
-          lost l a at c0 c1 c2 c3 b r w h T v W K (l ++ (a ∷ []))
-          (more-some l a ∙ sym (beaten-some l (b .found) (b .value) (w .value) least (T .found) e))
-          (best-more least M k s f l a (b .found) (b .value) (w .value) (T .found) (T .value) v false e) e
+  module _ (l : List ℕ) (a at : ℕ) (c0 c1 c2 c3 : List ℕ) (b r : Best) (w : Walked) (inside : at ≤ length c0) (T : Tried least M k s f l at c0 c1 b)
+      (K : Keeps b w at least c2 c3 r) where
+    -- It does not win, whatever was written.
+    pub tried-lost : (x : List ℕ) → Wrote x (b .end) c1 c2 (w .end) → wins (b .found) (b .value) (worth-of least M k s f a) least ≡ false
+        → wins (b .found) (b .value) (w .value) least ≡ false → Tried least M k s f (l ++ (a ∷ [])) at c0 c3 r
+    tried-lost x W e g =
+        left l at c0 c1 c2 c3 b r w inside T x W K (l ++ (a ∷ []))
+        (more-some l a ∙ sym (beaten-some l (b .found) (b .value) (worth-of least M k s f a) least (T .found) e))
+        (best-more least M k s f l a (b .found) (b .value) (worth-of least M k s f a) (T .found) (T .value) refl false e) g
+
+    pub tried-more : w .value ≡ worth-of least M k s f a → Wrote (plan-from least M k s f a) (b .end) c1 c2 (w .end)
+        → Tried least M k s f (l ++ (a ∷ [])) at c0 c3 r
+    tried-more v W = go (wins (b .found) (b .value) (w .value) least) refl
+      where
+        go : (t : Bool) → wins (b .found) (b .value) (w .value) least ≡ t → Tried least M k s f (l ++ (a ∷ [])) at c0 c3 r
+        go true e =
+            won l at c0 c1 c2 c3 b r w inside T (plan-from least M k s f a) W K a v refl (l ++ (a ∷ [])) (more-some l a)
+            (best-more least M k s f l a (b .found) (b .value) (w .value) (T .found) (T .value) v true e) e
+        go false e = tried-lost (plan-from least M k s f a) W (subst (λ z. wins (b .found) (b .value) z least ≡ false) v e) e
 
 -- ---- the loop over the actions
 
@@ -171,19 +177,27 @@ module _ (least : Bool) (m : Bytes) (f : List Step → ℕ) (s k : ℕ) where
   turn-skipped a at c0 c b e T = subst (λ l. Tried least (model-of m) k s f l at c0 c b) (sym (enabled-skip m s a e)) T
 
   module _ (a at : ℕ) (c0 c1 c2 : List ℕ) (b : Best) (w : Walked) (inside : at ≤ length c0) (room-here : b .end < length c1)
-      (T : Tried least (model-of m) k s f (enabled-below m s a) at c0 c1 b) (W : Walks least m f s a k (b .end + 1) (set c1 (b .end) a) c2 w) where
-    -- The candidate stands behind the best.
-    pub candidate : Wrote (plan-from least (model-of m) k s f a) (b .end) c1 c2 (w .end)
-    candidate = wrote-both (wrote-choice a (b .end) c1 room-here) (W .wrote)
+      (T : Tried least (model-of m) k s f (enabled-below m s a) at c0 c1 b)
+      (W : Candidate (b .found) (b .value) least m f s a k (b .end + 1) (set c1 (b .end) a) c2 w) where
+    -- What the walk wrote stands behind the best, with the choice before it.
+    placed : (x : List ℕ) → Wrote x (b .end + 1) (set c1 (b .end) a) c2 (w .end) → Wrote (a ∷ x) (b .end) c1 c2 (w .end)
+    placed x h = wrote-both (wrote-choice a (b .end) c1 room-here) h
+
+    behind : Candidate (b .found) (b .value) least m f s a k (b .end + 1) (set c1 (b .end) a) c2 w → (x : List ℕ) × Wrote (a ∷ x) (b .end) c1 c2 (w .end)
+    behind (walked h) = (_, placed _ (h .wrote))
+    behind (lost e g x h) = (x, placed x h)
 
     pub keeps-inside : (at ≤ b .end) × (b .end ≤ w .end) × (w .end ≤ length c2)
-    keeps-inside = (omega (arith, T .wrote .next), omega (arith, candidate .next), wrote-inside (omega arith) candidate)
+    keeps-inside = let p = behind W .1 in (omega (arith, T .wrote .next), omega (arith, p .next), wrote-inside (omega arith) p)
 
     pub turn-taken : (c3 : List ℕ) (r : Best) → (entries m s a ≡ 0 → ⊥) → Keeps b w at least c2 c3 r
         → Tried least (model-of m) k s f (enabled-below m s (a + 1)) at c0 c3 r
-    turn-taken c3 r z K =
-        subst (λ l. Tried least (model-of m) k s f l at c0 c3 r) (sym (enabled-one m s a z))
-        (tried-more least (model-of m) k s f (enabled-below m s a) a at c0 c1 c2 c3 b r w inside T (W .value) candidate K)
+    turn-taken c3 r z K = subst (λ l. Tried least (model-of m) k s f l at c0 c3 r) (sym (enabled-one m s a z)) (go W)
+      where
+        go : Candidate (b .found) (b .value) least m f s a k (b .end + 1) (set c1 (b .end) a) c2 w
+            → Tried least (model-of m) k s f (enabled-below m s a ++ (a ∷ [])) at c0 c3 r
+        go (walked h) = tried-more least (model-of m) k s f (enabled-below m s a) a at c0 c1 c2 c3 b r w inside T K (h .value) (placed _ (h .wrote))
+        go (lost e g x h) = tried-lost least (model-of m) k s f (enabled-below m s a) a at c0 c1 c2 c3 b r w inside T K (a ∷ x) (placed x h) e g
 
   module _ (passed : refusal (read-model m) ≡ 0) (at : ℕ) (c0 c : List ℕ) (b : Best) where
     -- The best takes no more room than a plan.

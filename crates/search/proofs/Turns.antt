@@ -3,7 +3,7 @@ use Prim.Native.Nat.{ℕ, suc, _+_, _*_, _-_, _^_, _≤_, _<_}
 use native.Mathlib.Omega.{arith}
 use native.Mathlib.Nat.{pos-of-ne-zero}
 use mathlib.Core.Path.{_≡_, refl, sym, ap, subst, _∙_}
-use mathlib.Core.Bool.{Bool, false}
+use mathlib.Core.Bool.{Bool, true, false, not}
 use mathlib.Core.List.{List, []}
 use lib.IntN.{ℤ, pos}
 use lib.ListN.{length, getD, take, set, length-set}
@@ -11,7 +11,7 @@ use Rattle.logic.specs.Checked.{refusal}
 use Rattle.logic.specs.Formula.{depth}
 use Rattle.logic.specs.Model.{Step}
 use Rattle.blocks.specs.Bytes.{Bytes}
-use Rattle.models.specs.Layout.{state-count, action-count, prop-count, outcome-of, entries, model-of}
+use Rattle.models.specs.Layout.{state-count, action-count, prop-count, denominator-of, outcome-of, entries, model-of}
 use Rattle.models.specs.Grounds.{read-model}
 use Rattle.models.specs.Used.{Used}
 use Rattle.questions.specs.Layout.{node-count, formulas-of}
@@ -27,13 +27,14 @@ use Rattle.evaluation.proofs.Values.{one-if-small}
 use Rattle.evaluation.proofs.Stepping.{begun}
 use Rattle.lanes.specs.Lanes.{Rewards, Sums}
 use Rattle.last.specs.Late.{Late}
-use Rattle.search.specs.Greatest.{best-choices, Finds}
-use Rattle.search.specs.Buffers.{Setting, Back, Keeps, Picked, Walks}
+use Rattle.search.specs.Greatest.{best-choices, best-left, Finds}
+use Rattle.search.specs.Buffers.{Setting, Back, wins, Keeps, Picked, Candidate, walked, lost}
 use Rattle.search.specs.declared.Best.{Best}
 use Rattle.search.specs.declared.Walked.{Walked}
 use Rattle.search.proofs.Bounds.{choices-few}
 use Rattle.search.proofs.Trying.{Tried, enabled-below, tried-start, turn-skipped, tried-room, keeps-inside, turn-taken, picked-all}
 use Rattle.search.proofs.Walking.{Walking, walking-more, walking-room, sum-fits, walked-value, walked-wrote}
+use Rattle.search.proofs.Losing.{weighed, rest-less, limit-fits, limit-lost}
 use Rattle.search.proofs.Paths.{state-here, Kept, back-none, kept-none, setting-kept, kept-kept, offered, setting-on, back-on, picked-value, picked-wrote}
 
 -- Where two ways meet: what holds of the one that was taken holds.
@@ -62,6 +63,27 @@ module _ {m used q : Bytes} {depths truth cone late : List ℕ} {rewards : List 
 
   pub pick-room : at + 6 * room k ≤ length choices₀ → end + 3 * room k ≤ length choices
   pick-room r = omega (arith, walking-room least m s a k _ (S .ready .model-accepted) o at sum end choices₀ choices W here, K .room)
+
+  -- `rest` is what this outcome and those after it weigh.
+  module _ (rest : ℕ) (left : rest + weighed m s a o ≡ denominator-of m) where
+    pub hopeless-asked : (denominator-of m ≤ 100) × (k ≤ 6) × (sum + rest * denominator-of m ^ k < 2 ^ 64)
+    hopeless-asked =
+        let z = limit-fits m (S .ready .model-accepted) s a (state-here S) least k (on-path m q start cone (take h trail₀)) (λ r. one-if-small _) o sum rest here (W .value) left (omega (arith, S .few)) (W .small) in
+        (z .0, omega (arith, S .few), z .1)
+
+    -- The action is given up.
+    pub walked-lost : (found : Bool) (other : ℕ) {r : Bool} → r ≡ not (wins found other (best-left least (denominator-of m) k sum rest) least) → r ≡ true
+        → Candidate found other least m (on-path m q start cone (take h trail₀)) s a k at choices₀ choices (record { value = sum; end = end })
+    walked-lost found other e g =
+        let z = limit-lost m (S .ready .model-accepted) s a (state-here S) least k (on-path m q start cone (take h trail₀)) (λ r. one-if-small _) o sum rest here (W .value) left found other (not-wins _ (sym e ∙ g)) in
+        lost (z .0) (z .1) _ (W .wrote)
+      where
+        not-wins : (t : Bool) → not t ≡ true → t ≡ false
+        not-wins true q = sym q
+        not-wins false q = refl
+
+    pub rest-fewer : (w : ℕ) → w ≡ (outcome-of m s a o) .weight → (w ≤ rest) × (rest - w + weighed m s a (o + 1) ≡ denominator-of m)
+    rest-fewer w e = rest-less m (S .ready .model-accepted) s a (state-here S) o rest w here left e
 
   pub last-room : k ≡ 1 → at + 6 * room k ≤ length choices₀ → end + 3 * room 1 ≤ length choices
   last-room e r = subst (λ j. end + 3 * room j ≤ length choices) e (pick-room r)
@@ -107,18 +129,19 @@ module _ {m used q : Bytes} {depths truth cone late : List ℕ} {rewards : List 
           let B = P .kept in
           kept-kept K (back-on k N a o here T (B .back)) (B .steps ∙ et) (B .sums ∙ eg) (B .places ∙ ev) (B .room)
 
--- All outcomes are walked.
+-- All outcomes are walked, whatever the best so far is.
 pub walked-all : {m used q : Bytes} {depths truth cone late : List ℕ} {rewards : List ℤ} {sums : List ℕ} {start : ℕ} {trail : List ℕ} {gains : List ℤ} {v choices₀ choices : List ℕ} {h s j : ℕ}
     → Setting m used q depths truth cone late rewards sums start trail gains v h s j → {least : Bool} {a o at sum end k : ℕ}
-    → Walking least m s a k (on-path m q start cone (take h trail)) o at choices₀ choices sum end → o ≡ entries m s a
-    → Walks least m (on-path m q start cone (take h trail)) s a k at choices₀ choices (record { value = sum; end = end })
+    → Walking least m s a k (on-path m q start cone (take h trail)) o at choices₀ choices sum end → o ≡ entries m s a → {found : Bool} {other : ℕ}
+    → Candidate found other least m (on-path m q start cone (take h trail)) s a k at choices₀ choices (record { value = sum; end = end })
 walked-all {m} {q = q} {cone = cone} {start} {trail} {choices₀ = choices₀} {choices} {h} {s} S {least} {a} {o} {at} {sum} {end} {k} W e =
     let f = on-path m q start cone (take h trail) in
     let p = S .ready .model-accepted in
-    record {
+    walked
+    (record {
       value = walked-value least m s a k f p o at sum end choices₀ choices W e;
       wrote = walked-wrote least m s a k f p o at sum end choices₀ choices W e;
-    }
+    })
 
 -- ---- an action tried
 
@@ -165,12 +188,12 @@ module _ {m used q : Bytes} {depths truth cone late : List ℕ} {rewards : List 
   turned-skipped z = record { tried = turn-skipped least m f s (k - 1) a at choices₀ choices b z (U .tried); kept = U .kept }
 
   module _ (fits : at + 3 * room k ≤ length choices₀) {choices′ : List ℕ} {w : Walked}
-      (W : Walks least m (on-path m q start cone (take h trail)) s a (k - 1) (b .end + 1) (set choices (b .end) a) choices′ w) where
-    walks-here : Walks least m f s a (k - 1) (b .end + 1) (set choices (b .end) a) choices′ w
-    walks-here = subst (λ t. Walks least m (on-path m q start cone t) s a (k - 1) (b .end + 1) (set choices (b .end) a) choices′ w) (U .kept .back .kept) W
+      (W : Candidate (b .found) (b .value) least m (on-path m q start cone (take h trail)) s a (k - 1) (b .end + 1) (set choices (b .end) a) choices′ w) where
+    candidate-here : Candidate (b .found) (b .value) least m f s a (k - 1) (b .end + 1) (set choices (b .end) a) choices′ w
+    candidate-here = subst (λ t. Candidate (b .found) (b .value) least m (on-path m q start cone t) s a (k - 1) (b .end + 1) (set choices (b .end) a) choices′ w) (U .kept .back .kept) W
 
     pub keep-asked : (at ≤ b .end) × (b .end ≤ w .end) × (w .end ≤ length choices′)
-    keep-asked = keeps-inside least m f s (k - 1) a at choices₀ choices choices′ b w (omega arith) (walk-room fits .0) (U .tried) walks-here
+    keep-asked = keeps-inside least m f s (k - 1) a at choices₀ choices choices′ b w (omega arith) (walk-room fits .0) (U .tried) candidate-here
 
     pub turned-taken : {trail′ : List ℕ} {gains′ : List ℤ} {v′ choices″ : List ℕ} {r : Best} → (entries m s a ≡ 0 → ⊥) → Back m q start cone h trail trail′ gains′ v′
         → Keeps b w at least choices′ choices″ r
@@ -178,7 +201,7 @@ module _ {m used q : Bytes} {depths truth cone late : List ℕ} {rewards : List 
         → Turned least m q start cone h s k at trail₀ gains₀ v₀ choices₀ (a + 1) trail′ gains′ v′ choices″ r
     turned-taken {choices″ = choices″} {r} z B J et eg ev ec =
         record {
-          tried = turn-taken least m f s (k - 1) a at choices₀ choices choices′ b w (omega arith) (walk-room fits .0) (U .tried) walks-here choices″ r z J;
+          tried = turn-taken least m f s (k - 1) a at choices₀ choices choices′ b w (omega arith) (walk-room fits .0) (U .tried) candidate-here choices″ r z J;
           kept = kept-kept (U .kept) B et eg ev (ec ∙ length-set choices (b .end) a);
         }
 

@@ -67,6 +67,13 @@ pub record Walks (least : Bool) (m : Bytes) (f : List Step → ℕ) (s a k at : 
   pub value : w .value ≡ worth least (model-of m) k f (outcomes (model-of m) s a)
   pub wrote : Wrote (below least (model-of m) k f (outcomes (model-of m) s a)) at before after (w .end)
 
+-- What the walk of the choice a comes to, where `other` is the best so far, if one is found: the best plans below its outcomes, or, given up,
+-- something of no use, since the choice does not win.
+pub data Candidate (found : Bool) (other : ℕ) (least : Bool) (m : Bytes) (f : List Step → ℕ) (s a k at : ℕ) (before after : List ℕ) (w : Walked) : Type 0 where
+  walked : Walks least m f s a k at before after w → Candidate found other least m f s a k at before after w
+  lost : wins found other (worth least (model-of m) k f (outcomes (model-of m) s a)) least ≡ false → wins found other (w .value) least ≡ false
+      → (x : List ℕ) → Wrote x at before after (w .end) → Candidate found other least m f s a k at before after w
+
 -- The best plan of the last step from s, for any value of that step that x has in its lanes.
 pub record Ends (least : Bool) (m : Bytes) (s x at : ℕ) (before after : List ℕ) (b : Best) : Type 0 where
   pub picked : (f : List Step → ℕ) → Laned m s (λ a o. f (outcome-of m s a o ∷ [])) x → Picked least m f s 1 at before after b

@@ -1,7 +1,7 @@
 -- What a search looks for: of the plans for the steps left after a trail, the first of those of greatest total, or of least.
-use Prim.Native.Nat.{ℕ, _*_, _≤_}
+use Prim.Native.Nat.{ℕ, _+_, _*_, _^_, _≤_}
 use mathlib.Core.Path.{_≡_}
-use mathlib.Core.Bool.{Bool}
+use mathlib.Core.Bool.{Bool, cond}
 use mathlib.Core.List.{List, _∷_, flatMap}
 use lib.ListN.{take}
 use Rattle.logic.specs.Model.{Model, Step}
@@ -26,6 +26,11 @@ module _ (least : Bool) (M : Model) (k : ℕ) where
 
     unfoldable pub below : List Step → List ℕ
     below l = flatMap (λ o. best-choices (o .target) (λ r. f (o ∷ r))) l
+
+-- What an action can come to at best: its outcomes walked so far come to `sum`; those left weigh `rest`, and the best total below one of them
+-- is anything from 0 to D to the k, the weights of k steps.
+unfoldable pub best-left : (least : Bool) (D k sum rest : ℕ) → ℕ
+best-left least D k sum rest = cond least sum (sum + rest * D ^ k)
 
 -- What is found for the condition at the cone's root: the greatest total of d steps, or the least, and the choices of the first plan that has it.
 pub record Finds (least : Bool) (m q : Bytes) (start : ℕ) (cone : List ℕ) (d : ℕ) (after : List ℕ) (r : Found) : Type 0 where

@@ -1,5 +1,5 @@
-// The search for the plan of greatest or of least weight: one pass over the tree of paths, which meets each path once. The last step of the
-// paths through a state is taken for all its outcomes at once.
+// The search for the plan of greatest or of least weight: one pass over the tree of paths, which meets each path at most once: an action that
+// cannot win any more is given up. The last step of the paths through a state is taken for all its outcomes at once.
 ghost use mathlib.Core.Path.{_≡_};
 ghost use mathlib.Core.Bool.{not};
 ghost use mathlib.Core.List.{_++_};
@@ -9,16 +9,18 @@ ghost use Rattle.logic.specs.Checked.{refusal};
 ghost use Rattle.logic.specs.Formula.{depth};
 ghost use Rattle.logic.specs.Quantity.{order};
 ghost use Rattle.models.specs.Grounds.{read-model};
-ghost use Rattle.models.specs.Layout.{state-count};
+ghost use Rattle.models.specs.Layout.{state-count, denominator-of};
 ghost use Rattle.models.specs.Used.{Used};
 ghost use Rattle.extension.specs.Choices.{room};
 ghost use Rattle.evaluation.specs.Learnt as learnt;
 ghost use Rattle.evaluation.specs.Reached.{formula, root-of, on-path, Ready};
 ghost use Rattle.lanes.specs.Lanes.{Rewards, Sums};
-ghost use Rattle.search.specs.Greatest.{Finds};
-ghost use Rattle.search.specs.Buffers.{Keeps, Setting, Back, Picked, Walks, Ends};
+ghost use Rattle.search.specs.Greatest.{Finds, best-left};
+ghost use Rattle.search.specs.Buffers.{Keeps, Setting, Back, Picked, Candidate, Ends};
 ghost use Rattle.search.specs.Buffers as spec;
 use blocks::byte;
+use blocks::wide;
+use bounds::power;
 use evaluation::known;
 use evaluation::learn;
 use evaluation::step;
@@ -64,6 +66,17 @@ fn wins(found: bool, other: u64, value: u64, least: bool) -> bool
         return exceeds(value, other, least);
     }
     true
+}
+
+// Whether an action cannot win any more: its outcomes walked so far come to `sum`, and `rest` is what those left weigh.
+fn hopeless(m: &[u8], found: bool, other: u64, sum: u64, rest: u64, k: u8, least: bool) -> bool
+    requires { ⌜ (denominator-of (now m) ≤ 100) × (k ≤ 6) × (sum + rest * denominator-of (now m) ^ k < 2 ^ 64) ⌝ }
+    ensures { λ r. ⌜ r ≡ not (spec.wins found other (best-left least (denominator-of (now (m .entry))) k sum rest) least) ⌝ }
+{
+    if least {
+        return !wins(found, other, sum, least);
+    }
+    !wins(found, other, sum + rest * power(wide(m, 5), k), least)
 }
 
 // Moves n bytes down to a place, which they may overlap.
@@ -275,6 +288,8 @@ fn pick(
                 k - 1,
                 from + 1,
                 least,
+                best.found,
+                best.value,
             );
             best = keep(choices, best, w, at, least);
         }
@@ -284,6 +299,8 @@ fn pick(
 }
 
 // Walks the outcomes of an action, with k steps left after it: sums their weights times the best totals below, and writes the choices there.
+// Gives up where the action cannot win any more over the best so far, which it does not ask where one step is left: there it costs more than
+// it saves.
 fn walk(
     m: &[u8],
     used: &[u8; 264],
@@ -305,17 +322,26 @@ fn walk(
     k: u8,
     at: usize,
     least: bool,
+    found: bool,
+    other: u64,
 ) -> Walked
     requires { ⌜ Setting (now m) (now used) (now q) (now depths) (now truth) (now cone) (now late) (now rewards) (now sums) start (now trail) (now gains) (now v) h s (k + 1) ⌝ }
     requires { ⌜ (a < 8) × (at + 6 * room k ≤ length (now choices)) ⌝ }
-    ensures { λ r. ⌜ Walks least (now (m .entry)) (on-path (now (m .entry)) (now (q .entry)) start (now (cone .entry)) (take h (now (trail .entry)))) s a k at (now (choices .entry)) (now (choices .exit)) r ⌝ }
+    ensures { λ r. ⌜ Candidate found other least (now (m .entry)) (on-path (now (m .entry)) (now (q .entry)) start (now (cone .entry)) (take h (now (trail .entry)))) s a k at (now (choices .entry)) (now (choices .exit)) r ⌝ }
     ensures { λ r. ⌜ Back (now (m .entry)) (now (q .entry)) start (now (cone .entry)) h (now (trail .entry)) (now (trail .exit)) (now (gains .exit)) (now (v .exit)) ⌝ }
 {
     let n = count(used, s, a);
     let mut sum: u64 = 0;
+    let mut rest = wide(m, 5) as u64;
     let mut end = at;
     let mut o: u8 = 0;
     while o < n {
+        if k > 1 && hopeless(m, found, other, sum, rest, k, least) {
+            return Walked {
+                value: sum,
+                end: end,
+            };
+        }
         let t = step(
             m,
             q,
@@ -375,7 +401,9 @@ fn walk(
                 least,
             )
         };
-        sum = add_mul(sum, weight(m, s as usize, a as usize, o as usize), b.value);
+        let w = weight(m, s as usize, a as usize, o as usize);
+        sum = add_mul(sum, w, b.value);
+        rest -= w as u64;
         end = b.end;
         o += 1;
     }
