@@ -7,9 +7,11 @@ use mathlib.Core.Path.{_≡_, refl, sym, ap, ap₂, subst, _∙_}
 use mathlib.Core.Bool.{Bool, true, false}
 use mathlib.Core.List.{List, []}
 use lib.Dec.{eqb, ltb}
+use lib.IntN.{ℤ}
 use lib.ListN.{getD, length, length-map}
 use lib.Pow.{pow-add}
 use borrow.Author.Tests.{le-ltb}
+use Rattle.logic.specs.Checked.{refusal}
 use Rattle.logic.specs.Formula.{depth, sat, nonnegative}
 use Rattle.logic.specs.Quantity.{naturals}
 use Rattle.logic.specs.Plan.{plans, choices}
@@ -18,11 +20,14 @@ use Rattle.logic.specs.Total.{total, value-of}
 use Rattle.logic.proofs.Dictionary.{plan-count}
 use Rattle.blocks.specs.Bytes.{Bytes}
 use Rattle.models.specs.Layout.{state-count, action-count, prop-count, denominator-of, model-of}
+use Rattle.models.specs.Grounds.{read-model}
+use Rattle.models.proofs.Passed.{passed-all, passed-sized}
 use Rattle.models.proofs.Held.{denominator-held}
 use Rattle.questions.specs.Layout.{node-count, node-of, formulas-of}
 use Rattle.questions.specs.Tables.{table}
 use Rattle.questions.proofs.Accepted as questions
 use Rattle.evaluation.specs.Reached.{formula, Cone, root-of, Ready}
+use Rattle.lanes.specs.Lanes.{Rewards, Sums}
 use Rattle.bounds.specs.Bounded.{Bounded, meets-at, Exactly}
 use Rattle.bounds.proofs.Meeting.{small}
 use Rattle.bounds.proofs.Powers.{power-le}
@@ -32,7 +37,7 @@ use Rattle.equal.specs.Listing as listing
 use Rattle.tables.specs.Need.{Given}
 use Rattle.tables.proofs.Marks.{given-question}
 use Rattle.evaluation.proofs.Knowing.{depth-in}
-use Rattle.judging.specs.Asked.{Asked}
+use Rattle.judging.specs.Asked.{Asked, Equipped}
 use Rattle.judging.specs.Truth.{Told}
 use Rattle.judging.specs.declared.plans.Decision.{Decision}
 use Rattle.judging.specs.declared.conditions.Peeled.{Peeled}
@@ -200,3 +205,12 @@ module _ {m q : Bytes} {used truth : List ℕ} {j s : ℕ} (given : Given m q us
 
   pub placed-truth : {r : Decision} → (node-of q j) .right ≡ 2 → Placed m q j s r → r .met ≡ sat (model-of m) (formula q j) s []
   placed-truth e p = p .bounds ∙ sym (equal-truth given j s (posed .node) (posed .is-plan) e (p .first))
+
+-- ---- what searches work with
+
+pub equipped : {m : Bytes} {rewards : List ℤ} {sums scratch : List ℕ} → Rewards m rewards → Sums m sums → 4095 ≤ length scratch → Equipped m rewards sums scratch
+equipped r t l = record { rewarded = r; summed = t; roomy = l }
+
+-- The tables for the last step have room for an accepted model.
+pub table-sizes : (m : Bytes) → refusal (read-model m) ≡ 0 → (state-count m ≤ 32) × (action-count m ≤ 8)
+table-sizes m h = let z = passed-sized m (passed-all m h) in (z .states, z .actions)

@@ -31,7 +31,7 @@ same-length-2 c = search needs
 returns : tie.Need-returns
 returns c = let R = c .before .before .before .before in
     let S = R .before .before .before .before .before .before .before .before .before .before .before .before in
-    root-announces (S .args .m .now) (S .args .q .now) (S .args .choices .now) (R .at-node .last .1 .1 .1 .1 .1 .1 .1 .1 .0)
+    root-announces (S .args .m .now) (S .args .q .now) (S .args .choices .now) (R .at-node .last .1 .1 .1 .1 .1 .1 .1 .1 .1 .1 .0)
     (ap (λ (n : ℕ). n - 1) (R .before .before .before .before .before .node-count .ensures)) (R .before .start .ensures) (R .at-node .ensures)
 
 pub at-root-spec : {M : Type 1} → statement M

@@ -37,9 +37,10 @@ find-requires : tie.Need-find-requires
 find-requires c κs = let K = c .before .before .before in
     let S = K .before .before .before .before .before .before .before .before in
     let P = S .pre .0 in
+    let tools = S .pre .1 .1 in
     let d = looks (P .0) (P .2) (P .1) (K .before .before .depth-at .ensures) in (
-      (ready (P .0) (P .2) (P .1) (K .cone .ensures .1) (K .cone .ensures .2), P .0 .used-right),
-      (d ∙ ap (λ (i : ℕ). depth (formula (S .args .q .now) i)) (sym (K .cone .ensures .2)), omega (arith, S .pre .1 .0), S .pre .1 .1),
+      (ready (P .0) (P .2) (P .1) (K .cone .ensures .1) (K .cone .ensures .2), P .0 .used-right, tools .rewarded, tools .summed),
+      (d ∙ ap (λ (i : ℕ). depth (formula (S .args .q .now) i)) (sym (K .cone .ensures .2)), omega (arith, S .pre .1 .0), tools .roomy),
     )
 
 same-length : tie.Need-same-length

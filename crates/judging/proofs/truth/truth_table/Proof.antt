@@ -8,16 +8,17 @@ use Rattle.questions.specs.Layout.{node-count}
 use Rattle.judging.specs.Truth.{Right}
 use Rattle.judging.specs.Conditions.{Remembers}
 use Rattle.tables.proofs.Marks.{given-question}
+use Rattle.judging.proofs.Posing.{equipped}
 use Rattle.judging.proofs.Truths.{right-none, right-more}
 use Rattle.judging.proofs.truth.truth_table.Statement.{statement}
 use Rattle.judging.proofs.truth.truth_table.Tie as tie
 
 abbrev Inv-loop : tie.InvT-loop
-Inv-loop m q used counts depths need scratch₀ memo₀ end truth₀ k₀ scratch memo truth k =
+Inv-loop m q used counts depths rewards sums need scratch₀ memo₀ end truth₀ k₀ scratch memo truth k =
     (end ≡ 32 * (node-count q - 1)) × (k ≤ end) × (length truth ≡ 1280) × Right m q need truth k × (length scratch ≡ length scratch₀) × Remembers m q memo
 
 abbrev μ-loop : tie.MeasureT-loop
-μ-loop m q used counts depths need scratch₀ memo₀ end truth₀ k₀ scratch memo truth k = end - k
+μ-loop m q used counts depths rewards sums need scratch₀ memo₀ end truth₀ k₀ scratch memo truth k = end - k
 
 node-count-requires : tie.Need-node-count-requires Inv-loop μ-loop
 node-count-requires c κs = search needs
@@ -37,7 +38,7 @@ slice-aggregate-truth-if c = sym (c .before .before .loop .inv .2)
 truth-if-requires : tie.Need-truth-if-requires Inv-loop μ-loop
 truth-if-requires c κs = let P = c .before .before .before .before .before .before .before .before .before .before .before .before .pre in
     let L = c .before .before .before .before .loop in
-    ((P .0, omega arith), (P .1, L .inv .3, omega (arith, L .inv .4, P .2), L .inv .5))
+    ((P .0, omega arith), (P .1, L .inv .3, equipped (P .2 .rewarded) (P .2 .summed) (omega (arith, L .inv .4, P .2 .roomy)), L .inv .5))
 
 array-write-truth : tie.Need-array-write-truth Inv-loop μ-loop
 array-write-truth c = omega (arith, (given-question (c .before .before .before .before .before .before .before .before .before .before .before .before .before .before .before .pre .0 .given)) .few-nodes)
@@ -53,7 +54,7 @@ loop-again c = let L = c .before .before .before .before .before .before .before
     let few = (given-question (c .before .before .before .before .before .before .before .before .before .before .before .before .before .before .before .pre .0 .given)) .few-nodes in
     let n = c .before .before .truth-if in
     let v = n .result in
-    (L .inv .0, omega arith, length-set (L .truth) (L .k) v ∙ L .inv .2, right-more v (L .inv .3) (omega arith) (n .ensures .0), n .kept .1 .1 .1 .1 .1 .1 .1 .0 ∙ L .inv .4, n .ensures .1)
+    (L .inv .0, omega arith, length-set (L .truth) (L .k) v ∙ L .inv .2, right-more v (L .inv .3) (omega arith) (n .ensures .0), n .kept .1 .1 .1 .1 .1 .1 .1 .1 .1 .0 ∙ L .inv .4, n .ensures .1)
 
 same-length : tie.Need-same-length Inv-loop μ-loop
 same-length c = c .before .loop .inv .4
