@@ -10,6 +10,8 @@ use lib.Seq.{take-take, take-at, length-take-le}
 use Rattle.logic.specs.Model.{Step}
 use Rattle.logic.specs.Limits.{plan-total}
 use Rattle.blocks.specs.Bytes.{Bytes, byte}
+use Rattle.blocks.specs.Splice.{splice}
+use Rattle.blocks.proofs.Splice.{take-written}
 use Rattle.models.specs.Layout.{state-count, model-of, entries, outcome-of}
 use Rattle.models.proofs.Held.{states-held, denominator-held}
 use Rattle.models.proofs.Table.{used-at}
@@ -21,10 +23,9 @@ use Rattle.evaluation.proofs.Trails.{fair}
 use Rattle.evaluation.proofs.Values.{one-if-small}
 use Rattle.evaluation.proofs.Knowing.{knows-shorter}
 use Rattle.evaluation.proofs.Stepping.{leaf-value, state-stepped, on-path-stepped}
-use Rattle.equal.specs.Totals.{totals, splice}
+use Rattle.equal.specs.Totals.{totals}
 use Rattle.equal.specs.Room.{Room}
 use Rattle.equal.specs.Listing.{Given, Here, Written, Decides}
-use Rattle.equal.proofs.Splice.{take-written}
 use Rattle.equal.proofs.Totals.{totals-length}
 use Rattle.equal.proofs.Bounds.{totals-alike}
 use Rattle.equal.proofs.Accepting.{is-accepted, is-sized, denominator-small}

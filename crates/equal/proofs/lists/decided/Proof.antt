@@ -3,7 +3,7 @@ use Prim.Native.Nat.{_*_, _^_}
 use mathlib.Core.Path.{refl, ap, ap₂, _∙_}
 use lib.ListN.{replicate}
 use borrow.Author.Needs.{needs}
-use Rattle.equal.specs.Totals.{splice}
+use Rattle.blocks.specs.Splice.{splice}
 use Rattle.equal.proofs.Accepting.{value-fits}
 use Rattle.equal.proofs.lists.decided.Statement.{statement}
 use Rattle.equal.proofs.lists.decided.Tie as tie
