@@ -14,7 +14,9 @@ use Rattle.blocks.specs.Splice.{splice}
 use Rattle.blocks.proofs.Splice.{take-written}
 use Rattle.models.specs.Layout.{state-count, model-of, entries, outcome-of}
 use Rattle.models.proofs.Held.{states-held, denominator-held}
-use Rattle.models.proofs.Table.{used-at}
+use Rattle.models.specs.Used.{count-in}
+use Rattle.models.proofs.Readable.{readable}
+use Rattle.models.proofs.Table.{count-entries}
 use Rattle.evaluation.specs.Path.{state-after}
 use Rattle.evaluation.specs.Reached.{root-of, on-path}
 use Rattle.evaluation.specs.Learnt.{known}
@@ -88,8 +90,8 @@ module _ {m q : Bytes} {start d : ℕ} {depths truth cone used table : List ℕ}
   pub action-small : (s a o : ℕ) → s < state-count m → o < entries m s a → a < 8
   action-small s a o h u = omega (arith, fair m (G .ready .model-accepted) s a o h u .action, is-sized m (G .ready .model-accepted) .actions)
 
-  pub uses-right : (s a : ℕ) {x : ℕ} → s < state-count m → a < 8 → x ≡ getD used (8 * s + a) 0 → x ≡ entries m s a
-  uses-right s a h g e = e ∙ used-at m (G .uses) s a (state-small h) g
+  pub uses-right : (s a : ℕ) {x : ℕ} → s < state-count m → x ≡ count-in used s a → x ≡ entries m s a
+  uses-right s a h e = e ∙ count-entries m (readable m (G .ready .model-accepted)) (G .uses) s h a
 
   module _ {trail : List ℕ} {gains : List ℤ} {v : List ℕ} {h s k : ℕ} (H : Here m q start d cone trail gains v h s k) where
     pub path-length : length (take h trail) ≡ h

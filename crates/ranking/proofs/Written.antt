@@ -108,9 +108,9 @@ module _ (b : Bytes) (n s a place : ℕ) (old : List ℕ) (at : ℕ) where
 module _ {b : Bytes} {n s a place : ℕ} {old : List ℕ} {at count j size rest next : ℕ} {new : List ℕ}
     (here : Underway b n s a place old at count j size rest new next) (l : j < count) where
   pub below-turn : refusal (read-model b) ≡ 0 → {counts : List ℕ} → Totals true (model-of b) counts → n ≤ 6
-      → {x t : ℕ} → x ≡ a → t ≡ (outcome-of b s x j) .target → Turn b counts n s a j t
-  below-turn e totals h {x} {t} q g =
-      turn b e totals n s a h x j t q g (omega (arith, here .entered)) (omega (arith, here .sized, here .inside)) (omega (arith, here .sized, here .few))
+      → {t : ℕ} → t ≡ (outcome-of b s a j) .target → Turn b counts n s a j t
+  below-turn e totals h {t} g =
+      turn b e totals n s a h j t g (omega (arith, here .entered)) (omega (arith, here .sized, here .inside)) (omega (arith, here .sized, here .few))
 
   pub fits : Readable b → at + 4 * room n ≤ length old → next + room n ≤ length new
   fits r h =
@@ -157,10 +157,9 @@ module _ {b : Bytes} {n s a place : ℕ} {old : List ℕ} {at count j size rest 
 -- ---- the whole
 
 -- What stands at the beginning of the buffer is the plan of the list.
-pub nth-listed : (m : Model) (n s i y x next : ℕ) (old new : List ℕ) → y ≡ n → x ≡ s → i < plan-total m n s
-    → Wrote (choices y (plan-at m y x i)) (room y) old new 0 next
+pub nth-listed : (m : Model) (n s i next : ℕ) (old new : List ℕ) → i < plan-total m n s
+    → Wrote (choices n (plan-at m n s i)) (room n) old new 0 next
     → (new ≡ splice old 0 (choices n (listed m n s i))) × (next ≡ length (choices n (listed m n s i)))
-nth-listed m n s i y x next old new e q h w =
-    let here : choices y (plan-at m y x i) ≡ choices n (listed m n s i) =
-    ap₂ (λ n s. choices n (plan-at m n s i)) e q ∙ ap (choices n) (sym (plan-at-is m n s i (first-plan m n s) h)) in
+nth-listed m n s i next old new h w =
+    let here : choices n (plan-at m n s i) ≡ choices n (listed m n s i) = ap (choices n) (sym (plan-at-is m n s i (first-plan m n s) h)) in
     (w .wrote ∙ ap (splice old 0) here, omega (arith, w .to, ap length here))
