@@ -82,7 +82,7 @@ count-one k = refl
 here-again : {m q : Bytes} {start : ℕ} {cone : List ℕ} {h at r : ℕ} {trail trail₁ : List ℕ} {gains₁ : List ℤ} {v₁ b b₁ : List ℕ} (X : List ℕ → List ℕ)
     → Written (X (take h trail)) m q start cone h at trail trail₁ gains₁ v₁ b b₁ r → take at b₁ ≡ take at b
     → Written (X (take h trail₁)) m q start cone h at trail₁ trail₁ gains₁ v₁ b₁ b₁ r
-here-again X W e = rebased X (sym (W .kept)) (sym e) W
+here-again X W e = rebased X (sym (W .back .kept)) (sym e) W
 
 -- ---- a list joined on
 
@@ -250,7 +250,7 @@ module _ {m q : Bytes} {start d : ℕ} {depths truth cone used table : List ℕ}
             ap (λ n. combined (F T) (count-from lo n)) n ∙ ap (combined (F T)) (count-one lo) ∙ combined-one (F T) lo in
             let held : Holds buf buf₂ at (combined (F T) (count-from lo (hi - lo))) = subst (Holds buf buf₂ at) (sym one) first-holds in
             let V₁ : Written (combined (F T) (count-from lo (hi - lo))) m q start cone h at trail trail₁ gains₁ v₁ buf buf₂ r =
-            record { kept = W .kept; knows = W .knows; count = first-count ∙ sym (ap length one ∙ lists-length T lo); listed = held } in
+            record { back = W .back; count = first-count ∙ sym (ap length one ∙ lists-length T lo); listed = held } in
             let here₁ : Here m q start d cone trail₁ gains₁ v₁ h s (k + 1) = still H W e₁ e₂ e₃ in
             record {
               all = ec;
@@ -342,7 +342,7 @@ module _ {m q : Bytes} {start d : ℕ} {depths truth cone used table : List ℕ}
             let before : take at buf ≡ take at buf₀ =
             held-before buf₀ buf at (combined (F T) (count-from lo (hi - lo))) (omega (arith, in-place)) (S .written .listed) at (le-refl at) in
             let V₁ : Written (joined (ltb lo o) (part buf at len) (F T o)) m q start cone h at trail₀ trail₁ gains₁ v₁ buf₀ buf₁ r =
-            rebased (λ T. joined (ltb lo o) (part buf at len) (F T o)) (S .written .kept) before W in
+            rebased (λ T. joined (ltb lo o) (part buf at len) (F T o)) (S .written .back .kept) before W in
             let V₂ : Written X m q start cone h at trail₀ trail₁ gains₁ v₁ buf₀ buf₁ r =
             subst (λ l. Written l m q start cone h at trail₀ trail₁ gains₁ v₁ buf₀ buf₁ r) same V₁ in
             let n : r ≡ len * t o =
@@ -396,8 +396,7 @@ module _ {m q : Bytes} {start d : ℕ} {depths truth cone used table : List ℕ}
     grown-written right {buf₂} e =
         subst (λ l. Written (joined right (part buf at len) l) m q start cone h at trail trail₁ gains₁ v₁ buf buf₂ (len * n)) is-weighed
         (record {
-          kept = W .kept;
-          knows = W .knows;
+          back = W .back;
           count = joined-count buf buf₁ at len n k K₁ ys ly some-one new whole w right;
           listed = joined-held buf buf₁ at len n k K₁ ys ly some-one new whole buf₂ w right e;
         })

@@ -721,7 +721,7 @@ combine-returns t c = let S = c .before .before .before .before .before .before 
     let M = S .args .m .now in
     let f : List ℕ → List Step → ℕ = on-path M (S .args .q .now) (S .args .start) (S .args .cone .now) in
     rebased (λ T. combined (weighed (model-of M) (S .args .k) (f T)) (outcomes (model-of M) (S .args .s) (S .args .a)))
-    (b .ensures .kept) (first-before G P R (lo .result) l (S .args .buf .now) refl H (b .ensures) (b .kept .1 .1 .1 .1 .1 .1 .1 .1 .1 .1 .0) (w .ensures .0) (h .ensures))
+    (b .ensures .back .kept) (first-before G P R (lo .result) l (S .args .buf .now) refl H (b .ensures) (b .kept .1 .1 .1 .1 .1 .1 .1 .1 .1 .1 .0) (w .ensures .0) (h .ensures))
     (span-end G P R (c .before .loop .inv) (h .kept .0 ∙ b .kept .1 .1 .1 .1 .1 .1 .1 .1 .1 .1 .0) (omega arith))
 
 grown-target-requires : (t : ℕ) → grown-lts.Need-target-requires (
