@@ -26,9 +26,9 @@ use Rattle.evaluation.specs.Path.{steps-of, state-after}
 use Rattle.evaluation.specs.Reached.{formula, root-of, on-path, Ready}
 use Rattle.evaluation.specs.Learnt.{known, learnt}
 use Rattle.evaluation.specs.Known.{Knows, Roomy, Offered, Stepped}
-use Rattle.evaluation.proofs.Trails.{fair, state-inside}
+use Rattle.evaluation.proofs.Trails.{fair}
 use Rattle.evaluation.proofs.Returning.{roomy-same, back-none, back-same, knows-back, state-back, step-back}
-use Rattle.evaluation.proofs.Stepping.{leaf-value, begun, state-stepped, on-path-stepped}
+use Rattle.evaluation.proofs.Stepping.{state-reached, leaf-value, begun, state-stepped, on-path-stepped}
 use Rattle.evaluation.proofs.Values.{one-if-small, learnt-length}
 use Rattle.weighing.specs.Sums.{Run, each, weigh}
 use Rattle.weighing.specs.Places.{Here, Ran}
@@ -70,7 +70,7 @@ module _ {m q : Bytes} {start : ℕ} {depths truth cone : List ℕ} (ready : Rea
 
   module _ {trail : List ℕ} {gains : List ℤ} {v : List ℕ} {h s k : ℕ} (here : Here m q start cone trail gains v h s k) where
     pub state-here : s < state-count m
-    state-here = subst (λ x. x < state-count m) (here .state) (state-inside m (ready .model-accepted) (here .knows .followed) (ready .state))
+    state-here = state-reached ready (here .knows) (here .state)
 
     pub state-few : s < 32
     state-few = omega (arith, state-here, readable m (ready .model-accepted) .states)
