@@ -13,9 +13,11 @@ use borrow.Author.Tests.{lt-ltb, le-ltb}
 use Rattle.logic.specs.Lists.{count-from}
 use Rattle.logic.specs.Limits.{multiply}
 use Rattle.logic.proofs.Members.{in-map}
-use Rattle.equal.specs.Totals.{part, splice, joined, combined}
+use Rattle.blocks.specs.Splice.{splice}
+use Rattle.blocks.proofs.Splice.{take-written}
+use Rattle.equal.specs.Totals.{part, joined, combined}
 use Rattle.equal.specs.Spread.{Joins}
-use Rattle.equal.proofs.Splice.{take-written, part-drop}
+use Rattle.equal.proofs.Parts.{part-drop}
 use Rattle.equal.proofs.Grid.{length-grid}
 use Rattle.equal.proofs.Spans.{combined-right, combined-left, multiply-right, multiply-left}
 use Rattle.equal.proofs.Bounds.{Up-to}

@@ -1,4 +1,4 @@
-pub mod Splice
+pub mod Parts
 pub mod Grid
 pub mod Turns
 pub mod Totals

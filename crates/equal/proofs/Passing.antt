@@ -137,7 +137,7 @@ module _ {m q : Bytes} {start d : ℕ} {depths truth cone used table : List ℕ}
             let e : flatMap C (passed m s a) ++ C a ≡ flatMap C (passed m s (a + 1)) =
             sym (ap (λ i. flatMap C (passed m s i)) (add-one a) ∙ flatMap-yes (usable m s) C a yes) in
             let W₁ : Written (C a) m q start cone h (at + len) trail₀ trail₁ gains₁ v₁ buf buf₁ r =
-            rebased (λ T. chosen m q start cone s j T a) (L .written .kept) refl W in
+            rebased (λ T. chosen m q start cone s j T a) (L .written .back .kept) refl W in
             record {
               below = omega arith;
               here = still (L .here) W e₁ e₂ e₃;

@@ -17,6 +17,7 @@ use Rattle.logic.specs.Limits.{multiply, plan-total}
 use Rattle.logic.proofs.Tests.{counted-range}
 use Rattle.logic.proofs.Members.{in-map}
 use Rattle.blocks.specs.Bytes.{Bytes}
+use Rattle.blocks.specs.Splice.{splice}
 use Rattle.models.specs.Layout.{state-count, pre-of, state-mask, post-count, model-of, entries, outcome-of}
 use Rattle.models.proofs.Laws.{entries-inside}
 use Rattle.models.proofs.Held.{states-held, denominator-held}
@@ -24,11 +25,11 @@ use Rattle.evaluation.specs.Reached.{on-path}
 use Rattle.evaluation.proofs.Values.{one-if-small}
 use Rattle.evaluation.proofs.Trails.{fair}
 use Rattle.bounds.proofs.Powers.{power-le}
-use Rattle.equal.specs.Totals.{totals, part, splice, joined, combined, weighed}
+use Rattle.equal.specs.Totals.{totals, part, joined, combined, weighed}
 use Rattle.equal.specs.Spread.{Shifts, Joins}
 use Rattle.equal.specs.Room.{Room}
 use Rattle.equal.specs.Listing.{Given, Here, Written, Longest, Grows}
-use Rattle.equal.proofs.Splice.{part-length, part-drop}
+use Rattle.equal.proofs.Parts.{part-length, part-drop}
 use Rattle.equal.proofs.Totals.{totals-length}
 use Rattle.equal.proofs.Grid.{combined-length, combined-one}
 use Rattle.equal.proofs.Spans.{multiply-within, multiply-one}
@@ -81,7 +82,7 @@ count-one k = refl
 here-again : {m q : Bytes} {start : ℕ} {cone : List ℕ} {h at r : ℕ} {trail trail₁ : List ℕ} {gains₁ : List ℤ} {v₁ b b₁ : List ℕ} (X : List ℕ → List ℕ)
     → Written (X (take h trail)) m q start cone h at trail trail₁ gains₁ v₁ b b₁ r → take at b₁ ≡ take at b
     → Written (X (take h trail₁)) m q start cone h at trail₁ trail₁ gains₁ v₁ b₁ b₁ r
-here-again X W e = rebased X (sym (W .kept)) (sym e) W
+here-again X W e = rebased X (sym (W .back .kept)) (sym e) W
 
 -- ---- a list joined on
 
@@ -249,7 +250,7 @@ module _ {m q : Bytes} {start d : ℕ} {depths truth cone used table : List ℕ}
             ap (λ n. combined (F T) (count-from lo n)) n ∙ ap (combined (F T)) (count-one lo) ∙ combined-one (F T) lo in
             let held : Holds buf buf₂ at (combined (F T) (count-from lo (hi - lo))) = subst (Holds buf buf₂ at) (sym one) first-holds in
             let V₁ : Written (combined (F T) (count-from lo (hi - lo))) m q start cone h at trail trail₁ gains₁ v₁ buf buf₂ r =
-            record { kept = W .kept; knows = W .knows; count = first-count ∙ sym (ap length one ∙ lists-length T lo); listed = held } in
+            record { back = W .back; count = first-count ∙ sym (ap length one ∙ lists-length T lo); listed = held } in
             let here₁ : Here m q start d cone trail₁ gains₁ v₁ h s (k + 1) = still H W e₁ e₂ e₃ in
             record {
               all = ec;
@@ -341,7 +342,7 @@ module _ {m q : Bytes} {start d : ℕ} {depths truth cone used table : List ℕ}
             let before : take at buf ≡ take at buf₀ =
             held-before buf₀ buf at (combined (F T) (count-from lo (hi - lo))) (omega (arith, in-place)) (S .written .listed) at (le-refl at) in
             let V₁ : Written (joined (ltb lo o) (part buf at len) (F T o)) m q start cone h at trail₀ trail₁ gains₁ v₁ buf₀ buf₁ r =
-            rebased (λ T. joined (ltb lo o) (part buf at len) (F T o)) (S .written .kept) before W in
+            rebased (λ T. joined (ltb lo o) (part buf at len) (F T o)) (S .written .back .kept) before W in
             let V₂ : Written X m q start cone h at trail₀ trail₁ gains₁ v₁ buf₀ buf₁ r =
             subst (λ l. Written l m q start cone h at trail₀ trail₁ gains₁ v₁ buf₀ buf₁ r) same V₁ in
             let n : r ≡ len * t o =
@@ -395,8 +396,7 @@ module _ {m q : Bytes} {start d : ℕ} {depths truth cone used table : List ℕ}
     grown-written right {buf₂} e =
         subst (λ l. Written (joined right (part buf at len) l) m q start cone h at trail trail₁ gains₁ v₁ buf buf₂ (len * n)) is-weighed
         (record {
-          kept = W .kept;
-          knows = W .knows;
+          back = W .back;
           count = joined-count buf buf₁ at len n k K₁ ys ly some-one new whole w right;
           listed = joined-held buf buf₁ at len n k K₁ ys ly some-one new whole buf₂ w right e;
         })

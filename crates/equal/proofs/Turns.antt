@@ -8,9 +8,11 @@ use mathlib.Core.Bool.{Bool, true, false}
 use mathlib.Core.List.{List, [], _∷_, _++_, map, flatMap, map-append, map-map, map-id, List·Memᴰ, List·Memᴰ·head, List·Memᴰ·tail}
 use lib.ListN.{length, drop, getD, set, replicate, length-map, length-drop, length-replicate, replicate-append-replicate}
 use lib.Seq.{drop-cons, drop-length}
-use Rattle.equal.specs.Totals.{part, splice, grid, joined}
+use Rattle.blocks.specs.Splice.{splice}
+use Rattle.blocks.proofs.Splice
+use Rattle.equal.specs.Totals.{part, grid, joined}
 use Rattle.equal.specs.Spread.{Shifts, Spreads, Joins}
-use Rattle.equal.proofs.Splice
+use Rattle.equal.proofs.Parts
 use Rattle.equal.proofs.Grid.{length-grid}
 
 pub getD-member : (l : List ℕ) (i : ℕ) → i < length l → List·Memᴰ (getD l i 0) l
@@ -20,8 +22,8 @@ getD-member (x ∷ l) (suc i) h = List·Memᴰ·tail (getD-member l i (omega ari
 
 pub part-member : (l : List ℕ) (p n i : ℕ) → p + n ≤ length l → i < n → List·Memᴰ (getD l (p + i) 0) (part l p n)
 part-member l p n i k h =
-    subst (λ v. List·Memᴰ v (part l p n)) (Splice.getD-part l p n i h)
-    (getD-member (part l p n) i (omega (arith, Splice.part-length l p n k)))
+    subst (λ v. List·Memᴰ v (part l p n)) (Parts.getD-part l p n i h)
+    (getD-member (part l p n) i (omega (arith, Parts.part-length l p n k)))
 
 -- The buffer after i turns of `shift`.
 abbrev pub shifted : List ℕ → (from to w x i : ℕ) → List ℕ
@@ -35,7 +37,7 @@ pub record Turn (buf b : List ℕ) (from to w x i : ℕ) : Type 0 where
 
 module _ (buf : List ℕ) (from to count w x : ℕ) (S : Shifts buf from to count w x) (i : ℕ) where
   shift-length : i ≤ count → length (map (λ y. x + w * y) (part buf from i)) ≡ i
-  shift-length h = length-map (part buf from i) (λ y. x + w * y) ∙ Splice.part-length buf from i (omega (arith, S .source))
+  shift-length h = length-map (part buf from i) (λ y. x + w * y) ∙ Parts.part-length buf from i (omega (arith, S .source))
 
   pub shift-whole : i ≤ count → length (shifted buf from to w x i) ≡ length buf
   shift-whole h = Splice.splice-length buf to (map (λ y. x + w * y) (part buf from i)) (omega (arith, S .target, shift-length h))
@@ -56,7 +58,7 @@ module _ (buf : List ℕ) (from to count w x : ℕ) (S : Shifts buf from to coun
       ∙ Splice.splice-set buf to X (x + w * getD buf (from + i) 0) (omega (arith, S .target))
       ∙ ap (splice buf to)
       (sym (map-append (λ y. x + w * y) (part buf from i) (getD buf (from + i) 0 ∷ []))
-      ∙ ap (map (λ y. x + w * y)) (sym (Splice.part-more buf from i (omega (arith, S .source)))))
+      ∙ ap (map (λ y. x + w * y)) (sym (Parts.part-more buf from i (omega (arith, S .source)))))
 
   pub shift-turn : {b : List ℕ} → b ≡ shifted buf from to w x i → i < count → Turn buf b from to w x i
   shift-turn {b} e h =
@@ -84,7 +86,7 @@ module _ (buf : List ℕ) (at slow n v fast c w : ℕ) (S : Spreads buf at slow 
 
   zs-length : length zs ≡ c
   unfolding zs
-  zs-length = length-map (part buf fast c) (λ y. w * y) ∙ Splice.part-length buf fast c (S .quickly)
+  zs-length = length-map (part buf fast c) (λ y. w * y) ∙ Parts.part-length buf fast c (S .quickly)
 
   -- The sums lie within the buffer.
   room : at + n * c ≤ length buf
@@ -94,7 +96,7 @@ module _ (buf : List ℕ) (at slow n v fast c w : ℕ) (S : Spreads buf at slow 
   unfolding grid flatMap
   spread-start =
       let xs : List ℕ = part buf slow n in
-      let e : drop n xs ≡ [] = ap (λ k. drop k xs) (sym (Splice.part-length buf slow n (S .slowly))) ∙ drop-length xs in
+      let e : drop n xs ≡ [] = ap (λ k. drop k xs) (sym (Parts.part-length buf slow n (S .slowly))) ∙ drop-length xs in
       sym (Splice.splice-none buf (at + n * c)) ∙ ap (λ l. splice buf (at + n * c) (grid (map (λ x. v * x) l) (map (λ y. w * y) (part buf fast c)))) (sym e)
 
   pub spread-end : spreading buf at slow n v fast c w 0 ≡ splice buf at (grid (map (λ x. v * x) (part buf slow n)) (map (λ y. w * y) (part buf fast c)))
@@ -110,7 +112,7 @@ module _ (buf : List ℕ) (at slow n v fast c w : ℕ) (S : Spreads buf at slow 
     unfolding later
     later-length =
         length-grid (map (λ x. v * x) (drop i (part buf slow n))) zs
-        ∙ ap₂ _*_ (length-map (drop i (part buf slow n)) (λ x. v * x) ∙ length-drop i (part buf slow n) ∙ ap (λ k. k - i) (Splice.part-length buf slow n (S .slowly))) zs-length
+        ∙ ap₂ _*_ (length-map (drop i (part buf slow n)) (λ x. v * x) ∙ length-drop i (part buf slow n) ∙ ap (λ k. k - i) (Parts.part-length buf slow n (S .slowly))) zs-length
 
     later-end : at + i * c + length later ≡ at + n * c
     later-end =
@@ -143,8 +145,8 @@ module _ (buf : List ℕ) (at slow n v fast c w : ℕ) (S : Spreads buf at slow 
     unfolding b
     fast-same =
         ⊎-elim
-        (λ e. Splice.part-after buf (at + suc j * c) (later (suc j) lt) fast c (omega (arith, e .1, later-end (suc j) lt)) far)
-        (λ e. Splice.part-before buf (at + suc j * c) (later (suc j) lt) fast c (omega (arith, e .0, more)) far)
+        (λ e. Parts.part-after buf (at + suc j * c) (later (suc j) lt) fast c (omega (arith, e .1, later-end (suc j) lt)) far)
+        (λ e. Parts.part-before buf (at + suc j * c) (later (suc j) lt) fast c (omega (arith, e .0, more)) far)
         (S .beside)
 
     clear : (at + j * c ≤ fast) ⊎ (fast + c ≤ at + j * c)
@@ -170,15 +172,15 @@ module _ (buf : List ℕ) (at slow n v fast c w : ℕ) (S : Spreads buf at slow 
         let x : ℕ = getD buf (slow + j) 0 in
         let xs : List ℕ = part buf slow n in
         let R : List ℕ = map (λ y. v * x + w * y) (part buf fast c) in
-        let lr : length R ≡ c = length-map (part buf fast c) (λ y. v * x + w * y) ∙ Splice.part-length buf fast c (S .quickly) in
+        let lr : length R ≡ c = length-map (part buf fast c) (λ y. v * x + w * y) ∙ Parts.part-length buf fast c (S .quickly) in
         let q : at + suc j * c ≡ at + j * c + length R = omega (arith, more) in
-        let d : getD xs j 0 ∷ drop (suc j) xs ≡ drop j xs = sym (drop-cons xs j 0 (omega (arith, Splice.part-length buf slow n (S .slowly)))) in
+        let d : getD xs j 0 ∷ drop (suc j) xs ≡ drop j xs = sym (drop-cons xs j 0 (omega (arith, Parts.part-length buf slow n (S .slowly)))) in
         let r : R ≡ map (λ z. v * x + z) zs = sym (map-map (λ z. v * x + z) (λ y. w * y) (part buf fast c)) in
         ap (λ k. splice (splice buf k (later (suc j) lt)) (at + j * c) R) q
         ∙ Splice.splice-front buf (at + j * c) R (later (suc j) lt) (omega (arith, far))
         ∙ ap (splice buf (at + j * c))
         (ap (λ l. l ++ later (suc j) lt) r
-        ∙ ap (λ a. grid (v * a ∷ map (λ x. v * x) (drop (suc j) xs)) zs) (sym (Splice.getD-part buf slow n j lt))
+        ∙ ap (λ a. grid (v * a ∷ map (λ x. v * x) (drop (suc j) xs)) zs) (sym (Parts.getD-part buf slow n j lt))
         ∙ ap (λ l. grid (map (λ x. v * x) l) zs) d)
 
     turn-at : {b′ : List ℕ} → b′ ≡ spreading buf at slow n v fast c w (suc j) → Row buf b′ at slow n v fast c w j

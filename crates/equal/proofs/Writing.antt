@@ -6,25 +6,27 @@ use mathlib.Core.Path.{_≡_, refl, sym, ap, ap₂, subst, _∙_}
 use mathlib.Core.List.{List, [], _∷_, _++_, append-assoc, append-nil}
 use lib.IntN.{ℤ}
 use lib.ListN.{length, take, getD, replicate, length-append}
-use lib.Seq.{take-take, take-at, length-take-le}
+use lib.Seq.{length-take-le}
 use Rattle.logic.specs.Model.{Step}
 use Rattle.logic.specs.Limits.{plan-total}
 use Rattle.blocks.specs.Bytes.{Bytes, byte}
+use Rattle.blocks.specs.Splice.{splice}
+use Rattle.blocks.proofs.Splice.{take-written}
 use Rattle.models.specs.Layout.{state-count, model-of, entries, outcome-of}
 use Rattle.models.proofs.Held.{states-held, denominator-held}
-use Rattle.models.proofs.Table.{used-at}
-use Rattle.evaluation.specs.Path.{state-after}
+use Rattle.models.specs.Used.{count-in}
+use Rattle.models.proofs.Readable.{readable}
+use Rattle.models.proofs.Table.{count-entries}
 use Rattle.evaluation.specs.Reached.{root-of, on-path}
 use Rattle.evaluation.specs.Learnt.{known}
 use Rattle.evaluation.specs.Known.{Knows, Offered, Stepped}
 use Rattle.evaluation.proofs.Trails.{fair}
 use Rattle.evaluation.proofs.Values.{one-if-small}
-use Rattle.evaluation.proofs.Knowing.{knows-shorter}
+use Rattle.evaluation.proofs.Returning.{roomy-same, back-none, back-same, knows-back, state-back, step-back}
 use Rattle.evaluation.proofs.Stepping.{leaf-value, state-stepped, on-path-stepped}
-use Rattle.equal.specs.Totals.{totals, splice}
+use Rattle.equal.specs.Totals.{totals}
 use Rattle.equal.specs.Room.{Room}
 use Rattle.equal.specs.Listing.{Given, Here, Written, Decides}
-use Rattle.equal.proofs.Splice.{take-written}
 use Rattle.equal.proofs.Totals.{totals-length}
 use Rattle.equal.proofs.Bounds.{totals-alike}
 use Rattle.equal.proofs.Accepting.{is-accepted, is-sized, denominator-small}
@@ -34,7 +36,7 @@ use Rattle.equal.proofs.Accepting.{is-accepted, is-sized, denominator-s
 module _ {m q : Bytes} {start : ℕ} {cone : List ℕ} {h : ℕ} {trail : List ℕ} where
   pub written-none : {at : ℕ} {gains : List ℤ} {v b : List ℕ} → Knows m q start cone (take h trail) gains v → Written [] m q start cone h at trail trail gains v b b 0
   written-none {at} {gains} {v} {b} K =
-      record { kept = refl; knows = K; count = refl; listed = ap (λ n. take n b) (add-zero at) ∙ sym (append-nil (take at b)) }
+      record { back = back-none K; count = refl; listed = ap (λ n. take n b) (add-zero at) ∙ sym (append-nil (take at b)) }
 
   -- On a path with the same first h steps, in a buffer with the same numbers before the place.
   pub rebased : (X : List ℕ → List ℕ) {at r : ℕ} {trail₁ trail₂ : List ℕ} {gains₂ : List ℤ} {v₂ b b₁ b₂ : List ℕ}
@@ -43,8 +45,7 @@ module _ {m q : Bytes} {start : ℕ} {cone : List ℕ} {h : ℕ} {trail : List �
       → Written (X (take h trail)) m q start cone h at trail trail₂ gains₂ v₂ b b₂ r
   rebased X {at} {trail₁ = trail₁} {gains₂ = gains₂} {v₂} {b} {b₁} {b₂} e f W =
       record {
-        kept = W .kept ∙ e;
-        knows = subst (λ T. Knows m q start cone T gains₂ v₂) e (W .knows);
+        back = back-same e (W .back);
         count = W .count ∙ ap (λ T. length (X T)) e;
         listed = subst (λ T. take (at + length (X T)) b₂ ≡ take at b ++ X T) e (W .listed ∙ ap (λ l. l ++ X (take h trail₁)) f);
       }
@@ -57,8 +58,7 @@ module _ {m q : Bytes} {start : ℕ} {cone : List ℕ} {h : ℕ} {trail : List �
       let n : length (xs ++ ys) ≡ length xs + length ys = length-append xs ys in
       let i : at + length (xs ++ ys) ≡ at + r + length ys = omega (arith, W .count) in
       record {
-        kept = Y .kept;
-        knows = Y .knows;
+        back = Y .back;
         count = omega (arith, W .count, Y .count);
         listed = ap (λ k. take k b₂) i ∙ Y .listed ∙ ap (λ k. take (at + k) b₁ ++ ys) (W .count) ∙ ap (λ l. l ++ ys) (W .listed) ∙ append-assoc (take at b) xs ys;
       }
@@ -72,9 +72,9 @@ module _ {m q : Bytes} {start : ℕ} {cone : List ℕ} {h : ℕ} {trail : List �
         steps = H .steps;
         deep = H .deep;
         inside = H .inside;
-        state = ap (state-after m start) (W .kept) ∙ H .state;
-        roomy = record { steps = rw e (H .roomy .steps); sums = rw f (H .roomy .sums); places = rw g (H .roomy .places) };
-        knows = subst (λ T. Knows m q start cone T gains₁ v₁) (sym (W .kept)) (W .knows);
+        state = state-back (W .back) ∙ H .state;
+        roomy = roomy-same (H .roomy) e f g;
+        knows = knows-back (W .back);
       }
 
 module _ {m q : Bytes} {start d : ℕ} {depths truth cone used table : List ℕ} (G : Given m q start d depths truth cone used table) where
@@ -87,8 +87,8 @@ module _ {m q : Bytes} {start d : ℕ} {depths truth cone used table : List ℕ}
   pub action-small : (s a o : ℕ) → s < state-count m → o < entries m s a → a < 8
   action-small s a o h u = omega (arith, fair m (G .ready .model-accepted) s a o h u .action, is-sized m (G .ready .model-accepted) .actions)
 
-  pub uses-right : (s a : ℕ) {x : ℕ} → s < state-count m → a < 8 → x ≡ getD used (8 * s + a) 0 → x ≡ entries m s a
-  uses-right s a h g e = e ∙ used-at m (G .uses) s a (state-small h) g
+  pub uses-right : (s a : ℕ) {x : ℕ} → s < state-count m → x ≡ count-in used s a → x ≡ entries m s a
+  uses-right s a h e = e ∙ count-entries m (readable m (G .ready .model-accepted)) (G .uses) s h a
 
   module _ {trail : List ℕ} {gains : List ℤ} {v : List ℕ} {h s k : ℕ} (H : Here m q start d cone trail gains v h s k) where
     pub path-length : length (take h trail) ≡ h
@@ -125,8 +125,7 @@ module _ {m q : Bytes} {start d : ℕ} {depths truth cone used table : List ℕ}
             ∙ ap (λ z. replicate (plan-total (model-of m) k s) (known v (root-of cone) 0 * z ^ k)) (denominator-held m) in
             let g : buf′ ≡ splice buf at X = f ∙ ap (λ n. splice buf at (replicate n (known v (root-of cone) 0 * byte m 5 ^ k))) served in
             record {
-              kept = refl;
-              knows = H .knows;
+              back = back-none (H .knows);
               count = e ∙ served ∙ sym (totals-length (model-of m) k s (on-path m q start cone (take h trail)));
               listed =
                   subst (λ l. take (at + length l) buf′ ≡ take at buf ++ l) (sym alike)
@@ -138,16 +137,7 @@ module _ {m q : Bytes} {start d : ℕ} {depths truth cone used table : List ℕ}
     pub offered : Offered m start trail h s a o
     offered = record { steps = omega (arith, H .steps); state = H .state; used = u }
 
-    abbrev b : ℕ
-    b = 4 * a + o
-
-    on-length : length (take h trail ++ (b ∷ [])) ≡ h + 1
-    on-length = length-append (take h trail) (b ∷ []) ∙ omega (arith, path-length H)
-
     module _ {trail₁ : List ℕ} {gains₁ : List ℤ} {v₁ : List ℕ} {t : ℕ} (S : Stepped m q start cone h s a o trail trail₁ gains₁ v₁ t) where
-      longer : take (h + 1) trail₁ ≡ take h trail ++ (b ∷ [])
-      longer = S .longer
-
       pub below-here : length trail₁ ≡ length trail → length gains₁ ≡ length gains → length v₁ ≡ length v → Here m q start d cone trail₁ gains₁ v₁ (h + 1) t k
       below-here e f g =
           record {
@@ -155,7 +145,7 @@ module _ {m q : Bytes} {start d : ℕ} {depths truth cone used table : List ℕ}
             deep = omega (arith, H .deep);
             inside = rw (S .state) (reached s a o (H .inside) u);
             state = state-stepped (G .ready) offered (H .knows) S;
-            roomy = record { steps = rw e (H .roomy .steps); sums = rw f (H .roomy .sums); places = rw g (H .roomy .places) };
+            roomy = roomy-same (H .roomy) e f g;
             knows = S .knows;
           }
 
@@ -167,11 +157,8 @@ module _ {m q : Bytes} {start d : ℕ} {depths truth cone used table : List ℕ}
           let X : List ℕ = totals (model-of m) k ((outcome-of m s a o) .target) (λ l. on-path m q start cone (take h trail) (outcome-of m s a o ∷ l)) in
           let same : totals (model-of m) k t (on-path m q start cone (take (h + 1) trail₁)) ≡ X =
           ap₂ (λ i f. totals (model-of m) k i f) (S .state) (on-path-stepped (G .ready) offered (H .knows) S) in
-          let n : length (take h trail) ≡ h = path-length H in
-          let on : take (h + 1) trail₂ ≡ take h trail ++ (b ∷ []) = W .kept ∙ longer in
           record {
-            kept = sym (take-take h (h + 1) trail₂ (omega arith)) ∙ ap (take h) on ∙ take-at (take h trail) (b ∷ []) h n;
-            knows = knows-shorter m q start cone (take h trail) b gains₂ v₂ (subst (λ l. Knows m q start cone l gains₂ v₂) longer (W .knows));
+            back = step-back (path-length H) S (W .back);
             count = W .count ∙ ap length same;
             listed = subst (λ l. take (at + length l) buf₂ ≡ take at buf ++ l) same (W .listed);
           }

@@ -12,7 +12,7 @@ use Rattle.models.specs.Used.{Used}
 use Rattle.evaluation.specs.Path.{state-after}
 use Rattle.evaluation.specs.Reached.{formula, root-of, Ready}
 use Rattle.evaluation.specs.Learnt.{known}
-use Rattle.evaluation.specs.Known.{Knows, Roomy}
+use Rattle.evaluation.specs.Known.{Knows, Roomy, Back}
 use Rattle.equal.specs.Totals.{part}
 use Rattle.equal.specs.Room.{Room}
 
@@ -39,8 +39,7 @@ pub record Here (m q : Bytes) (start d : ℕ) (cone trail : List ℕ) (gains : L
 -- The list xs was written at `at`, r numbers; what stands before it stayed, and the path's first h steps with what is known of them.
 pub record Written (xs : List ℕ) (m q : Bytes) (start : ℕ) (cone : List ℕ) (h at : ℕ) (trail trail′ : List ℕ) (gains′ : List ℤ)
     (v′ buf buf′ : List ℕ) (r : ℕ) : Type 0 where
-  pub kept : take h trail′ ≡ take h trail
-  pub knows : Knows m q start cone (take h trail) gains′ v′
+  pub back : Back m q start cone h trail trail′ gains′ v′
   pub count : r ≡ length xs
   pub listed : take (at + length xs) buf′ ≡ take at buf ++ xs
 

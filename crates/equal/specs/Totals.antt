@@ -1,8 +1,8 @@
 -- The totals of all plans, in dictionary order of the plans, and how those over one step more are combined from those below.
 use Prim.Native.Nat.{ℕ, _+_, _*_}
 use mathlib.Core.Bool.{Bool, true, false}
-use mathlib.Core.List.{List, [], _∷_, _++_, map, flatMap}
-use lib.ListN.{length, take, drop}
+use mathlib.Core.List.{List, [], _∷_, map, flatMap}
+use lib.ListN.{take, drop}
 use Rattle.logic.specs.Model.{Model, Step}
 use Rattle.logic.specs.Quantity.{naturals}
 use Rattle.logic.specs.Plan.{plans}
@@ -33,7 +33,3 @@ weighed m n f o = map (λ y. o .weight * y) (totals m n (o .target) (λ r. f (o 
 -- The n numbers of a list from a place on.
 unfoldable pub part : List ℕ → ℕ → ℕ → List ℕ
 part l at n = take n (drop at l)
-
--- The list with x written over it at a place.
-unfoldable pub splice : List ℕ → ℕ → List ℕ → List ℕ
-splice l at x = take at l ++ (x ++ drop (at + length x) l)

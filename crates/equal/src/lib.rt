@@ -11,9 +11,9 @@ ghost use Rattle.equal.specs.Listing.{Given, First};
 mod lists;
 mod spread;
 
-use crate::lists::count;
 use crate::lists::list;
 use evaluation::learn;
+use limits::plans_counted;
 
 // The place of the first x among the first `len` numbers; where there is none, len.
 fn find(buf: &[u64], len: usize, x: u64) -> usize
@@ -94,7 +94,7 @@ pub fn first_equal(
     requires { ⌜ (d ≤ n) × (n ≤ 6) × (plan-total (model-of (now m)) n s ≤ 65536) ⌝ }
     ensures { λ r. ⌜ First (totals (model-of (now (m .entry))) n s (value-of (model-of (now (m .entry))) (formula (now (q .entry)) (root-of (now (cone .entry)))) s)) x r ⌝ }
 {
-    let all = count(table, n, s as usize);
+    let all = plans_counted(table, n, s as usize);
     if all <= 1024 {
         let mut buf = [0u64; 1306];
         return first_within(m, q, depths, truth, cone, used, table, &mut buf, s, d, n, x);

@@ -7,10 +7,11 @@ ghost use lib.ListN.{getD, length, replicate, take};
 ghost use Rattle.logic.specs.Model.{outcomes};
 ghost use Rattle.logic.specs.Limits.{multiply, plan-total};
 ghost use Rattle.blocks.specs.Bytes.{byte};
+ghost use Rattle.blocks.specs.Splice.{splice};
 ghost use Rattle.models.specs.Layout.{model-of, entries, outcome-of};
 ghost use Rattle.evaluation.specs.Learnt as learnt;
 ghost use Rattle.evaluation.specs.Reached.{root-of, on-path};
-ghost use Rattle.equal.specs.Totals.{totals, combined, weighed, joined, part, splice};
+ghost use Rattle.equal.specs.Totals.{totals, combined, weighed, joined, part};
 ghost use Rattle.equal.specs.Room.{Room};
 ghost use Rattle.equal.specs.Listing.{Given, Here, Written, Longest, Decides, Grows};
 use crate::spread::fill;
@@ -21,24 +22,10 @@ use blocks::wide;
 use bounds::power;
 use evaluation::known;
 use evaluation::step;
+use limits::plans_counted;
 use models::target;
+use models::used_outcomes;
 use models::weight;
-
-// The number of plans of k steps from a state, by the table.
-pub fn count(table: &[u64; 224], k: u8, t: usize) -> usize
-    requires { ⌜ (k ≤ 6) × (t < 32) ⌝ }
-    ensures { λ r. ⌜ r ≡ getD (now (table .entry)) (32 * k + t) 0 ⌝ }
-{
-    table[32 * k as usize + t] as usize
-}
-
-// The number of outcomes of an action in a state, 0 where it is not enabled, by the table.
-fn uses(used: &[u8; 264], s: u8, a: u8) -> u8
-    requires { ⌜ (s < 32) × (a < 8) ⌝ }
-    ensures { λ r. ⌜ r ≡ getD (now (used .entry)) (8 * s + a) 0 ⌝ }
-{
-    used[8 * s as usize + a as usize]
-}
 
 // An outcome with the most plans below it: its list is made first, in its place.
 fn longest(m: &[u8], table: &[u64; 224], s: u8, a: u8, c: u8, k: u8) -> u8
@@ -48,8 +35,8 @@ fn longest(m: &[u8], table: &[u64; 224], s: u8, a: u8, c: u8, k: u8) -> u8
     let mut best: u8 = 0;
     let mut o: u8 = 1;
     while o < c {
-        let n = count(table, k, target(m, s as usize, a as usize, o as usize));
-        if count(table, k, target(m, s as usize, a as usize, best as usize)) < n {
+        let n = plans_counted(table, k, target(m, s as usize, a as usize, o as usize));
+        if plans_counted(table, k, target(m, s as usize, a as usize, best as usize)) < n {
             best = o;
         }
         o += 1;
@@ -91,7 +78,7 @@ fn decided(
     requires { ⌜ Decides (now m) (now cone) (now v) (now table) (now buf) s k at ⌝ }
     ensures { λ r. ⌜ (r ≡ getD (now (table .entry)) (32 * k + s) 0) × (now (buf .exit) ≡ splice (now (buf .entry)) at (replicate (getD (now (table .entry)) (32 * k + s) 0) (learnt.known (now (v .entry)) (root-of (now (cone .entry))) 0 * byte (now (m .entry)) 5 ^ k))) ⌝ }
 {
-    let n = count(table, k, s as usize);
+    let n = plans_counted(table, k, s as usize) as usize;
     let last = cone.len() - 1;
     let x = known(v, cone[last], 0) as u64 * power(wide(m, 5), k);
     fill(buf, at, n, x);
@@ -130,7 +117,7 @@ pub fn list(
     let mut len: usize = 0;
     let mut a: u8 = 0;
     while a < n {
-        if 0 < uses(used, s, a) {
+        if 0 < used_outcomes(used, s as usize, a) {
             len += combine(
                 m,
                 q,
@@ -184,7 +171,7 @@ fn combine(
     requires { ⌜ Room (k + 1) (multiply (λ o. plan-total (model-of (now m)) k (o .target)) (outcomes (model-of (now m)) s a)) at (length (now buf)) ⌝ }
     ensures { λ r. ⌜ Written (combined (weighed (model-of (now (m .entry))) k (on-path (now (m .entry)) (now (q .entry)) start (now (cone .entry)) (take h (now (trail .entry))))) (outcomes (model-of (now (m .entry))) s a)) (now (m .entry)) (now (q .entry)) start (now (cone .entry)) h at (now (trail .entry)) (now (trail .exit)) (now (gains .exit)) (now (v .exit)) (now (buf .entry)) (now (buf .exit)) r ⌝ }
 {
-    let c = uses(used, s, a);
+    let c = used_outcomes(used, s as usize, a);
     let mut lo = longest(m, table, s, a, c, k);
     let mut hi = lo + 1;
     let mut len = below(
@@ -276,7 +263,7 @@ fn grown(
     requires { ⌜ Grows (now buf) at len (plan-total (model-of (now m)) k ((outcome-of (now m) s a o) .target)) k ⌝ }
     ensures { λ r. ⌜ Written (joined right (part (now (buf .entry)) at len) (weighed (model-of (now (m .entry))) k (on-path (now (m .entry)) (now (q .entry)) start (now (cone .entry)) (take h (now (trail .entry)))) (outcome-of (now (m .entry)) s a o))) (now (m .entry)) (now (q .entry)) start (now (cone .entry)) h at (now (trail .entry)) (now (trail .exit)) (now (gains .exit)) (now (v .exit)) (now (buf .entry)) (now (buf .exit)) r ⌝ }
 {
-    let n = count(table, k, target(m, s as usize, a as usize, o as usize));
+    let n = plans_counted(table, k, target(m, s as usize, a as usize, o as usize)) as usize;
     let end = at + len * n;
     below(
         m,

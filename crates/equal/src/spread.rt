@@ -3,7 +3,8 @@ ghost use mathlib.Core.Path.{_≡_};
 ghost use mathlib.Core.List.{map};
 ghost use Prim.Native.Nat.{_+_, _*_, _≤_};
 ghost use lib.ListN.{length, replicate};
-ghost use Rattle.equal.specs.Totals.{part, splice, grid, joined};
+ghost use Rattle.blocks.specs.Splice.{splice};
+ghost use Rattle.equal.specs.Totals.{part, grid, joined};
 ghost use Rattle.equal.specs.Spread.{Shifts, Spreads, Joins};
 
 // Writes x + w * y at `to` for each of the numbers y at `from`.

@@ -4,3 +4,4 @@ pub mod Trails
 pub mod Meaning
 pub mod Knowing
 pub mod Stepping
+pub mod Returning

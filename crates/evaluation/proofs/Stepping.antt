@@ -29,10 +29,14 @@ module _ {m q : Bytes} {start : ℕ} {depths truth cone : List ℕ} (ready : Rea
   sizes : Sized m
   sizes = passed-sized m (passed-all m (ready .model-accepted))
 
+  -- A path leads to a state of the model.
+  pub state-reached : {t : List ℕ} {gains : List ℤ} {v : List ℕ} {s : ℕ} → Knows m q start cone t gains v → state-after m start t ≡ s → s < state-count m
+  state-reached knows e = subst (λ x. x < state-count m) e (state-inside m (ready .model-accepted) (knows .followed) (ready .state))
+
   module _ {trail : List ℕ} {gains : List ℤ} {v : List ℕ} {h s a o : ℕ} (offered : Offered m start trail h s a o)
       (knows : Knows m q start cone (take h trail) gains v) where
     pub state-small : s < state-count m
-    state-small = subst (λ x. x < state-count m) (offered .state) (state-inside m (ready .model-accepted) (knows .followed) (ready .state))
+    state-small = state-reached knows (offered .state)
 
     pub action-small : a < action-count m
     action-small = fair m (ready .model-accepted) s a o state-small (offered .used) .action

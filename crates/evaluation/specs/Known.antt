@@ -45,3 +45,8 @@ pub record Stepped (m q : Bytes) (start : ℕ) (cone : List ℕ) (h s a o : ℕ)
   pub longer : take (h + 1) trail′ ≡ take h trail ++ ((4 * a + o) ∷ [])
   pub state : t ≡ (outcome-of m s a o) .target
   pub knows : Knows m q start cone (take (h + 1) trail′) gains′ v′
+
+-- Back at the first h steps of a trail: they are as they were, and all is known on them that was.
+pub record Back (m q : Bytes) (start : ℕ) (cone : List ℕ) (h : ℕ) (trail trail′ : List ℕ) (gains′ : List ℤ) (v′ : List ℕ) : Type 0 where
+  pub kept : take h trail′ ≡ take h trail
+  pub knows : Knows m q start cone (take h trail) gains′ v′

@@ -2,58 +2,27 @@
 use Prim.Native.Nat.{ℕ, zero, suc, _+_, _*_, _-_, _≤_, _<_, min, zero-le}
 use native.Mathlib.Omega.{arith}
 use native.Mathlib.Numerals.{add-one}
-use native.Mathlib.Nat.{add-zero, suc-mul, mul-le-mul-right, le-refl, min-le-left, min-eq-left, not-suc-le-zero, le-of-suc-le-suc, eq-or-lt-of-le}
+use native.Mathlib.Nat.{suc-mul, mul-le-mul-right, le-refl, min-le-left, min-eq-left, not-suc-le-zero, le-of-suc-le-suc, eq-or-lt-of-le}
 use mathlib.Core.Path.{_≡_, refl, sym, ap, ap₂, subst, _∙_}
 use mathlib.Core.Bool.{Bool, true, false, cond}
 use mathlib.Core.Logic.{_⊎_, inl, inr}
 use mathlib.Core.List.{List, [], _∷_, _++_, append-nil, append-assoc}
 use lib.Dec.{ltb}
-use lib.ListN.{length, getD, take, drop, set, length-append, length-drop, length-take, take-append-drop}
-use lib.Seq.{take-at, drop-append-add, drop-drop, length-take-le, set-split, getD-drop}
+use lib.ListN.{length, getD, drop, set, length-append}
+use lib.Seq.{drop-drop, getD-drop}
 use Rattle.logic.specs.Lists.{keep, count-from, tabulate}
 use Rattle.logic.specs.Model.{Model, Step, outcomes}
 use Rattle.logic.specs.Extension.{first-choice}
 use Rattle.logic.proofs.Tests.{tabulate-more, count-more, keep-append, keep-same}
 use Rattle.blocks.specs.Bytes.{Bytes}
+use Rattle.blocks.specs.Splice.{splice}
+use Rattle.blocks.proofs.Splice.{splice-none, splice-one, splice-behind}
 use Rattle.models.specs.Layout.{state-count, outcome-of, entries, model-of}
 use Rattle.models.specs.Readable.{Readable}
 use Rattle.models.specs.Used.{Used, count-in}
 use Rattle.models.proofs.Rows.{outcomes-are, enabled-are, entries-few}
 use Rattle.models.proofs.Table.{count-entries}
-use Rattle.extension.specs.Choices.{Run, each, choice-at, after-choice, extend, first-in, splice, room, Ran}
-
--- ---- splices
-
-splice-none : (l : List ℕ) (p : ℕ) → splice l p [] ≡ l
-unfolding splice
-splice-none l p = rw add-zero (take-append-drop p l)
-
-splice-set : (l : List ℕ) (p a : ℕ) → p < length l → set l p a ≡ splice l p (a ∷ [])
-unfolding splice
-splice-set l p a h = rw (add-one) (set-split l p a h)
-
-pub splice-length : (l : List ℕ) (p : ℕ) (x : List ℕ) → p + length x ≤ length l → length (splice l p x) ≡ length l
-unfolding splice
-splice-length l p x h = simp (length-append, length-drop, length-take) (omega arith)
-
-splice-splice : (l : List ℕ) (p : ℕ) (x y : List ℕ) → p + length x ≤ length l → splice (splice l p x) (p + length x) y ≡ splice l p (x ++ y)
-unfolding splice
-splice-splice l p x y h =
-    let T : List ℕ = take p l in
-    let D : List ℕ = drop (p + length x) l in
-    let n : length (T ++ x) ≡ p + length x = length-append T x ∙ ap (λ (k : ℕ). k + length x) (length-take-le p l (omega arith)) in
-    let e0 : T ++ (x ++ D) ≡ (T ++ x) ++ D = sym (append-assoc T x D) in
-    let e1 : take (p + length x) (T ++ (x ++ D)) ≡ T ++ x = ap (λ (u : List ℕ). take (p + length x) u) e0 ∙ take-at (T ++ x) D (p + length x) n in
-    let j : p + length x + length y ≡ p + length (x ++ y) = omega (arith, length-append x y) in
-    let e2 : drop ((p + length x) + length y) (T ++ (x ++ D)) ≡ drop (p + length (x ++ y)) l =
-    ap (λ (u : List ℕ). drop ((p + length x) + length y) u) e0
-    ∙ ap (λ (k : ℕ). drop (k + length y) ((T ++ x) ++ D)) (sym n)
-    ∙ drop-append-add (T ++ x) D (length y)
-    ∙ drop-drop (length y) (p + length x) l
-    ∙ ap (λ (k : ℕ). drop k l) j in
-    ap₂ (λ (u v : List ℕ). u ++ (y ++ v)) e1 e2
-    ∙ append-assoc T x (y ++ drop (p + length (x ++ y)) l)
-    ∙ ap (λ (u : List ℕ). T ++ u) (sym (append-assoc x y (drop (p + length (x ++ y)) l)))
+use Rattle.extension.specs.Choices.{Run, each, choice-at, after-choice, extend, first-in, room, Ran}
 
 -- ---- runs
 
@@ -77,7 +46,7 @@ module _ (src : List ℕ) where
   ran-ran x y z p q f0 f1 f2 a0 a1 a2 d0 d1 d2 h r t e =
       subst (λ z. Ran z (p + q) src f0 f2 d0 d2 a0 a2) (sym e)
       (record {
-        wrote = t .wrote ∙ ap₂ (λ (u : List ℕ) (v : ℕ). splice u v (y .0)) (r .wrote) (r .next) ∙ splice-splice d0 a0 (x .0) (y .0) h;
+        wrote = t .wrote ∙ ap₂ (λ (u : List ℕ) (v : ℕ). splice u v (y .0)) (r .wrote) (r .next) ∙ splice-behind d0 a0 (x .0) (y .0) h;
         next = omega (arith, r .next, t .next, length-append (x .0) (y .0));
         left = t .left;
         near = omega (arith, r .near, t .near);
@@ -91,7 +60,7 @@ module _ (src : List ℕ) where
   -- A choice written.
   ran-choice : (a k from at : ℕ) (dst : List ℕ) → k ≤ 1 → at < length dst → Ran (a ∷ [], drop (from + k) src) 1 src from (from + k) dst (set dst at a) at (at + 1)
   ran-choice a k from at dst h g =
-      record { wrote = splice-set dst at a g; next = omega arith; left = refl; near = omega arith; size = omega arith }
+      record { wrote = splice-one dst at a g; next = omega arith; left = refl; near = omega arith; size = omega arith }
 
 pub min-one : (d : ℕ) → min 1 d ≤ 1
 min-one d = min-le-left 1 d

@@ -4,10 +4,11 @@ use Prim.Native.Nat.{ℕ, zero, suc, _+_, _*_, _-_, _≤_, min}
 use mathlib.Core.Path.{_≡_}
 use mathlib.Core.List.{List, [], _∷_, _++_}
 use lib.Dec.{ltb}
-use lib.ListN.{getD, take, drop, length}
+use lib.ListN.{getD, drop, length}
 use Rattle.logic.specs.Lists.{keep, count-from}
 use Rattle.logic.specs.Model.{Model, outcomes}
 use Rattle.logic.specs.Extension.{first-choice}
+use Rattle.blocks.specs.Splice.{splice}
 use Rattle.models.specs.Used.{count-in}
 
 -- What is written, and what is left to read.
@@ -41,10 +42,6 @@ unfoldable pub first-in : List ℕ → ℕ → ℕ
 first-in used s = getD (keep (λ a. ltb 0 (count-in used s a)) (count-from 0 8)) 0 0
 
 -- ---- in a buffer
-
--- l with x written at p.
-unfoldable pub splice : List ℕ → ℕ → List ℕ → List ℕ
-splice l p x = take p l ++ (x ++ drop (p + length x) l)
 
 -- The most choices that a plan of n steps has: 1365 for 6.
 unfoldable pub room : ℕ → ℕ

@@ -6,7 +6,7 @@ use native.Mathlib.Nat.{le-antisymm}
 use native.Mathlib.Decide.{ℕ-discrete}
 use mathlib.Core.Path.{_≡_, refl, sym, ap, ap₂, subst, _∙_}
 use mathlib.Core.Bool.{Bool, true, false, cond, _||_, false≢true}
-use mathlib.Core.List.{List, [], _++_}
+use mathlib.Core.List.{List, _++_}
 use lib.Dec.{eqb}
 use lib.IntN.{pos}
 use lib.ListN.{drop, take-append-drop}
@@ -25,13 +25,15 @@ use Rattle.logic.proofs.Best.{best-member}
 use Rattle.logic.proofs.Recursion.{best-plan-first}
 use Rattle.logic.proofs.Dictionary.{plans-are}
 use Rattle.blocks.specs.Bytes.{Bytes}
+use Rattle.blocks.specs.Splice.{splice}
+use Rattle.blocks.proofs.Splice.{splice-none}
 use Rattle.models.specs.Layout.{state-count, model-of}
 use Rattle.models.specs.Used.{Used}
 use Rattle.questions.specs.Layout.{start-of, node-count, node-of, formulas-of, question-of}
 use Rattle.questions.specs.Tables.{table}
 use Rattle.limits.specs.Totals.{Totals}
 use Rattle.evaluation.specs.Reached.{formula, root-of}
-use Rattle.extension.specs.Choices.{extend, splice}
+use Rattle.extension.specs.Choices.{extend}
 use Rattle.extension.proofs.Choices.{extend-choices}
 use Rattle.search.proofs.Orders.{ordered, additive}
 use Rattle.tables.specs.Need.{Given}
@@ -46,10 +48,6 @@ use Rattle.judging.proofs.Deciding.{plan-here, given-model, given-state
 
 -- ---- telling
 
-splice-none : (l : List ℕ) → l ≡ splice l 0 []
-unfolding splice
-splice-none l = refl
-
 pub announces-plan : {v : Verdict} {w n k i : ℕ} {cs l after : List ℕ} {x : Outcome} (before : List ℕ) → v ≡ yes-plan (pos w) n k cs → i ≡ n → l ≡ cs
     → x ≡ record { yes = true; plan = true; weight = w; steps = i; count = k } → after ≡ splice before 0 l → Announces v x before after
 unfolding told shown-choices nonnegative
@@ -61,14 +59,14 @@ announces-plan {w = w} {k = k} before e f same g h = (
 pub announces-no : {v : Verdict} {k : ℕ} {x : Outcome} (before : List ℕ) → v ≡ verdicts.no k
     → x ≡ record { yes = false; plan = false; weight = 0; steps = 0; count = k } → Announces v x before before
 unfolding told shown-choices
-announces-no before e f = (f ∙ ap told (sym e), splice-none before ∙ ap (λ u. splice before 0 (shown-choices u)) (sym e))
+announces-no before e f = (f ∙ ap told (sym e), sym (splice-none before 0) ∙ ap (λ u. splice before 0 (shown-choices u)) (sym e))
 
 pub announces-truth : {v : Verdict} {y : ℕ} {x : Outcome} (t : Bool) (before : List ℕ) → v ≡ cond t verdicts.yes (verdicts.no 0) → y ≡ one-if t
     → x ≡ record { yes = eqb y 1; plan = false; weight = 0; steps = 0; count = 0 } → Announces v x before before
 unfolding told shown-choices one-if
 announces-truth true before e f g = (
   g ∙ ap (λ y. record { yes = eqb y 1; plan = false; weight = 0; steps = 0; count = 0 }) f ∙ ap told (sym e),
-  splice-none before ∙ ap (λ u. splice before 0 (shown-choices u)) (sym e),
+  sym (splice-none before 0) ∙ ap (λ u. splice before 0 (shown-choices u)) (sym e),
 )
 announces-truth false before e f g =
     announces-no before e (g ∙ ap (λ y. record { yes = eqb y 1; plan = false; weight = 0; steps = 0; count = 0 }) f)

@@ -12,7 +12,7 @@ use Rattle.blocks.specs.Bytes.{Bytes}
 use Rattle.models.specs.Layout.{model-of}
 use Rattle.questions.specs.Layout.{start-of, node-count, node-of}
 use Rattle.evaluation.specs.Reached.{formula}
-use Rattle.extension.specs.Choices.{splice}
+use Rattle.blocks.specs.Splice.{splice}
 use Rattle.judging.specs.Decided.{condition}
 use Rattle.judging.specs.declared.Outcome.{Outcome}
 

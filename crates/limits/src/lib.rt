@@ -137,6 +137,14 @@ pub fn plan_totals(m: &[u8], used: &[u8; 264]) -> [u64; 224]
     totals(m, used, true)
 }
 
+// How many plans of n steps there are from s, by that table.
+pub fn plans_counted(counts: &[u64; 224], n: u8, s: usize) -> u64
+    requires { ⌜ (n ≤ 6) × (s < 32) ⌝ }
+    ensures { λ r. ⌜ r ≡ getD (now (counts .entry)) (32 * n + s) 0 ⌝ }
+{
+    counts[32 * n as usize + s]
+}
+
 // Whether the totals of n steps are within the limit, for each of the first states.
 fn row_fits(table: &[u64; 224], n: usize, states: usize, plans: bool) -> bool
     requires { ⌜ (n ≤ 6) × (states ≤ 32) ⌝ }

@@ -18,7 +18,7 @@ use Rattle.models.specs.Grounds.{kinds-right, sizes-right, mask-in-range, liter
 use Rattle.questions.specs.Layout.{node-of, formulas-of, question-of}
 use Rattle.questions.specs.Grounds.{compares, gain-bound, plan-bound, plan-in-range, node-in-range, node-spare, spare-zero, formed, read-question}
 use Rattle.sheets.specs.Layout.{with-word-sum}
-use Rattle.extension.specs.Choices.{splice}
+use Rattle.blocks.specs.Splice.{splice}
 use Rattle.lines.specs.Text.{text, decimal, decimal-in}
 use Rattle.lines.specs.Line.{refused-line, plain-line, no-plans-line, yes-plan-line, is-plan, verdict-line, judged-line, line-of, answer-line}
 

@@ -1,48 +1,28 @@
 -- Texts in a buffer: what two writes put in, one behind the other, is what they put in together.
 use Prim.Native.Nat.{ℕ, suc, _+_, _-_, _^_, _≤_, _<_}
-use native.Mathlib.Nat.{add-zero}
 use native.Mathlib.Numerals.{add-one}
 use native.Mathlib.Omega.{arith}
 use mathlib.Core.Path.{_≡_, refl, sym, ap, ap₂, subst, _∙_}
 use mathlib.Core.List.{List, [], _∷_, _++_, flatMap, append-nil, append-assoc}
-use lib.ListN.{length, getD, take, drop, set, length-append, length-drop, take-append-drop, drop-of-length-le}
-use lib.Seq.{sets, length-sets, sets-eq, drop-drop, take-suc, take-all, take-at}
+use lib.ListN.{length, getD, take, drop, length-append, length-drop, drop-of-length-le}
+use lib.Seq.{drop-drop, take-suc, take-all}
 use borrow.Rule.Slice.PartMut.{midOf, putMid}
 use Rattle.io.specs.Digits.{digits, Fewest}
-use Rattle.extension.specs.Choices.{splice}
+use Rattle.blocks.specs.Splice.{splice}
+use Rattle.blocks.proofs.Splice.{splice-none, splice-behind, take-written}
 use Rattle.lines.specs.Text.{decimal, numbered, Put}
 use Rattle.lines.proofs.Decimal.{decimal-is, few-digits}
-
--- ---- splices, as stores one after the other
-
-sets-append : (xs ys l : List ℕ) (i : ℕ) → sets (sets l i xs) (i + length xs) ys ≡ sets l i (xs ++ ys)
-sets-append [] ys l i = ap (λ k. sets l k ys) (add-zero i)
-sets-append (x ∷ xs) ys l i =
-    let e : i + suc (length xs) ≡ suc i + length xs = omega arith in
-    ap (λ k. sets (sets (set l i x) (suc i) xs) k ys) e ∙ sets-append xs ys (set l i x) (suc i)
-
-splice-sets : (l : List ℕ) (p : ℕ) (x : List ℕ) → p + length x ≤ length l → splice l p x ≡ sets l p x
-unfolding splice
-splice-sets l p x h = sym (sets-eq x l p h ∙ append-assoc (take p l) x (drop (p + length x) l))
 
 -- ---- writes
 
 pub put-none : (out : List ℕ) (at : ℕ) → Put [] out out at at
-unfolding splice
-put-none out at = record { wrote = sym (rw add-zero (take-append-drop at out)); next = omega arith }
+put-none out at = record { wrote = sym (splice-none out at); next = omega arith }
 
 pub put-put : {x y o₀ o₁ o₂ : List ℕ} {a₀ a₁ a₂ : ℕ} → Put x o₀ o₁ a₀ a₁ → Put y o₁ o₂ a₁ a₂ → a₂ ≤ length o₀ → Put (x ++ y) o₀ o₂ a₀ a₂
 put-put {x} {y} {o₀} {o₁} {o₂} {a₀} {a₁} {a₂} p q h =
-    let n = length-append x y in
-    let e : o₁ ≡ sets o₀ a₀ x = p .wrote ∙ splice-sets o₀ a₀ x (omega (arith, p .next, q .next)) in
     record {
-      wrote =
-          q .wrote
-          ∙ ap₂ (λ o a. splice o a y) e (p .next)
-          ∙ splice-sets (sets o₀ a₀ x) (a₀ + length x) y (omega (arith, length-sets o₀ a₀ x, p .next, q .next))
-          ∙ sets-append x y o₀ a₀
-          ∙ sym (splice-sets o₀ a₀ (x ++ y) (omega (arith, p .next, q .next)));
-      next = omega (arith, p .next, q .next);
+      wrote = q .wrote ∙ ap₂ (λ o a. splice o a y) (p .wrote) (p .next) ∙ splice-behind o₀ a₀ x y (omega (arith, p .next, q .next));
+      next = omega (arith, p .next, q .next, length-append x y);
     }
 
 -- A text copied to the front of the part from a place on.
@@ -67,7 +47,7 @@ unfolding splice
 put-line {x} {out} {out′} {r} p =
     let n : r ≡ length x = omega (arith, p .next) in
     let e : out′ ≡ x ++ drop (0 + length x) out = p .wrote in
-    (omega (arith, ap length e, length-append x (drop (0 + length x) out)), ap (take r) e ∙ take-at x (drop (0 + length x) out) r (sym n))
+    (omega (arith, ap length e, length-append x (drop (0 + length x) out)), ap₂ take (p .next) (p .wrote) ∙ take-written out 0 x (omega arith))
 
 -- ---- numbers and choices
 

@@ -12,7 +12,7 @@ use Rattle.logic.specs.Limits.{limits}
 use Rattle.blocks.specs.Bytes.{Bytes}
 use Rattle.models.specs.Layout.{model-of}
 use Rattle.questions.specs.Layout.{Question, question-of}
-use Rattle.extension.specs.Choices.{splice}
+use Rattle.blocks.specs.Splice.{splice}
 use Rattle.judging.specs.Asked.{Served}
 use Rattle.judging.specs.Announced.{root-verdict, told, shown-choices}
 use Rattle.calls.specs.Calls.{do-judge}

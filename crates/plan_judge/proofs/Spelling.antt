@@ -14,7 +14,8 @@ use Rattle.logic.specs.Choices.{read-plan}
 use Rattle.logic.specs.Extension.{first-plan, extended}
 use Rattle.logic.proofs.Dictionary.{plans-are}
 use Rattle.logic.proofs.Reading.{read-sound}
-use Rattle.extension.specs.Choices.{extend, splice}
+use Rattle.blocks.specs.Splice.{splice}
+use Rattle.extension.specs.Choices.{extend}
 use Rattle.extension.proofs.Choices.{extend-choices}
 use Rattle.plan_judge.specs.State.{Spells}
 

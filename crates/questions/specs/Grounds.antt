@@ -47,13 +47,9 @@ node-in-range A N i x =
     (x .operator)
     false
 
--- 6: the table's empty cells are spare. Byte 1 is n, 2 left, 3 right, 4 to 11 p and q.
-unfoldable pub node-spare : Bytes → ℕ → Bool
-node-spare b i =
-    let n : Bool = zeros b (node-at i + 1) 1 in
-    let left : Bool = zeros b (node-at i + 2) 1 in
-    let right : Bool = zeros b (node-at i + 3) 1 in
-    let pq : Bool = zeros b (node-at i + 4) 8 in
+-- 6: the table's empty cells are spare, by a node's operator and by which of its cells n, left, right, and p with q are zero.
+abbrev pub spare-by : (n left right pq : Bool) → ℕ → Bool
+spare-by n left right pq operator =
     getD
     (true
     ∷ (n && left && right && pq)
@@ -65,8 +61,18 @@ node-spare b i =
     ∷ left
     ∷ true
     ∷ [])
-    (byte b (node-at i))
+    operator
     true
+
+-- Byte 1 is n, 2 left, 3 right, 4 to 11 p and q.
+unfoldable pub node-spare : Bytes → ℕ → Bool
+node-spare b i =
+    spare-by
+    (zeros b (node-at i + 1) 1)
+    (zeros b (node-at i + 2) 1)
+    (zeros b (node-at i + 3) 1)
+    (zeros b (node-at i + 4) 8)
+    (byte b (node-at i))
 
 -- Spare too: bytes 4 to 7, and the nodes beyond the count with the rest of the block.
 unfoldable pub spare-zero : Bytes → Bool

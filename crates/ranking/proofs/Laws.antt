@@ -121,17 +121,16 @@ module _ (b : Bytes) (e : refusal (read-model b) ≡ 0) {counts : List ℕ} (tot
   unfolding total limit
   exact t k l = totals .at n t h (rw (states-held b) k) ∙ min-eq-right (omega arith)
 
-  pub turn : (x j t : ℕ) → x ≡ a → t ≡ (outcome-of b s x j) .target → j < entries b s a → 0 < ways-left b s a n j → ways-left b s a n j ≤ 65536
+  pub turn : (j t : ℕ) → t ≡ (outcome-of b s a j) .target → j < entries b s a → 0 < ways-left b s a n j → ways-left b s a n j ≤ 65536
       → Turn b counts n s a j t
   unfolding multiply
-  turn x j t q g l some few =
-      let t′ : t ≡ (outcome-of b s a j) .target = g ∙ ap (λ x. (outcome-of b s x j) .target) q in
-      let k : t < state-count b = rw t′ (readable b e .inside s a l) in
+  turn j t g l some few =
+      let k : t < state-count b = rw g (readable b e .inside s a l) in
       let split : ways-left b s a n j ≡ plan-total (model-of b) n t * ways-left b s a n (j + 1) =
-      ap (multiply (below (model-of b) n)) (left-step b s a j l) ∙ ap (λ t. plan-total (model-of b) n t * ways-left b s a n (j + 1)) (sym t′) in
+      ap (multiply (below (model-of b) n)) (left-step b s a j l) ∙ ap (λ t. plan-total (model-of b) n t * ways-left b s a n (j + 1)) (sym g) in
       let w = factors (plan-total (model-of b) n t) (ways-left b s a n (j + 1)) (sym split) some in
       let m : plan-total (model-of b) n t ≤ 65536 = omega (arith, w .2) in
-      record { target = t′; state = k; split = split; some = w .0; few = m; later = w .1; counted = exact t k m }
+      record { target = g; state = k; split = split; some = w .0; few = m; later = w .1; counted = exact t k m }
 
 -- ---- the loop that counts the ways
 
@@ -153,13 +152,13 @@ module _ (b : Bytes) (s a n : ℕ) where
 
 -- Every factor of the ways is in range, so that the count of outcome j is the table's.
 module _ (b : Bytes) (e : refusal (read-model b) ≡ 0) {counts : List ℕ} (totals : Totals true (model-of b) counts) (n s a : ℕ) (h : n ≤ 6) where
-  pub count-here : {x j t size : ℕ} → s < state-count b → a < 8 → plan-total (model-of b) (n + 1) s ≤ 65536
-      → size * ways-left b s a n j ≡ ways (model-of b) n s a → x ≡ a → t ≡ (outcome-of b s x j) .target → j < entries b s a
+  pub count-here : {j t size : ℕ} → s < state-count b → a < 8 → plan-total (model-of b) (n + 1) s ≤ 65536
+      → size * ways-left b s a n j ≡ ways (model-of b) n s a → t ≡ (outcome-of b s a j) .target → j < entries b s a
       → (size ≤ 65536) × Turn b counts n s a j t
-  count-here {x} {j} {t} {size} k g f p q u l =
+  count-here {j} {t} {size} k g f p u l =
       let w = factors size (ways-left b s a n j) p (some-ways b e n s a) in
       let most = ways-most b e n s a k g (omega arith) in
-      (omega (arith, w .2, most), turn b e totals n s a h x j t q u l (w .1) (omega (arith, w .3, most)))
+      (omega (arith, w .2, most), turn b e totals n s a h j t u l (w .1) (omega (arith, w .3, most)))
 
 -- ---- the loop over the actions
 

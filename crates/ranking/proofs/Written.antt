@@ -8,39 +8,23 @@ use mathlib.Core.Path.{_≡_, refl, sym, ap, ap₂, subst, _∙_}
 use mathlib.Core.Bool.{true}
 use mathlib.Core.List.{List, [], _∷_, _++_, flatMap}
 use lib.ListN.{length, getD, set, length-append}
-use lib.Seq.{set-split}
 use Rattle.logic.specs.Checked.{refusal}
 use Rattle.logic.specs.Model.{Model, Step, outcomes}
 use Rattle.logic.specs.Plan.{choices}
 use Rattle.logic.specs.Limits.{plan-total}
 use Rattle.logic.specs.Extension.{first-plan}
 use Rattle.blocks.specs.Bytes.{Bytes}
+use Rattle.blocks.specs.Splice.{splice}
+use Rattle.blocks.proofs.Splice.{splice-none, splice-one, splice-behind}
 use Rattle.models.specs.Layout.{outcome-of, entries, model-of}
 use Rattle.models.specs.Grounds.{read-model}
 use Rattle.models.specs.Readable.{Readable}
 use Rattle.models.proofs.Rows.{entries-few}
 use Rattle.limits.specs.Totals.{Totals}
-use Rattle.extension.specs.Choices.{splice, room, Ran}
-use Rattle.extension.proofs.Laws.{ran-none, ran-ran}
+use Rattle.extension.specs.Choices.{room}
 use Rattle.ranking.specs.Places.{listed, parts-at, below, ways, plan-at, Found, Wrote}
 use Rattle.ranking.proofs.Places.{plan-at-is}
 use Rattle.ranking.proofs.Laws.{factors, left, left-all, left-step, left-end, ways-left, ways-all, Turn, turn}
-
--- ---- splices
-
-splice-none : (l : List ℕ) (p : ℕ) → l ≡ splice l p []
-splice-none l p = ran-none [] [] 0 p l refl .wrote
-
-splice-splice : (l : List ℕ) (p : ℕ) (x y : List ℕ) → p + length x ≤ length l → splice (splice l p x) (p + length x) y ≡ splice l p (x ++ y)
-splice-splice l p x y h =
-    let once : (l : List ℕ) (p : ℕ) (x : List ℕ) → Ran (x, []) (length x) [] 0 0 l (splice l p x) p (p + length x) =
-    λ l p x. record { wrote = refl; next = refl; left = refl; near = omega arith; size = omega arith } in
-    ran-ran [] (x, []) (y, []) (x ++ y, []) (length x) (length y) 0 0 0 p (p + length x) (p + length x + length y) l (splice l p x)
-    (splice (splice l p x) (p + length x) y) h (once l p x) (once (splice l p x) (p + length x) y) refl .wrote
-
-splice-set : (l : List ℕ) (p a : ℕ) → p < length l → set l p a ≡ splice l p (a ∷ [])
-unfolding splice
-splice-set l p a h = rw (add-one) (set-split l p a h)
 
 -- ---- a choice
 
@@ -51,7 +35,7 @@ module _ (m : Model) where
 
   pub from-none : (n s i at : ℕ) (l : List ℕ) → n ≡ 0 → Wrote (choices n (plan-at m n s i)) (room n) l l at at
   unfolding choices
-  from-none zero s i at l e = record { wrote = splice-none l at; to = omega arith; size = omega arith }
+  from-none zero s i at l e = record { wrote = sym (splice-none l at); to = omega arith; size = omega arith }
   from-none (suc n) s i at l e = absurd (omega arith)
 
   choice-wrote : (n s i a size place at next : ℕ) (old new : List ℕ) → Found m n s i a size place → at < length old
@@ -62,7 +46,7 @@ module _ (m : Model) where
       let x : List ℕ = chosen n (outcomes m s a) place in
       subst (λ y. Wrote (y .0 ∷ chosen n (outcomes m s (y .0)) (y .1)) (1 + 4 * room n) old new at next) (f .block)
       (record {
-        wrote = w .wrote ∙ ap (λ l. splice l (at + 1) x) (splice-set old at a h) ∙ splice-splice old at (a ∷ []) x (omega arith);
+        wrote = w .wrote ∙ ap (λ l. splice l (at + 1) x) (splice-one old at a h) ∙ splice-behind old at (a ∷ []) x (omega arith);
         to = omega (arith, w .to);
         size = omega (arith, w .size);
       })
@@ -115,7 +99,7 @@ module _ (b : Bytes) (n s a place : ℕ) (old : List ℕ) (at : ℕ) where
       let most : j * room n ≤ 4 * room n = mul-le-mul-right (room n) (omega (arith, here .entered, entries-few b r s a)) in
       subst (λ l. Wrote (chosen (model-of b) n l place) (4 * room n) old new at next) (left-all b s a)
       (record {
-        wrote = splice-none new next ∙ ap (splice new next) (sym none) ∙ here .write;
+        wrote = sym (splice-none new next) ∙ ap (splice new next) (sym none) ∙ here .write;
         to = omega (arith, here .to, ap length none);
         size = omega (arith, here .to, ap length none, here .near, most);
       })
@@ -124,9 +108,9 @@ module _ (b : Bytes) (n s a place : ℕ) (old : List ℕ) (at : ℕ) where
 module _ {b : Bytes} {n s a place : ℕ} {old : List ℕ} {at count j size rest next : ℕ} {new : List ℕ}
     (here : Underway b n s a place old at count j size rest new next) (l : j < count) where
   pub below-turn : refusal (read-model b) ≡ 0 → {counts : List ℕ} → Totals true (model-of b) counts → n ≤ 6
-      → {x t : ℕ} → x ≡ a → t ≡ (outcome-of b s x j) .target → Turn b counts n s a j t
-  below-turn e totals h {x} {t} q g =
-      turn b e totals n s a h x j t q g (omega (arith, here .entered)) (omega (arith, here .sized, here .inside)) (omega (arith, here .sized, here .few))
+      → {t : ℕ} → t ≡ (outcome-of b s a j) .target → Turn b counts n s a j t
+  below-turn e totals h {t} g =
+      turn b e totals n s a h j t g (omega (arith, here .entered)) (omega (arith, here .sized, here .inside)) (omega (arith, here .sized, here .few))
 
   pub fits : Readable b → at + 4 * room n ≤ length old → next + room n ≤ length new
   fits r h =
@@ -162,7 +146,7 @@ module _ {b : Bytes} {n s a place : ℕ} {old : List ℕ} {at count j size rest 
             inside = mod-lt rest (rw e (u .later));
             few = omega (arith, here .sized, here .few, f .3);
             write = ap₂ (λ l q. splice l q y) (w .wrote) (w .to)
-                ∙ splice-splice new next x y (omega (arith, w .size))
+                ∙ splice-behind new next x y (omega (arith, w .size))
                 ∙ ap (splice new next) (sym write-step)
                 ∙ here .write;
             to = omega (arith, w .to, here .to, ap length write-step, length-append x y);
@@ -173,10 +157,9 @@ module _ {b : Bytes} {n s a place : ℕ} {old : List ℕ} {at count j size rest 
 -- ---- the whole
 
 -- What stands at the beginning of the buffer is the plan of the list.
-pub nth-listed : (m : Model) (n s i y x next : ℕ) (old new : List ℕ) → y ≡ n → x ≡ s → i < plan-total m n s
-    → Wrote (choices y (plan-at m y x i)) (room y) old new 0 next
+pub nth-listed : (m : Model) (n s i next : ℕ) (old new : List ℕ) → i < plan-total m n s
+    → Wrote (choices n (plan-at m n s i)) (room n) old new 0 next
     → (new ≡ splice old 0 (choices n (listed m n s i))) × (next ≡ length (choices n (listed m n s i)))
-nth-listed m n s i y x next old new e q h w =
-    let here : choices y (plan-at m y x i) ≡ choices n (listed m n s i) =
-    ap₂ (λ n s. choices n (plan-at m n s i)) e q ∙ ap (choices n) (sym (plan-at-is m n s i (first-plan m n s) h)) in
+nth-listed m n s i next old new h w =
+    let here : choices n (plan-at m n s i) ≡ choices n (listed m n s i) = ap (choices n) (sym (plan-at-is m n s i (first-plan m n s) h)) in
     (w .wrote ∙ ap (splice old 0) here, omega (arith, w .to, ap length here))

@@ -9,7 +9,7 @@ use Rattle.logic.specs.Model.{Model, Step, enabled, outcomes}
 use Rattle.logic.specs.Plan.{Plan, plans}
 use Rattle.logic.specs.Limits.{multiply, plan-total}
 use Rattle.logic.specs.Extension.{first-plan}
-use Rattle.extension.specs.Choices.{splice}
+use Rattle.blocks.specs.Splice.{splice}
 
 -- Plan number k, from 0, of the list of plans.
 abbrev pub listed : Model → (n s k : ℕ) → Plan n

@@ -4,19 +4,22 @@ ghost use Prim.Native.Nat.{_+_, _*_, _<_, _≤_};
 ghost use mathlib.Core.Bool.{true, cond};
 ghost use mathlib.Core.List.{flatMap};
 ghost use lib.Dec.{ltb};
-ghost use lib.ListN.{getD, length};
+ghost use lib.ListN.{length};
 ghost use Rattle.logic.specs.Checked.{refusal};
 ghost use Rattle.logic.specs.Model.{outcomes};
 ghost use Rattle.logic.specs.Plan as plan;
 ghost use Rattle.logic.specs.Limits.{plan-total};
+ghost use Rattle.blocks.specs.Splice.{splice};
 ghost use Rattle.models.specs.Layout.{state-count, entries, model-of};
 ghost use Rattle.models.specs.Grounds.{read-model};
 ghost use Rattle.models.specs.Used.{Used};
 ghost use Rattle.limits.specs.Totals.{Totals};
-ghost use Rattle.extension.specs.Choices.{splice, room};
+ghost use Rattle.extension.specs.Choices.{room};
 ghost use Rattle.ranking.specs.Places.{listed, parts-at, plan-at, below, Found, Wrote};
 ghost use Rattle.ranking.specs.Places as spec;
+use limits::plans_counted;
 use models::target;
+use models::used_outcomes;
 
 // A choice, and which of the `size` ways to go on below it.
 struct Block {
@@ -25,50 +28,28 @@ struct Block {
     place: u64,
 }
 
-fn number(x: u8) -> usize
-    ensures { λ r. ⌜ r ≡ x ⌝ }
-{
-    x as usize
-}
-
-// How many outcomes an action has in a state; 0 if it is not enabled.
-fn count(used: &[u8; 264], s: usize, a: u8) -> usize
-    requires { ⌜ (s < 32) × (a < 8) ⌝ }
-    ensures { λ r. ⌜ r ≡ getD (now (used .entry)) (8 * s + a) 0 ⌝ }
-{
-    number(used[8 * s + number(a)])
-}
-
-// How many plans of n steps there are from s.
-fn total(counts: &[u64; 224], n: usize, s: usize) -> u64
-    requires { ⌜ (n ≤ 6) × (s < 32) ⌝ }
-    ensures { λ r. ⌜ r ≡ getD (now (counts .entry)) (32 * n + s) 0 ⌝ }
-{
-    counts[32 * n + s]
-}
-
 // In how many ways a choice can be gone on with for n steps; 0 if it is not enabled.
-fn ways(m: &[u8], used: &[u8; 264], counts: &[u64; 224], s: usize, a: u8, n: usize) -> u64
+fn ways(m: &[u8], used: &[u8; 264], counts: &[u64; 224], s: usize, a: u8, n: u8) -> u64
     requires { ⌜ (refusal (read-model (now m)) ≡ 0) × Used (now m) (now used) × Totals true (model-of (now m)) (now counts) ⌝ }
     requires { ⌜ (s < state-count (now m)) × (a < 8) × (n < 6) × (plan-total (model-of (now m)) (n + 1) s ≤ 65536) ⌝ }
     ensures { λ r. ⌜ (r ≡ cond (ltb 0 (entries (now (m .entry)) s a)) (spec.ways (model-of (now (m .entry))) n s a) 0) × (r ≤ 65536) ⌝ }
 {
-    let c = count(used, s, a);
+    let c = used_outcomes(used, s, a) as usize;
     if c == 0 {
         return 0;
     }
     let mut size: u64 = 1;
     let mut j: usize = 0;
     while j < c {
-        let t = target(m, s, number(a), j);
-        size = size * total(counts, n, t);
+        let t = target(m, s, a as usize, j);
+        size = size * plans_counted(counts, n, t);
         j += 1;
     }
     size
 }
 
 // The choice of plan number i of n + 1 steps: enabled actions in order, each with as many plans as ways to go on.
-fn block_of(m: &[u8], used: &[u8; 264], counts: &[u64; 224], s: usize, n: usize, i: u64) -> Block
+fn block_of(m: &[u8], used: &[u8; 264], counts: &[u64; 224], s: usize, n: u8, i: u64) -> Block
     requires { ⌜ (refusal (read-model (now m)) ≡ 0) × Used (now m) (now used) × Totals true (model-of (now m)) (now counts) ⌝ }
     requires { ⌜ (s < state-count (now m)) × (n < 6) × (plan-total (model-of (now m)) (n + 1) s ≤ 65536) × (i < plan-total (model-of (now m)) (n + 1) s) ⌝ }
     ensures { λ r. ⌜ Found (model-of (now (m .entry))) n s i (r .action) (r .size) (r .place) ⌝ }
@@ -102,7 +83,7 @@ fn nth_from(
     counts: &[u64; 224],
     choices: &mut [u8],
     s: usize,
-    n: usize,
+    n: u8,
     i: u64,
     at: usize,
 ) -> usize
@@ -126,7 +107,7 @@ fn nth_below(
     choices: &mut [u8],
     s: usize,
     b: Block,
-    n: usize,
+    n: u8,
     at: usize,
 ) -> usize
     requires { ⌜ (refusal (read-model (now m)) ≡ 0) × Used (now m) (now used) × Totals true (model-of (now m)) (now counts) ⌝ }
@@ -134,14 +115,14 @@ fn nth_below(
     ensures { λ r. ⌜ Wrote (flatMap (plan.choices n) (parts-at (below (model-of (now (m .entry))) n) (λ o. plan-at (model-of (now (m .entry))) n (o .target)) (outcomes (model-of (now (m .entry))) s (b .action)) (b .place))) (4 * room n) (now (choices .entry)) (now (choices .exit)) at r ⌝ }
 {
     let a = b.action;
-    let c = count(used, s, a);
+    let c = used_outcomes(used, s, a) as usize;
     let mut size = b.size;
     let mut rest = b.place;
     let mut next = at;
     let mut j: usize = 0;
     while j < c {
-        let t = target(m, s, number(a), j);
-        size = size / total(counts, n, t);
+        let t = target(m, s, a as usize, j);
+        size = size / plans_counted(counts, n, t);
         next = nth_from(m, used, counts, choices, t, n, rest / size, next);
         rest = rest % size;
         j += 1;
@@ -163,5 +144,5 @@ pub fn nth(
     requires { ⌜ (s < state-count (now m)) × (n ≤ 6) × (plan-total (model-of (now m)) n s ≤ 65536) × (i < plan-total (model-of (now m)) n s) × (1365 ≤ length (now choices)) ⌝ }
     ensures { λ r. ⌜ (now (choices .exit) ≡ splice (now (choices .entry)) 0 (plan.choices n (listed (model-of (now (m .entry))) n s i))) × (r ≡ length (plan.choices n (listed (model-of (now (m .entry))) n s i))) ⌝ }
 {
-    nth_from(m, used, counts, choices, number(s), number(n), i, 0)
+    nth_from(m, used, counts, choices, s as usize, n, i, 0)
 }

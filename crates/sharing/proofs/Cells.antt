@@ -118,27 +118,24 @@ module _ (q reps : List ℕ) (size : length q ≡ 512) where
       repointed-other q reps (replaced q reps n) n (replaced-length n (omega arith)) h k (e n (omega arith) .0) (e n (omega arith) .1)
       ∙ replaced-other n (omega arith) k (λ i l. e i (omega arith))
 
-  replaced-left : (n : ℕ) → n ≤ 40 → (i : ℕ) → i < n → byte (replaced q reps n) (node-at i + 2) ≡ left-for q reps i
+  -- A cell of each node's children: what the node's own turn writes there stays.
+  replaced-cell : (c : ℕ) (f : ℕ → ℕ) → c ≤ 3 → ((b : List ℕ) (i : ℕ) → length b ≡ 512 → i < 40 → byte (repointed q reps b i) (node-at i + c) ≡ f i)
+      → (n : ℕ) → n ≤ 40 → (i : ℕ) → i < n → byte (replaced q reps n) (node-at i + c) ≡ f i
   unfolding replaced
-  replaced-left zero h i l = absurd (not-suc-le-zero l)
-  replaced-left (suc n) h i l =
+  replaced-cell c f k w zero h i l = absurd (not-suc-le-zero l)
+  replaced-cell c f k w (suc n) h i l =
       ⊎-elim
-      (λ (e : i ≡ n). rw e (repointed-left q reps (replaced q reps n) n (replaced-length n (omega arith)) h))
+      (λ (e : i ≡ n). rw e (w (replaced q reps n) n (replaced-length n (omega arith)) h))
       (λ (g : i < n).
-      repointed-other q reps (replaced q reps n) n (replaced-length n (omega arith)) h (node-at i + 2) (λ e. omega arith) (λ e. omega arith)
-      ∙ replaced-left n (omega arith) i g)
+      repointed-other q reps (replaced q reps n) n (replaced-length n (omega arith)) h (node-at i + c) (λ e. omega arith) (λ e. omega arith)
+      ∙ replaced-cell c f k w n (omega arith) i g)
       (eq-or-lt-of-le (le-of-suc-le-suc l))
 
+  replaced-left : (n : ℕ) → n ≤ 40 → (i : ℕ) → i < n → byte (replaced q reps n) (node-at i + 2) ≡ left-for q reps i
+  replaced-left = replaced-cell 2 (left-for q reps) (omega arith) (repointed-left q reps)
+
   replaced-right : (n : ℕ) → n ≤ 40 → (i : ℕ) → i < n → byte (replaced q reps n) (node-at i + 3) ≡ right-for q reps i
-  unfolding replaced
-  replaced-right zero h i l = absurd (not-suc-le-zero l)
-  replaced-right (suc n) h i l =
-      ⊎-elim
-      (λ (e : i ≡ n). rw e (repointed-right q reps (replaced q reps n) n (replaced-length n (omega arith)) h))
-      (λ (g : i < n).
-      repointed-other q reps (replaced q reps n) n (replaced-length n (omega arith)) h (node-at i + 3) (λ e. omega arith) (λ e. omega arith)
-      ∙ replaced-right n (omega arith) i g)
-      (eq-or-lt-of-le (le-of-suc-le-suc l))
+  replaced-right = replaced-cell 3 (right-for q reps) (omega arith) (repointed-right q reps)
 
 -- ---- the last word
 

@@ -6,7 +6,6 @@ use native.Mathlib.Omega.{arith}
 use mathlib.Core.Path.{_≡_, refl, sym, ap, ap₂, subst, _∙_}
 use mathlib.Core.Logic.{⊎-elim}
 use mathlib.Core.Bool.{Bool, true, false, not, cond, _&&_, false≢true}
-use mathlib.Core.List.{[], _∷_}
 use lib.Dec.{eqb, ltb}
 use lib.IntN.{ℤ}
 use lib.ListN.{length, getD, set}
@@ -19,7 +18,7 @@ use Rattle.logic.proofs.Tests.{and-left, and-right, every-at, every-intro}
 use Rattle.blocks.specs.Bytes.{Bytes, byte, i32, signed, zeros, within}
 use Rattle.blocks.specs.Block.{whole-blocks, block-count, word-sum, sums-right, headed}
 use Rattle.questions.specs.Layout.{start-of, node-count, node-at, node-of, question-of}
-use Rattle.questions.specs.Grounds.{compares, plan-bound, plan-in-range, node-in-range, node-spare, spare-zero, formed, read-question}
+use Rattle.questions.specs.Grounds.{compares, plan-bound, plan-in-range, node-in-range, spare-by, node-spare, spare-zero, formed, read-question}
 use Rattle.questions.specs.Tables.{formulas-before}
 use Rattle.questions.proofs.Laws.{passed, by-operator, every-same, before-at, formula-at, formula-here}
 use Rattle.questions.proofs.Rows.{row-4, all-shallow}
@@ -152,22 +151,6 @@ module _ (A N i n l r L R : ℕ) (p : ℤ) (q : ℕ) (down : l < i → L ≤ l) 
   in-range-node (suc (suc (suc (suc (suc (suc (suc (suc (suc k))))))))) e = e
 
 -- ---- ground 6 of one node
-
-abbrev spare-by : (n left right pq : Bool) → ℕ → Bool
-spare-by n left right pq op =
-    getD
-    (true
-    ∷ (n && left && right && pq)
-    ∷ (n && right && pq)
-    ∷ (n && right && pq)
-    ∷ (n && pq)
-    ∷ (n && right && pq)
-    ∷ (n && right && pq)
-    ∷ left
-    ∷ true
-    ∷ [])
-    op
-    true
 
 -- The cells that hold a child are not spare.
 spare-node : (n l r l′ r′ pq : Bool) (op : ℕ) → (has-left op ≡ false → l′ ≡ l) → (eqb op 4 ≡ false → r′ ≡ r)

@@ -5,10 +5,10 @@ use native.Mathlib.Omega.{arith}
 use native.Mathlib.Numerals.{add-one}
 use native.Mathlib.Nat.{mul-le-mul, mul-le-mul-right}
 use mathlib.Core.Path.{_≡_, refl, sym, ap, ap₂, subst, _∙_}
-use mathlib.Core.List.{List, [], _∷_, _++_}
+use mathlib.Core.List.{List, [], _∷_}
 use lib.IntN.{ℤ, pos}
 use lib.ListN.{length, getD, take, drop, drop-of-length-le}
-use lib.Seq.{length-take-le, take-take, take-at, getD-drop, drop-drop}
+use lib.Seq.{length-take-le, getD-drop, drop-drop}
 use Rattle.logic.specs.Lists.{tabulate, count-from}
 use Rattle.logic.specs.Model.{Model, Step, outcomes}
 use Rattle.logic.specs.Checked.{ok}
@@ -26,9 +26,9 @@ use Rattle.evaluation.specs.Path.{steps-of, state-after}
 use Rattle.evaluation.specs.Reached.{formula, root-of, on-path, Ready}
 use Rattle.evaluation.specs.Learnt.{known, learnt}
 use Rattle.evaluation.specs.Known.{Knows, Roomy, Offered, Stepped}
-use Rattle.evaluation.proofs.Trails.{fair, state-inside}
-use Rattle.evaluation.proofs.Knowing.{knows-shorter}
-use Rattle.evaluation.proofs.Stepping.{leaf-value, begun, state-stepped, on-path-stepped}
+use Rattle.evaluation.proofs.Trails.{fair}
+use Rattle.evaluation.proofs.Returning.{roomy-same, back-none, back-same, knows-back, state-back, step-back}
+use Rattle.evaluation.proofs.Stepping.{state-reached, leaf-value, begun, state-stepped, on-path-stepped}
 use Rattle.evaluation.proofs.Values.{one-if-small, learnt-length}
 use Rattle.weighing.specs.Sums.{Run, each, weigh}
 use Rattle.weighing.specs.Places.{Here, Ran}
@@ -70,7 +70,7 @@ module _ {m q : Bytes} {start : ℕ} {depths truth cone : List ℕ} (ready : Rea
 
   module _ {trail : List ℕ} {gains : List ℤ} {v : List ℕ} {h s k : ℕ} (here : Here m q start cone trail gains v h s k) where
     pub state-here : s < state-count m
-    state-here = subst (λ x. x < state-count m) (here .state) (state-inside m (ready .model-accepted) (here .knows .followed) (ready .state))
+    state-here = state-reached ready (here .knows) (here .state)
 
     pub state-few : s < 32
     state-few = omega (arith, state-here, readable m (ready .model-accepted) .states)
@@ -90,7 +90,7 @@ module _ {m q : Bytes} {start : ℕ} {depths truth cone : List ℕ} (ready : Rea
         let d : depth (formula q (root-of cone)) ≤ length T = omega (arith, here .deep, trail-length) in
         let f : x ≡ on-path m q start cone T [] =
         e ∙ leaf-value ready T gains v (here .knows) d [] in
-        rw z (record { sum = f; left = refl; inside = l; kept = refl; knows = here .knows })
+        rw z (record { sum = f; left = refl; inside = l; back = back-none (here .knows) })
 
     -- A choice is read, and the sum is that below its outcomes.
     pub weigh-choice : {trail′ : List ℕ} {gains′ : List ℤ} {v′ : List ℕ} (choices : List ℕ) (at a next : ℕ) {x y : ℕ} → (k ≡ 0 → ⊥) → a ≡ getD choices at 0
@@ -114,7 +114,7 @@ module _ {m q : Bytes} {start : ℕ} {depths truth cone : List ℕ} (ready : Rea
 
     pub runs-none : at ≤ length choices → Ran (upto 0) m q start cone h trail₀ trail₀ gains₀ v₀ choices 0 at
     unfolding each tabulate count-from
-    runs-none l = record { sum = refl; left = refl; inside = l; kept = refl; knows = here .knows }
+    runs-none l = record { sum = refl; left = refl; inside = l; back = back-none (here .knows) }
 
     pub runs-all : (c i : ℕ) {trail : List ℕ} {gains : List ℤ} {v : List ℕ} {sum next : ℕ} → c ≡ entries m s a → i ≡ c
         → Ran (upto i) m q start cone h trail₀ trail gains v choices sum next
@@ -126,10 +126,10 @@ module _ {m q : Bytes} {start : ℕ} {depths truth cone : List ℕ} (ready : Rea
     module _ (i : ℕ) {c : ℕ} {trail : List ℕ} {gains : List ℤ} {v : List ℕ} {sum next : ℕ} (ec : c ≡ entries m s a) (l : i < c)
         (R : Ran (upto i) m q start cone h trail₀ trail gains v choices sum next) where
       pub offered : Offered m start trail h s a i
-      offered = record { steps = omega (arith, here .steps); state = ap (state-after m start) (R .kept) ∙ here .state; used = subst (λ n. i < n) ec l }
+      offered = record { steps = omega (arith, here .steps); state = state-back (R .back) ∙ here .state; used = subst (λ n. i < n) ec l }
 
       pub known-here : Knows m q start cone (take h trail) gains v
-      known-here = subst (λ t. Knows m q start cone t gains v) (sym (R .kept)) (R .knows)
+      known-here = knows-back (R .back)
 
       few : i < 4
       few = omega (arith, entries-few m (readable m (ready .model-accepted)) s a)
@@ -137,13 +137,7 @@ module _ {m q : Bytes} {start : ℕ} {depths truth cone : List ℕ} (ready : Rea
       inside-here : (outcome-of m s a i) .target < state-count m
       inside-here = fair m (ready .model-accepted) s a i (state-here here) (subst (λ n. i < n) ec l) .reaches
 
-      abbrev b : ℕ
-      b = 4 * a + i
-
       module _ {trail′ : List ℕ} {gains′ : List ℤ} {v′ : List ℕ} {t : ℕ} (St : Stepped m q start cone h s a i trail trail′ gains′ v′ t) where
-        longer : take (h + 1) trail′ ≡ T ++ (b ∷ [])
-        longer = St .longer ∙ ap (λ l. l ++ ((4 * a + i) ∷ [])) (R .kept)
-
         pub here-next : Roomy trail′ gains′ v′ → Here m q start cone trail′ gains′ v′ (h + 1) t k
         here-next room =
             record {
@@ -158,7 +152,7 @@ module _ {m q : Bytes} {start : ℕ} {depths truth cone : List ℕ} (ready : Rea
         below-next : (cs : List ℕ) → weigh (model-of m) k t (on-path m q start cone (take (h + 1) trail′)) cs ≡ under (outcome-of m s a i) cs
         below-next cs =
             ap₂ (λ t f. weigh (model-of m) k t f cs) (St .state)
-            (on-path-stepped ready offered known-here St ∙ ap (λ l r. on-path m q start cone l (outcome-of m s a i ∷ r)) (R .kept))
+            (on-path-stepped ready offered known-here St ∙ ap (λ l r. on-path m q start cone l (outcome-of m s a i ∷ r)) (R .back .kept))
 
         module _ {trail″ : List ℕ} {gains″ : List ℤ} {v″ : List ℕ} {x next′ : ℕ}
             (C : Ran (weigh (model-of m) k t (on-path m q start cone (take (h + 1) trail′)) (drop next choices)) m q start cone (h + 1) trail′ trail″ gains″ v″ choices x next′) where
@@ -188,21 +182,15 @@ module _ {m q : Bytes} {start : ℕ} {depths truth cone : List ℕ} (ready : Rea
               ap (λ n. each under (tabulate n (outcome-of m s a)) (drop at choices)) (add-one i)
               ∙ ap (λ os. each under os (drop at choices)) (tabulate-more (outcome-of m s a) i)
               ∙ each-more under (tabulate i (outcome-of m s a)) o (drop at choices) in
-              let K : Knows m q start cone (T ++ (b ∷ [])) gains″ v″ = subst (λ l. Knows m q start cone l gains″ v″) longer (C .knows) in
               record {
                 sum = e ∙ ap₂ (λ z x. z + o .weight * x) (R .sum) (C .sum ∙ ap (λ (z : Run). z .0) part) ∙ sym (ap (λ (z : Run). z .0) all);
                 left = C .left ∙ ap (λ (z : Run). z .1) part ∙ sym (ap (λ (z : Run). z .1) all);
                 inside = C .inside;
-                kept = sym (take-take h (h + 1) trail″ (omega arith)) ∙ ap (take h) (C .kept ∙ longer) ∙ take-at T (b ∷ []) h (trail-length here);
-                knows = knows-shorter m q start cone T b gains″ v″ K;
+                back = back-same (R .back .kept) (step-back (ap length (R .back .kept) ∙ trail-length here) St (C .back));
               }
 
 pub length-on : {A : Type 0} (x y z : List A) → length x ≡ length y → length y ≡ length z → length x ≡ length z
 length-on x y z e f = e ∙ f
-
-pub roomy-same : {trail₀ trail : List ℕ} {gains₀ gains : List ℤ} {v₀ v : List ℕ} → Roomy trail₀ gains₀ v₀
-    → length trail ≡ length trail₀ → length gains ≡ length gains₀ → length v ≡ length v₀ → Roomy trail gains v
-roomy-same R a b c = record { steps = omega (arith, R .steps); sums = omega (arith, R .sums); places = omega (arith, R .places) }
 
 pub here-again : {m q : Bytes} {start : ℕ} {cone trail : List ℕ} {gains : List ℤ} {v : List ℕ} {h s k : ℕ} → (k ≡ 0 → ⊥)
     → Here m q start cone trail gains v h s k → Here m q start cone trail gains v h s (k - 1 + 1)

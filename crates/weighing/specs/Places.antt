@@ -8,7 +8,7 @@ use Rattle.logic.specs.Formula.{depth}
 use Rattle.blocks.specs.Bytes.{Bytes}
 use Rattle.evaluation.specs.Path.{state-after}
 use Rattle.evaluation.specs.Reached.{formula, root-of}
-use Rattle.evaluation.specs.Known.{Knows, Roomy}
+use Rattle.evaluation.specs.Known.{Knows, Roomy, Back}
 use Rattle.weighing.specs.Sums.{Run}
 
 -- After h steps from the start, in the state s, with k steps to go.
@@ -25,5 +25,4 @@ pub record Ran (x : Run) (m q : Bytes) (start : ℕ) (cone : List ℕ) (h : ℕ)
   pub sum : value ≡ x .0
   pub left : drop next choices ≡ x .1
   pub inside : next ≤ length choices
-  pub kept : take h trail′ ≡ take h trail
-  pub knows : Knows m q start cone (take h trail) gains′ v′
+  pub back : Back m q start cone h trail trail′ gains′ v′

@@ -16,8 +16,8 @@ number : (S : tie.Start) {all : ℕ} → all ≡ getD (S .args .table .now) (32 
 number S e = let G = S .pre .0 in
     e ∙ G .counts .right (S .args .n) (S .args .s) (S .pre .1 .1) (G .ready .state) (S .pre .1 .2)
 
-count-requires : tie.Need-count-requires
-count-requires c κs = let S = c .before .before .before .before .before in
+plans-counted-requires : tie.Need-plans-counted-requires
+plans-counted-requires c κs = let S = c .before .before .before .before .before in
     (S .pre .1 .1, state-small (S .pre .0) (S .pre .0 .ready .state))
 
 slice-aggregate-first-within : tie.Need-slice-aggregate-first-within
@@ -27,7 +27,7 @@ first-within-requires : tie.Need-first-within-requires
 first-within-requires c κs = let N = c .before .before in
     let S = N .before .before .before .before .before .before in
     let P = S .pre .1 in
-    (S .pre .0, (P .0, P .1, P .2, omega (arith, number S (N .count .ensures), length-replicate {A = ℕ} 1306 0)))
+    (S .pre .0, (P .0, P .1, P .2, omega (arith, number S (N .plans-counted .ensures), length-replicate {A = ℕ} 1306 0)))
 
 returns : tie.Need-returns
 returns c = search needs
@@ -39,7 +39,7 @@ first-within-requires-2 : tie.Need-first-within-requires-2
 first-within-requires-2 c κs = let N = c .before .before .before in
     let S = N .before .before .before .before .before .before in
     let P = S .pre .1 in
-    (S .pre .0, (P .0, P .1, P .2, omega (arith, number S (N .count .ensures), length-replicate {A = ℕ} 8474 0)))
+    (S .pre .0, (P .0, P .1, P .2, omega (arith, number S (N .plans-counted .ensures), length-replicate {A = ℕ} 8474 0)))
 
 returns-2 : tie.Need-returns-2
 returns-2 c = search needs
@@ -59,7 +59,7 @@ pub first-equal-spec : {M : Type 1} → statement M
 first-equal-spec =
     tie.close
     (tie.spec
-    count-requires
+    plans-counted-requires
     slice-aggregate-first-within
     first-within-requires
     returns

@@ -10,8 +10,10 @@ use borrow.Fn.PlainCycle.{Measures, is, falls, and}
 use Rattle.models.specs.Layout.{model-of}
 use Rattle.models.proofs.Readable.{readable}
 use Rattle.models.proofs.Rows.{entries-few}
-use Rattle.models.proofs.Table.{used-at}
+use Rattle.models.proofs.Table.{count-entries}
 use Rattle.models.proofs.target.Reads as target-reads
+use Rattle.models.proofs.used_outcomes.Reads as used-outcomes-reads
+use Rattle.limits.proofs.plans_counted.Reads as plans-counted-reads
 use Rattle.extension.proofs.Laws.{room-step}
 use Rattle.ranking.proofs.Written.{Underway, below-start, below-more, below-end, divides, quotient, fits, below-turn, from-none, from-choice}
 use Rattle.ranking.proofs.nth_below.Reads as nth-below
@@ -21,9 +23,6 @@ use Rattle.ranking.proofs.nth_from.Reads as nth-from
 use Rattle.ranking.proofs.nth_from.Kinds as nth-from-kinds
 use Rattle.ranking.proofs.+nth_below+nth_from.Lts-nth_from as nth-from-lts
 use Rattle.ranking.proofs.block_of.Reads as block-of-reads
-use Rattle.ranking.proofs.count.Reads as count-reads
-use Rattle.ranking.proofs.number.Reads as number-reads
-use Rattle.ranking.proofs.total.Reads as total-reads
 use Rattle.ranking.proofs.+nth_below+nth_from.{statement}
 use Rattle.ranking.proofs.+nth_below+nth_from.Tie.{close}
 
@@ -53,237 +52,221 @@ nth-below-Inv-loop m used counts choices₀ s n at a c size₀ rest₀ next₀ j
 abbrev nth-below-μ-loop : nth-below-lts.MeasureT-loop
 nth-below-μ-loop m used counts choices₀ s n at a c size₀ rest₀ next₀ j₀ choices size rest next j = c - j
 
-nth-below-count-requires : (t : ℕ) → nth-below-lts.Need-count-requires (
-  count-reads.Asked,
-  count-reads.Learnt,
-  number-reads.Asked,
-  number-reads.Learnt,
+nth-below-used-outcomes-requires : (t : ℕ) → nth-below-lts.Need-used-outcomes-requires (
+  used-outcomes-reads.Asked,
+  used-outcomes-reads.Learnt,
   target-reads.Asked,
   target-reads.Learnt,
-  total-reads.Asked,
-  total-reads.Learnt,
+  plans-counted-reads.Asked,
+  plans-counted-reads.Learnt,
   nth-from-below t,
   nth-from.Post,
 ) (nth-below-at t) nth-below.Post nth-below-Inv-loop nth-below-μ-loop
-nth-below-count-requires t c κs = let S = c .before .before in
+nth-below-used-outcomes-requires t c κs = let S = c .before .before in
     omega (arith, readable (S .args .m .now) (S .pre .1 .0 .0) .states)
 
-nth-below-loop-holds : (t : ℕ) → nth-below-lts.Need-loop-holds (
-  count-reads.Asked,
-  count-reads.Learnt,
-  number-reads.Asked,
-  number-reads.Learnt,
+nth-below-cast-c : (t : ℕ) → nth-below-lts.Need-cast-c (
+  used-outcomes-reads.Asked,
+  used-outcomes-reads.Learnt,
   target-reads.Asked,
   target-reads.Learnt,
-  total-reads.Asked,
-  total-reads.Learnt,
+  plans-counted-reads.Asked,
+  plans-counted-reads.Learnt,
+  nth-from-below t,
+  nth-from.Post,
+) (nth-below-at t) nth-below.Post nth-below-Inv-loop nth-below-μ-loop
+nth-below-cast-c t c = search needs
+
+nth-below-loop-holds : (t : ℕ) → nth-below-lts.Need-loop-holds (
+  used-outcomes-reads.Asked,
+  used-outcomes-reads.Learnt,
+  target-reads.Asked,
+  target-reads.Learnt,
+  plans-counted-reads.Asked,
+  plans-counted-reads.Learnt,
   nth-from-below t,
   nth-from.Post,
 ) (nth-below-at t) nth-below.Post nth-below-Inv-loop nth-below-μ-loop
 nth-below-loop-holds t c = let S = c .before .before .before in
-    let e = used-at (S .args .m .now) (S .pre .1 .0 .1) (S .args .s) (S .args .b .action) (omega (arith, readable (S .args .m .now) (S .pre .1 .0 .0) .states)) (omega arith) in
+    let e = count-entries (S .args .m .now) (readable (S .args .m .now) (S .pre .1 .0 .0)) (S .pre .1 .0 .1) (S .args .s) (S .pre .1 .1 .0) (S .args .b .action) in
     let p = S .pre .1 .1 in (
       omega arith,
       below-start (S .args .m .now) (S .args .n) (S .args .s) (S .args .b .action) (S .args .b .place) (S .args .choices .now) (S .args .at)
-          (c .count .result) (S .args .b .size) (c .count .ensures ∙ e) (p .3) (p .5) (p .4),
+          (c .used-outcomes .result) (S .args .b .size) (c .used-outcomes .ensures ∙ e) (p .3) (p .5) (p .4),
     )
 
-nth-below-number-requires : (t : ℕ) → nth-below-lts.Need-number-requires (
-  count-reads.Asked,
-  count-reads.Learnt,
-  number-reads.Asked,
-  number-reads.Learnt,
+nth-below-cast-target : (t : ℕ) → nth-below-lts.Need-cast-target (
+  used-outcomes-reads.Asked,
+  used-outcomes-reads.Learnt,
   target-reads.Asked,
   target-reads.Learnt,
-  total-reads.Asked,
-  total-reads.Learnt,
+  plans-counted-reads.Asked,
+  plans-counted-reads.Learnt,
   nth-from-below t,
   nth-from.Post,
 ) (nth-below-at t) nth-below.Post nth-below-Inv-loop nth-below-μ-loop
-nth-below-number-requires t c κs = search needs
+nth-below-cast-target t c = search needs
 
 nth-below-target-requires : (t : ℕ) → nth-below-lts.Need-target-requires (
-  count-reads.Asked,
-  count-reads.Learnt,
-  number-reads.Asked,
-  number-reads.Learnt,
+  used-outcomes-reads.Asked,
+  used-outcomes-reads.Learnt,
   target-reads.Asked,
   target-reads.Learnt,
-  total-reads.Asked,
-  total-reads.Learnt,
+  plans-counted-reads.Asked,
+  plans-counted-reads.Learnt,
   nth-from-below t,
   nth-from.Post,
 ) (nth-below-at t) nth-below.Post nth-below-Inv-loop nth-below-μ-loop
-nth-below-target-requires t c κs = let S = c .before .before .before .before .before .before in
+nth-below-target-requires t c κs = let S = c .before .before .before .before .before in
     let r = readable (S .args .m .now) (S .pre .1 .0 .0) in
-    omega (arith, r .states, (c .before .before .loop .inv .1) .entered, entries-few (S .args .m .now) r (S .args .s) (S .args .b .action))
+    omega (arith, r .states, (c .before .loop .inv .1) .entered, entries-few (S .args .m .now) r (S .args .s) (S .args .b .action))
 
-nth-below-total-requires : (t : ℕ) → nth-below-lts.Need-total-requires (
-  count-reads.Asked,
-  count-reads.Learnt,
-  number-reads.Asked,
-  number-reads.Learnt,
+nth-below-plans-counted-requires : (t : ℕ) → nth-below-lts.Need-plans-counted-requires (
+  used-outcomes-reads.Asked,
+  used-outcomes-reads.Learnt,
   target-reads.Asked,
   target-reads.Learnt,
-  total-reads.Asked,
-  total-reads.Learnt,
+  plans-counted-reads.Asked,
+  plans-counted-reads.Learnt,
   nth-from-below t,
   nth-from.Post,
 ) (nth-below-at t) nth-below.Post nth-below-Inv-loop nth-below-μ-loop
-nth-below-total-requires t c κs = let S = c .before .before .before .before .before .before .before in
-    let L = c .before .before .before .loop in
-    let l = c .before .before .loop-test .taken in
-    let u = below-turn (L .inv .1) l (S .pre .1 .0 .0) (S .pre .1 .0 .2) (omega arith) (c .before .number .ensures) (c .target .ensures .0) in
+nth-below-plans-counted-requires t c κs = let S = c .before .before .before .before .before .before in
+    let L = c .before .before .loop in
+    let l = c .before .loop-test .taken in
+    let u = below-turn (L .inv .1) l (S .pre .1 .0 .0) (S .pre .1 .0 .2) (omega arith) (c .target .ensures .0) in
     (omega arith, omega (arith, readable (S .args .m .now) (S .pre .1 .0 .0) .states, u .state))
 
 nth-below-div-size : (t : ℕ) → nth-below-lts.Need-div-size (
-  count-reads.Asked,
-  count-reads.Learnt,
-  number-reads.Asked,
-  number-reads.Learnt,
+  used-outcomes-reads.Asked,
+  used-outcomes-reads.Learnt,
   target-reads.Asked,
   target-reads.Learnt,
-  total-reads.Asked,
-  total-reads.Learnt,
+  plans-counted-reads.Asked,
+  plans-counted-reads.Learnt,
   nth-from-below t,
   nth-from.Post,
 ) (nth-below-at t) nth-below.Post nth-below-Inv-loop nth-below-μ-loop
-nth-below-div-size t c = let S = c .before .before .before .before .before .before .before .before in
-    let L = c .before .before .before .before .loop in
-    let l = c .before .before .before .loop-test .taken in
-    let u = below-turn (L .inv .1) l (S .pre .1 .0 .0) (S .pre .1 .0 .2) (omega arith) (c .before .before .number .ensures) (c .before .target .ensures .0) in
-    rw (c .total .ensures ∙ u .counted) (u .some)
+nth-below-div-size t c = let S = c .before .before .before .before .before .before .before in
+    let L = c .before .before .before .loop in
+    let l = c .before .before .loop-test .taken in
+    let u = below-turn (L .inv .1) l (S .pre .1 .0 .0) (S .pre .1 .0 .2) (omega arith) (c .before .target .ensures .0) in
+    rw (c .plans-counted .ensures ∙ u .counted) (u .some)
 
 nth-below-div-nth-from : (t : ℕ) → nth-below-lts.Need-div-nth-from (
-  count-reads.Asked,
-  count-reads.Learnt,
-  number-reads.Asked,
-  number-reads.Learnt,
+  used-outcomes-reads.Asked,
+  used-outcomes-reads.Learnt,
   target-reads.Asked,
   target-reads.Learnt,
-  total-reads.Asked,
-  total-reads.Learnt,
+  plans-counted-reads.Asked,
+  plans-counted-reads.Learnt,
   nth-from-below t,
   nth-from.Post,
 ) (nth-below-at t) nth-below.Post nth-below-Inv-loop nth-below-μ-loop
-nth-below-div-nth-from t c = let S = c .before .before .before .before .before .before .before .before .before in
-    let L = c .before .before .before .before .before .loop in
-    let l = c .before .before .before .before .loop-test .taken in
-    let u = below-turn (L .inv .1) l (S .pre .1 .0 .0) (S .pre .1 .0 .2) (omega arith) (c .before .before .before .number .ensures) (c .before .before .target .ensures .0) in
-    let v = divides (L .inv .1) l u (c .before .total .ensures) in
+nth-below-div-nth-from t c = let S = c .before .before .before .before .before .before .before .before in
+    let L = c .before .before .before .before .loop in
+    let l = c .before .before .before .loop-test .taken in
+    let u = below-turn (L .inv .1) l (S .pre .1 .0 .0) (S .pre .1 .0 .2) (omega arith) (c .before .before .target .ensures .0) in
+    let v = divides (L .inv .1) l u (c .before .plans-counted .ensures) in
     rw v (u .later)
 
 nth-below-nth-from-requires : (t : ℕ) → nth-below-lts.Need-nth-from-requires (
-  count-reads.Asked,
-  count-reads.Learnt,
-  number-reads.Asked,
-  number-reads.Learnt,
+  used-outcomes-reads.Asked,
+  used-outcomes-reads.Learnt,
   target-reads.Asked,
   target-reads.Learnt,
-  total-reads.Asked,
-  total-reads.Learnt,
+  plans-counted-reads.Asked,
+  plans-counted-reads.Learnt,
   nth-from-below t,
   nth-from.Post,
 ) (nth-below-at t) nth-below.Post nth-below-Inv-loop nth-below-μ-loop
-nth-below-nth-from-requires t c κs = let S = c .before .before .before .before .before .before .before .before .before in
-    let L = c .before .before .before .before .before .loop in
-    let l = c .before .before .before .before .loop-test .taken in
-    let u = below-turn (L .inv .1) l (S .pre .1 .0 .0) (S .pre .1 .0 .2) (omega arith) (c .before .before .before .number .ensures) (c .before .before .target .ensures .0) in
-    let v = divides (L .inv .1) l u (c .before .total .ensures) in
+nth-below-nth-from-requires t c κs = let S = c .before .before .before .before .before .before .before .before in
+    let L = c .before .before .before .before .loop in
+    let l = c .before .before .before .loop-test .taken in
+    let u = below-turn (L .inv .1) l (S .pre .1 .0 .0) (S .pre .1 .0 .2) (omega arith) (c .before .before .target .ensures .0) in
+    let v = divides (L .inv .1) l u (c .before .plans-counted .ensures) in
     let f = fits (L .inv .1) l (readable (S .args .m .now) (S .pre .1 .0 .0)) (S .pre .1 .1 .6) in
     (omega arith, (S .pre .1 .0, (u .state, omega arith, u .few, quotient (L .inv .1) l u v, f)))
 
 nth-below-rem-rest : (t : ℕ) → nth-below-lts.Need-rem-rest (
-  count-reads.Asked,
-  count-reads.Learnt,
-  number-reads.Asked,
-  number-reads.Learnt,
+  used-outcomes-reads.Asked,
+  used-outcomes-reads.Learnt,
   target-reads.Asked,
   target-reads.Learnt,
-  total-reads.Asked,
-  total-reads.Learnt,
+  plans-counted-reads.Asked,
+  plans-counted-reads.Learnt,
   nth-from-below t,
   nth-from.Post,
 ) (nth-below-at t) nth-below.Post nth-below-Inv-loop nth-below-μ-loop
-nth-below-rem-rest t c = let S = c .before .before .before .before .before .before .before .before .before .before .before .before in
-    let L = c .before .before .before .before .before .before .before .before .loop in
-    let l = c .before .before .before .before .before .before .before .loop-test .taken in
-    let u = below-turn (L .inv .1) l (S .pre .1 .0 .0) (S .pre .1 .0 .2) (omega arith) (c .before .before .before .before .before .before .number .ensures) (c .before .before .before .before .before .target .ensures .0) in
-    let v = divides (L .inv .1) l u (c .before .before .before .before .total .ensures) in
+nth-below-rem-rest t c = let S = c .before .before .before .before .before .before .before .before .before .before .before in
+    let L = c .before .before .before .before .before .before .before .loop in
+    let l = c .before .before .before .before .before .before .loop-test .taken in
+    let u = below-turn (L .inv .1) l (S .pre .1 .0 .0) (S .pre .1 .0 .2) (omega arith) (c .before .before .before .before .before .target .ensures .0) in
+    let v = divides (L .inv .1) l u (c .before .before .before .before .plans-counted .ensures) in
     rw v (u .later)
 
 nth-below-add-j : (t : ℕ) → nth-below-lts.Need-add-j (
-  count-reads.Asked,
-  count-reads.Learnt,
-  number-reads.Asked,
-  number-reads.Learnt,
+  used-outcomes-reads.Asked,
+  used-outcomes-reads.Learnt,
   target-reads.Asked,
   target-reads.Learnt,
-  total-reads.Asked,
-  total-reads.Learnt,
+  plans-counted-reads.Asked,
+  plans-counted-reads.Learnt,
   nth-from-below t,
   nth-from.Post,
 ) (nth-below-at t) nth-below.Post nth-below-Inv-loop nth-below-μ-loop
 nth-below-add-j t c = search needs
 
 nth-below-loop-less : (t : ℕ) → nth-below-lts.Need-loop-less (
-  count-reads.Asked,
-  count-reads.Learnt,
-  number-reads.Asked,
-  number-reads.Learnt,
+  used-outcomes-reads.Asked,
+  used-outcomes-reads.Learnt,
   target-reads.Asked,
   target-reads.Learnt,
-  total-reads.Asked,
-  total-reads.Learnt,
+  plans-counted-reads.Asked,
+  plans-counted-reads.Learnt,
   nth-from-below t,
   nth-from.Post,
 ) (nth-below-at t) nth-below.Post nth-below-Inv-loop nth-below-μ-loop
 nth-below-loop-less t c = search needs
 
 nth-below-loop-again : (t : ℕ) → nth-below-lts.Need-loop-again (
-  count-reads.Asked,
-  count-reads.Learnt,
-  number-reads.Asked,
-  number-reads.Learnt,
+  used-outcomes-reads.Asked,
+  used-outcomes-reads.Learnt,
   target-reads.Asked,
   target-reads.Learnt,
-  total-reads.Asked,
-  total-reads.Learnt,
+  plans-counted-reads.Asked,
+  plans-counted-reads.Learnt,
   nth-from-below t,
   nth-from.Post,
 ) (nth-below-at t) nth-below.Post nth-below-Inv-loop nth-below-μ-loop
-nth-below-loop-again t c = let S = c .before .before .before .before .before .before .before .before .before .before .before .before in
-    let L = c .before .before .before .before .before .before .before .before .loop in
-    let l = c .before .before .before .before .before .before .before .loop-test .taken in
-    let u = below-turn (L .inv .1) l (S .pre .1 .0 .0) (S .pre .1 .0 .2) (omega arith) (c .before .before .before .before .before .before .number .ensures) (c .before .before .before .before .before .target .ensures .0) in
-    let v = divides (L .inv .1) l u (c .before .before .before .before .total .ensures) in
+nth-below-loop-again t c = let S = c .before .before .before .before .before .before .before .before .before .before .before in
+    let L = c .before .before .before .before .before .before .before .loop in
+    let l = c .before .before .before .before .before .before .loop-test .taken in
+    let u = below-turn (L .inv .1) l (S .pre .1 .0 .0) (S .pre .1 .0 .2) (omega arith) (c .before .before .before .before .before .target .ensures .0) in
+    let v = divides (L .inv .1) l u (c .before .before .before .before .plans-counted .ensures) in
     let f = fits (L .inv .1) l (readable (S .args .m .now) (S .pre .1 .0 .0)) (S .pre .1 .1 .6) in
     let w = c .before .before .nth-from in
     (omega arith, below-more (L .inv .1) l u v f (w .ensures) (w .kept .1 .1 .1 .0))
 
 nth-below-same-length : (t : ℕ) → nth-below-lts.Need-same-length (
-  count-reads.Asked,
-  count-reads.Learnt,
-  number-reads.Asked,
-  number-reads.Learnt,
+  used-outcomes-reads.Asked,
+  used-outcomes-reads.Learnt,
   target-reads.Asked,
   target-reads.Learnt,
-  total-reads.Asked,
-  total-reads.Learnt,
+  plans-counted-reads.Asked,
+  plans-counted-reads.Learnt,
   nth-from-below t,
   nth-from.Post,
 ) (nth-below-at t) nth-below.Post nth-below-Inv-loop nth-below-μ-loop
 nth-below-same-length t c = c .before .loop .inv .1 .kept
 
 nth-below-returns : (t : ℕ) → nth-below-lts.Need-returns (
-  count-reads.Asked,
-  count-reads.Learnt,
-  number-reads.Asked,
-  number-reads.Learnt,
+  used-outcomes-reads.Asked,
+  used-outcomes-reads.Learnt,
   target-reads.Asked,
   target-reads.Learnt,
-  total-reads.Asked,
-  total-reads.Learnt,
+  plans-counted-reads.Asked,
+  plans-counted-reads.Learnt,
   nth-from-below t,
   nth-from.Post,
 ) (nth-below-at t) nth-below.Post nth-below-Inv-loop nth-below-μ-loop
@@ -381,14 +364,12 @@ nth-from-returns-2 t c = let S = c .before .before .before .before .before .befo
 
 pub +nth-below+nth-from-spec : {M : Type 1} → statement M
 +nth-below+nth-from-spec = close μ-nth-below μ-nth-from (λ t. nth-below-lts.spec (
-  count-reads.Asked,
-  count-reads.Learnt,
-  number-reads.Asked,
-  number-reads.Learnt,
+  used-outcomes-reads.Asked,
+  used-outcomes-reads.Learnt,
   target-reads.Asked,
   target-reads.Learnt,
-  total-reads.Asked,
-  total-reads.Learnt,
+  plans-counted-reads.Asked,
+  plans-counted-reads.Learnt,
   nth-from-below t,
   nth-from.Post,
 )
@@ -396,11 +377,12 @@ pub +nth-below+nth-from-spec : {M : Type 1} → statement M
     nth-below.Post
     nth-below-Inv-loop
     nth-below-μ-loop
-    (nth-below-count-requires t)
+    (nth-below-used-outcomes-requires t)
+    (nth-below-cast-c t)
     (nth-below-loop-holds t)
-    (nth-below-number-requires t)
+    (nth-below-cast-target t)
     (nth-below-target-requires t)
-    (nth-below-total-requires t)
+    (nth-below-plans-counted-requires t)
     (nth-below-div-size t)
     (nth-below-div-nth-from t)
     (nth-below-nth-from-requires t)

@@ -8,7 +8,7 @@ use borrow.Author.Needs.{needs}
 use Rattle.models.specs.Layout.{entries, model-of}
 use Rattle.models.proofs.Readable.{readable}
 use Rattle.models.proofs.Rows.{entries-few}
-use Rattle.models.proofs.Table.{used-at}
+use Rattle.models.proofs.Table.{count-entries}
 use Rattle.limits.proofs.Laws.{not-enabled, is-enabled}
 use Rattle.ranking.specs.Places.{ways}
 use Rattle.ranking.proofs.Laws.{ways-left, ways-most, count-start, count-here, count-turn, count-end}
@@ -21,41 +21,41 @@ Inv-loop m used counts s a n c size₀ j₀ size j = (c ≡ entries m s a) × (j
 abbrev μ-loop : tie.MeasureT-loop
 μ-loop m used counts s a n c size₀ j₀ size j = c - j
 
-count-requires : tie.Need-count-requires Inv-loop μ-loop
-count-requires c κs = let S = c .before in
+used-outcomes-requires : tie.Need-used-outcomes-requires Inv-loop μ-loop
+used-outcomes-requires c κs = let S = c .before in
     omega (arith, readable (S .args .m .now) (S .pre .0 .0) .states)
+
+cast-c : tie.Need-cast-c Inv-loop μ-loop
+cast-c c = search needs
 
 returns : tie.Need-returns Inv-loop μ-loop
 returns c = let S = c .before .before .before in
-    let e = used-at (S .args .m .now) (S .pre .0 .1) (S .args .s) (S .args .a) (omega (arith, readable (S .args .m .now) (S .pre .0 .0) .states)) (omega arith) in
-    (not-enabled (S .args .m .now) (S .args .s) (S .args .a) _ (omega (arith, e, c .before .count .ensures)), omega arith)
+    let e = count-entries (S .args .m .now) (readable (S .args .m .now) (S .pre .0 .0)) (S .pre .0 .1) (S .args .s) (S .pre .1 .0) (S .args .a) in
+    (not-enabled (S .args .m .now) (S .args .s) (S .args .a) _ (omega (arith, e, c .before .used-outcomes .ensures)), omega arith)
 
 loop-holds : tie.Need-loop-holds Inv-loop μ-loop
 loop-holds c = let S = c .before .before .before in
-    let e = used-at (S .args .m .now) (S .pre .0 .1) (S .args .s) (S .args .a) (omega (arith, readable (S .args .m .now) (S .pre .0 .0) .states)) (omega arith) in
-    (c .before .count .ensures ∙ e, omega arith, omega arith, count-start (S .args .m .now) (S .args .s) (S .args .a) (S .args .n))
-
-number-requires : tie.Need-number-requires Inv-loop μ-loop
-number-requires c κs = search needs
+    let e = count-entries (S .args .m .now) (readable (S .args .m .now) (S .pre .0 .0)) (S .pre .0 .1) (S .args .s) (S .pre .1 .0) (S .args .a) in
+    (c .before .used-outcomes .ensures ∙ e, omega arith, omega arith, count-start (S .args .m .now) (S .args .s) (S .args .a) (S .args .n))
 
 target-requires : tie.Need-target-requires Inv-loop μ-loop
-target-requires c κs = let S = c .before .before .before .before .before .before in
+target-requires c κs = let S = c .before .before .before .before .before in
     let r = readable (S .args .m .now) (S .pre .0 .0) in
     omega (arith, r .states, entries-few (S .args .m .now) r (S .args .s) (S .args .a))
 
-total-requires : tie.Need-total-requires Inv-loop μ-loop
-total-requires c κs = let S = c .before .before .before .before .before .before .before in
-    let L = c .before .before .before .loop in
+plans-counted-requires : tie.Need-plans-counted-requires Inv-loop μ-loop
+plans-counted-requires c κs = let S = c .before .before .before .before .before .before in
+    let L = c .before .before .loop in
     let w = count-here (S .args .m .now) (S .pre .0 .0) (S .pre .0 .2) (S .args .n) (S .args .s) (S .args .a) (omega arith) (S .pre .1 .0) (S .pre .1 .1)
-    (S .pre .1 .3) (L .inv .3) (c .before .number .ensures) (c .target .ensures .0) (omega arith) in
+    (S .pre .1 .3) (L .inv .3) (c .target .ensures .0) (omega arith) in
     (omega arith, omega (arith, readable (S .args .m .now) (S .pre .0 .0) .states, w .1 .state))
 
 mul-size : tie.Need-mul-size Inv-loop μ-loop
-mul-size c = let S = c .before .before .before .before .before .before .before .before in
-    let L = c .before .before .before .before .loop in
+mul-size c = let S = c .before .before .before .before .before .before .before in
+    let L = c .before .before .before .loop in
     let w = count-here (S .args .m .now) (S .pre .0 .0) (S .pre .0 .2) (S .args .n) (S .args .s) (S .args .a) (omega arith) (S .pre .1 .0) (S .pre .1 .1)
-    (S .pre .1 .3) (L .inv .3) (c .before .before .number .ensures) (c .before .target .ensures .0) (omega arith) in
-    let few : c .total .result ≤ 65536 = rw (c .total .ensures ∙ w .1 .counted) (w .1 .few) in
+    (S .pre .1 .3) (L .inv .3) (c .before .target .ensures .0) (omega arith) in
+    let few : c .plans-counted .result ≤ 65536 = rw (c .plans-counted .ensures ∙ w .1 .counted) (w .1 .few) in
     omega (arith, mul-le-mul (w .0) few)
 
 add-j : tie.Need-add-j Inv-loop μ-loop
@@ -65,13 +65,13 @@ loop-less : tie.Need-loop-less Inv-loop μ-loop
 loop-less c = search needs
 
 loop-again : tie.Need-loop-again Inv-loop μ-loop
-loop-again c = let S = c .before .before .before .before .before .before .before .before in
-    let L = c .before .before .before .before .loop in
+loop-again c = let S = c .before .before .before .before .before .before .before in
+    let L = c .before .before .before .loop in
     let w = count-here (S .args .m .now) (S .pre .0 .0) (S .pre .0 .2) (S .args .n) (S .args .s) (S .args .a) (omega arith) (S .pre .1 .0) (S .pre .1 .1)
-    (S .pre .1 .3) (L .inv .3) (c .before .before .number .ensures) (c .before .target .ensures .0) (omega arith) in
+    (S .pre .1 .3) (L .inv .3) (c .before .target .ensures .0) (omega arith) in
     let e = count-turn (S .args .m .now) (S .args .s) (S .args .a) (S .args .n) (L .size) (w .1) (L .inv .3) in
     let z = ways-left (S .args .m .now) (S .args .s) (S .args .a) (S .args .n) (L .j + 1) in
-    (L .inv .0, omega arith, omega arith, ap (λ v. L .size * v * z) (c .total .ensures) ∙ e)
+    (L .inv .0, omega arith, omega arith, ap (λ v. L .size * v * z) (c .plans-counted .ensures) ∙ e)
 
 returns-2 : tie.Need-returns-2 Inv-loop μ-loop
 returns-2 c = let S = c .before .before .before .before .before in
@@ -86,12 +86,12 @@ ways-spec =
     (tie.spec
     Inv-loop
     μ-loop
-    count-requires
+    used-outcomes-requires
+    cast-c
     returns
     loop-holds
-    number-requires
     target-requires
-    total-requires
+    plans-counted-requires
     mul-size
     add-j
     loop-less

@@ -8,7 +8,8 @@ use lib.ListN.{length, take, drop}
 use borrow.Author.Needs.{needs}
 use Rattle.models.specs.Layout.{entries}
 use Rattle.weighing.specs.Places.{Ran}
-use Rattle.weighing.proofs.Turns.{runs, length-on, roomy-same, state-few, count-here, weigh-done, weigh-choice, runs-none, runs-all, offered, known-here, here-next, runs-fit, runs-more, here-again}
+use Rattle.evaluation.proofs.Returning.{roomy-same}
+use Rattle.weighing.proofs.Turns.{runs, length-on, state-few, count-here, weigh-done, weigh-choice, runs-none, runs-all, offered, known-here, here-next, runs-fit, runs-more, here-again}
 use Prim.Native.Nat.{ℕ, _+_, _-_, _≤_, _<_}
 use borrow.Fn.Kinds.{In}
 use borrow.Fn.PlainCycle.{Measures, is, falls, and}
@@ -194,7 +195,7 @@ weigh-below-add-o : (t : ℕ) → weigh-below-lts.Need-add-o (
   plus-reads.Asked,
   plus-reads.Learnt,
 ) (weigh-below-at t) weigh-below.Post weigh-below-Inv-loop weigh-below-μ-loop
-weigh-below-add-o t c = search needs
+weigh-below-add-o t c = search (needs, c .before .before .before .before .before .before .before .before .before .before .before .before .before .before .before .before .before .before .before .before .before .used-outcomes .ok)
 
 weigh-below-loop-less : (t : ℕ) → weigh-below-lts.Need-loop-less (
   used-outcomes-reads.Asked,

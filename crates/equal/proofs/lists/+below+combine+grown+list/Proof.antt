@@ -14,7 +14,9 @@ use Rattle.logic.specs.Limits.{plan-total}
 use Rattle.blocks.proofs.byte.Reads as byte-reads
 use Rattle.models.specs.Layout.{action-count, model-of, entries}
 use Rattle.models.proofs.target.Reads as target-reads
+use Rattle.models.proofs.used_outcomes.Reads as used-outcomes-reads
 use Rattle.models.proofs.weight.Reads as weight-reads
+use Rattle.limits.proofs.plans_counted.Reads as plans-counted-reads
 use Rattle.evaluation.proofs.step.Reads as step-reads
 use Rattle.equal.specs.Room.{Room}
 use Rattle.equal.specs.Totals.{combined, weighed}
@@ -23,7 +25,6 @@ use Rattle.equal.proofs.Taking.{placed, count-right, span-outcome, Span
 use Rattle.equal.proofs.Writing.{action-small, uses-right, state-small, reached, offered, below-here, below-written, decides, decided-written, rebased}
 use Rattle.equal.proofs.Passing.{action-few, Listed, listed-none, passed-over, action-room, action-here, action-listed, listed-all}
 use Rattle.equal.proofs.Combine.{beside-inside, wider-less}
-use Rattle.equal.proofs.Accepting.{is-sized}
 use Rattle.equal.proofs.lists.below.Reads as below
 use Rattle.equal.proofs.lists.below.Kinds as below-kinds
 use Rattle.equal.proofs.lists.+below+combine+grown+list.Lts-below as below-lts
@@ -37,18 +38,14 @@ use Rattle.equal.proofs.lists.list.Reads as list
 use Rattle.equal.proofs.lists.list.Kinds as list-kinds
 use Rattle.equal.proofs.lists.+below+combine+grown+list.Lts-list as list-lts
 use Rattle.equal.proofs.lists.beside.Reads as beside-reads
-use Rattle.equal.proofs.lists.count.Reads as count-reads
 use Rattle.equal.proofs.lists.decided.Reads as decided-reads
 use Rattle.equal.proofs.lists.least.Reads as least-reads
 use Rattle.equal.proofs.lists.longest.Reads as longest-reads
 use Rattle.equal.proofs.lists.most.Reads as most-reads
-use Rattle.equal.proofs.lists.uses.Reads as uses-reads
 use Rattle.equal.proofs.spread.join.Reads as join-reads
 use Rattle.equal.proofs.spread.shift.Reads as shift-reads
 use Rattle.equal.proofs.lists.+below+combine+grown+list.{statement}
 use Rattle.equal.proofs.lists.+below+combine+grown+list.Tie.{close}
-
--- written one after the other (`Listed`), those of an action's outcomes are combined from the longest one on (`Spanned`).
 
 abbrev μ-below : Measures 11 below-kinds.ps ℕ
 μ-below κs a = 4 * a .1 .1 .1 .1 .1 .1 .1 .1 .1 .1 .1 .1 .1 .1 .1 .1 .1 .0 + 1
@@ -175,9 +172,9 @@ abbrev combine-μ-loop : combine-lts.MeasureT-loop
 combine-μ-loop m q depths truth cone used table trail₀ gains₀ v₀ buf₀ start d h s a k at c lo₀ hi₀ len₀ trail gains v buf lo hi len =
     c - (hi - lo)
 
-combine-uses-requires : (t : ℕ) → combine-lts.Need-uses-requires (
-  uses-reads.Asked,
-  uses-reads.Learnt,
+combine-used-outcomes-requires : (t : ℕ) → combine-lts.Need-used-outcomes-requires (
+  used-outcomes-reads.Asked,
+  used-outcomes-reads.Learnt,
   longest-reads.Asked,
   longest-reads.Learnt,
   below-below t,
@@ -195,15 +192,12 @@ combine-uses-requires : (t : ℕ) → combine-lts.Need-uses-requires (
   most-reads.Asked,
   most-reads.Learnt,
 ) (combine-at t) combine.Post combine-Inv-loop combine-μ-loop
-combine-uses-requires t c κs = let S = c .before .before .before .before .before .before .before .before in
-    let G = S .pre .1 .0 in
-    let H = S .pre .1 .1 .0 .0 in
-    let u = S .pre .1 .1 .0 .1 in
-    (state-small G (H .inside), action-small G (S .args .s) (S .args .a) 0 (H .inside) u)
+combine-used-outcomes-requires t c κs = let S = c .before .before .before .before .before .before .before .before in
+    state-small (S .pre .1 .0) (S .pre .1 .1 .0 .0 .inside)
 
 combine-longest-requires : (t : ℕ) → combine-lts.Need-longest-requires (
-  uses-reads.Asked,
-  uses-reads.Learnt,
+  used-outcomes-reads.Asked,
+  used-outcomes-reads.Learnt,
   longest-reads.Asked,
   longest-reads.Learnt,
   below-below t,
@@ -225,12 +219,12 @@ combine-longest-requires t c κs = let S = c .before .before .before .before .be
     let G = S .pre .1 .0 in
     let H = S .pre .1 .1 .0 .0 in
     let u = S .pre .1 .1 .0 .1 in
-    let e = uses-right G (S .args .s) (S .args .a) (H .inside) (action-small G (S .args .s) (S .args .a) 0 (H .inside) u) (c .uses .ensures) in
+    let e = uses-right G (S .args .s) (S .args .a) (H .inside) (c .used-outcomes .ensures) in
     (omega (arith, H .steps), omega arith, λ o l. state-small G (reached G (S .args .s) (S .args .a) o (H .inside) (omega arith)))
 
 combine-add-hi : (t : ℕ) → combine-lts.Need-add-hi (
-  uses-reads.Asked,
-  uses-reads.Learnt,
+  used-outcomes-reads.Asked,
+  used-outcomes-reads.Learnt,
   longest-reads.Asked,
   longest-reads.Learnt,
   below-below t,
@@ -251,8 +245,8 @@ combine-add-hi : (t : ℕ) → combine-lts.Need-add-hi (
 combine-add-hi t c = omega (arith, c .longest .ensures .inside)
 
 combine-below-requires : (t : ℕ) → combine-lts.Need-below-requires (
-  uses-reads.Asked,
-  uses-reads.Learnt,
+  used-outcomes-reads.Asked,
+  used-outcomes-reads.Learnt,
   longest-reads.Asked,
   longest-reads.Learnt,
   below-below t,
@@ -277,13 +271,13 @@ combine-below-requires t c κs = let S = c .before .before .before .before .befo
     let P = placed (S .args .a) (S .args .k) H in
     let R = S .pre .1 .1 .1 in
     let lo = c .before .before .before .before .longest in
-    let e = uses-right G (S .args .s) (S .args .a) (H .inside) (action-small G (S .args .s) (S .args .a) 0 (H .inside) u) (c .before .before .before .before .before .uses .ensures) in
+    let e = uses-right G (S .args .s) (S .args .a) (H .inside) (c .before .before .before .before .before .used-outcomes .ensures) in
     let l : lo .result < entries (S .args .m .now) (S .args .s) (S .args .a) = omega (arith, lo .ensures .inside) in
     (omega arith, (G, ((H, l), first-room G P R (lo .result) l)))
 
 combine-cast-weight : (t : ℕ) → combine-lts.Need-cast-weight (
-  uses-reads.Asked,
-  uses-reads.Learnt,
+  used-outcomes-reads.Asked,
+  used-outcomes-reads.Learnt,
   longest-reads.Asked,
   longest-reads.Learnt,
   below-below t,
@@ -304,8 +298,8 @@ combine-cast-weight : (t : ℕ) → combine-lts.Need-cast-weight (
 combine-cast-weight t c = search needs
 
 combine-weight-requires : (t : ℕ) → combine-lts.Need-weight-requires (
-  uses-reads.Asked,
-  uses-reads.Learnt,
+  used-outcomes-reads.Asked,
+  used-outcomes-reads.Learnt,
   longest-reads.Asked,
   longest-reads.Learnt,
   below-below t,
@@ -330,13 +324,13 @@ combine-weight-requires t c κs = let S = c .before .before .before .before .bef
     let P = placed (S .args .a) (S .args .k) H in
     let R = S .pre .1 .1 .1 in
     let lo = c .before .before .before .before .before .before .before .before .before .before .before .before .before .longest in
-    let e = uses-right G (S .args .s) (S .args .a) (H .inside) (action-small G (S .args .s) (S .args .a) 0 (H .inside) u) (c .before .before .before .before .before .before .before .before .before .before .before .before .before .before .uses .ensures) in
+    let e = uses-right G (S .args .s) (S .args .a) (H .inside) (c .before .before .before .before .before .before .before .before .before .before .before .before .before .before .used-outcomes .ensures) in
     let l : lo .result < entries (S .args .m .now) (S .args .s) (S .args .a) = omega (arith, lo .ensures .inside) in
     (omega (arith, state-small G (H .inside)), omega (arith, action-small G (S .args .s) (S .args .a) 0 (H .inside) u), omega (arith, outcomes-few G P 0 u))
 
 combine-shift-requires : (t : ℕ) → combine-lts.Need-shift-requires (
-  uses-reads.Asked,
-  uses-reads.Learnt,
+  used-outcomes-reads.Asked,
+  used-outcomes-reads.Learnt,
   longest-reads.Asked,
   longest-reads.Learnt,
   below-below t,
@@ -361,15 +355,15 @@ combine-shift-requires t c κs = let S = c .before .before .before .before .befo
     let P = placed (S .args .a) (S .args .k) H in
     let R = S .pre .1 .1 .1 in
     let lo = c .before .before .before .before .before .before .before .before .before .before .before .before .before .before .longest in
-    let e = uses-right G (S .args .s) (S .args .a) (H .inside) (action-small G (S .args .s) (S .args .a) 0 (H .inside) u) (c .before .before .before .before .before .before .before .before .before .before .before .before .before .before .before .uses .ensures) in
+    let e = uses-right G (S .args .s) (S .args .a) (H .inside) (c .before .before .before .before .before .before .before .before .before .before .before .before .before .before .before .used-outcomes .ensures) in
     let l : lo .result < entries (S .args .m .now) (S .args .s) (S .args .a) = omega (arith, lo .ensures .inside) in
     let b = c .before .before .before .before .before .before .before .before .before .below in
     let w = c .weight in
     first-shifts G P R (lo .result) l (S .args .buf .now) refl H (b .ensures) (b .kept .1 .1 .1 .1 .1 .1 .1 .1 .1 .1 .0) (w .ensures .0)
 
 combine-loop-holds : (t : ℕ) → combine-lts.Need-loop-holds (
-  uses-reads.Asked,
-  uses-reads.Learnt,
+  used-outcomes-reads.Asked,
+  used-outcomes-reads.Learnt,
   longest-reads.Asked,
   longest-reads.Learnt,
   below-below t,
@@ -394,15 +388,15 @@ combine-loop-holds t c = let S = c .before .before .before .before .before .befo
     let P = placed (S .args .a) (S .args .k) H in
     let R = S .pre .1 .1 .1 in
     let lo = c .before .before .before .before .before .before .before .before .before .before .before .before .before .before .before .before .before .longest in
-    let e = uses-right G (S .args .s) (S .args .a) (H .inside) (action-small G (S .args .s) (S .args .a) 0 (H .inside) u) (c .before .before .before .before .before .before .before .before .before .before .before .before .before .before .before .before .before .before .uses .ensures) in
+    let e = uses-right G (S .args .s) (S .args .a) (H .inside) (c .before .before .before .before .before .before .before .before .before .before .before .before .before .before .before .before .before .before .used-outcomes .ensures) in
     let l : lo .result < entries (S .args .m .now) (S .args .s) (S .args .a) = omega (arith, lo .ensures .inside) in
     let b = c .before .before .before .before .before .before .before .before .before .before .before .before .below in
     let w = c .before .before .before .weight in
     first-spanned G P R (lo .result) l (S .args .buf .now) refl H (b .ensures) (b .kept .1 .1 .1 .1 .1 .1 .1 .1 .1 .1 .0) (w .ensures .0) (c .before .before .shift .ensures) e (lo .ensures) refl (b .kept .1 .1 .1 .1 .1 .1 .1 .0) (b .kept .1 .1 .1 .1 .1 .1 .1 .1 .0) (b .kept .1 .1 .1 .1 .1 .1 .1 .1 .1 .0)
 
 combine-sub-loop : (t : ℕ) → combine-lts.Need-sub-loop (
-  uses-reads.Asked,
-  uses-reads.Learnt,
+  used-outcomes-reads.Asked,
+  used-outcomes-reads.Learnt,
   longest-reads.Asked,
   longest-reads.Learnt,
   below-below t,
@@ -423,8 +417,8 @@ combine-sub-loop : (t : ℕ) → combine-lts.Need-sub-loop (
 combine-sub-loop t c = omega (arith, c .loop .inv .some)
 
 combine-beside-requires : (t : ℕ) → combine-lts.Need-beside-requires (
-  uses-reads.Asked,
-  uses-reads.Learnt,
+  used-outcomes-reads.Asked,
+  used-outcomes-reads.Learnt,
   longest-reads.Asked,
   longest-reads.Learnt,
   below-below t,
@@ -446,8 +440,8 @@ combine-beside-requires t c κs = let I = c .before .loop .inv in
     (I .some, I .most, omega arith)
 
 combine-grown-requires : (t : ℕ) → combine-lts.Need-grown-requires (
-  uses-reads.Asked,
-  uses-reads.Learnt,
+  used-outcomes-reads.Asked,
+  used-outcomes-reads.Learnt,
   longest-reads.Asked,
   longest-reads.Learnt,
   below-below t,
@@ -477,8 +471,8 @@ combine-grown-requires t c κs = let S = c .before .before .before .before .befo
     (omega arith, (G, ((I .here, span-outcome G P R I z (o .result) (o .ensures)), span-grows G P R I z (o .result) (o .ensures))))
 
 combine-least-requires : (t : ℕ) → combine-lts.Need-least-requires (
-  uses-reads.Asked,
-  uses-reads.Learnt,
+  used-outcomes-reads.Asked,
+  used-outcomes-reads.Learnt,
   longest-reads.Asked,
   longest-reads.Learnt,
   below-below t,
@@ -499,8 +493,8 @@ combine-least-requires : (t : ℕ) → combine-lts.Need-least-requires (
 combine-least-requires t c κs = search needs
 
 combine-add-most : (t : ℕ) → combine-lts.Need-add-most (
-  uses-reads.Asked,
-  uses-reads.Learnt,
+  used-outcomes-reads.Asked,
+  used-outcomes-reads.Learnt,
   longest-reads.Asked,
   longest-reads.Learnt,
   below-below t,
@@ -528,8 +522,8 @@ combine-add-most t c = let S = c .before .before .before .before .before .before
     omega (arith, beside-inside (I .some) (I .most) (c .before .before .before .before .before .before .before .before .before .before .before .before .before .beside .ensures), I .all, outcomes-few G P 0 u)
 
 combine-most-requires : (t : ℕ) → combine-lts.Need-most-requires (
-  uses-reads.Asked,
-  uses-reads.Learnt,
+  used-outcomes-reads.Asked,
+  used-outcomes-reads.Learnt,
   longest-reads.Asked,
   longest-reads.Learnt,
   below-below t,
@@ -550,8 +544,8 @@ combine-most-requires : (t : ℕ) → combine-lts.Need-most-requires (
 combine-most-requires t c κs = search needs
 
 combine-loop-less : (t : ℕ) → combine-lts.Need-loop-less (
-  uses-reads.Asked,
-  uses-reads.Learnt,
+  used-outcomes-reads.Asked,
+  used-outcomes-reads.Learnt,
   longest-reads.Asked,
   longest-reads.Learnt,
   below-below t,
@@ -573,8 +567,8 @@ combine-loop-less t c = let I = c .before .before .before .before .before .befor
     rw (c .most .ensures, c .before .least .ensures) (wider-less (I .some) (I .most) (c .before .before .before .before .before .before .before .before .before .before .before .before .before .before .beside .ensures) (omega arith))
 
 combine-loop-again : (t : ℕ) → combine-lts.Need-loop-again (
-  uses-reads.Asked,
-  uses-reads.Learnt,
+  used-outcomes-reads.Asked,
+  used-outcomes-reads.Learnt,
   longest-reads.Asked,
   longest-reads.Learnt,
   below-below t,
@@ -605,8 +599,8 @@ combine-loop-again t c = let S = c .before .before .before .before .before .befo
     span-wider G P R I z (o .result) (o .ensures) (x .ensures) (x .kept .1 .1 .1 .1 .1 .1 .1 .0) (x .kept .1 .1 .1 .1 .1 .1 .1 .1 .0) (x .kept .1 .1 .1 .1 .1 .1 .1 .1 .1 .0) (x .kept .1 .1 .1 .1 .1 .1 .1 .1 .1 .1 .0) (c .before .least .ensures) (c .most .ensures)
 
 combine-same-length : (t : ℕ) → combine-lts.Need-same-length (
-  uses-reads.Asked,
-  uses-reads.Learnt,
+  used-outcomes-reads.Asked,
+  used-outcomes-reads.Learnt,
   longest-reads.Asked,
   longest-reads.Learnt,
   below-below t,
@@ -627,8 +621,8 @@ combine-same-length : (t : ℕ) → combine-lts.Need-same-length (
 combine-same-length t c = c .before .loop .inv .trails ∙ c .before .before .before .before .before .before .before .before .before .before .before .before .before .before .below .kept .1 .1 .1 .1 .1 .1 .1 .0
 
 combine-same-length-2 : (t : ℕ) → combine-lts.Need-same-length-2 (
-  uses-reads.Asked,
-  uses-reads.Learnt,
+  used-outcomes-reads.Asked,
+  used-outcomes-reads.Learnt,
   longest-reads.Asked,
   longest-reads.Learnt,
   below-below t,
@@ -649,8 +643,8 @@ combine-same-length-2 : (t : ℕ) → combine-lts.Need-same-length-2 (
 combine-same-length-2 t c = c .before .loop .inv .sums ∙ c .before .before .before .before .before .before .before .before .before .before .before .before .before .before .below .kept .1 .1 .1 .1 .1 .1 .1 .1 .0
 
 combine-same-length-3 : (t : ℕ) → combine-lts.Need-same-length-3 (
-  uses-reads.Asked,
-  uses-reads.Learnt,
+  used-outcomes-reads.Asked,
+  used-outcomes-reads.Learnt,
   longest-reads.Asked,
   longest-reads.Learnt,
   below-below t,
@@ -671,8 +665,8 @@ combine-same-length-3 : (t : ℕ) → combine-lts.Need-same-length-3 (
 combine-same-length-3 t c = c .before .loop .inv .values ∙ c .before .before .before .before .before .before .before .before .before .before .before .before .before .before .below .kept .1 .1 .1 .1 .1 .1 .1 .1 .1 .0
 
 combine-same-length-4 : (t : ℕ) → combine-lts.Need-same-length-4 (
-  uses-reads.Asked,
-  uses-reads.Learnt,
+  used-outcomes-reads.Asked,
+  used-outcomes-reads.Learnt,
   longest-reads.Asked,
   longest-reads.Learnt,
   below-below t,
@@ -693,8 +687,8 @@ combine-same-length-4 : (t : ℕ) → combine-lts.Need-same-length-4 (
 combine-same-length-4 t c = c .before .loop .inv .whole ∙ c .before .before .before .before .shift .kept .0 ∙ c .before .before .before .before .before .before .before .before .before .before .before .before .before .before .below .kept .1 .1 .1 .1 .1 .1 .1 .1 .1 .1 .0
 
 combine-returns : (t : ℕ) → combine-lts.Need-returns (
-  uses-reads.Asked,
-  uses-reads.Learnt,
+  used-outcomes-reads.Asked,
+  used-outcomes-reads.Learnt,
   longest-reads.Asked,
   longest-reads.Learnt,
   below-below t,
@@ -719,7 +713,7 @@ combine-returns t c = let S = c .before .before .before .before .before .before 
     let P = placed (S .args .a) (S .args .k) H in
     let R = S .pre .1 .1 .1 in
     let lo = c .before .before .before .before .before .before .before .before .before .before .before .before .before .before .before .before .before .before .before .longest in
-    let e = uses-right G (S .args .s) (S .args .a) (H .inside) (action-small G (S .args .s) (S .args .a) 0 (H .inside) u) (c .before .before .before .before .before .before .before .before .before .before .before .before .before .before .before .before .before .before .before .before .uses .ensures) in
+    let e = uses-right G (S .args .s) (S .args .a) (H .inside) (c .before .before .before .before .before .before .before .before .before .before .before .before .before .before .before .before .before .before .before .before .used-outcomes .ensures) in
     let l : lo .result < entries (S .args .m .now) (S .args .s) (S .args .a) = omega (arith, lo .ensures .inside) in
     let b = c .before .before .before .before .before .before .before .before .before .before .before .before .before .before .below in
     let w = c .before .before .before .before .before .weight in
@@ -727,14 +721,14 @@ combine-returns t c = let S = c .before .before .before .before .before .before 
     let M = S .args .m .now in
     let f : List ℕ → List Step → ℕ = on-path M (S .args .q .now) (S .args .start) (S .args .cone .now) in
     rebased (λ T. combined (weighed (model-of M) (S .args .k) (f T)) (outcomes (model-of M) (S .args .s) (S .args .a)))
-    (b .ensures .kept) (first-before G P R (lo .result) l (S .args .buf .now) refl H (b .ensures) (b .kept .1 .1 .1 .1 .1 .1 .1 .1 .1 .1 .0) (w .ensures .0) (h .ensures))
+    (b .ensures .back .kept) (first-before G P R (lo .result) l (S .args .buf .now) refl H (b .ensures) (b .kept .1 .1 .1 .1 .1 .1 .1 .1 .1 .1 .0) (w .ensures .0) (h .ensures))
     (span-end G P R (c .before .loop .inv) (h .kept .0 ∙ b .kept .1 .1 .1 .1 .1 .1 .1 .1 .1 .1 .0) (omega arith))
 
 grown-target-requires : (t : ℕ) → grown-lts.Need-target-requires (
   target-reads.Asked,
   target-reads.Learnt,
-  count-reads.Asked,
-  count-reads.Learnt,
+  plans-counted-reads.Asked,
+  plans-counted-reads.Learnt,
   below-below t,
   below.Post,
   weight-reads.Asked,
@@ -744,11 +738,11 @@ grown-target-requires : (t : ℕ) → grown-lts.Need-target-requires (
 ) (grown-at t) grown.Post
 grown-target-requires t c κs = search needs
 
-grown-count-requires : (t : ℕ) → grown-lts.Need-count-requires (
+grown-plans-counted-requires : (t : ℕ) → grown-lts.Need-plans-counted-requires (
   target-reads.Asked,
   target-reads.Learnt,
-  count-reads.Asked,
-  count-reads.Learnt,
+  plans-counted-reads.Asked,
+  plans-counted-reads.Learnt,
   below-below t,
   below.Post,
   weight-reads.Asked,
@@ -756,7 +750,7 @@ grown-count-requires : (t : ℕ) → grown-lts.Need-count-requires (
   join-reads.Asked,
   join-reads.Learnt,
 ) (grown-at t) grown.Post
-grown-count-requires t c κs = let S = c .before .before .before .before .before .before .before .before .before in
+grown-plans-counted-requires t c κs = let S = c .before .before .before .before .before .before .before .before .before in
     let G = S .pre .1 .0 in
     let H = S .pre .1 .1 .0 .0 in
     let u = S .pre .1 .1 .0 .1 in
@@ -765,8 +759,8 @@ grown-count-requires t c κs = let S = c .before .before .before .before .before
 grown-mul-end : (t : ℕ) → grown-lts.Need-mul-end (
   target-reads.Asked,
   target-reads.Learnt,
-  count-reads.Asked,
-  count-reads.Learnt,
+  plans-counted-reads.Asked,
+  plans-counted-reads.Learnt,
   below-below t,
   below.Post,
   weight-reads.Asked,
@@ -780,15 +774,15 @@ grown-mul-end t c = let S = c .before .before .before .before .before .before .b
     let u = S .pre .1 .1 .0 .1 in
     let P = placed (S .args .a) (S .args .k) H in
     let R = S .pre .1 .1 .1 in
-    let n = c .count in
+    let n = c .plans-counted in
     let e = count-right G P (S .args .o) u (R .room .few) (n .ensures) (c .before .target .ensures .0) in
     omega (arith, R .few, ap (λ z. S .args .len * z) e)
 
 grown-add-end : (t : ℕ) → grown-lts.Need-add-end (
   target-reads.Asked,
   target-reads.Learnt,
-  count-reads.Asked,
-  count-reads.Learnt,
+  plans-counted-reads.Asked,
+  plans-counted-reads.Learnt,
   below-below t,
   below.Post,
   weight-reads.Asked,
@@ -802,15 +796,15 @@ grown-add-end t c = let S = c .before .before .before .before .before .before .b
     let u = S .pre .1 .1 .0 .1 in
     let P = placed (S .args .a) (S .args .k) H in
     let R = S .pre .1 .1 .1 in
-    let n = c .count in
+    let n = c .plans-counted in
     let e = count-right G P (S .args .o) u (R .room .few) (n .ensures) (c .before .target .ensures .0) in
     omega (arith, R .room .fits, ap (λ z. S .args .len * z) e, S .good .1 .1 .1 .1 .1 .1 .1 .1 .1 .1 .0)
 
 grown-below-requires : (t : ℕ) → grown-lts.Need-below-requires (
   target-reads.Asked,
   target-reads.Learnt,
-  count-reads.Asked,
-  count-reads.Learnt,
+  plans-counted-reads.Asked,
+  plans-counted-reads.Learnt,
   below-below t,
   below.Post,
   weight-reads.Asked,
@@ -824,7 +818,7 @@ grown-below-requires t c κs = let S = c .before .before .before .before .before
     let u = S .pre .1 .1 .0 .1 in
     let P = placed (S .args .a) (S .args .k) H in
     let R = S .pre .1 .1 .1 in
-    let n = c .before .before .before .before .count in
+    let n = c .before .before .before .before .plans-counted in
     let e = count-right G P (S .args .o) u (R .room .few) (n .ensures) (c .before .before .before .before .before .target .ensures .0) in
     let w = ways (S .args .m .now) (S .args .s) (S .args .a) (S .args .k) (S .args .o) in
     (omega arith, (G, ((H, u), subst (λ n. Room (S .args .k) w (S .args .at + S .args .len * n) (length (S .args .buf .now))) (sym e) (R .room))))
@@ -832,8 +826,8 @@ grown-below-requires t c κs = let S = c .before .before .before .before .before
 grown-weight-requires : (t : ℕ) → grown-lts.Need-weight-requires (
   target-reads.Asked,
   target-reads.Learnt,
-  count-reads.Asked,
-  count-reads.Learnt,
+  plans-counted-reads.Asked,
+  plans-counted-reads.Learnt,
   below-below t,
   below.Post,
   weight-reads.Asked,
@@ -852,8 +846,8 @@ grown-weight-requires t c κs = let S = c .before .before .before .before .befor
 grown-join-requires : (t : ℕ) → grown-lts.Need-join-requires (
   target-reads.Asked,
   target-reads.Learnt,
-  count-reads.Asked,
-  count-reads.Learnt,
+  plans-counted-reads.Asked,
+  plans-counted-reads.Learnt,
   below-below t,
   below.Post,
   weight-reads.Asked,
@@ -867,7 +861,7 @@ grown-join-requires t c κs = let S = c .before .before .before .before .before 
     let u = S .pre .1 .1 .0 .1 in
     let P = placed (S .args .a) (S .args .k) H in
     let R = S .pre .1 .1 .1 in
-    let n = c .before .before .before .before .before .before .before .before .before .before .before .before .before .before .count in
+    let n = c .before .before .before .before .before .before .before .before .before .before .before .before .before .before .plans-counted in
     let e = count-right G P (S .args .o) u (R .room .few) (n .ensures) (c .before .before .before .before .before .before .before .before .before .before .before .before .before .before .before .target .ensures .0) in
     let b = c .before .before .before .before .before .before .before .before .before .below in
     let w = c .weight in
@@ -876,8 +870,8 @@ grown-join-requires t c κs = let S = c .before .before .before .before .before 
 grown-mul-result : (t : ℕ) → grown-lts.Need-mul-result (
   target-reads.Asked,
   target-reads.Learnt,
-  count-reads.Asked,
-  count-reads.Learnt,
+  plans-counted-reads.Asked,
+  plans-counted-reads.Learnt,
   below-below t,
   below.Post,
   weight-reads.Asked,
@@ -891,15 +885,15 @@ grown-mul-result t c = let S = c .before .before .before .before .before .before
     let u = S .pre .1 .1 .0 .1 in
     let P = placed (S .args .a) (S .args .k) H in
     let R = S .pre .1 .1 .1 in
-    let n = c .before .before .before .before .before .before .before .before .before .before .before .before .before .before .before .before .before .count in
+    let n = c .before .before .before .before .before .before .before .before .before .before .before .before .before .before .before .before .before .plans-counted in
     let e = count-right G P (S .args .o) u (R .room .few) (n .ensures) (c .before .before .before .before .before .before .before .before .before .before .before .before .before .before .before .before .before .before .target .ensures .0) in
     omega (arith, R .few, ap (λ z. S .args .len * z) e)
 
 grown-same-length : (t : ℕ) → grown-lts.Need-same-length (
   target-reads.Asked,
   target-reads.Learnt,
-  count-reads.Asked,
-  count-reads.Learnt,
+  plans-counted-reads.Asked,
+  plans-counted-reads.Learnt,
   below-below t,
   below.Post,
   weight-reads.Asked,
@@ -912,8 +906,8 @@ grown-same-length t c = c .before .before .before .before .before .before .befor
 grown-same-length-2 : (t : ℕ) → grown-lts.Need-same-length-2 (
   target-reads.Asked,
   target-reads.Learnt,
-  count-reads.Asked,
-  count-reads.Learnt,
+  plans-counted-reads.Asked,
+  plans-counted-reads.Learnt,
   below-below t,
   below.Post,
   weight-reads.Asked,
@@ -926,8 +920,8 @@ grown-same-length-2 t c = c .before .before .before .before .before .before .bef
 grown-same-length-3 : (t : ℕ) → grown-lts.Need-same-length-3 (
   target-reads.Asked,
   target-reads.Learnt,
-  count-reads.Asked,
-  count-reads.Learnt,
+  plans-counted-reads.Asked,
+  plans-counted-reads.Learnt,
   below-below t,
   below.Post,
   weight-reads.Asked,
@@ -940,8 +934,8 @@ grown-same-length-3 t c = c .before .before .before .before .before .before .bef
 grown-same-length-4 : (t : ℕ) → grown-lts.Need-same-length-4 (
   target-reads.Asked,
   target-reads.Learnt,
-  count-reads.Asked,
-  count-reads.Learnt,
+  plans-counted-reads.Asked,
+  plans-counted-reads.Learnt,
   below-below t,
   below.Post,
   weight-reads.Asked,
@@ -954,8 +948,8 @@ grown-same-length-4 t c = c .before .before .join .kept .0 ∙ c .before .before
 grown-returns : (t : ℕ) → grown-lts.Need-returns (
   target-reads.Asked,
   target-reads.Learnt,
-  count-reads.Asked,
-  count-reads.Learnt,
+  plans-counted-reads.Asked,
+  plans-counted-reads.Learnt,
   below-below t,
   below.Post,
   weight-reads.Asked,
@@ -969,7 +963,7 @@ grown-returns t c = let S = c .before .before .before .before .before .before .b
     let u = S .pre .1 .1 .0 .1 in
     let P = placed (S .args .a) (S .args .k) H in
     let R = S .pre .1 .1 .1 in
-    let n = c .before .before .before .before .before .before .before .before .before .before .before .before .before .before .before .before .before .count in
+    let n = c .before .before .before .before .before .before .before .before .before .before .before .before .before .before .before .before .before .plans-counted in
     let e = count-right G P (S .args .o) u (R .room .few) (n .ensures) (c .before .before .before .before .before .before .before .before .before .before .before .before .before .before .before .before .before .before .target .ensures .0) in
     let b = c .before .before .before .before .before .before .before .before .before .before .before .before .below in
     let w = c .before .before .before .weight in
@@ -988,8 +982,8 @@ list-decided-requires : (t : ℕ) → list-lts.Need-decided-requires (
   decided-reads.Learnt,
   byte-reads.Asked,
   byte-reads.Learnt,
-  uses-reads.Asked,
-  uses-reads.Learnt,
+  used-outcomes-reads.Asked,
+  used-outcomes-reads.Learnt,
   combine-below t,
   combine.Post,
 ) (list-at t) list.Post list-Inv-loop list-μ-loop
@@ -1004,8 +998,8 @@ list-same-length : (t : ℕ) → list-lts.Need-same-length (
   decided-reads.Learnt,
   byte-reads.Asked,
   byte-reads.Learnt,
-  uses-reads.Asked,
-  uses-reads.Learnt,
+  used-outcomes-reads.Asked,
+  used-outcomes-reads.Learnt,
   combine-below t,
   combine.Post,
 ) (list-at t) list.Post list-Inv-loop list-μ-loop
@@ -1016,8 +1010,8 @@ list-same-length-2 : (t : ℕ) → list-lts.Need-same-length-2 (
   decided-reads.Learnt,
   byte-reads.Asked,
   byte-reads.Learnt,
-  uses-reads.Asked,
-  uses-reads.Learnt,
+  used-outcomes-reads.Asked,
+  used-outcomes-reads.Learnt,
   combine-below t,
   combine.Post,
 ) (list-at t) list.Post list-Inv-loop list-μ-loop
@@ -1028,8 +1022,8 @@ list-returns : (t : ℕ) → list-lts.Need-returns (
   decided-reads.Learnt,
   byte-reads.Asked,
   byte-reads.Learnt,
-  uses-reads.Asked,
-  uses-reads.Learnt,
+  used-outcomes-reads.Asked,
+  used-outcomes-reads.Learnt,
   combine-below t,
   combine.Post,
 ) (list-at t) list.Post list-Inv-loop list-μ-loop
@@ -1044,8 +1038,8 @@ list-byte-requires : (t : ℕ) → list-lts.Need-byte-requires (
   decided-reads.Learnt,
   byte-reads.Asked,
   byte-reads.Learnt,
-  uses-reads.Asked,
-  uses-reads.Learnt,
+  used-outcomes-reads.Asked,
+  used-outcomes-reads.Learnt,
   combine-below t,
   combine.Post,
 ) (list-at t) list.Post list-Inv-loop list-μ-loop
@@ -1056,8 +1050,8 @@ list-loop-holds : (t : ℕ) → list-lts.Need-loop-holds (
   decided-reads.Learnt,
   byte-reads.Asked,
   byte-reads.Learnt,
-  uses-reads.Asked,
-  uses-reads.Learnt,
+  used-outcomes-reads.Asked,
+  used-outcomes-reads.Learnt,
   combine-below t,
   combine.Post,
 ) (list-at t) list.Post list-Inv-loop list-μ-loop
@@ -1068,29 +1062,26 @@ list-loop-holds t c = let S = c .before .before .before .before .before .before 
     let i : S .args .k ≡ suc (S .args .k - 1) = omega (arith, H .deep) in
     (c .byte .ensures, omega arith, listed-none G (S .args .k) (S .args .k - 1) i H)
 
-list-uses-requires : (t : ℕ) → list-lts.Need-uses-requires (
+list-used-outcomes-requires : (t : ℕ) → list-lts.Need-used-outcomes-requires (
   decided-reads.Asked,
   decided-reads.Learnt,
   byte-reads.Asked,
   byte-reads.Learnt,
-  uses-reads.Asked,
-  uses-reads.Learnt,
+  used-outcomes-reads.Asked,
+  used-outcomes-reads.Learnt,
   combine-below t,
   combine.Post,
 ) (list-at t) list.Post list-Inv-loop list-μ-loop
-list-uses-requires t c κs = let S = c .before .before .before .before .before .before .before .before .before .before .before .before in
-    let G = S .pre .1 .0 in
-    let H = S .pre .1 .1 .0 in
-    let R = S .pre .1 .1 .1 in
-    (state-small G (H .inside), omega (arith, is-sized (S .args .m .now) (G .ready .model-accepted) .actions, c .before .loop .inv .0))
+list-used-outcomes-requires t c κs = let S = c .before .before .before .before .before .before .before .before .before .before .before .before in
+    state-small (S .pre .1 .0) (S .pre .1 .1 .0 .inside)
 
 list-sub-combine : (t : ℕ) → list-lts.Need-sub-combine (
   decided-reads.Asked,
   decided-reads.Learnt,
   byte-reads.Asked,
   byte-reads.Learnt,
-  uses-reads.Asked,
-  uses-reads.Learnt,
+  used-outcomes-reads.Asked,
+  used-outcomes-reads.Learnt,
   combine-below t,
   combine.Post,
 ) (list-at t) list.Post list-Inv-loop list-μ-loop
@@ -1105,8 +1096,8 @@ list-add-combine : (t : ℕ) → list-lts.Need-add-combine (
   decided-reads.Learnt,
   byte-reads.Asked,
   byte-reads.Learnt,
-  uses-reads.Asked,
-  uses-reads.Learnt,
+  used-outcomes-reads.Asked,
+  used-outcomes-reads.Learnt,
   combine-below t,
   combine.Post,
 ) (list-at t) list.Post list-Inv-loop list-μ-loop
@@ -1117,7 +1108,7 @@ list-add-combine t c = let S = c .before .before .before .before .before .before
     let I = c .before .before .before .before .before .before .before .loop .inv in
     let i : S .args .k ≡ suc (S .args .k - 1) = omega (arith, H .deep, I .1) in
     let g : c .before .before .before .before .before .before .before .loop .a < action-count (S .args .m .now) = omega (arith, I .0, c .before .before .before .before .before .before .loop-test .taken) in
-    let z = uses-right G (S .args .s) (c .before .before .before .before .before .before .before .loop .a) (H .inside) (omega (arith, is-sized (S .args .m .now) (G .ready .model-accepted) .actions)) (c .before .before .before .before .before .uses .ensures) in
+    let z = uses-right G (S .args .s) (c .before .before .before .before .before .before .before .loop .a) (H .inside) (c .before .before .before .before .before .used-outcomes .ensures) in
     let r = action-room G (S .args .k) (S .args .k - 1) i R (I .2) refl g (omega arith) in
     omega (arith, r .fits, S .good .1 .1 .1 .1 .1 .1 .1 .1 .1 .1 .0)
 
@@ -1126,8 +1117,8 @@ list-combine-requires : (t : ℕ) → list-lts.Need-combine-requires (
   decided-reads.Learnt,
   byte-reads.Asked,
   byte-reads.Learnt,
-  uses-reads.Asked,
-  uses-reads.Learnt,
+  used-outcomes-reads.Asked,
+  used-outcomes-reads.Learnt,
   combine-below t,
   combine.Post,
 ) (list-at t) list.Post list-Inv-loop list-μ-loop
@@ -1138,7 +1129,7 @@ list-combine-requires t c κs = let S = c .before .before .before .before .befor
     let I = c .before .before .before .before .before .before .before .loop .inv in
     let i : S .args .k ≡ suc (S .args .k - 1) = omega (arith, H .deep, I .1) in
     let g : c .before .before .before .before .before .before .before .loop .a < action-count (S .args .m .now) = omega (arith, I .0, c .before .before .before .before .before .before .loop-test .taken) in
-    let z = uses-right G (S .args .s) (c .before .before .before .before .before .before .before .loop .a) (H .inside) (omega (arith, is-sized (S .args .m .now) (G .ready .model-accepted) .actions)) (c .before .before .before .before .before .uses .ensures) in
+    let z = uses-right G (S .args .s) (c .before .before .before .before .before .before .before .loop .a) (H .inside) (c .before .before .before .before .before .used-outcomes .ensures) in
     let w : 0 < entries (S .args .m .now) (S .args .s) (c .before .before .before .before .before .before .before .loop .a) = omega arith in
     (omega (arith, H .deep), (G, ((action-here G (S .args .k) (S .args .k - 1) i R (I .2) refl g w, w), action-room G (S .args .k) (S .args .k - 1) i R (I .2) refl g w)))
 
@@ -1147,8 +1138,8 @@ list-add-len : (t : ℕ) → list-lts.Need-add-len (
   decided-reads.Learnt,
   byte-reads.Asked,
   byte-reads.Learnt,
-  uses-reads.Asked,
-  uses-reads.Learnt,
+  used-outcomes-reads.Asked,
+  used-outcomes-reads.Learnt,
   combine-below t,
   combine.Post,
 ) (list-at t) list.Post list-Inv-loop list-μ-loop
@@ -1159,7 +1150,7 @@ list-add-len t c = let S = c .before .before .before .before .before .before .be
     let I = c .before .before .before .before .before .before .before .before .before .before .before .before .before .before .before .loop .inv in
     let i : S .args .k ≡ suc (S .args .k - 1) = omega (arith, H .deep, I .1) in
     let g : c .before .before .before .before .before .before .before .before .before .before .before .before .before .before .before .loop .a < action-count (S .args .m .now) = omega (arith, I .0, c .before .before .before .before .before .before .before .before .before .before .before .before .before .before .loop-test .taken) in
-    let z = uses-right G (S .args .s) (c .before .before .before .before .before .before .before .before .before .before .before .before .before .before .before .loop .a) (H .inside) (omega (arith, is-sized (S .args .m .now) (G .ready .model-accepted) .actions)) (c .before .before .before .before .before .before .before .before .before .before .before .before .before .uses .ensures) in
+    let z = uses-right G (S .args .s) (c .before .before .before .before .before .before .before .before .before .before .before .before .before .before .before .loop .a) (H .inside) (c .before .before .before .before .before .before .before .before .before .before .before .before .before .used-outcomes .ensures) in
     let w : 0 < entries (S .args .m .now) (S .args .s) (c .before .before .before .before .before .before .before .before .before .before .before .before .before .before .before .loop .a) = omega (arith, c .before .before .before .before .before .before .before .before .before .before .before .before .if2 .taken) in
     omega (arith, action-few G (S .args .k) (S .args .k - 1) i R (I .2) refl g w (take (S .args .h) (c .before .before .before .before .before .before .before .before .before .before .before .before .before .before .before .loop .trail)) (c .before .before .before .before .before .before .before .combine .ensures .count))
 
@@ -1168,8 +1159,8 @@ list-add-a : (t : ℕ) → list-lts.Need-add-a (
   decided-reads.Learnt,
   byte-reads.Asked,
   byte-reads.Learnt,
-  uses-reads.Asked,
-  uses-reads.Learnt,
+  used-outcomes-reads.Asked,
+  used-outcomes-reads.Learnt,
   combine-below t,
   combine.Post,
 ) (list-at t) list.Post list-Inv-loop list-μ-loop
@@ -1180,8 +1171,8 @@ list-loop-less : (t : ℕ) → list-lts.Need-loop-less (
   decided-reads.Learnt,
   byte-reads.Asked,
   byte-reads.Learnt,
-  uses-reads.Asked,
-  uses-reads.Learnt,
+  used-outcomes-reads.Asked,
+  used-outcomes-reads.Learnt,
   combine-below t,
   combine.Post,
 ) (list-at t) list.Post list-Inv-loop list-μ-loop
@@ -1192,8 +1183,8 @@ list-loop-again : (t : ℕ) → list-lts.Need-loop-again (
   decided-reads.Learnt,
   byte-reads.Asked,
   byte-reads.Learnt,
-  uses-reads.Asked,
-  uses-reads.Learnt,
+  used-outcomes-reads.Asked,
+  used-outcomes-reads.Learnt,
   combine-below t,
   combine.Post,
 ) (list-at t) list.Post list-Inv-loop list-μ-loop
@@ -1204,7 +1195,7 @@ list-loop-again t c = let S = c .before .before .before .before .before .before 
     let I = c .before .before .before .loop .inv in
     let i : S .args .k ≡ suc (S .args .k - 1) = omega (arith, H .deep, I .1) in
     let g : c .before .before .before .loop .a < action-count (S .args .m .now) = omega (arith, I .0, c .before .before .loop-test .taken) in
-    let z = uses-right G (S .args .s) (c .before .before .before .loop .a) (H .inside) (omega (arith, is-sized (S .args .m .now) (G .ready .model-accepted) .actions)) (c .before .uses .ensures) in (
+    let z = uses-right G (S .args .s) (c .before .before .before .loop .a) (H .inside) (c .before .used-outcomes .ensures) in (
       I .0,
       I .1,
       ⊎-elim
@@ -1221,8 +1212,8 @@ list-same-length-3 : (t : ℕ) → list-lts.Need-same-length-3 (
   decided-reads.Learnt,
   byte-reads.Asked,
   byte-reads.Learnt,
-  uses-reads.Asked,
-  uses-reads.Learnt,
+  used-outcomes-reads.Asked,
+  used-outcomes-reads.Learnt,
   combine-below t,
   combine.Post,
 ) (list-at t) list.Post list-Inv-loop list-μ-loop
@@ -1233,8 +1224,8 @@ list-same-length-4 : (t : ℕ) → list-lts.Need-same-length-4 (
   decided-reads.Learnt,
   byte-reads.Asked,
   byte-reads.Learnt,
-  uses-reads.Asked,
-  uses-reads.Learnt,
+  used-outcomes-reads.Asked,
+  used-outcomes-reads.Learnt,
   combine-below t,
   combine.Post,
 ) (list-at t) list.Post list-Inv-loop list-μ-loop
@@ -1245,8 +1236,8 @@ list-same-length-5 : (t : ℕ) → list-lts.Need-same-length-5 (
   decided-reads.Learnt,
   byte-reads.Asked,
   byte-reads.Learnt,
-  uses-reads.Asked,
-  uses-reads.Learnt,
+  used-outcomes-reads.Asked,
+  used-outcomes-reads.Learnt,
   combine-below t,
   combine.Post,
 ) (list-at t) list.Post list-Inv-loop list-μ-loop
@@ -1257,8 +1248,8 @@ list-same-length-6 : (t : ℕ) → list-lts.Need-same-length-6 (
   decided-reads.Learnt,
   byte-reads.Asked,
   byte-reads.Learnt,
-  uses-reads.Asked,
-  uses-reads.Learnt,
+  used-outcomes-reads.Asked,
+  used-outcomes-reads.Learnt,
   combine-below t,
   combine.Post,
 ) (list-at t) list.Post list-Inv-loop list-μ-loop
@@ -1269,8 +1260,8 @@ list-returns-2 : (t : ℕ) → list-lts.Need-returns-2 (
   decided-reads.Learnt,
   byte-reads.Asked,
   byte-reads.Learnt,
-  uses-reads.Asked,
-  uses-reads.Learnt,
+  used-outcomes-reads.Asked,
+  used-outcomes-reads.Learnt,
   combine-below t,
   combine.Post,
 ) (list-at t) list.Post list-Inv-loop list-μ-loop
@@ -1299,8 +1290,8 @@ pub +below+combine+grown+list-spec : {M : Type 1} → statement M
     (below-same-length-4 t)
     (below-returns t))
     (λ t. combine-lts.spec (
-      uses-reads.Asked,
-      uses-reads.Learnt,
+      used-outcomes-reads.Asked,
+      used-outcomes-reads.Learnt,
       longest-reads.Asked,
       longest-reads.Learnt,
       below-below t,
@@ -1322,7 +1313,7 @@ pub +below+combine+grown+list-spec : {M : Type 1} → statement M
     combine.Post
     combine-Inv-loop
     combine-μ-loop
-    (combine-uses-requires t)
+    (combine-used-outcomes-requires t)
     (combine-longest-requires t)
     (combine-add-hi t)
     (combine-below-requires t)
@@ -1346,8 +1337,8 @@ pub +below+combine+grown+list-spec : {M : Type 1} → statement M
     (λ t. grown-lts.spec (
       target-reads.Asked,
       target-reads.Learnt,
-      count-reads.Asked,
-      count-reads.Learnt,
+      plans-counted-reads.Asked,
+      plans-counted-reads.Learnt,
       below-below t,
       below.Post,
       weight-reads.Asked,
@@ -1358,7 +1349,7 @@ pub +below+combine+grown+list-spec : {M : Type 1} → statement M
     (grown-at t)
     grown.Post
     (grown-target-requires t)
-    (grown-count-requires t)
+    (grown-plans-counted-requires t)
     (grown-mul-end t)
     (grown-add-end t)
     (grown-below-requires t)
@@ -1375,8 +1366,8 @@ pub +below+combine+grown+list-spec : {M : Type 1} → statement M
       decided-reads.Learnt,
       byte-reads.Asked,
       byte-reads.Learnt,
-      uses-reads.Asked,
-      uses-reads.Learnt,
+      used-outcomes-reads.Asked,
+      used-outcomes-reads.Learnt,
       combine-below t,
       combine.Post,
     )
@@ -1390,7 +1381,7 @@ pub +below+combine+grown+list-spec : {M : Type 1} → statement M
     (list-returns t)
     (list-byte-requires t)
     (list-loop-holds t)
-    (list-uses-requires t)
+    (list-used-outcomes-requires t)
     (list-sub-combine t)
     (list-add-combine t)
     (list-combine-requires t)

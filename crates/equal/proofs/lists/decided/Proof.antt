@@ -3,13 +3,13 @@ use Prim.Native.Nat.{_*_, _^_}
 use mathlib.Core.Path.{refl, ap, ap₂, _∙_}
 use lib.ListN.{replicate}
 use borrow.Author.Needs.{needs}
-use Rattle.equal.specs.Totals.{splice}
+use Rattle.blocks.specs.Splice.{splice}
 use Rattle.equal.proofs.Accepting.{value-fits}
 use Rattle.equal.proofs.lists.decided.Statement.{statement}
 use Rattle.equal.proofs.lists.decided.Tie as tie
 
-count-requires : tie.Need-count-requires
-count-requires c κs = search needs
+plans-counted-requires : tie.Need-plans-counted-requires
+plans-counted-requires c κs = search needs
 
 sub-last : tie.Need-sub-last
 sub-last c = search needs
@@ -42,7 +42,7 @@ same-length c = search needs
 
 returns : tie.Need-returns
 returns c = let S = c .before .before .before .before .before .before .before .before .before .before .before .before .before in
-    let n = c .before .before .before .before .before .before .before .before .count in
+    let n = c .before .before .before .before .before .before .before .before .plans-counted in
     let x = c .before .before .before .before .before .before .known in
     let w = c .before .before .before .before .before .wide in
     let p = c .before .before .before .before .power in
@@ -52,7 +52,7 @@ pub decided-spec : {M : Type 1} → statement M
 decided-spec =
     tie.close
     (tie.spec
-    count-requires
+    plans-counted-requires
     sub-last
     shared-slice-read-known
     known-requires

@@ -1,11 +1,11 @@
-use borrow.Author.Needs.{needs}
-use lib.ListN.{getD}
 -- `lists::longest`: the best of the outcomes before o, by the table.
 use Prim.Native.Nat.{_+_, _-_, _*_, _≤_, _<_}
 use native.Mathlib.Nat.{le-refl}
 use native.Mathlib.Omega.{arith}
 use mathlib.Core.Path.{_≡_, ap, subst, _∙_}
 use mathlib.Core.Logic.{⊎-elim}
+use lib.ListN.{getD}
+use borrow.Author.Needs.{needs}
 use Rattle.equal.specs.Listing.{Longest}
 use Rattle.equal.proofs.Longest.{size, longer, no-longer}
 use Rattle.equal.proofs.lists.longest.Statement.{statement}
@@ -26,8 +26,8 @@ cast-target c = search needs
 target-requires : tie.Need-target-requires Inv-loop μ-loop
 target-requires c κs = (search needs, search needs, search needs)
 
-count-requires : tie.Need-count-requires Inv-loop μ-loop
-count-requires c κs = let S = c .before .before .before .before in
+plans-counted-requires : tie.Need-plans-counted-requires Inv-loop μ-loop
+plans-counted-requires c κs = let S = c .before .before .before .before in
     (S .pre .0, rw (c .target .ensures .0) (S .pre .2 (c .before .before .loop .o) (c .before .loop-test .taken)))
 
 cast-target-2 : tie.Need-cast-target-2 Inv-loop μ-loop
@@ -36,8 +36,8 @@ cast-target-2 c = search needs
 target-requires-2 : tie.Need-target-requires-2 Inv-loop μ-loop
 target-requires-2 c κs = (search needs, search needs, search needs)
 
-count-requires-2 : tie.Need-count-requires-2 Inv-loop μ-loop
-count-requires-2 c κs = let S = c .before .before .before .before .before .before in
+plans-counted-requires-2 : tie.Need-plans-counted-requires-2 Inv-loop μ-loop
+plans-counted-requires-2 c κs = let S = c .before .before .before .before .before .before in
     let L = c .before .before .before .before .loop in
     (S .pre .0, rw (c .target2 .ensures .0) (S .pre .2 (L .best) (omega (arith, L .inv .2 .inside))))
 
@@ -50,9 +50,9 @@ loop-less c = omega arith
 loop-again : tie.Need-loop-again Inv-loop μ-loop
 loop-again c = let S = c .before .before .before .before .before .before .before .before in
     let L = c .before .before .before .before .before .before .loop in
-    let n = c .before .before .before .count in
+    let n = c .before .before .before .plans-counted in
     let t = c .before .before .before .before .target in
-    let n2 = c .before .count2 in
+    let n2 = c .before .plans-counted2 in
     let t2 = c .before .before .target2 in
     let e : n .result ≡ size (L .inv .2) (L .o) = n .ensures ∙ ap (λ x. getD (S .args .table .now) (32 * S .args .k + x) 0) (t .ensures .0) in
     let e2 : n2 .result ≡ size (L .inv .2) (L .best) = n2 .ensures ∙ ap (λ x. getD (S .args .table .now) (32 * S .args .k + x) 0) (t2 .ensures .0) in (
@@ -79,10 +79,10 @@ longest-spec =
     loop-holds
     cast-target
     target-requires
-    count-requires
+    plans-counted-requires
     cast-target-2
     target-requires-2
-    count-requires-2
+    plans-counted-requires-2
     add-o
     loop-less
     loop-again

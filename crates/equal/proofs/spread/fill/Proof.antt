@@ -3,8 +3,8 @@ use Prim.Native.Nat.{_-_, _≤_}
 use native.Mathlib.Omega.{arith}
 use mathlib.Core.Path.{_≡_, sym, ap, _∙_}
 use lib.ListN.{length, replicate}
-use Rattle.equal.specs.Totals.{splice}
-use Rattle.equal.proofs.Splice.{splice-none}
+use Rattle.blocks.specs.Splice.{splice}
+use Rattle.blocks.proofs.Splice.{splice-none}
 use Rattle.equal.proofs.Turns.{fill-whole, fill-turn}
 use Rattle.equal.proofs.spread.fill.Statement.{statement}
 use Rattle.equal.proofs.spread.fill.Tie as tie

@@ -1,25 +1,25 @@
--- Laws of `part` and `splice`: what is written, what stays beside it, and two pieces written side by side.
-use Prim.Native.Nat.{ℕ, zero, suc, _+_, _-_, _≤_, _<_}
-use native.Mathlib.Nat.{add-zero, zero-add}
+-- Laws of `splice`: what is written, what stays beside it, and two pieces written side by side.
+use Prim.Native.Nat.{ℕ, _+_, _-_, _≤_, _<_}
+use native.Mathlib.Nat.{add-zero}
 use native.Mathlib.Numerals.{add-one}
 use native.Mathlib.Omega.{arith}
-use mathlib.Core.Path.{_≡_, refl, sym, ap, ap₂, _∙_}
+use mathlib.Core.Path.{_≡_, sym, ap, ap₂, _∙_}
 use mathlib.Core.List.{List, [], _∷_, _++_, append-assoc}
 use lib.ListN.{length, take, drop, getD, set, length-append, length-drop, length-take, take-append-drop}
-use lib.Seq.{take-at, take-take, drop-at, take-append-le, drop-append-add, drop-drop, length-take-le, set-split, getD-drop, getD-take, take-suc}
-use Rattle.equal.specs.Totals.{part, splice}
+use lib.Seq.{take-at, take-take, drop-at, take-append-le, drop-append-add, drop-drop, length-take-le, set-split, getD-drop, getD-take}
+use Rattle.blocks.specs.Splice.{splice}
 
 pub splice-none : (l : List ℕ) (p : ℕ) → splice l p [] ≡ l
 unfolding splice
 splice-none l p = rw add-zero (take-append-drop p l)
 
+pub splice-one : (l : List ℕ) (p a : ℕ) → p < length l → set l p a ≡ splice l p (a ∷ [])
+unfolding splice
+splice-one l p a h = rw add-one (set-split l p a h)
+
 pub splice-length : (l : List ℕ) (p : ℕ) (x : List ℕ) → p + length x ≤ length l → length (splice l p x) ≡ length l
 unfolding splice
 splice-length l p x h = simp (length-append, length-drop, length-take) (omega arith)
-
-pub part-length : (l : List ℕ) (p n : ℕ) → p + n ≤ length l → length (part l p n) ≡ n
-unfolding part
-part-length l p n h = simp (length-take, length-drop) (omega arith)
 
 -- What stands before the place, and what stands after the piece.
 pub take-splice : (l : List ℕ) (p : ℕ) (x : List ℕ) (n : ℕ) → n ≤ p → p ≤ length l → take n (splice l p x) ≡ take n l
@@ -46,24 +46,6 @@ take-written l p x k =
     ap (take (p + length x)) (sym (append-assoc (take p l) x (drop (p + length x) l)))
     ∙ take-at (take p l ++ x) (drop (p + length x) l) (p + length x) (length-append (take p l) x ∙ ap (λ i. i + length x) (length-take-le p l k))
 
--- The part is what the longer beginning has beyond the shorter one.
-pub part-drop : (l : List ℕ) (p n : ℕ) → part l p n ≡ drop p (take (p + n) l)
-unfolding part
-part-drop l zero n = ap (λ i. take i l) (sym (zero-add n))
-part-drop [] (suc p) n = let z : suc p + n ≡ suc (p + n) = omega arith in rw z (none n)
-  where
-    none : (n : ℕ) → _≡_ {A = List ℕ} (take n []) []
-    none zero = refl
-    none (suc n) = refl
-part-drop (x ∷ l) (suc p) n = let z : suc p + n ≡ suc (p + n) = omega arith in rw z (part-drop l p n)
-
-pub part-before : (l : List ℕ) (p : ℕ) (x : List ℕ) (i n : ℕ) → i + n ≤ p → p ≤ length l → part (splice l p x) i n ≡ part l i n
-part-before l p x i n h k = part-drop (splice l p x) i n ∙ ap (drop i) (take-splice l p x (i + n) h k) ∙ sym (part-drop l i n)
-
-pub part-after : (l : List ℕ) (p : ℕ) (x : List ℕ) (i n : ℕ) → p + length x ≤ i → p ≤ length l → part (splice l p x) i n ≡ part l i n
-unfolding part
-part-after l p x i n h k = ap (take n) (drop-splice l p x i h k)
-
 pub getD-before : (l : List ℕ) (p : ℕ) (x : List ℕ) (i : ℕ) → i < p → p ≤ length l → getD (splice l p x) i 0 ≡ getD l i 0
 getD-before l p x i h k =
     sym (getD-take p (splice l p x) i 0 h) ∙ ap (λ r. getD r i 0) (take-splice l p x p (omega arith) k) ∙ getD-take p l i 0 h
@@ -73,14 +55,6 @@ getD-after l p x i h k =
     let j : i + 0 ≡ i = omega arith in
     let at : (r : List ℕ) → getD (drop i r) 0 0 ≡ getD r i 0 = λ r. getD-drop i r 0 0 ∙ ap (λ z. getD r z 0) j in
     sym (at (splice l p x)) ∙ ap (λ r. getD r 0 0) (drop-splice l p x i h k) ∙ at l
-
-pub getD-part : (l : List ℕ) (p n i : ℕ) → i < n → getD (part l p n) i 0 ≡ getD l (p + i) 0
-unfolding part
-getD-part l p n i h = getD-take n (drop p l) i 0 h ∙ getD-drop p l i 0
-
-pub part-more : (l : List ℕ) (p n : ℕ) → p + n < length l → part l p (n + 1) ≡ part l p n ++ (getD l (p + n) 0 ∷ [])
-unfolding part
-part-more l p n h = rw add-one (take-suc (drop p l) n 0 (simp length-drop (omega arith)) ∙ ap (λ v. take n (drop p l) ++ (v ∷ [])) (getD-drop p l n 0))
 
 -- A piece written behind another, and one written in front.
 pub splice-behind : (l : List ℕ) (p : ℕ) (x y : List ℕ) → p + length x ≤ length l → splice (splice l p x) (p + length x) y ≡ splice l p (x ++ y)
@@ -103,11 +77,7 @@ splice-front l p x y h =
     (drop-at (take q l) (y ++ drop (q + length y) l) q e ∙ ap (λ i. y ++ drop i l) j)
     ∙ ap (λ u. take p l ++ u) (sym (append-assoc x y D))
 
-set-one : (l : List ℕ) (p a : ℕ) → p < length l → set l p a ≡ splice l p (a ∷ [])
-unfolding splice
-set-one l p a h = rw add-one (set-split l p a h)
-
 pub splice-set : (l : List ℕ) (p : ℕ) (x : List ℕ) (a : ℕ) → p + length x < length l → set (splice l p x) (p + length x) a ≡ splice l p (x ++ (a ∷ []))
 splice-set l p x a h =
-    set-one (splice l p x) (p + length x) a (omega (arith, splice-length l p x (omega arith)))
+    splice-one (splice l p x) (p + length x) a (omega (arith, splice-length l p x (omega arith)))
     ∙ splice-behind l p x (a ∷ []) (omega arith)
