@@ -1,8 +1,7 @@
 // The truth of "plan" nodes, by search: for "less" and "greater" as deep as the condition looks, for "equal" among all plans.
 ghost use mathlib.Core.Path.{_≡_};
-ghost use Prim.Native.Nat.{_+_, _*_, _^_, _≤_, _<_};
+ghost use Prim.Native.Nat.{_^_, _≤_, _<_};
 ghost use mathlib.Core.List.{[]};
-ghost use lib.ListN.{getD};
 ghost use Rattle.logic.specs.Formula.{depth, sat};
 ghost use Rattle.models.specs.Layout.{state-count, denominator-of, model-of};
 ghost use Rattle.questions.specs.Layout.{node-count, node-of, formulas-of};
@@ -23,6 +22,7 @@ use bounds::meets;
 use bounds::power;
 use equal::first_equal;
 use evaluation::depth_at;
+use limits::plans_counted;
 use questions::left;
 use questions::right;
 use questions::steps;
@@ -127,14 +127,6 @@ fn plan_led(
     meets(m, q, j, over_all_steps(m, q, depths, j, x))
 }
 
-// How many plans of n steps there are from s, by the table.
-fn plans(counts: &[u64; 224], n: u8, s: u8) -> usize
-    requires { ⌜ (n ≤ 6) × (s < 32) ⌝ }
-    ensures { λ r. ⌜ r ≡ getD (now (counts .entry)) (32 * n + s) 0 ⌝ }
-{
-    counts[32 * n as usize + s as usize] as usize
-}
-
 // "equal": the first plan decides that has the one total that meets the bound, if there is such a total.
 fn first(
     m: &[u8],
@@ -151,7 +143,7 @@ fn first(
     ensures { λ r. ⌜ Placed (now (m .entry)) (now (q .entry)) j s r ⌝ }
 {
     let n = steps(q, j);
-    let all = plans(counts, n, s);
+    let all = plans_counted(counts, n, s as usize) as usize;
     let x = exact_total(m, q, j);
     let total = x.total;
     if !x.whole {

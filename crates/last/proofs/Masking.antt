@@ -21,7 +21,7 @@ use Rattle.evaluation.specs.Path.{steps-of, state-after, Trail}
 use Rattle.evaluation.specs.Reached.{formula, Reached, itself, under-not, and-left, and-right, reads-left, Earlier, root-of}
 use Rattle.evaluation.specs.Learnt.{known, gained}
 use Rattle.evaluation.specs.Known.{Known, Gained, Offered}
-use Rattle.evaluation.proofs.Trails.{steps-length, steps-append, state-inside}
+use Rattle.evaluation.proofs.Trails.{steps-length, steps-append}
 use Rattle.evaluation.proofs.Meaning.{not-level, not-means, and-level, and-means, do-level, do-means, next-level, next-needed, next-means, gain-means, by-path}
 use Rattle.evaluation.proofs.Knowing.{depth-is, cone-node, known-longer}
 use Rattle.evaluation.proofs.Stepping as stepping
@@ -47,7 +47,7 @@ module _ {m q : Bytes} {start : ℕ} {depths truth cone late : List ℕ} {reward
   node i = getD cone i 0
 
   pub state-here : s < state-count m
-  state-here = subst (λ x. x < state-count m) (B .state) (state-inside m (B .ready .model-accepted) (B .knows .followed) (B .ready .state))
+  state-here = stepping.state-reached (B .ready) (B .knows) (B .state)
 
   pub few-states : s < 32
   few-states = omega (arith, passed-sized m (passed-all m (B .ready .model-accepted)) .states, state-here)

@@ -35,7 +35,8 @@ use Rattle.plan_judge.specs.declared.Written.{Written}
 use Rattle.plan_judge.specs.declared.Written.the-variants.{Bytes as Filled}
 use Rattle.plan_judge.specs.View.{view}
 use Rattle.plan_judge.specs.Values.{taking, holding, loaded-by, asking, put-by, verdict-code, settling, judging, judged-by, writing, written-by, filling, filled-by}
-use Rattle.plan_judge.specs.CCall.{Told, told-of, told-on, c-call, Tells, told-put, told-judge, told-write}
+use Rattle.plan_judge.specs.CCall.{Told, told-of, told-on, c-call, Tells}
+use Rattle.plan_judge.specs.CSteps.{told-put, told-judge, told-write}
 use Rattle.plan_judge.proofs.Kept.{view-holding, view-asking, view-settling}
 use Rattle.plan_judge.proofs.Listed.{listed-model, listed-put, listed-judge, listed-write}
 

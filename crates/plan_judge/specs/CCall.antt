@@ -8,7 +8,7 @@ use mathlib.Core.Bool.{Bool, true, false, cond}
 use mathlib.Core.List.{[], _++_}
 use lib.Dec.{leb}
 use lib.ListN.{length, drop}
-use Rattle.logic.specs.Checked.{Checked, ok, refused, _>>=_, _>>_, held, guard}
+use Rattle.logic.specs.Checked.{Checked, ok, refused, _>>=_, _>>_, guard}
 use Rattle.logic.specs.Model.{Model}
 use Rattle.logic.specs.Formula.{nonnegative}
 use Rattle.logic.specs.Limits.{limits}
@@ -17,7 +17,7 @@ use Rattle.blocks.specs.Bytes.{Bytes}
 use Rattle.models.specs.Grounds.{read-model}
 use Rattle.questions.specs.Layout.{Question}
 use Rattle.sheets.specs.Layout.{sheet-bytes}
-use Rattle.calls.specs.Calls.{Held, question-for, do-write}
+use Rattle.calls.specs.Calls.{question-for}
 
 -- What is told of a question that is not refused: yes or no, and the bytes of the sheet that is written; none where no plan is shown.
 pub record Told : Type 0 where
@@ -59,22 +59,3 @@ c-buffer found (refused k) = found
 pub record Tells (c : Checked Told) (found left : Bytes) (r : ℕ) : Type 0 where
   pub number : r ≡ c-number c
   pub buffer : left ≡ c-buffer found c
-
--- ---- the same from the middle of the call, by what the desk then holds
-
-unfoldable pub told-put : Held → Bytes → ℕ → Checked Told
-told-put h b size = do
-  m ← held 20 (h .model)
-  q ← question-for m b
-  told-on size m q
-
-unfoldable pub told-judge : Held → ℕ → Checked Told
-told-judge h size = do
-  m ← held 20 (h .model)
-  q ← held 21 (h .question)
-  told-on size m q
-
-unfoldable pub told-write : Held → ℕ → Checked Told
-told-write h size = do
-  b ← do-write h size
-  ok (record { answer = true; sheet = b })

@@ -3,4 +3,5 @@ pub mod Values
 pub mod Session
 pub mod State
 pub mod CCall
+pub mod CSteps
 pub mod Replies

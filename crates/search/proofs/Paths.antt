@@ -2,12 +2,12 @@
 -- the search below, the trail is back.
 use Prim.Native.Nat.{ℕ, _+_, _*_, _≤_, _<_}
 use native.Mathlib.Omega.{arith}
-use mathlib.Core.Path.{_≡_, refl, sym, ap, ap₂, subst, _∙_}
+use mathlib.Core.Path.{_≡_, refl, ap, ap₂, subst, _∙_}
 use mathlib.Core.Bool.{Bool}
 use mathlib.Core.List.{List, [], _∷_}
 use lib.IntN.{ℤ}
 use lib.ListN.{length, getD, take}
-use lib.Seq.{length-take-le, take-take, take-at}
+use lib.Seq.{length-take-le}
 use Rattle.logic.specs.Quantity.{weights, order}
 use Rattle.logic.specs.Plan.{choices}
 use Rattle.logic.specs.Recursion.{greatest}
@@ -16,16 +16,14 @@ use Rattle.models.specs.Layout.{state-count, action-count, outcome-of, entries,
 use Rattle.models.proofs.Passed.{passed-all, passed-sized}
 use Rattle.models.proofs.Laws.{entries-small}
 use Rattle.models.proofs.Table.{used-at}
-use Rattle.evaluation.specs.Path.{state-after}
 use Rattle.evaluation.specs.Reached.{root-of, on-path}
 use Rattle.evaluation.specs.Learnt.{known}
-use Rattle.evaluation.specs.Known.{Knows, Offered, Stepped}
-use Rattle.evaluation.proofs.Trails.{state-inside}
-use Rattle.evaluation.proofs.Knowing.{knows-shorter}
-use Rattle.evaluation.proofs.Stepping.{leaf-value, state-stepped, on-path-stepped}
+use Rattle.evaluation.specs.Known.{Offered, Stepped, Back}
+use Rattle.evaluation.proofs.Returning.{roomy-same, back-same, knows-back, state-back, step-back}
+use Rattle.evaluation.proofs.Stepping.{state-reached, leaf-value, state-stepped, on-path-stepped}
 use Rattle.extension.specs.Choices.{room}
 use Rattle.search.specs.Greatest.{best-choices}
-use Rattle.search.specs.Buffers.{Wrote, Setting, Back, Picked}
+use Rattle.search.specs.Buffers.{Wrote, Setting, Picked}
 use Rattle.search.specs.declared.Best.{Best}
 use Rattle.search.proofs.Stack.{wrote-none}
 use Rattle.search.proofs.Trying.{sizes-in}
@@ -33,7 +31,7 @@ use Rattle.search.proofs.Trying.{sizes-in}
 module _ {m used q : Bytes} {depths truth cone late : List ℕ} {rewards : List ℤ} {sums : List ℕ} {start : ℕ} {trail : List ℕ} {gains : List ℤ} {v : List ℕ} {h s k : ℕ}
     (S : Setting m used q depths truth cone late rewards sums start trail gains v h s k) where
   pub state-here : s < state-count m
-  state-here = subst (λ x. x < state-count m) (S .state) (state-inside m (S .ready .model-accepted) (S .knows .followed) (S .ready .state))
+  state-here = state-reached (S .ready) (S .knows) (S .state)
 
   pub sizes-here : (s < 32) × (action-count m ≤ 8)
   sizes-here = sizes-in m (S .ready .model-accepted) state-here
@@ -77,17 +75,16 @@ module _ {m used q : Bytes} {depths truth cone late : List ℕ} {rewards : List 
 
   pub setting-kept : {choices trail′ : List ℕ} {gains′ : List ℤ} {v′ choices′ : List ℕ} → Kept m q start cone h trail gains v choices trail′ gains′ v′ choices′
       → Setting m used q depths truth cone late rewards sums start trail′ gains′ v′ h s k
-  setting-kept {gains′ = gains′} {v′} K =
-      let B = K .back in
+  setting-kept K =
       record {
         ready = S .ready;
         counted = S .counted;
         marked = S .marked;
         rewarded = S .rewarded;
         summed = S .summed;
-        roomy = record { steps = omega (arith, S .roomy .steps, K .steps); sums = omega (arith, S .roomy .sums, K .sums); places = omega (arith, S .roomy .places, K .places) };
-        knows = subst (λ t. Knows m q start cone t gains′ v′) (sym (B .kept)) (B .knows);
-        state = ap (state-after m start) (B .kept) ∙ S .state;
+        roomy = roomy-same (S .roomy) (K .steps) (K .sums) (K .places);
+        knows = knows-back (K .back);
+        state = state-back (K .back) ∙ S .state;
         deep = S .deep;
         few = S .few;
       }
@@ -96,10 +93,9 @@ module _ {m used q : Bytes} {depths truth cone late : List ℕ} {rewards : List 
 pub kept-kept : {m q : Bytes} {start h : ℕ} {cone t0 : List ℕ} {g0 : List ℤ} {v0 c0 t1 : List ℕ} {g1 : List ℤ} {v1 c1 t2 : List ℕ} {g2 : List ℤ} {v2 c2 : List ℕ}
     → Kept m q start cone h t0 g0 v0 c0 t1 g1 v1 c1 → Back m q start cone h t1 t2 g2 v2 → length t2 ≡ length t1 → length g2 ≡ length g1 → length v2 ≡ length v1
     → length c2 ≡ length c1 → Kept m q start cone h t0 g0 v0 c0 t2 g2 v2 c2
-kept-kept {m} {q} {start} {cone = cone} {g2 = g2} {v2 = v2} K B et eg ev ec =
-    let A = K .back in
+kept-kept K B et eg ev ec =
     record {
-      back = record { kept = B .kept ∙ A .kept; knows = subst (λ t. Knows m q start cone t g2 v2) (A .kept) (B .knows) };
+      back = back-same (K .back .kept) B;
       steps = et ∙ K .steps;
       sums = eg ∙ K .sums;
       places = ev ∙ K .places;
@@ -131,14 +127,7 @@ module _ {m used q : Bytes} {depths truth cone late : List ℕ} {rewards : List 
         }
 
     pub back-on : {trail″ : List ℕ} {gains″ : List ℤ} {v″ : List ℕ} → Back m q start cone (h + 1) trail′ trail″ gains″ v″ → Back m q start cone h trail trail″ gains″ v″
-    back-on {trail″} {gains″} {v″} B =
-        record {
-          kept =
-              sym (take-take h (h + 1) trail″ (omega arith))
-              ∙ ap (take h) (B .kept ∙ T .longer)
-              ∙ take-at (take h trail) ((4 * a + o) ∷ []) h (length-take-le h trail (omega (arith, S .few, S .roomy .steps)));
-          knows = knows-shorter m q start cone (take h trail) (4 * a + o) gains″ v″ (subst (λ l. Knows m q start cone l gains″ v″) (T .longer) (B .knows));
-        }
+    back-on = step-back (length-take-le h trail (omega (arith, S .few, S .roomy .steps))) T
 
     -- What is picked after the step is the best below the outcome; t0 is the trail that the first h steps were.
     module _ {t0 : List ℕ} (e : take h trail ≡ t0) where

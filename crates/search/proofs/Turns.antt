@@ -22,13 +22,13 @@ use Rattle.extension.proofs.Laws.{room-step, room-most}
 use Rattle.evaluation.specs.Path.{steps-of, state-after}
 use Rattle.evaluation.specs.Reached.{formula, root-of, on-path, Cone, Ready}
 use Rattle.evaluation.specs.Learnt.{learnt}
-use Rattle.evaluation.specs.Known.{Knows, Roomy, Offered, Stepped}
+use Rattle.evaluation.specs.Known.{Knows, Roomy, Offered, Stepped, Back}
 use Rattle.evaluation.proofs.Values.{one-if-small}
 use Rattle.evaluation.proofs.Stepping.{begun}
 use Rattle.lanes.specs.Lanes.{Rewards, Sums}
 use Rattle.last.specs.Late.{Late}
 use Rattle.search.specs.Greatest.{best-choices, best-left, Finds}
-use Rattle.search.specs.Buffers.{Setting, Back, wins, Keeps, Picked, Candidate, walked, lost}
+use Rattle.search.specs.Buffers.{Setting, wins, Keeps, Picked, Candidate, walked, lost}
 use Rattle.search.specs.declared.Best.{Best}
 use Rattle.search.specs.declared.Walked.{Walked}
 use Rattle.search.proofs.Bounds.{choices-few}

@@ -52,11 +52,6 @@ pub record Setting (m used q : Bytes) (depths truth cone late : List ℕ) (rewar
   pub deep : depth (formula q (root-of cone)) ≡ h + k
   pub few : h + k ≤ 6
 
--- The trail is as it was up to h, and all is known on it that was.
-pub record Back (m q : Bytes) (start : ℕ) (cone : List ℕ) (h : ℕ) (trail trail′ : List ℕ) (gains′ : List ℤ) (v′ : List ℕ) : Type 0 where
-  pub kept : take h trail′ ≡ take h trail
-  pub knows : Knows m q start cone (take h trail) gains′ v′
-
 -- The best plan of k steps from s, where f is the value of its steps, its choices written from `at` on.
 pub record Picked (least : Bool) (m : Bytes) (f : List Step → ℕ) (s k at : ℕ) (before after : List ℕ) (b : Best) : Type 0 where
   pub value : b .value ≡ greatest (weights (order least)) (model-of m) k s f

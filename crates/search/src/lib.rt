@@ -14,9 +14,10 @@ ghost use Rattle.models.specs.Used.{Used};
 ghost use Rattle.extension.specs.Choices.{room};
 ghost use Rattle.evaluation.specs.Learnt as learnt;
 ghost use Rattle.evaluation.specs.Reached.{formula, root-of, on-path, Ready};
+ghost use Rattle.evaluation.specs.Known.{Back};
 ghost use Rattle.lanes.specs.Lanes.{Rewards, Sums};
 ghost use Rattle.search.specs.Greatest.{Finds, best-left};
-ghost use Rattle.search.specs.Buffers.{Keeps, Setting, Back, Picked, Candidate, Ends};
+ghost use Rattle.search.specs.Buffers.{Keeps, Setting, Picked, Candidate, Ends};
 ghost use Rattle.search.specs.Buffers as spec;
 use blocks::byte;
 use blocks::wide;
@@ -125,7 +126,8 @@ fn root(cone: &[u8]) -> u8
     cone[cone.len() - 1]
 }
 
-// How many outcomes an action has in a state; 0 where it is not enabled.
+// How many outcomes an action has in a state; 0 where it is not enabled. `models::used_outcomes` for an action known to be below 8: this is
+// the innermost loop.
 fn count(used: &[u8; 264], s: u8, a: u8) -> u8
     requires { ⌜ (s < 32) × (a < 8) ⌝ }
     ensures { λ r. ⌜ r ≡ getD (now (used .entry)) (8 * s + a) 0 ⌝ }

@@ -29,8 +29,8 @@ number S e f = let P = S .pre .0 in
 steps-requires : tie.Need-steps-requires
 steps-requires c κs = search needs
 
-plans-requires : tie.Need-plans-requires
-plans-requires c κs = let P = c .before .before .before .before .before .pre .0 in
+plans-counted-requires : tie.Need-plans-counted-requires
+plans-counted-requires c κs = let P = c .before .before .before .before .before .pre .0 in
     (omega (arith, planned (P .0 .given) (P .1) .few, c .steps .ensures), omega (arith, P .1 .state, given-readable (P .0 .given) .states))
 
 exact-total-requires : tie.Need-exact-total-requires
@@ -40,7 +40,7 @@ returns : tie.Need-returns
 returns c = let S = c .before .before .before .before .before .before .before .before .before in
     let P = S .pre .0 in
     placed-never (P .0 .given) (P .1) (c .before .before .exact-total .ensures)
-    (number S (c .before .before .before .plans .ensures) (c .before .before .before .before .steps .ensures)) (not-true _ (c .if1 .taken))
+    (number S (c .before .before .before .plans-counted .ensures) (c .before .before .before .before .steps .ensures)) (not-true _ (c .if1 .taken))
 
 left-requires : tie.Need-left-requires
 left-requires c κs = search needs
@@ -96,7 +96,7 @@ returns-2 c = let K = c .before .before .before in
     let S = X .before .before .before .before .before .before .before in
     let P = S .pre .0 in
     let n = X .before .before .steps .ensures in
-    let all = number S (X .before .plans .ensures) n in
+    let all = number S (X .before .plans-counted .ensures) n in
     let top = K .cone .ensures .2 ∙ K .before .before .before .left .ensures in
     placed-at (P .0 .given) (P .1) (X .exact-total .ensures) all (take (K .cone .result) (K .cone .last .1 .1 .1 .0))
     (not-false _ (K .before .before .before .before .if1 .left)) n top (c .first-equal .ensures)
@@ -106,7 +106,7 @@ first-spec =
     tie.close
     (tie.spec
     steps-requires
-    plans-requires
+    plans-counted-requires
     exact-total-requires
     returns
     left-requires
