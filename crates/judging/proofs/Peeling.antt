@@ -140,38 +140,32 @@ pub peels-none : {q truth : Bytes} {c s : ℕ} → Peels q truth c s (record { d
 peels-none = record { never = λ m h e. absurd (false≢true e); left = λ m h e. same-itself h }
 
 module _ {q truth : Bytes} {depths : List ℕ} (deep : depths ≡ table depth (formulas-of q)) {c s : ℕ} (o : (node-of q c) .operator ≡ 4) where
-  -- By the tables of depths and of truth.
-  pub peels-left : {a b x y z : ℕ} → a ≡ (node-of q c) .left → b ≡ (node-of q c) .right → z ≡ getD depths a 0 → z ≡ 0
-      → y ≡ 32 * a + s → x ≡ getD truth y 0 → Peels q truth c s (record { dead = eqb x 0; node = b })
-  peels-left {a} {b} {x} {y} {z} ea eb ez e0 ey ex =
+  -- By the tables of depths and of truth: i is the child that is read, j the other.
+  peels-by : (i j : ℕ) → ((m : Bytes) → Stands m q truth c s → i < 40)
+      → ((m : Bytes) → Stands m q truth c s → depth (formula q i) ≡ 0 → eqb (getD truth (32 * i + s) 0) 0 ≡ true → (p : List Step) → value-of (model-of m) (formula q c) s p ≡ 0)
+      → ((m : Bytes) → Stands m q truth c s → depth (formula q i) ≡ 0 → eqb (getD truth (32 * i + s) 0) 0 ≡ false → Same m q truth c s j)
+      → {a b x y z : ℕ} → a ≡ i → b ≡ j → z ≡ getD depths a 0 → z ≡ 0 → y ≡ 32 * a + s → x ≡ getD truth y 0 → Peels q truth c s (record { dead = eqb x 0; node = b })
+  peels-by i j few never same {x = x} ea eb ez e0 ey ex =
       record {
-        never = λ m h e. left-never h o (shallow m h) (sym there ∙ e);
-        left = λ m h e. subst (Same m q truth c s) (sym eb) (left-same h o (shallow m h) (sym there ∙ e));
+        never = λ m h e. never m h (shallow m h) (sym there ∙ e);
+        left = λ m h e. subst (Same m q truth c s) (sym eb) (same m h (shallow m h) (sym there ∙ e));
       }
     where
-      there : eqb x 0 ≡ eqb (getD truth (32 * (node-of q c) .left + s) 0) 0
-      there = ap (λ v. eqb v 0) (ex ∙ ap (λ k. getD truth k 0) (ey ∙ ap (λ i. 32 * i + s) ea))
+      there : eqb x 0 ≡ eqb (getD truth (32 * i + s) 0) 0
+      there = ap (λ v. eqb v 0) (ex ∙ ap (λ k. getD truth k 0) (ey ∙ ap (λ k. 32 * k + s) ea))
 
-      shallow : (m : Bytes) → Stands m q truth c s → depth (formula q ((node-of q c) .left)) ≡ 0
-      shallow m h =
-          sym (depth-in q depths deep ((node-of q c) .left) (omega (arith, before-left h o, few h o)))
-          ∙ ap (λ i. getD depths i 0) (sym ea) ∙ sym ez ∙ e0
+      shallow : (m : Bytes) → Stands m q truth c s → depth (formula q i) ≡ 0
+      shallow m h = sym (depth-in q depths deep i (few m h)) ∙ ap (λ k. getD depths k 0) (sym ea) ∙ sym ez ∙ e0
+
+  pub peels-left : {a b x y z : ℕ} → a ≡ (node-of q c) .left → b ≡ (node-of q c) .right → z ≡ getD depths a 0 → z ≡ 0
+      → y ≡ 32 * a + s → x ≡ getD truth y 0 → Peels q truth c s (record { dead = eqb x 0; node = b })
+  peels-left =
+      peels-by ((node-of q c) .left) ((node-of q c) .right) (λ m h. omega (arith, before-left h o, few h o)) (λ m h. left-never h o) (λ m h. left-same h o)
 
   pub peels-right : {a b x y z : ℕ} → a ≡ (node-of q c) .left → b ≡ (node-of q c) .right → z ≡ getD depths b 0 → z ≡ 0
       → y ≡ 32 * b + s → x ≡ getD truth y 0 → Peels q truth c s (record { dead = eqb x 0; node = a })
-  peels-right {a} {b} {x} {y} {z} ea eb ez e0 ey ex =
-      record {
-        never = λ m h e. right-never h o (shallow m h) (sym there ∙ e);
-        left = λ m h e. subst (Same m q truth c s) (sym ea) (right-same h o (shallow m h) (sym there ∙ e));
-      }
-    where
-      there : eqb x 0 ≡ eqb (getD truth (32 * (node-of q c) .right + s) 0) 0
-      there = ap (λ v. eqb v 0) (ex ∙ ap (λ k. getD truth k 0) (ey ∙ ap (λ i. 32 * i + s) eb))
-
-      shallow : (m : Bytes) → Stands m q truth c s → depth (formula q ((node-of q c) .right)) ≡ 0
-      shallow m h =
-          sym (depth-in q depths deep ((node-of q c) .right) (omega (arith, before-right h o, few h o)))
-          ∙ ap (λ i. getD depths i 0) (sym eb) ∙ sym ez ∙ e0
+  peels-right ea eb =
+      peels-by ((node-of q c) .right) ((node-of q c) .left) (λ m h. omega (arith, before-right h o, few h o)) (λ m h. right-never h o) (λ m h. right-same h o) eb ea
 
 -- ---- one after the other
 

@@ -2,3 +2,4 @@ pub mod Verdicts
 pub mod Desks
 pub mod Told
 pub mod Inputs
+pub mod Offered
