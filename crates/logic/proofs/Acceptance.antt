@@ -1,17 +1,20 @@
 -- A test that computes, and gives what an accepted model promises: in every state some action is enabled; each enabled action's outcomes have
--- weights that sum to D, name the action, lead to states by weights of at least 1, and lead to different ones.
+-- weights that sum to D, name the action, lead to states by weights of at least 1 and to different ones, and fulfil its postconditions; an
+-- action that is not enabled has none; postconditions contradict in pairs.
 use Prim.Native.Nat.{ℕ, _<_}
-use mathlib.Core.Path.{_≡_, refl, sym, ap, _∙_}
-use mathlib.Core.Bool.{Bool, true, not, _&&_, false≢true}
+use mathlib.Core.Path.{_≡_, refl, sym, ap, subst, _∙_}
+use mathlib.Core.Bool.{Bool, true, false, not, _&&_, _||_, false≢true}
 use mathlib.Core.List.{List, [], _∷_, List·Memᴰ}
 use lib.Dec.{eqb, ltb}
-use lib.ListN.{length}
-use Rattle.logic.specs.Lists.{all, every, is-empty}
-use Rattle.logic.specs.Model.{Model, Step, enabled, outcomes}
+use lib.ListN.{length, getD, List·getD-eq-default}
+use borrow.Author.Tests.{ltb-false}
+use Rattle.logic.specs.Lists.{all, any, every, is-empty}
+use Rattle.logic.specs.Model.{Literals, Model, Step, true-of, contradict, mask, enabled, outcomes}
 use Rattle.logic.specs.Quantity.{naturals, sum}
 use Rattle.logic.specs.Order.{Rising, nothing, first}
-use Rattle.logic.specs.Accepted.{Accepted, Executable}
-use Rattle.logic.proofs.Tests.{and-both, eqb-eq, eq-eqb, ltb-lt, all-at, every-at}
+use Rattle.logic.specs.Plan.{Match, ends, pair}
+use Rattle.logic.specs.Accepted.{posts-of, Accepted, Executable}
+use Rattle.logic.proofs.Tests.{and-both, eqb-eq, eq-eqb, ltb-lt, all-at, any-some, every-at}
 
 unfoldable pub step-ok : Model → ℕ → Step → Bool
 step-ok m a o = eqb (o .choice) a && (ltb (o .target) (length (m .states)) && ltb 0 (o .weight))
@@ -20,14 +23,31 @@ unfoldable pub targets-differ : List Step → Bool
 targets-differ [] = true
 targets-differ (o ∷ l) = all (λ p. not (eqb (o .target) (p .target))) l && targets-differ l
 
+-- Each postcondition is true in the target of its own outcome.
+unfoldable pub fulfilled : Model → List Literals → List Step → Bool
+fulfilled m [] [] = true
+fulfilled m [] (o ∷ l) = false
+fulfilled m (k ∷ ks) [] = false
+fulfilled m (k ∷ ks) (o ∷ l) = true-of k (mask m (o .target)) && fulfilled m ks l
+
+unfoldable pub all-contradict : List Literals → Bool
+all-contradict [] = true
+all-contradict (k ∷ ks) = all (contradict k) ks && all-contradict ks
+
 unfoldable pub choice-ok : Model → ℕ → ℕ → Bool
-choice-ok m s a = eqb (sum naturals (λ o. o .weight) (outcomes m s a)) (m .denominator) && (all (step-ok m a) (outcomes m s a) && targets-differ (outcomes m s a))
+choice-ok m s a =
+    eqb (sum naturals (λ o. o .weight) (outcomes m s a)) (m .denominator)
+    && (all (step-ok m a) (outcomes m s a) && (targets-differ (outcomes m s a) && fulfilled m (posts-of m a) (outcomes m s a)))
+
+-- The row of a state has outcomes for no action that is not enabled.
+unfoldable pub row-ok : Model → ℕ → Bool
+row-ok m s = every (length (getD (m .rows) s [])) (λ a. any (eqb a) (enabled m s) || is-empty (outcomes m s a))
 
 unfoldable pub state-ok : Model → ℕ → Bool
-state-ok m s = not (is-empty (enabled m s)) && all (choice-ok m s) (enabled m s)
+state-ok m s = not (is-empty (enabled m s)) && (all (choice-ok m s) (enabled m s) && row-ok m s)
 
 unfoldable pub states-ok : Model → Bool
-states-ok m = every (length (m .states)) (state-ok m)
+states-ok m = every (length (m .states)) (state-ok m) && every (length (m .actions)) (λ a. all-contradict (posts-of m a))
 
 rising-targets : (l : List Step) → targets-differ l ≡ true → Rising (λ x y. x .target ≡ y .target → ⊥) l
 unfolding targets-differ
@@ -36,25 +56,68 @@ rising-targets (o ∷ l) e =
     let w = and-both (all (λ p. not (eqb (o .target) (p .target))) l) (targets-differ l) e in
     first (λ p i q. false≢true (sym (ap not (eq-eqb q)) ∙ all-at _ l (w .0) i)) (rising-targets l (w .1))
 
+matched : (m : Model) (ks : List Literals) (l : List Step) → fulfilled m ks l ≡ true → Match (λ k o. true-of k (mask m (o .target)) ≡ true) ks l
+unfolding fulfilled
+matched m [] [] e = ends
+matched m [] (o ∷ l) e = absurd (false≢true e)
+matched m (k ∷ ks) [] e = absurd (false≢true e)
+matched m (k ∷ ks) (o ∷ l) e = let w = and-both (true-of k (mask m (o .target))) _ e in pair (w .0) (matched m ks l (w .1))
+
+rising-posts : (ks : List Literals) → all-contradict ks ≡ true → Rising (λ k l. contradict k l ≡ true) ks
+unfolding all-contradict
+rising-posts [] e = nothing
+rising-posts (k ∷ ks) e =
+    let w = and-both (all (contradict k) ks) (all-contradict ks) e in
+    first (λ l i. all-at (contradict k) ks (w .0) i) (rising-posts ks (w .1))
+
+no-steps : (l : List Step) → is-empty l ≡ true → l ≡ []
+unfolding is-empty
+no-steps [] e = refl
+no-steps (o ∷ l) e = absurd (false≢true e)
+
 a-choice : (l : List ℕ) → not (is-empty l) ≡ true → (a : ℕ) × (k : List ℕ) × (l ≡ a ∷ k)
 unfolding is-empty
 a-choice [] e = absurd (false≢true e)
 a-choice (a ∷ k) e = (a, k, refl)
 
 module _ (m : Model) (passed : states-ok m ≡ true) where
-  at-state : (s : ℕ) → s < length (m .states) → (not (is-empty (enabled m s)) ≡ true) × (all (choice-ok m s) (enabled m s) ≡ true)
-  unfolding states-ok state-ok
-  at-state s k = and-both (not (is-empty (enabled m s))) _ (every-at (state-ok m) (length (m .states)) passed k)
+  both-parts : (every (length (m .states)) (state-ok m) ≡ true) × (every (length (m .actions)) (λ a. all-contradict (posts-of m a)) ≡ true)
+  unfolding states-ok
+  both-parts = and-both (every (length (m .states)) (state-ok m)) _ passed
+
+  at-state : (s : ℕ) → s < length (m .states)
+      → (not (is-empty (enabled m s)) ≡ true) × (all (choice-ok m s) (enabled m s) ≡ true) × (row-ok m s ≡ true)
+  unfolding state-ok
+  at-state s k =
+      let w = and-both (not (is-empty (enabled m s))) _ (every-at (state-ok m) (length (m .states)) (both-parts .0) k) in
+      let u = and-both (all (choice-ok m s) (enabled m s)) _ (w .1) in
+      (w .0, u .0, u .1)
+
+  -- An action that is not enabled has no outcomes: its row ends before it, or passed the test.
+  none-there : (s a : ℕ) → s < length (m .states) → (List·Memᴰ a (enabled m s) → ⊥) → outcomes m s a ≡ []
+  unfolding row-ok outcomes
+  none-there s a k h = by (ltb a (length (getD (m .rows) s []))) refl
+    where
+      tested : (t : Bool) → any (eqb a) (enabled m s) ≡ t → (t || is-empty (outcomes m s a)) ≡ true → outcomes m s a ≡ []
+      tested true i e = let w = any-some (eqb a) (enabled m s) i in absurd (h (subst (λ c. List·Memᴰ c (enabled m s)) (sym (eqb-eq a (w .0) (w .2))) (w .1)))
+      tested false i e = no-steps (outcomes m s a) e
+
+      by : (t : Bool) → ltb a (length (getD (m .rows) s [])) ≡ t → outcomes m s a ≡ []
+      by true e =
+          tested (any (eqb a) (enabled m s)) refl
+          (every-at (λ a. any (eqb a) (enabled m s) || is-empty (outcomes m s a)) (length (getD (m .rows) s [])) (at-state s k .2) (ltb-lt a (length (getD (m .rows) s [])) e))
+      by false e = List·getD-eq-default (getD (m .rows) s []) [] (ltb-false a (length (getD (m .rows) s [])) e)
 
   module _ {s a : ℕ} (x : Executable m s a) where
     at-choice : (sum naturals (λ o. o .weight) (outcomes m s a) ≡ m .denominator)
-        × (all (step-ok m a) (outcomes m s a) ≡ true) × (targets-differ (outcomes m s a) ≡ true)
+        × (all (step-ok m a) (outcomes m s a) ≡ true) × (targets-differ (outcomes m s a) ≡ true) × (fulfilled m (posts-of m a) (outcomes m s a) ≡ true)
     unfolding choice-ok
     at-choice =
         let e = all-at (choice-ok m s) (enabled m s) (at-state s (x .state) .1) (x .choice) in
         let w = and-both (eqb (sum naturals (λ o. o .weight) (outcomes m s a)) (m .denominator)) _ e in
         let u = and-both (all (step-ok m a) (outcomes m s a)) _ (w .1) in
-        (eqb-eq _ _ (w .0), u .0, u .1)
+        let v = and-both (targets-differ (outcomes m s a)) _ (u .1) in
+        (eqb-eq _ _ (w .0), u .0, v .0, v .1)
 
     at-step : (o : Step) → List·Memᴰ o (outcomes m s a) → (o .choice ≡ a) × (o .target < length (m .states)) × (0 < o .weight)
     unfolding step-ok
@@ -67,9 +130,12 @@ module _ (m : Model) (passed : states-ok m ≡ true) where
   passed-accepted =
       record {
         some-choice = λ s k. a-choice (enabled m s) (at-state s k .0);
+        defined = none-there;
+        fulfils = λ {s} {a} x. matched m (posts-of m a) (outcomes m s a) (at-choice x .3);
+        contradicts = λ a k. rising-posts (posts-of m a) (every-at (λ a. all-contradict (posts-of m a)) (length (m .actions)) (both-parts .1) k);
+        apart = λ x. rising-targets _ (at-choice x .2);
         sums = λ x. at-choice x .0;
         weighs = λ x o i. at-step x o i .2;
         inside = λ x o i. at-step x o i .1;
         named = λ x o i. at-step x o i .0;
-        apart = λ x. rising-targets _ (at-choice x .2);
       }

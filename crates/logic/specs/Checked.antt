@@ -30,3 +30,8 @@ guard k false = refused k
 abbrev pub refusal : {A : Type 0} → Checked A → ℕ
 refusal (ok a) = 0
 refusal (refused k) = k
+
+-- What was read, if it was not refused.
+unfoldable pub got : {A : Type 0} → Checked A → Option A
+got (ok a) = some a
+got (refused k) = none

@@ -1,5 +1,6 @@
 pub mod Lists
 pub mod Checked
+pub mod Grounds
 pub mod Model
 pub mod Quantity
 pub mod Plan

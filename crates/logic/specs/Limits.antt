@@ -6,7 +6,8 @@ use mathlib.Core.List.{List, [], _∷_, map, flatMap, List·Memᴰ}
 use lib.Dec.{leb}
 use lib.ListN.{length}
 use Rattle.logic.specs.Lists.{all, every}
-use Rattle.logic.specs.Checked.{Checked, guard, _>>_}
+use Rattle.logic.specs.Checked.{Checked}
+use Rattle.logic.specs.Grounds.{Ground, _unless_, decided}
 use Rattle.logic.specs.Model.{Model, Step, enabled, outcomes}
 use Rattle.logic.specs.Quantity.{naturals, sum, Relation}
 use Rattle.logic.specs.Formula.{Formula, never, prop, neg, both, does, next, gain, plan}
@@ -51,8 +52,12 @@ every-plan f m fs = all (λ φ. at φ) fs
     at (gain n b p) = true
     at (plan n φ r p q) = every (length (m .states)) (f n r)
 
--- Refusal 24: over 1,000,000 paths; 25: over 65,536 plans of an "equal" node.
+-- 24: over 1,000,000 paths; 25: over 65,536 plans of an "equal" node.
+abbrev pub limit-grounds : Model → List Formula → List Ground
+limit-grounds m fs =
+    24 unless every-plan (λ n r s. leb (path-total m n s) 1000000) m fs
+    ∷ 25 unless every-plan (λ n r s. not (is-equal r) || leb (plan-total m n s) 65536) m fs
+    ∷ []
+
 unfoldable pub limits : Model → List Formula → Checked (Unit {0})
-limits m fs = do
-  guard 24 (every-plan (λ n r s. leb (path-total m n s) 1000000) m fs)
-  guard 25 (every-plan (λ n r s. not (is-equal r) || leb (plan-total m n s) 65536) m fs)
+limits m fs = decided (limit-grounds m fs) tt

@@ -9,13 +9,14 @@ use mathlib.Core.List.{List, [], _∷_, map, List·Memᴰ, List·Memᴰ·not-nil
 use lib.Dec.{eqb, ltb}
 use lib.IntN.{negsuc}
 use lib.Signed.{leZ}
-use lib.ListN.{length, getD}
-use borrow.Author.Tests.{lt-ltb, le-ltb}
+use lib.ListN.{length, getD, List·getD-eq-default}
+use borrow.Author.Tests.{lt-ltb, le-ltb, ltb-false}
 use Rattle.logic.specs.Lists.{keep, count-from, tabulate, every}
-use Rattle.logic.specs.Model.{Step, Action, true-of, contradict, mask, enabled, outcomes, no-action}
+use Rattle.logic.specs.Model.{Literals, Step, Action, true-of, contradict, mask, enabled, outcomes, no-action}
 use Rattle.logic.specs.Quantity.{naturals, sum}
 use Rattle.logic.specs.Order.{Rising, nothing, first}
-use Rattle.logic.specs.Accepted.{Accepted, Executable}
+use Rattle.logic.specs.Plan.{Match, ends, pair}
+use Rattle.logic.specs.Accepted.{posts-of, Accepted, Executable}
 use Rattle.logic.proofs.Members.{map-member}
 use Rattle.logic.proofs.Tests.{and-both, eqb-eq, ne-eqb, ltb-lt, every-at, some-below-index, counted-in, counted-range, length-tabulate, getD-tabulate, count-more, in-keep, keep-member, keep-same}
 use Rattle.logic.proofs.Sums.{naturals-additive, sum-append, sum-map}
@@ -65,6 +66,14 @@ module _ {A : Type 0} (R : A → A → Type 0) (f : ℕ → A) where
   unfolding tabulate
   rising-tabulate n h = rising-counted 0 n (λ i j l m. h i j l (omega arith))
 
+matched : {A B : Type 0} (R : A → B → Type 0) (f : ℕ → A) (g : ℕ → B) (n : ℕ) → ((i : ℕ) → i < n → R (f i) (g i)) → Match R (tabulate n f) (tabulate n g)
+unfolding tabulate count-from
+matched {A} {B} R f g n h = counted 0 n (λ i l m. h i (omega arith))
+  where
+    counted : (k n : ℕ) → ((i : ℕ) → k ≤ i → i < k + n → R (f i) (g i)) → Match R (map f (count-from k n)) (map g (count-from k n))
+    counted k zero h = ends
+    counted k (suc n) h = pair (h k (omega arith) (omega arith)) (counted (suc k) n (λ i l m. h i (omega arith) (omega arith)))
+
 -- ---- the model by its readers
 
 module _ (b : Bytes) where
@@ -85,6 +94,24 @@ module _ (b : Bytes) where
   outcomes-held s a h g =
       ap (λ r. getD r a []) (getD-tabulate (λ s. tabulate (action-count b) (λ a. tabulate (entries b s a) (outcome-of b s a))) (state-count b) [] h)
       ∙ getD-tabulate (λ a. tabulate (entries b s a) (outcome-of b s a)) (action-count b) [] g
+
+  outcomes-past : (s a : ℕ) → s < state-count b → action-count b ≤ a → outcomes (model-of b) s a ≡ []
+  unfolding model-of outcomes
+  outcomes-past s a h g =
+      ap (λ r. getD r a []) (getD-tabulate (λ s. tabulate (action-count b) (λ a. tabulate (entries b s a) (outcome-of b s a))) (state-count b) [] h)
+      ∙ List·getD-eq-default (tabulate (action-count b) (λ a. tabulate (entries b s a) (outcome-of b s a))) []
+      (rw (length-tabulate (λ a. tabulate (entries b s a) (outcome-of b s a)) (action-count b)) g)
+
+  -- The postconditions of an action.
+  posts-held : (a : ℕ) → a < action-count b → posts-of (model-of b) a ≡ tabulate (post-count b a) (post-of b a)
+  unfolding model-of
+  posts-held a h =
+      ap (λ (x : Action). x .posts)
+      (getD-tabulate (λ a. record { pre = pre-of b a; posts = tabulate (post-count b a) (post-of b a) }) (action-count b) no-action h)
+
+  actions-held : length (model-of b .actions) ≡ action-count b
+  unfolding model-of
+  actions-held = length-tabulate _ (action-count b)
 
   -- The enabled actions of a state: those whose precondition is true there.
   pub enabled-held : (s : ℕ) → s < state-count b → enabled (model-of b) s ≡ keep (λ a. true-of (pre-of b a) (state-mask b s)) (count-from 0 (action-count b))
@@ -120,6 +147,13 @@ module _ (b : Bytes) (p : Passed b) where
       used : (a : ℕ) → a < action-count b → (t : Bool) → true-of (pre-of b a) (state-mask b s) ≡ t → t ≡ ltb 0 (entries b s a)
       used a g true e = sym (lt-ltb 0 (entries b s a) (rw (entries-enabled s a h g e) (some-post b p a g)))
       used a g false e = sym (le-ltb 0 (entries b s a) (rw (entries-inside b s a h g, e) (omega arith)))
+
+  -- Any two postconditions of an action contradict.
+  contrary : (a : ℕ) → a < action-count b → (i j : ℕ) → i < j → j < post-count b a → contradict (post-of b a i) (post-of b a j) ≡ true
+  unfolding posts-contradict
+  contrary a h i j k l =
+      every-at (λ i. contradict (post-of b a i) (post-of b a j)) j
+      (every-at (λ i. every i (λ j. contradict (post-of b a j) (post-of b a i))) (post-count b a) (action-passed b p a h) l) k
 
   module _ {s a : ℕ} (x : Executable (model-of b) s a) where
     state : s < state-count b
@@ -161,17 +195,44 @@ module _ (b : Bytes) (p : Passed b) where
         every-at (λ i. true-of (post-of b a i) (state-mask b ((outcome-of b s a i) .target))) (entries b s a) (and-both _ _ (cell-passed b p s a state (choice .0)) .0) l
 
     differ : (i j : ℕ) → i < j → j < entries b s a → (outcome-of b s a i) .target ≡ (outcome-of b s a j) .target → ⊥
-    unfolding posts-contradict
     differ i j k l e =
-        let c = every-at (λ i. contradict (post-of b a i) (post-of b a j)) j (every-at (λ i. every i (λ j. contradict (post-of b a j) (post-of b a i))) (post-count b a) (action-passed b p a (choice .0)) (subst (λ n. j < n) count l)) k in
-        not-both (post-of b a i) (post-of b a j) (state-mask b ((outcome-of b s a i) .target)) c (true-there i (omega arith))
-        (subst (λ t. true-of (post-of b a j) (state-mask b t) ≡ true) (sym e) (true-there j l))
+        not-both (post-of b a i) (post-of b a j) (state-mask b ((outcome-of b s a i) .target)) (contrary a (choice .0) i j k (subst (λ n. j < n) count l))
+        (true-there i (omega arith)) (subst (λ t. true-of (post-of b a j) (state-mask b t) ≡ true) (sym e) (true-there j l))
+
+    -- Each outcome's target makes the postcondition of its place true.
+    fulfilled : Match (λ k o. true-of k (mask (model-of b) (o .target)) ≡ true) (posts-of (model-of b) a) (outcomes (model-of b) s a)
+    fulfilled =
+        let R : Literals → Step → Type 0 = λ k o. true-of k (mask (model-of b) (o .target)) ≡ true in
+        subst (λ l. Match R l (outcomes (model-of b) s a)) (sym (posts-held b a (choice .0)))
+        (subst (Match R (tabulate (post-count b a) (post-of b a))) (sym held)
+        (subst (λ n. Match R (tabulate n (post-of b a)) (tabulate (entries b s a) (outcome-of b s a))) count
+        (matched R (post-of b a) (outcome-of b s a) (entries b s a) (λ i l. ap (true-of (post-of b a i)) (mask-held b _ (range i l .0)) ∙ true-there i l))))
+
+  -- An action that is not enabled has no outcomes.
+  undefined : (s a : ℕ) → s < state-count b → (List·Memᴰ a (enabled (model-of b) s) → ⊥) → outcomes (model-of b) s a ≡ []
+  unfolding tabulate count-from
+  undefined s a h e = by (ltb a (action-count b)) refl
+    where
+      unused : a < action-count b → (t : Bool) → true-of (pre-of b a) (state-mask b s) ≡ t → outcomes (model-of b) s a ≡ []
+      unused l true i = absurd (e (enabled-in b s a h l i))
+      unused l false i =
+          let z : entries b s a ≡ 0 = rw (entries-inside b s a h l, i) refl in
+          outcomes-held b s a h l ∙ ap (λ n. tabulate n (outcome-of b s a)) z
+
+      by : (t : Bool) → ltb a (action-count b) ≡ t → outcomes (model-of b) s a ≡ []
+      by true i = unused (ltb-lt a (action-count b) i) (true-of (pre-of b a) (state-mask b s)) refl
+      by false i = outcomes-past b s a h (ltb-false a (action-count b) i)
 
   pub accepted : Accepted (model-of b)
   unfolding outcome-of
   accepted =
       record {
         some-choice = λ s h. let l = subst (λ n. s < n) (states-held b) h in let w = some-below-index _ (action-count b) (state-passed b p s l) in first-of (enabled (model-of b) s) (enabled-in b s (w .0) l (w .1) (w .2));
+        defined = λ s a h e. undefined s a (subst (λ n. s < n) (states-held b) h) e;
+        fulfils = λ x. fulfilled x;
+        contradicts = λ a h.
+            let l = subst (λ n. a < n) (actions-held b) h in
+            subst (Rising (λ k l. contradict k l ≡ true)) (sym (posts-held b a l)) (rising-tabulate (λ k l. contradict k l ≡ true) (post-of b a) (post-count b a) (contrary a l));
         sums = λ x. summed x ∙ sym (denominator-held b);
         weighs = λ x o i. let w = member x o i in subst (λ z. 0 < z .weight) (sym (w .2)) (range x (w .0) (w .1) .1);
         inside = λ x o i. let w = member x o i in rw (states-held b) (subst (λ z. z .target < state-count b) (sym (w .2)) (range x (w .0) (w .1) .0));

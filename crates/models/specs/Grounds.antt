@@ -1,12 +1,14 @@
 -- The grounds on which a model is refused, 1 to 8, each a test on the whole input. Document 01, "Refused because of the input".
 use Prim.Native.Nat.{ℕ, _+_, _*_, _-_, _/_, _^_}
 use mathlib.Core.Bool.{Bool, _&&_, _||_}
+use mathlib.Core.List.{List, [], _∷_}
 use lib.Bits.{bitAnd}
 use lib.Dec.{eqb, ltb}
 use lib.IntN.{pos, negsuc}
 use lib.Signed.{leZ}
 use Rattle.logic.specs.Lists.{every, some-below}
-use Rattle.logic.specs.Checked.{Checked, ok, _>>_, guard}
+use Rattle.logic.specs.Checked.{Checked}
+use Rattle.logic.specs.Grounds.{Ground, _unless_, decided}
 use Rattle.logic.specs.Model.{Literals, Step, Model, true-of, contradict}
 use Rattle.blocks.specs.Bytes.{Bytes, zeros, within}
 use Rattle.blocks.specs.Block.{sum-below, block-count, whole-blocks, sums-right, headed}
@@ -86,15 +88,19 @@ consistent b = every (action-count b) (posts-contradict b) && every (state-count
 unfoldable pub no-dead-ends : Bytes → Bool
 no-dead-ends b = every (state-count b) (λ s. some-below (action-count b) (λ a. true-of (pre-of b a) (state-mask b s)))
 
--- What a model's bytes are read as: the first ground that applies, or the model.
+-- The grounds of a model, in document 01's order.
+abbrev pub model-grounds : Bytes → List Ground
+model-grounds b =
+    1 unless whole-blocks 2 12 b
+    ∷ 2 unless sums-right b
+    ∷ 3 unless kinds-right b
+    ∷ 4 unless sizes-right b
+    ∷ 5 unless fields-right b
+    ∷ 6 unless (head-spare b && rows-spare b && cells-spare b)
+    ∷ 7 unless consistent b
+    ∷ 8 unless no-dead-ends b
+    ∷ []
+
+-- What a model's bytes are read as.
 unfoldable pub read-model : Bytes → Checked Model
-read-model b = do
-  guard 1 (whole-blocks 2 12 b)
-  guard 2 (sums-right b)
-  guard 3 (kinds-right b)
-  guard 4 (sizes-right b)
-  guard 5 (fields-right b)
-  guard 6 (head-spare b && rows-spare b && cells-spare b)
-  guard 7 (consistent b)
-  guard 8 (no-dead-ends b)
-  ok (model-of b)
+read-model b = decided (model-grounds b) (model-of b)

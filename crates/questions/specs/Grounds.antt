@@ -2,13 +2,14 @@
 -- propositions. Document 01, "Refused because of the input" and the table of "Formulas".
 use Prim.Native.Nat.{ℕ, _+_, _-_}
 use mathlib.Core.Bool.{Bool, true, false, not, _&&_}
-use mathlib.Core.List.{[], _∷_}
+use mathlib.Core.List.{List, [], _∷_}
 use lib.Dec.{eqb, ltb}
 use lib.IntN.{ℤ, pos, negsuc}
 use lib.ListN.{getD}
 use lib.Signed.{leZ}
 use Rattle.logic.specs.Lists.{all, every}
-use Rattle.logic.specs.Checked.{Checked, ok, _>>_, guard}
+use Rattle.logic.specs.Checked.{Checked}
+use Rattle.logic.specs.Grounds.{Ground, _unless_, decided}
 use Rattle.logic.specs.Formula.{Node, is-path, shallow}
 use Rattle.blocks.specs.Bytes.{Bytes, byte, zeros, within}
 use Rattle.blocks.specs.Block.{whole-blocks, sums-right, headed}
@@ -82,14 +83,18 @@ spare-zero b = zeros b 4 4 && every (node-count b) (node-spare b) && zeros b (no
 unfoldable pub formed : Question → Bool
 formed q = not (is-path (q .root)) && all shallow (q .nodes)
 
--- What a question's bytes are read as: the first ground that applies, or the question.
+-- The grounds of a question, in document 01's order.
+abbrev pub question-grounds : (S A N : ℕ) → Bytes → List Ground
+question-grounds S A N b =
+    1 unless whole-blocks 1 1 b
+    ∷ 2 unless sums-right b
+    ∷ 3 unless headed b 0 3 0
+    ∷ 4 unless (ltb (start-of b) S && within 1 40 (node-count b))
+    ∷ 5 unless every (node-count b) (λ i. node-in-range A N i (node-of b i))
+    ∷ 6 unless spare-zero b
+    ∷ 9 unless formed (question-of b)
+    ∷ []
+
+-- What a question's bytes are read as.
 unfoldable pub read-question : (S A N : ℕ) → Bytes → Checked Question
-read-question S A N b = do
-  guard 1 (whole-blocks 1 1 b)
-  guard 2 (sums-right b)
-  guard 3 (headed b 0 3 0)
-  guard 4 (ltb (start-of b) S && within 1 40 (node-count b))
-  guard 5 (every (node-count b) (λ i. node-in-range A N i (node-of b i)))
-  guard 6 (spare-zero b)
-  guard 9 (formed (question-of b))
-  ok (question-of b)
+read-question S A N b = decided (question-grounds S A N b) (question-of b)

@@ -4,7 +4,9 @@ use Prim.Native.Nat.{ℕ, _+_, _*_, _-_}
 use mathlib.Core.Bool.{Bool, cond, _&&_}
 use lib.Dec.{eqb, ltb}
 use Rattle.logic.specs.Lists.{every}
-use Rattle.logic.specs.Checked.{Checked, ok, _>>_, guard}
+use mathlib.Core.List.{List, [], _∷_}
+use Rattle.logic.specs.Checked.{Checked}
+use Rattle.logic.specs.Grounds.{Ground, _unless_, decided}
 use Rattle.blocks.specs.Bytes.{Bytes, byte, zeros, within}
 use Rattle.blocks.specs.Block.{block-count, whole-blocks, sums-right, headed}
 use Rattle.sheets.specs.Layout.{Sheet, weight-of, count-of, sheet-of}
@@ -24,13 +26,17 @@ weight-right b k = eqb (weight-of b k) (weight-of b 0)
 unfoldable pub spare-right : Bytes → ℕ → Bool
 spare-right b k = zeros b (512 * k + 4) 4 && zeros b (512 * k + 18 + count-of b k) (492 - count-of b k)
 
--- What a sheet's bytes are read as: the first ground that applies, or the sheet.
+-- The grounds of a sheet's bytes, in document 01's order.
+abbrev pub sheet-grounds : (n start : ℕ) → Bytes → List Ground
+sheet-grounds n start b =
+    1 unless whole-blocks 1 3 b
+    ∷ 2 unless sums-right b
+    ∷ 3 unless every (block-count b) (λ k. headed b k 4 k)
+    ∷ 4 unless every (block-count b) (head-right n start b)
+    ∷ 5 unless every (block-count b) (λ k. count-right b k && weight-right b k)
+    ∷ 6 unless every (block-count b) (spare-right b)
+    ∷ []
+
+-- What a sheet's bytes are read as.
 unfoldable pub read-sheet : (n start : ℕ) → Bytes → Checked Sheet
-read-sheet n start b = do
-  guard 1 (whole-blocks 1 3 b)
-  guard 2 (sums-right b)
-  guard 3 (every (block-count b) (λ k. headed b k 4 k))
-  guard 4 (every (block-count b) (head-right n start b))
-  guard 5 (every (block-count b) (λ k. count-right b k && weight-right b k))
-  guard 6 (every (block-count b) (spare-right b))
-  ok (sheet-of b)
+read-sheet n start b = decided (sheet-grounds n start b) (sheet-of b)
