@@ -1,30 +1,32 @@
--- Demand 2 for every session whose replies are those that document 01 describes by the history: judging makes the tests one by one, and
--- its verdict says yes exactly where the formula is true, for a "plan" root since there is a shown plan just where it is true.
-use Prim.Native.Nat.{ℕ, _<_}
-use mathlib.Core.Path.{_≡_, refl, sym, ap, _∙_}
+-- Demand 2 for every session whose replies are those that document 01 describes by the history: refusals are by the first ground that
+-- applies (`Described`); the verdict says yes exactly where the formula is true, for a "plan" root since there is a shown plan just where it
+-- is true, and announces the plan and the count of document 01's words (`Announcing`).
+use Prim.Native.Nat.{ℕ}
+use mathlib.Core.Path.{_≡_, refl, sym, ap, subst, _∙_}
 use mathlib.Core.Logic.{_↔_}
 use mathlib.Core.Bool.{Bool, true, false, cond}
 use mathlib.Core.Option.{Option, none, some}
 use mathlib.Core.List.{List, []}
-use lib.ListN.{length}
-use Rattle.logic.specs.Checked.{Checked, ok, refused}
+use Rattle.logic.specs.Checked.{Checked, ok, refused, _>>=_, _>>_, held}
+use Rattle.logic.specs.Grounds.{first}
 use Rattle.logic.specs.Model.{Model}
-use Rattle.logic.specs.Accepted.{Accepted}
-use Rattle.logic.specs.Quantity.{Relation, naturals}
-use Rattle.logic.specs.Policy.{Policy, policy-weight}
 use Rattle.logic.specs.Plan.{Plan}
-use Rattle.logic.specs.Formula.{Formula, never, prop, neg, both, does, next, gain, plan, sat, meets}
-use Rattle.logic.specs.Verdict.{Goal, plan-goal, goal, Verdict, no, yes, shown, announced, verdict}
-use Rattle.logic.specs.Limits.{limits}
+use Rattle.logic.specs.Formula.{Formula, never, prop, neg, both, does, next, gain, plan, sat}
+use Rattle.logic.specs.Verdict.{Goal, plan-goal, goal, Verdict, no, yes, shown, announced, verdict-by, verdict}
+use Rattle.logic.specs.Limits.{limit-grounds, limits}
 use Rattle.logic.proofs.Tests.{not-true, none≢some}
 use Rattle.logic.proofs.Shown.{sat-shown}
 use Rattle.logic.proofs.Policies.{sat-policy}
 use Rattle.questions.specs.Layout.{Question}
-use Rattle.calls.specs.Calls.{Call, judge, Held, Answer, judged, replied, yields, do-judge}
+use Rattle.calls.specs.Calls.{Call, judge, Held, Answer, judged, Reply, says, yields}
 use Rattle.calls.specs.History.{after}
-use Rattle.calls.specs.Demand3.{Session}
-use Rattle.calls.specs.Demand2.{says-yes, judge-answer, Demand-2-always}
-use Rattle.calls.proofs.Held.{model-accepted, start-inside}
+use Rattle.calls.specs.Demand2.{says-yes, Demand-2, Session, Demand-2-always}
+use Rattle.calls.specs.promises.Chains.{do-judge, answered, by-chain}
+use Rattle.calls.proofs.Histories.{Sound, sound}
+use Rattle.calls.proofs.Held.{model-accepted}
+use Rattle.calls.proofs.Refusals.{decided-none}
+use Rattle.calls.proofs.Described.{yields-is, refuse-first}
+use Rattle.calls.proofs.Announcing.{verdict-announces}
 
 -- ---- the verdict says yes exactly where the formula is true
 
@@ -52,59 +54,38 @@ says-true m s (plan n φ r p q) =
     let g = plan-goal m s n φ r p q in
     says-shown m s g (sat m (plan n φ r p q) s []) (shown m s g) (sat-shown m s n φ r p q [])
 
--- For a "plan" root, where some policy meets the bound.
-says-by-policy : {m : Model} → Accepted m → (s : ℕ) → s < length (m .states) → (φ : Formula) (n : ℕ) (ψ : Formula) (r : Relation) (p d : ℕ)
-    → φ ≡ plan n ψ r p d
-    → (says-yes (verdict m s φ) ≡ true) ↔ ((π : Policy m n s) × (meets naturals m n r p d (policy-weight m ψ n s π) ≡ true))
-says-by-policy {m} a s k φ n ψ r p d e =
-    let e′ = says-true m s φ ∙ ap (λ x. sat m x s []) e in
-    let w = sat-policy a n s k ψ r p d [] in
-    (λ h. w .0 (sym e′ ∙ h), λ π. e′ ∙ w .1 π)
-
 -- ---- judging by what is held
 
-module _ (h : Held) where
-  judge-without-model : h .model ≡ none → do-judge h ≡ refused 20
-  unfolding do-judge
-  judge-without-model e = rw e refl
+module _ (h : Held) (m : Model) (q : Question) (e : h .model ≡ some m) (f : h .question ≡ some q) (l : first (limit-grounds m (q .nodes)) ≡ none) where
+  pub judge-is : do-judge h ≡ ok (verdict m (q .start) (q .root))
+  unfolding do-judge limits
+  judge-is =
+      rw (e, f) (ap (λ c. c >> ok (verdict m (q .start) (q .root))) (decided-none tt (limit-grounds m (q .nodes)) l))
 
-  module _ (m : Model) (e : h .model ≡ some m) where
-    judge-without-question : h .question ≡ none → do-judge h ≡ refused 21
-    unfolding do-judge
-    judge-without-question f = rw (e, f) refl
-
-    module _ (q : Question) (f : h .question ≡ some q) where
-      judge-limited : (k : ℕ) → limits m (q .nodes) ≡ refused k → do-judge h ≡ refused k
-      unfolding do-judge
-      judge-limited k l = rw (e, f, l) refl
-
-      pub judge-is : limits m (q .nodes) ≡ ok tt → do-judge h ≡ ok (verdict m (q .start) (q .root))
-      unfolding do-judge
-      judge-is l = rw (e, f, l) refl
+  pub judge-yields : (yields h judge) .answer ≡ judged (verdict m (q .start) (q .root))
+  unfolding by-chain
+  judge-yields = ap (λ r. r .answer) (yields-is h judge ∙ ap (λ c. answered [] c (λ v. says (judged v))) judge-is)
 
 -- ---- the whole
 
--- The answer of judging, by its tests.
-abbrev answered : Checked Verdict → Answer
-answered c = (replied [] c (λ v. record { answer = judged v; buffer = [] })) .answer
+pub demand-2 : (h : Held) → Sound h → (reply : Call → Reply) → ((c : Call) → reply c ≡ yields h c) → Demand-2 h reply
+unfolding verdict
+demand-2 h s reply yielding =
+    record {
+      refused-by-first = λ c k.
+          let w = refuse-first h c k in
+          let e : (reply c) .answer ≡ (yields h c) .answer = ap (λ r. r .answer) (yielding c) in
+          (λ i. w .0 (sym e ∙ i), λ i. e ∙ w .1 i);
+      verdict-right = λ m q e f l.
+          record {
+            said = verdict m (q .start) (q .root);
+            answers = ap (λ r. r .answer) (yielding judge) ∙ judge-yields h m q e f l;
+            as-true = says-true m (q .start) (q .root);
+            published = λ t i n φ r p d steps. sat-policy (model-accepted s m e) n t i φ r p d steps;
+            on-plans = λ g a. verdict-announces m (q .start) g (q .root) a;
+            on-others = λ k a. ap (verdict-by m (q .start) (sat m (q .root) (q .start) [])) a;
+          };
+    }
 
-module _ (session : Session) (yielding : (calls : List Call) (c : Call) → session calls c ≡ yields (after calls) c) where
-  told : (calls : List Call) (c : Checked Verdict) → do-judge (after calls) ≡ c → judge-answer session calls ≡ answered c
-  unfolding yields
-  told calls c e = ap (λ r. r .answer) (yielding calls judge) ∙ ap answered e
-
-  pub demand-2 : Demand-2-always session
-  demand-2 calls =
-      record {
-        no-model = λ e. told calls (refused 20) (judge-without-model (after calls) e);
-        no-question = λ m e f. told calls (refused 21) (judge-without-question (after calls) m e f);
-        limited = λ m q e f k l. told calls (refused k) (judge-limited (after calls) m e q f k l);
-        decided = λ m q e f l.
-            record {
-              said = verdict m (q .start) (q .root);
-              answers = told calls (ok (verdict m (q .start) (q .root))) (judge-is (after calls) m e q f l);
-              as-true = says-true m (q .start) (q .root);
-              by-policy = says-by-policy (model-accepted calls m e) (q .start) (start-inside calls m e q f) (q .root);
-              as-defined = refl;
-            };
-      }
+pub demand-2-always : (session : Session) → ((calls : List Call) (c : Call) → session calls c ≡ yields (after calls) c) → Demand-2-always session
+demand-2-always session yielding calls = demand-2 (after calls) (sound calls) (session calls) (yielding calls)

@@ -6,20 +6,21 @@ use native.Mathlib.Omega.{arith}
 use native.Mathlib.Nat.{le-antisymm, le-refl}
 use mathlib.Core.Path.{_≡_, refl, sym, ap, ap₂, subst, _∙_}
 use mathlib.Core.Logic.{_↔_, _⊎_, inl, inr, ⊎-elim}
-use mathlib.Core.Bool.{Bool, true, false, cond, _&&_}
+use mathlib.Core.Bool.{Bool, true, false, cond, _&&_, false≢true}
 use mathlib.Core.Option.{Option, none, some}
 use mathlib.Core.List.{List, [], _++_, List·Memᴰ}
-use lib.Dec.{T, leb, le→leb, leb→le}
+use lib.Dec.{T, eqb, leb, le→leb, leb→le}
 use lib.IntN.{ℤ, pos, negsuc}
 use lib.ListN.{length, take, drop, length-append, length-drop}
 use lib.Seq.{take-at, drop-at}
 use lib.Signed.{leZ}
 use Rattle.logic.specs.Checked.{Checked, ok, refused, _>>=_, _>>_, held, guard, refusal}
-use Rattle.logic.specs.Model.{Model}
+use Rattle.logic.specs.Lists.{all}
 use Rattle.logic.specs.Plan.{Plan, plans, choices}
-use Rattle.logic.specs.Formula.{plan, sat, W, nonnegative}
-use Rattle.logic.specs.Verdict.{Goal, goal, plan-goal, Verdict, no, yes-plan, shown, announced, verdict-by, verdict}
-use Rattle.logic.specs.Limits.{limits}
+use Rattle.logic.specs.Formula.{sat}
+use Rattle.logic.specs.Model.{Model}
+use Rattle.logic.specs.Verdict.{Goal, goal, Verdict, no, yes-plan, shown, announced, verdict-by, verdict}
+use Rattle.logic.specs.Limits.{limit-grounds, limits}
 use Rattle.logic.specs.Choices.{plan-of}
 use Rattle.logic.proofs.Tests.{T→true, true→T, and-left, and-right}
 use Rattle.logic.proofs.Checked.{not-ok, ok-same, bind-ok, guard-ok}
@@ -27,14 +28,17 @@ use Rattle.logic.proofs.Reading.{plan-of-sound, plan-of-complete}
 use Rattle.logic.proofs.Shown.{goal-led, shown-there, shown-meets}
 use Rattle.blocks.specs.Bytes.{Bytes}
 use Rattle.questions.specs.Layout.{Question}
-use Rattle.sheets.specs.Layout.{Sheet, sheet-bytes}
-use Rattle.sheets.specs.Grounds.{read-sheet}
-use Rattle.calls.specs.Calls.{Call, check, judge, write, Held, Answer, judged, written, accepted, refuse, Reply, replied, yields, same, shown-sheet, do-write, check-on, do-check}
+use Rattle.sheets.specs.Layout.{Sheet, sheet-of}
+use Rattle.sheets.specs.Grounds.{sheet-grounds, read-sheet}
+use Rattle.calls.specs.Calls.{Call, judge, query, write, check, Held, Report, Answer, judged, written, accepted, refuse, Reply, says, written-bytes, same, reported, yields}
 use Rattle.calls.specs.History.{after}
-use Rattle.calls.specs.Demand3.{Session, All-bytes, Plan-question, path-weights, meets-bound, Claims, Accepts, Differs, Meeting-sheet, Says-yes, Writes-shown, Demand-3-always}
-use Rattle.calls.proofs.Histories.{verdict-told}
-use Rattle.calls.proofs.Refusals.{never-over, up-to-sheet, up-to-plan}
-use Rattle.calls.proofs.Demand2.{judge-is}
+use Rattle.calls.specs.Demand2.{Session}
+use Rattle.calls.specs.Demand3.{All-bytes, Plan-question, Asked-plan, total, meets-bound, Claims, Accepts, Differs, Meeting-sheet, Says-yes, Writes-shown, Demand-3, Demand-3-always}
+use Rattle.calls.specs.promises.Chains.{sheet-shown, do-write, check-on, do-check, answered, by-chain}
+use Rattle.calls.proofs.Histories.{Sound, sound}
+use Rattle.calls.proofs.Refusals.{refused-same, first-passes, decided-none, decided-first, plan-only}
+use Rattle.calls.proofs.Described.{yields-is}
+use Rattle.calls.proofs.Demand2.{judge-yields}
 
 -- ---- equality of weights by its test
 
@@ -55,7 +59,7 @@ same-equal a b e = both a b (true→T (and-left (leZ a b) (leZ b a) e)) (true→
 
 -- ---- answers tell their parts
 
-accepted-same : {t u : Bool} → accepted t ≡ accepted u → t ≡ u
+accepted-same : {r u : Report} → accepted r ≡ accepted u → r ≡ u
 accepted-same e = cc
 
 written-same : {j k : ℕ} → written j ≡ written k → j ≡ k
@@ -64,7 +68,7 @@ written-same e = cc
 judged-same : {v w : Verdict} → judged v ≡ judged w → v ≡ w
 judged-same e = cc
 
-not-accepted : {k : ℕ} {t : Bool} → refuse k ≡ accepted t → ⊥
+not-accepted : {k : ℕ} {r : Report} → refuse k ≡ accepted r → ⊥
 not-accepted e = let z : _≡_ {A = ℕ} 0 1 = cc in omega arith
 
 not-written : {j k : ℕ} → refuse j ≡ written k → ⊥
@@ -81,7 +85,7 @@ then-ok (refused k) c e = absurd (not-ok e)
 refuse-same : {j k : ℕ} → refuse j ≡ refuse k → j ≡ k
 refuse-same e = cc
 
-not-refused : {k : ℕ} {t : Bool} → accepted t ≡ refuse k → ⊥
+not-refused : {k : ℕ} {r : Report} → accepted r ≡ refuse k → ⊥
 not-refused e = not-accepted (sym e)
 
 -- A chain is refused by what comes after, if not by its first part.
@@ -100,9 +104,9 @@ module _ (m : Model) (s : ℕ) (g : Goal) where
   shown-said (some y) w n k cs e = (y, refl)
 
   -- The sheet of a verdict is that of the shown plan.
-  sheet-said : (o : Option (ℕ × Plan (g .steps))) (z : Sheet) → shown-sheet (announced m s g o) ≡ ok z
+  sheet-said : (o : Option (ℕ × Plan (g .steps))) (z : Sheet) → sheet-shown (announced m s g o) ≡ ok z
       → (y : ℕ × Plan (g .steps)) × (o ≡ some y) × (z ≡ record { weight = g .total (y .1); choices = choices (g .steps) (y .1) })
-  unfolding shown-sheet
+  unfolding sheet-shown
   sheet-said none z e = absurd (not-ok e)
   sheet-said (some y) z e = (y, refl, sym (ok-same e))
 
@@ -111,196 +115,194 @@ module _ (m : Model) (s : ℕ) (g : Goal) where
 module _ (h : Held) (m : Model) (q : Question) (e : h .model ≡ some m) (f : h .question ≡ some q) where
   module _ (g : Goal) (r : goal m (q .start) (q .root) ≡ ok g) where
     write-is : (n : ℕ) → do-write h n
-        ≡ (held 23 (h .verdict) >>= (λ v. shown-sheet v >>= (λ z. guard 12 (leb (length (sheet-bytes (g .steps) (q .start) (nonnegative (z .weight)) (z .choices))) n) >> ok (sheet-bytes (g .steps) (q .start) (nonnegative (z .weight)) (z .choices)))))
+        ≡ (held 23 (h .verdict) >>= (λ v. sheet-shown v >>= (λ z. guard 12 (leb (length (written-bytes q g z)) n) >> ok (written-bytes q g z))))
     unfolding do-write
     write-is n = rw (e, f, r)
 
     check-is : limits m (q .nodes) ≡ ok tt → (b : Bytes) → do-check h b
-        ≡ (read-sheet (g .steps) (q .start) b >>= (λ x. plan-of m (g .steps) (q .start) (x .choices) >>= (λ π. guard 11 (same (x .weight) (g .total π)) >> ok (g .met π))))
+        ≡ (read-sheet (g .steps) (q .start) b >>= (λ x. plan-of m (g .steps) (q .start) (x .choices) >>= (λ π. guard 11 (same (x .weight) (g .total π)) >> ok (reported g π))))
     unfolding do-check check-on
     check-is l b = rw (e, f, r, l)
 
--- A sheet of a plan is read back from what is written of it, which is bytes.
-pub record Reads-back : Type 0 where
-  pub sheet : (calls : List Call) (x : Plan-question calls) (π : Plan (x .n)) → List·Memᴰ π (plans (x .model) (x .n) (x .question .start))
-      → read-sheet (x .n) (x .question .start) (sheet-bytes (x .n) (x .question .start) (W (x .model) (x .condition) (x .n) (x .question .start) π) (choices (x .n) π))
-      ≡ ok (record { weight = pos (W (x .model) (x .condition) (x .n) (x .question .start) π); choices = choices (x .n) π })
-  pub bytes : (calls : List Call) (x : Plan-question calls) (π : Plan (x .n)) → List·Memᴰ π (plans (x .model) (x .n) (x .question .start))
-      → All-bytes (sheet-bytes (x .n) (x .question .start) (W (x .model) (x .condition) (x .n) (x .question .start) π) (choices (x .n) π))
+-- Reading a sheet is never refused with 11.
+not-eleven : (n start : ℕ) (b : Bytes) → read-sheet n start b ≡ refused 11 → ⊥
+unfolding read-sheet all
+not-eleven n start b e = false≢true (first-passes (λ k. leb k 6) (sheet-grounds n start b) refl (decided-first (sheet-of b) (sheet-grounds n start b) e))
 
-module _ (session : Session) (yielding : (calls : List Call) (c : Call) → session calls c ≡ yields (after calls) c) {calls : List Call} (x : Plan-question calls) where
+-- A sheet of a plan is read back from what is written of it, which is bytes.
+pub record Reads-back (q : Question) (g : Goal) (z : Sheet) : Type 0 where
+  pub sheet : read-sheet (g .steps) (q .start) (written-bytes q g z) ≡ ok z
+  pub bytes : All-bytes (written-bytes q g z)
+
+module _ {h : Held} (reply : Call → Reply) (yielding : (c : Call) → reply c ≡ yields h c) (x : Plan-question h) where
   abbrev s : ℕ
   s = x .question .start
 
-  abbrev asked-for : Goal
-  asked-for = plan-goal (x .model) s (x .n) (x .condition) (x .relation) (x .p) (x .q)
+  abbrev n : ℕ
+  n = x .asked .steps
 
-  root-goal : goal (x .model) s (x .question .root) ≡ ok asked-for
-  unfolding goal
-  root-goal = ap (goal (x .model) s) (x .plan-root)
+  abbrev g : Goal
+  g = x .asked
+
+  limits-kept : limits (x .model) (x .question .nodes) ≡ ok tt
+  unfolding limits
+  limits-kept = decided-none tt (limit-grounds (x .model) (x .question .nodes)) (x .within-limits)
 
   -- ---- check
 
-  abbrev decided : Sheet → Plan (x .n) → Checked Bool
-  decided z π = guard 11 (same (z .weight) (asked-for .total π)) >> ok (asked-for .met π)
+  abbrev decides : Sheet → Plan n → Checked Report
+  decides z π = guard 11 (same (z .weight) (g .total π)) >> ok (reported g π)
 
-  abbrev checked-by : Checked Bool → Answer
-  checked-by c = (replied [] c (λ met. record { answer = accepted met; buffer = [] })) .answer
+  abbrev checked-by : Checked Report → Answer
+  checked-by c = (answered [] c (λ r. says (accepted r))) .answer
 
-  check-answer : (sheet : Bytes) → (session calls (check sheet)) .answer
-      ≡ checked-by (read-sheet (x .n) s sheet >>= (λ z. plan-of (x .model) (x .n) s (z .choices) >>= (λ π. decided z π)))
-  unfolding yields
+  check-answer : (sheet : Bytes) → (reply (query (check sheet))) .answer
+      ≡ checked-by (read-sheet n s sheet >>= (λ z. plan-of (x .model) n s (z .choices) >>= (λ π. decides z π)))
+  unfolding by-chain
   check-answer sheet =
-      ap (λ r. r .answer) (yielding calls (check sheet))
-      ∙ ap checked-by (check-is (after calls) (x .model) (x .question) (x .held-model) (x .held-question) asked-for root-goal (x .within-limits) sheet)
+      ap (λ r. r .answer) (yielding (query (check sheet)) ∙ yields-is h (query (check sheet)))
+      ∙ ap checked-by (check-is h (x .model) (x .question) (x .held-model) (x .held-question) g (x .plan-root) limits-kept sheet)
 
-  claimed-answer : (sheet : Bytes) (w : ℤ) (π : Plan (x .n)) → Claims session x sheet w π
-      → (session calls (check sheet)) .answer ≡ checked-by (guard 11 (same w (asked-for .total π)) >> ok (asked-for .met π))
+  claimed-answer : (sheet : Bytes) (w : ℤ) (π : Plan n) → Claims reply x sheet w π
+      → (reply (query (check sheet))) .answer ≡ checked-by (guard 11 (same w (g .total π)) >> ok (reported g π))
   claimed-answer sheet w π c =
       check-answer sheet
-      ∙ ap (λ r. checked-by (r >>= (λ z. plan-of (x .model) (x .n) s (z .choices) >>= (λ ρ. decided z ρ)))) (c .reads)
-      ∙ ap (λ r. checked-by (r >>= (λ ρ. decided (record { weight = w; choices = choices (x .n) π }) ρ))) (plan-of-complete (x .model) (x .n) s π (c .is-plan))
+      ∙ ap (λ r. checked-by (r >>= (λ z. plan-of (x .model) n s (z .choices) >>= (λ ρ. decides z ρ)))) (c .reads)
+      ∙ ap (λ r. checked-by (r >>= (λ ρ. decides (record { weight = w; choices = choices n π }) ρ))) (plan-of-complete (x .model) n s π (c .is-plan))
 
-  passed-test : (t u v : Bool) → checked-by (guard 11 t >> ok u) ≡ accepted v → (t ≡ true) × (v ≡ u)
+  passed-test : (t : Bool) (u v : Report) → checked-by (guard 11 t >> ok u) ≡ accepted v → (t ≡ true) × (v ≡ u)
   passed-test true u v e = (refl, sym (accepted-same e))
   passed-test false u v e = absurd (not-accepted e)
 
-  check-exact : (sheet : Bytes) (w : ℤ) (π : Plan (x .n)) → Claims session x sheet w π → ((met : Bool) × Accepts session x sheet met) ↔ (w ≡ pos (path-weights session x π))
-  unfolding W
+  check-exact : (sheet : Bytes) (w : ℤ) (π : Plan n) → Claims reply x sheet w π → ((r : Report) × Accepts reply x sheet r) ↔ (w ≡ total reply x π)
   check-exact sheet w π c = (
-    λ a. same-equal w (asked-for .total π) (passed-test (same w (asked-for .total π)) (asked-for .met π) (a .0) (sym (claimed-answer sheet w π c) ∙ a .1) .0),
-    λ e. (asked-for .met π, claimed-answer sheet w π c ∙ ap (λ t. checked-by (guard 11 t >> ok (asked-for .met π))) (subst (λ z. same w z ≡ true) e (same-self w))),
+    λ a. same-equal w (g .total π) (passed-test (same w (g .total π)) (reported g π) (a .0) (sym (claimed-answer sheet w π c) ∙ a .1) .0),
+    λ e. (reported g π, claimed-answer sheet w π c ∙ ap (λ t. checked-by (guard 11 t >> ok (reported g π))) (subst (λ z. same w z ≡ true) e (same-self w))),
   )
 
-  either-test : (t u : Bool) → ((met : Bool) × (checked-by (guard 11 t >> ok u) ≡ accepted met)) ⊎ (checked-by (guard 11 t >> ok u) ≡ refuse 11)
+  either-test : (t : Bool) (u : Report) → ((r : Report) × (checked-by (guard 11 t >> ok u) ≡ accepted r)) ⊎ (checked-by (guard 11 t >> ok u) ≡ refuse 11)
   either-test true u = inl (u, refl)
   either-test false u = inr refl
 
-  check-either : (sheet : Bytes) (w : ℤ) (π : Plan (x .n)) → Claims session x sheet w π → ((met : Bool) × Accepts session x sheet met) ⊎ Differs session x sheet
+  check-either : (sheet : Bytes) (w : ℤ) (π : Plan n) → Claims reply x sheet w π → ((r : Report) × Accepts reply x sheet r) ⊎ Differs reply x sheet
   check-either sheet w π c =
       let e = claimed-answer sheet w π c in
-      ⊎-elim (λ a. inl (a .0, e ∙ a .1)) (λ d. inr (e ∙ d)) (either-test (same w (asked-for .total π)) (asked-for .met π))
+      ⊎-elim (λ a. inl (a .0, e ∙ a .1)) (λ d. inr (e ∙ d)) (either-test (same w (g .total π)) (reported g π))
 
-  check-differs : (sheet : Bytes) (w : ℤ) (π : Plan (x .n)) → Claims session x sheet w π → (w ≡ pos (path-weights session x π) → ⊥) → Differs session x sheet
+  check-differs : (sheet : Bytes) (w : ℤ) (π : Plan n) → Claims reply x sheet w π → (w ≡ total reply x π → ⊥) → Differs reply x sheet
   check-differs sheet w π c n = ⊎-elim (λ a. absurd (n (check-exact sheet w π c .0 a))) (λ d. d) (check-either sheet w π c)
 
-  check-says : (sheet : Bytes) (w : ℤ) (π : Plan (x .n)) → Claims session x sheet w π → (met : Bool) → Accepts session x sheet met → met ≡ meets-bound session x π
-  unfolding W
-  check-says sheet w π c met a = passed-test (same w (asked-for .total π)) (asked-for .met π) met (sym (claimed-answer sheet w π c) ∙ a) .1
+  check-says : (sheet : Bytes) (w : ℤ) (π : Plan n) → Claims reply x sheet w π → (r : Report) → Accepts reply x sheet r → r .met ≡ meets-bound reply x π
+  check-says sheet w π c r a = ap (λ z. z .met) (passed-test (same w (g .total π)) (reported g π) r (sym (claimed-answer sheet w π c) ∙ a) .1)
 
-  accepted-ok : (c : Checked Bool) (met : Bool) → checked-by c ≡ accepted met → c ≡ ok met
-  accepted-ok (ok t) met e = ap ok (accepted-same e)
-  accepted-ok (refused k) met e = absurd (not-accepted e)
+  accepted-ok : (c : Checked Report) (r : Report) → checked-by c ≡ accepted r → c ≡ ok r
+  accepted-ok (ok t) r e = ap ok (accepted-same e)
+  accepted-ok (refused k) r e = absurd (not-accepted e)
 
-  differs-refused : (c : Checked Bool) → checked-by c ≡ refuse 11 → c ≡ refused 11
+  differs-refused : (c : Checked Report) → checked-by c ≡ refuse 11 → c ≡ refused 11
   differs-refused (ok t) e = absurd (not-refused e)
   differs-refused (refused k) e = ap refused (refuse-same e)
 
-  claims-of : (sheet : Bytes) (z : Sheet) (π : Plan (x .n)) → read-sheet (x .n) s sheet ≡ ok z → plan-of (x .model) (x .n) s (z .choices) ≡ ok π
-      → Claims session x sheet (z .weight) π
+  claims-of : (sheet : Bytes) (z : Sheet) (π : Plan n) → read-sheet n s sheet ≡ ok z → plan-of (x .model) n s (z .choices) ≡ ok π
+      → Claims reply x sheet (z .weight) π
   claims-of sheet z π e f =
-      let p = plan-of-sound (x .model) (x .n) s (z .choices) π f in
+      let p = plan-of-sound (x .model) n s (z .choices) π f in
       record { reads = e ∙ ap (λ cs. ok (record { weight = z .weight; choices = cs })) (sym (p .1)); is-plan = p .0 }
 
-  accepted-claims : (sheet : Bytes) (met : Bool) → Accepts session x sheet met → (w : ℤ) × (π : Plan (x .n)) × Claims session x sheet w π
-  accepted-claims sheet met a =
-      let u = bind-ok (read-sheet (x .n) s sheet) _ (accepted-ok _ met (sym (check-answer sheet) ∙ a)) in
-      let v = bind-ok (plan-of (x .model) (x .n) s (u .0 .choices)) _ (u .2) in
+  accepted-claims : (sheet : Bytes) (r : Report) → Accepts reply x sheet r → (w : ℤ) × (π : Plan n) × Claims reply x sheet w π
+  accepted-claims sheet r a =
+      let u = bind-ok (read-sheet n s sheet) _ (accepted-ok _ r (sym (check-answer sheet) ∙ a)) in
+      let v = bind-ok (plan-of (x .model) n s (u .0 .choices)) _ (u .2) in
       (u .0 .weight, v .0, claims-of sheet (u .0) (v .0) (u .1) (v .1))
 
-  differing-claims : (sheet : Bytes) → Differs session x sheet → (w : ℤ) × (π : Plan (x .n)) × Claims session x sheet w π
+  differing-claims : (sheet : Bytes) → Differs reply x sheet → (w : ℤ) × (π : Plan n) × Claims reply x sheet w π
   differing-claims sheet d =
       let e = differs-refused _ (sym (check-answer sheet) ∙ d) in
-      let r = read-sheet (x .n) s sheet in
-      let u = refused-later r _ 11 (never-over r (up-to-sheet (x .n) s sheet) 11 (omega arith)) e in
-      let q = plan-of (x .model) (x .n) s (u .0 .choices) in
-      let v = refused-later q _ 11 (never-over q (up-to-plan (x .model) (x .n) s (u .0 .choices)) 11 (omega arith)) (u .2) in
+      let u = refused-later (read-sheet n s sheet) _ 11 (not-eleven n s sheet) e in
+      let q = plan-of (x .model) n s (u .0 .choices) in
+      let v = refused-later q _ 11 (λ z. let w = plan-only (x .model) n s (u .0 .choices) .number z in omega arith) (u .2) in
       (u .0 .weight, v .0, claims-of sheet (u .0) (v .0) (u .1) (v .1))
 
-  claims-exact : (sheet : Bytes) → ((w : ℤ) × (π : Plan (x .n)) × Claims session x sheet w π) ↔ (((met : Bool) × Accepts session x sheet met) ⊎ Differs session x sheet)
+  claims-exact : (sheet : Bytes) → ((w : ℤ) × (π : Plan n) × Claims reply x sheet w π) ↔ (((r : Report) × Accepts reply x sheet r) ⊎ Differs reply x sheet)
   claims-exact sheet = (λ c. check-either sheet (c .0) (c .1) (c .2), ⊎-elim (λ a. accepted-claims sheet (a .0) (a .1)) (λ d. differing-claims sheet d))
 
   -- ---- judge
 
   abbrev said : Verdict
-  said = announced (x .model) s asked-for (shown (x .model) s asked-for)
+  said = announced (x .model) s g (shown (x .model) s g)
 
   verdict-is : verdict (x .model) s (x .question .root) ≡ said
   unfolding verdict
-  verdict-is = ap (verdict-by (x .model) s (sat (x .model) (x .question .root) s [])) root-goal
+  verdict-is = ap (verdict-by (x .model) s (sat (x .model) (x .question .root) s [])) (x .plan-root)
 
-  abbrev judged-by : Checked Verdict → Answer
-  judged-by c = (replied [] c (λ v. record { answer = judged v; buffer = [] })) .answer
-
-  judge-answer : (session calls judge) .answer ≡ judged said
-  unfolding yields
+  judge-answer : (reply judge) .answer ≡ judged said
   judge-answer =
-      ap (λ r. r .answer) (yielding calls judge)
-      ∙ ap judged-by (judge-is (after calls) (x .model) (x .held-model) (x .question) (x .held-question) (x .within-limits) ∙ ap ok verdict-is)
+      ap (λ r. r .answer) (yielding judge)
+      ∙ judge-yields h (x .model) (x .question) (x .held-model) (x .held-question) (x .within-limits) ∙ ap judged verdict-is
 
-  module _ (back : Reads-back) where
-    sheet-for : Plan (x .n) → Bytes
-    sheet-for π = sheet-bytes (x .n) s (W (x .model) (x .condition) (x .n) s π) (choices (x .n) π)
+  module _ (sound : Sound h) (back : (π : Plan n) → List·Memᴰ π (plans (x .model) n s) → Reads-back (x .question) g (record { weight = g .total π; choices = choices n π })) where
+    sheet-for : Plan n → Bytes
+    sheet-for π = written-bytes (x .question) g (record { weight = g .total π; choices = choices n π })
 
     -- The bytes written of a plan that meets the bound are an accepted sheet that meets it.
-    meeting : (π : Plan (x .n)) → List·Memᴰ π (plans (x .model) (x .n) s) → asked-for .met π ≡ true → Meeting-sheet session x (sheet-for π) π
-    unfolding sheet-for W
+    meeting : (π : Plan n) → List·Memᴰ π (plans (x .model) n s) → g .met π ≡ true → Meeting-sheet reply x (sheet-for π) π
+    unfolding sheet-for
     meeting π i e =
-        let c : Claims session x (sheet-for π) (pos (path-weights session x π)) π = record { reads = back .sheet calls x π i; is-plan = i } in
-        let a = check-exact (sheet-for π) (pos (path-weights session x π)) π c .1 refl in
+        let c : Claims reply x (sheet-for π) (g .total π) π = record { reads = back π i .sheet; is-plan = i } in
+        let a = check-exact (sheet-for π) (g .total π) π c .1 refl in
         record {
-          bytes = back .bytes calls x π i;
+          bytes = back π i .bytes;
           claims = c;
-          accepts = a .1 ∙ ap accepted (check-says (sheet-for π) (pos (path-weights session x π)) π c (a .0) (a .1) ∙ e);
+          report = a .0;
+          accepts = a .1;
+          reports-it = check-says (sheet-for π) (g .total π) π c (a .0) (a .1) ∙ e;
           meets-it = e;
         }
 
-    led-shown : (π : Plan (x .n)) → List·Memᴰ π (plans (x .model) (x .n) s) → asked-for .met π ≡ true → (y : ℕ × Plan (x .n)) × (shown (x .model) s asked-for ≡ some y)
-    unfolding goal
-    led-shown π i e = shown-there (x .model) s asked-for (goal-led (x .model) s (plan (x .n) (x .condition) (x .relation) (x .p) (x .q)) asked-for refl) π i e
+    led-shown : (π : Plan n) → List·Memᴰ π (plans (x .model) n s) → g .met π ≡ true → (y : ℕ × Plan n) × (shown (x .model) s g ≡ some y)
+    led-shown π i e = shown-there (x .model) s g (goal-led (x .model) s (x .question .root) g (x .plan-root)) π i e
 
-    yes-exact : Says-yes session x ↔ ((sheet : Bytes) × (π : Plan (x .n)) × Meeting-sheet session x sheet π)
-    unfolding W
+    yes-exact : Says-yes reply x ↔ ((sheet : Bytes) × (π : Plan n) × Meeting-sheet reply x sheet π)
     yes-exact = (
       λ y.
-          let u = shown-said (x .model) s asked-for (shown (x .model) s asked-for) (y .total) (x .n) (y .count) (y .chosen) (judged-same (sym judge-answer ∙ y .answers)) in
-          let h = shown-meets (x .model) s asked-for (u .0) (u .1) in
-          (sheet-for (u .0 .1), u .0 .1, meeting (u .0 .1) (h .0) (h .1)),
+          let u = shown-said (x .model) s g (shown (x .model) s g) (y .total) n (y .count) (y .chosen) (judged-same (sym judge-answer ∙ y .answers)) in
+          let k = shown-meets (x .model) s g (u .0) (u .1) in
+          (sheet-for (u .0 .1), u .0 .1, meeting (u .0 .1) (k .0) (k .1)),
       λ z.
           let u = led-shown (z .1) (z .2 .claims .is-plan) (z .2 .meets-it) in
           record {
-            total = asked-for .total (u .0 .1);
-            count = cond (asked-for .counts) (u .0 .0) 0;
-            chosen = choices (x .n) (u .0 .1);
-            answers = judge-answer ∙ ap (λ o. judged (announced (x .model) s asked-for o)) (u .1);
+            total = g .total (u .0 .1);
+            count = cond (g .counts) (u .0 .0) 0;
+            chosen = choices n (u .0 .1);
+            answers = judge-answer ∙ ap (λ o. judged (announced (x .model) s g o)) (u .1);
           },
     )
 
     -- ---- write
 
-    filled-bytes : (size : ℕ) (b : Bytes) → do-write (after calls) size ≡ ok b
-        → (y : ℕ × Plan (x .n)) × (shown (x .model) s asked-for ≡ some y) × (b ≡ sheet-for (y .1)) × (length b ≤ size)
-    unfolding sheet-for nonnegative
+    filled-bytes : (size : ℕ) (b : Bytes) → do-write h size ≡ ok b
+        → (y : ℕ × Plan n) × (shown (x .model) s g ≡ some y) × (b ≡ sheet-for (y .1)) × (length b ≤ size)
+    unfolding sheet-for
     filled-bytes size b e =
-        let u = bind-ok (held 23 ((after calls) .verdict)) _ (sym (write-is (after calls) (x .model) (x .question) (x .held-model) (x .held-question) asked-for root-goal size) ∙ e) in
-        let v = bind-ok (shown-sheet (u .0)) _ (u .2) in
-        let c : Bytes = sheet-bytes (x .n) s (nonnegative (v .0 .weight)) (v .0 .choices) in
+        let u = bind-ok (held 23 (h .verdict)) _ (sym (write-is h (x .model) (x .question) (x .held-model) (x .held-question) g (x .plan-root) size) ∙ e) in
+        let v = bind-ok (sheet-shown (u .0)) _ (u .2) in
+        let c : Bytes = written-bytes (x .question) g (v .0) in
         let w = guard-ok 12 (leb (length c) size) _ (v .2) in
-        let h : u .0 ≡ said = verdict-told (x .model) (x .question) (u .0) calls (x .held-model) (x .held-question) (held-some 23 ((after calls) .verdict) (u .1)) ∙ verdict-is in
-        let z = sheet-said (x .model) s asked-for (shown (x .model) s asked-for) (v .0) (ap shown-sheet (sym h) ∙ v .1) in (
+        let k : u .0 ≡ said = sound .verdict-is (x .model) (x .question) (u .0) (x .held-model) (x .held-question) (held-some 23 (h .verdict) (u .1)) ∙ verdict-is in
+        let z = sheet-said (x .model) s g (shown (x .model) s g) (v .0) (ap sheet-shown (sym k) ∙ v .1) in (
           z .0,
           z .1,
-          sym (ok-same (w .1)) ∙ ap (λ k. sheet-bytes (x .n) s (nonnegative (k .weight)) (k .choices)) (z .2),
+          sym (ok-same (w .1)) ∙ ap (λ k. written-bytes (x .question) g k) (z .2),
           subst (λ l. length l ≤ size) (ok-same (w .1)) (leb→le (length c) size (true→T (w .0))),
         )
 
-    writes : (a : Bytes) (filled : ℕ) (c : Checked Bytes) → do-write (after calls) (length a) ≡ c → (r : Reply)
-        → r ≡ replied a c (λ b. record { answer = written (length b); buffer = b ++ drop (length b) a })
-        → r .answer ≡ written filled → Writes-shown session x a (r .buffer) filled
-    writes a filled (ok b) e r i h =
+    writes : (a : Bytes) (filled : ℕ) (c : Checked Bytes) → do-write h (length a) ≡ c → (r : Reply)
+        → r ≡ answered a c (λ b. record { answer = written (length b); buffer = b ++ drop (length b) a })
+        → r .answer ≡ written filled → Writes-shown reply x a (r .buffer) filled
+    writes a filled (ok b) e r i k =
         let y = filled-bytes (length a) b e in
-        let l : length b ≡ filled = written-same (sym (ap (λ z. z .answer) i) ∙ h) in
-        let u = shown-meets (x .model) s asked-for (y .0) (y .1) in
+        let l : length b ≡ filled = written-same (sym (ap (λ z. z .answer) i) ∙ k) in
+        let u = shown-meets (x .model) s g (y .0) (y .1) in
         let t : take filled (r .buffer) ≡ b = ap (λ z. take filled (z .buffer)) i ∙ take-at b (drop (length b) a) filled l in
         record {
           place = y .0 .0;
@@ -308,22 +310,22 @@ module _ (session : Session) (yielding : (calls : List Call) (c : Call) → sess
           is-shown = y .1;
           size = ap (λ z. length (z .buffer)) i ∙ length-append b (drop (length b) a) ∙ omega (arith, length-drop (length b) a, y .3);
           whole = ap length t ∙ l;
-          sheet = subst (λ z. Meeting-sheet session x z (y .0 .1)) (sym (t ∙ y .2)) (meeting (y .0 .1) (u .0) (u .1));
+          sheet = subst (λ z. Meeting-sheet reply x z (y .0 .1)) (sym (t ∙ y .2)) (meeting (y .0 .1) (u .0) (u .1));
           beyond = ap (λ z. drop filled (z .buffer)) i ∙ drop-at b (drop (length b) a) filled l ∙ ap (λ n. drop n a) l;
         }
-    writes a filled (refused j) e r i h = absurd (not-written (sym (ap (λ z. z .answer) i) ∙ h))
+    writes a filled (refused j) e r i k = absurd (not-written (sym (ap (λ z. z .answer) i) ∙ k))
 
-    write-exact : (a : Bytes) (filled : ℕ) → (session calls (write a)) .answer ≡ written filled → Writes-shown session x a ((session calls (write a)) .buffer) filled
-    unfolding yields
-    write-exact a filled h = writes a filled (do-write (after calls) (length a)) refl (session calls (write a)) (yielding calls (write a)) h
+    write-exact : (a : Bytes) (filled : ℕ) → (reply (query (write a))) .answer ≡ written filled → Writes-shown reply x a ((reply (query (write a))) .buffer) filled
+    unfolding by-chain
+    write-exact a filled k = writes a filled (do-write h (length a)) refl (reply (query (write a))) (yielding (query (write a)) ∙ yields-is h (query (write a))) k
 
-pub demand-3 : (session : Session) → ((calls : List Call) (c : Call) → session calls c ≡ yields (after calls) c) → Reads-back → Demand-3-always session
-demand-3 session yielding back calls x =
-    record {
-      check-exact = check-exact session yielding x;
-      check-differs = check-differs session yielding x;
-      claims-exact = claims-exact session yielding x;
-      check-says = check-says session yielding x;
-      yes-exact = yes-exact session yielding x back;
-      write-exact = write-exact session yielding x back;
-    }
+    pub demand-3 : Demand-3 reply x
+    demand-3 =
+        record {
+          check-exact = check-exact;
+          check-differs = check-differs;
+          claims-exact = claims-exact;
+          check-says = check-says;
+          yes-exact = yes-exact;
+          write-exact = write-exact;
+        }

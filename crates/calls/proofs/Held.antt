@@ -1,7 +1,6 @@
 -- A model and a question that are held were accepted: the model promises what accepted ones do, and the question starts in one of its states.
 use Prim.Native.Nat.{_<_}
 use mathlib.Core.Path.{_≡_, sym, ap, subst, _∙_}
-use mathlib.Core.List.{List}
 use mathlib.Core.Option.{some}
 use lib.ListN.{length}
 use Rattle.logic.specs.Checked.{refusal}
@@ -12,20 +11,19 @@ use Rattle.models.proofs.Passed.{passed-all, read-passed}
 use Rattle.models.proofs.Held.{accepted}
 use Rattle.questions.specs.Layout.{Question, question-of}
 use Rattle.questions.proofs.Accepted as questions
-use Rattle.calls.specs.Calls.{Call}
-use Rattle.calls.specs.History.{after}
-use Rattle.calls.proofs.Histories.{model-told, question-told}
+use Rattle.calls.specs.Calls.{Held}
+use Rattle.calls.proofs.Histories.{Sound}
 
-module _ (calls : List Call) (m : Model) (held-model : (after calls) .model ≡ some m) where
+module _ {h : Held} (sound : Sound h) (m : Model) (held-model : h .model ≡ some m) where
   pub model-accepted : Accepted m
   model-accepted =
-      let b = model-told calls m held-model in
+      let b = sound .model-read m held-model in
       let p = passed-all (b .0) (ap refusal (b .1)) in
       subst Accepted (ok-same (sym (read-passed (b .0) p) ∙ b .1)) (accepted (b .0) p)
 
-  pub start-inside : (q : Question) → (after calls) .question ≡ some q → q .start < length (m .states)
+  pub start-inside : (q : Question) → h .question ≡ some q → q .start < length (m .states)
   unfolding question-of
   start-inside q held-question =
-      let c = question-told calls m q held-model held-question in
+      let c = sound .question-read m q held-model held-question in
       let a = questions.accepted (length (m .states)) (length (m .actions)) (m .propositions) (c .0) (ap refusal (c .1)) in
       subst (λ x. x .start < length (m .states)) (ok-same (sym (a .read) ∙ c .1)) (a .starts)

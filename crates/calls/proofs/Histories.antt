@@ -7,7 +7,7 @@ use mathlib.Core.Bool.{Bool, true, false, cond, _&&_, _||_, or-false, or-true, a
 use mathlib.Core.List.{List, [], _∷_, _++_}
 use mathlib.Core.Option.{Option, none, some}
 use Rattle.logic.specs.Lists.{any}
-use Rattle.logic.specs.Checked.{Checked, ok, refused, _>>=_, _>>_, held}
+use Rattle.logic.specs.Checked.{Checked, ok, refused, _>>=_, _>>_, held, got}
 use Rattle.logic.specs.Model.{Model}
 use Rattle.logic.specs.Verdict.{Verdict, verdict}
 use Rattle.logic.specs.Limits.{limits}
@@ -15,8 +15,9 @@ use Rattle.logic.proofs.Tests.{none≢some, some-same}
 use Rattle.models.specs.Grounds.{read-model}
 use Rattle.questions.specs.Layout.{Question}
 use Rattle.blocks.specs.Bytes.{Bytes}
-use Rattle.calls.specs.Calls.{Call, load, put, check, write, judge, Held, question-for, do-put, do-judge}
-use Rattle.calls.specs.History.{got, loaded, asked, is-judge, or-else, last-left, passed, verdict-since, held-since, held-from, after}
+use Rattle.calls.specs.Calls.{Call, load, put, judge, query, Held, question-for}
+use Rattle.calls.specs.promises.Chains.{do-put, do-judge}
+use Rattle.calls.specs.History.{loaded, asked, is-judge, or-else, last-left, passed, verdict-since, held-since, held-from, after}
 
 -- What a call leaves, or the contents as they were if it was refused.
 abbrev pub settled : {A : Type 0} → Held → Checked A → (A → Held) → Held
@@ -28,8 +29,7 @@ unfoldable pub next : Held → Call → Held
 next h (load b) = settled h (read-model b) (λ m. record { model = some m; question = none; verdict = none })
 next h (put b) = settled h (do-put h b) (λ q. record { model = h .model; question = some q; verdict = none })
 next h judge = settled h (do-judge h) (λ v. record { model = h .model; question = h .question; verdict = some v })
-next h (write a) = h
-next h (check b) = h
+next h (query c) = h
 
 -- ---- one call more
 
@@ -156,8 +156,7 @@ unfolding next loaded asked is-judge after do-put do-judge
 after-next cs (load b) = after-load cs b (read-model b) refl
 after-next cs (put b) = ap held-from (last-left-old loaded cs (put b) refl) ∙ after-put b (last-left loaded cs)
 after-next cs judge = ap held-from (last-left-old loaded cs judge refl) ∙ after-judge (last-left loaded cs)
-after-next cs (write a) = after-same (write a) refl cs refl (λ m since i. refl)
-after-next cs (check b) = after-same (check b) refl cs refl (λ m since i. refl)
+after-next cs (query c) = after-same (query c) refl cs refl (λ m since i. refl)
 
 -- ---- what is held was read, and judged
 
@@ -183,7 +182,7 @@ module _ (m : Model) (q : Question) (v : Verdict) where
   told-from (some x) e f g = told-since (x .0) (last-left (asked (x .0)) (x .1)) e f g
 
   -- A verdict that is held is that on the held question.
-  pub verdict-told : (cs : List Call) → (after cs) .model ≡ some m → (after cs) .question ≡ some q → (after cs) .verdict ≡ some v → v ≡ verdict m (q .start) (q .root)
+  verdict-told : (cs : List Call) → (after cs) .model ≡ some m → (after cs) .question ≡ some q → (after cs) .verdict ≡ some v → v ≡ verdict m (q .start) (q .root)
   unfolding after
   verdict-told cs e f g = told-from (last-left loaded cs) e f g
 
@@ -204,19 +203,17 @@ loaded-read : (c : Call) {m : Model} → loaded c ≡ some m → (b : Bytes) × 
 unfolding loaded
 loaded-read (load b) e = (b, got-some (read-model b) e)
 loaded-read (put b) e = absurd (none≢some e)
-loaded-read (check b) e = absurd (none≢some e)
-loaded-read (write a) e = absurd (none≢some e)
+loaded-read (query c) e = absurd (none≢some e)
 loaded-read judge e = absurd (none≢some e)
 
 asked-read : (n : Model) (c : Call) {q : Question} → asked n c ≡ some q → (b : Bytes) × (question-for n b ≡ ok q)
 unfolding asked
 asked-read n (load b) e = absurd (none≢some e)
 asked-read n (put b) e = (b, got-some (question-for n b) e)
-asked-read n (check b) e = absurd (none≢some e)
-asked-read n (write a) e = absurd (none≢some e)
+asked-read n (query c) e = absurd (none≢some e)
 asked-read n judge e = absurd (none≢some e)
 
-pub model-told : (cs : List Call) (m : Model) → (after cs) .model ≡ some m → (b : Bytes) × (read-model b ≡ ok m)
+model-told : (cs : List Call) (m : Model) → (after cs) .model ≡ some m → (b : Bytes) × (read-model b ≡ ok m)
 unfolding after held-from
 model-told cs m e = from (last-left loaded cs) refl e
   where
@@ -226,7 +223,7 @@ model-told cs m e = from (last-left loaded cs) refl e
         let c = last-left-some loaded cs i in
         loaded-read (c .0) (c .1 ∙ sym (held-model (x .0) (last-left (asked (x .0)) (x .1))) ∙ h)
 
-pub question-told : (cs : List Call) (m : Model) (q : Question) → (after cs) .model ≡ some m → (after cs) .question ≡ some q → (b : Bytes) × (question-for m b ≡ ok q)
+question-told : (cs : List Call) (m : Model) (q : Question) → (after cs) .model ≡ some m → (after cs) .question ≡ some q → (b : Bytes) × (question-for m b ≡ ok q)
 unfolding after held-from held-since
 question-told cs m q e f = from (last-left loaded cs) e f
   where
@@ -239,3 +236,15 @@ question-told cs m q e f = from (last-left loaded cs) e f
     from (some x) h k =
         subst (λ n. (b : Bytes) × (question-for n b ≡ ok q)) (some-same (sym (held-model (x .0) (last-left (asked (x .0)) (x .1))) ∙ h))
         (since (x .0) (x .1) (last-left (asked (x .0)) (x .1)) refl k)
+
+-- ---- what is held, whatever the list
+
+-- What a desk that calls gave back holds: a model and a question that were read from some bytes, and the verdict on them.
+pub record Sound (h : Held) : Type 0 where
+  pub model-read : (m : Model) → h .model ≡ some m → (b : Bytes) × (read-model b ≡ ok m)
+  pub question-read : (m : Model) (q : Question) → h .model ≡ some m → h .question ≡ some q → (b : Bytes) × (question-for m b ≡ ok q)
+  pub verdict-is : (m : Model) (q : Question) (v : Verdict) → h .model ≡ some m → h .question ≡ some q → h .verdict ≡ some v
+      → v ≡ verdict m (q .start) (q .root)
+
+pub sound : (cs : List Call) → Sound (after cs)
+sound cs = record { model-read = model-told cs; question-read = question-told cs; verdict-is = λ m q v. verdict-told m q v cs }

@@ -1,76 +1,107 @@
--- The number of a chain's refusal is at most k, since that of each of its tests is. So reading a sheet and its plan is never refused with 11.
-use Prim.Native.Nat.{ℕ, zero, suc, _≤_, _<_}
+-- Which numbers a refusal can have: the first of some grounds has the number of one of them; and the plan on a sheet is refused with 10 and
+-- nothing else.
+use Prim.Native.Nat.{ℕ, zero, suc}
 use native.Mathlib.Omega.{arith}
-use mathlib.Core.Path.{_≡_, ap}
-use mathlib.Core.Bool.{Bool, true, false, _&&_}
+use mathlib.Core.Path.{_≡_, refl, sym, ap, subst, _∙_}
+use mathlib.Core.Bool.{Bool, true, false, cond, _&&_}
 use mathlib.Core.List.{List, [], _∷_}
 use mathlib.Core.Option.{Option, none, some}
 use lib.Dec.{eqb}
-use Rattle.logic.specs.Checked.{Checked, ok, refused, _>>=_, _>>_, held, guard, refusal}
-use Rattle.logic.specs.Lists.{any, every, is-empty}
+use Rattle.logic.specs.Checked.{Checked, ok, refused, _>>=_, _>>_, guard}
+use Rattle.logic.specs.Lists.{all, any, is-empty}
+use Rattle.logic.specs.Grounds.{Ground, first, decided}
 use Rattle.logic.specs.Model.{Model, enabled, outcomes}
+use Rattle.logic.specs.Formula.{Formula, never, prop, neg, both, does, next, gain, plan}
+use Rattle.logic.specs.Verdict.{goal}
 use Rattle.logic.specs.Choices.{read-each, read-plan, plan-of}
-use Rattle.blocks.specs.Bytes.{Bytes}
-use Rattle.blocks.specs.Block.{block-count, whole-blocks, sums-right, headed}
-use Rattle.sheets.specs.Layout.{sheet-of}
-use Rattle.sheets.specs.Grounds.{head-right, count-right, weight-right, spare-right, read-sheet}
+use Rattle.logic.proofs.Tests.{and-both, none≢some, some-same}
 
-pub record Up-to (k : ℕ) {A : Type 0} (c : Checked A) : Type 0 where
-  pub few : refusal c ≤ k
+module _ {A : Type 0} where
+  pub refused-same : {j k : ℕ} → _≡_ {A = Checked A} (refused j) (refused k) → j ≡ k
+  refused-same e = cc
+
+  pub not-refused : {a : A} {k : ℕ} → ok a ≡ refused k → ⊥
+  not-refused e = let z : _≡_ {A = ℕ} 0 1 = cc in omega arith
+
+-- ---- the first of some grounds
+
+pub first-passes : (f : ℕ → Bool) (gs : List Ground) → all (λ g. f (g .number)) gs ≡ true → {k : ℕ} → first gs ≡ some k → f k ≡ true
+unfolding all first
+first-passes f [] a e = absurd (none≢some e)
+first-passes f (g ∷ gs) a {k} e = let w = and-both (f (g .number)) _ a in by (g .passes) (λ i. first-passes f gs (w .1) i) e
+  where
+    by : (t : Bool) → (first gs ≡ some k → f k ≡ true) → cond t (first gs) (some (g .number)) ≡ some k → f k ≡ true
+    by true h e = h e
+    by false h e = subst (λ n. f n ≡ true) (some-same e) (and-both (f (g .number)) _ a .0)
+
+module _ {A : Type 0} (a : A) where
+  -- The first ground decides.
+  pub decided-none : (gs : List Ground) → first gs ≡ none → decided gs a ≡ ok a
+  unfolding first
+  decided-none [] e = refl
+  decided-none (g ∷ gs) e = by (g .passes) (λ i. decided-none gs i) e
+    where
+      by : (t : Bool) → (first gs ≡ none → decided gs a ≡ ok a) → cond t (first gs) (some (g .number)) ≡ none → (guard (g .number) t >> decided gs a) ≡ ok a
+      by true h e = h e
+      by false h e = absurd (none≢some (sym e))
+
+  pub decided-first : (gs : List Ground) {k : ℕ} → decided gs a ≡ refused k → first gs ≡ some k
+  unfolding first
+  decided-first [] e = absurd (not-refused e)
+  decided-first (g ∷ gs) {k} e = by (g .passes) (λ i. decided-first gs i) e
+    where
+      by : (t : Bool) → (decided gs a ≡ refused k → first gs ≡ some k) → (guard (g .number) t >> decided gs a) ≡ refused k → cond t (first gs) (some (g .number)) ≡ some k
+      by true h e = h e
+      by false h e = ap some (refused-same e)
+
+-- ---- one number only
+
+pub record Only (k : ℕ) {A : Type 0} (c : Checked A) : Type 0 where
+  pub number : {j : ℕ} → c ≡ refused j → j ≡ k
 
 module _ {k : ℕ} where
-  pub value : {A : Type 0} (a : A) → Up-to k (ok a)
-  value a = record { few = omega arith }
+  only-value : {A : Type 0} (a : A) → Only k (ok a)
+  only-value a = record { number = λ e. absurd (not-refused e) }
 
-  pub number : {A : Type 0} (j : ℕ) → j ≤ k → Up-to k {A = A} (refused j)
-  number j h = record { few = h }
+  only-this : {A : Type 0} → Only k {A = A} (refused k)
+  only-this = record { number = λ e. sym (refused-same e) }
 
-  pub up-to-bind : {A B : Type 0} (c : Checked A) (f : A → Checked B) → Up-to k c → ((a : A) → Up-to k (f a)) → Up-to k (c >>= f)
-  up-to-bind (ok a) f h g = g a
-  up-to-bind (refused j) f h g = number j (h .few)
+  only-bind : {A B : Type 0} (c : Checked A) (f : A → Checked B) → Only k c → ((a : A) → Only k (f a)) → Only k (c >>= f)
+  only-bind (ok a) f h g = g a
+  only-bind (refused j) f h g = record { number = λ e. sym (refused-same e) ∙ h .number refl }
 
-  pub up-to-then : {A B : Type 0} (c : Checked A) (d : Checked B) → Up-to k c → Up-to k d → Up-to k (c >> d)
-  up-to-then (ok a) d h g = g
-  up-to-then (refused j) d h g = number j (h .few)
+  only-guard : {B : Type 0} (t : Bool) (c : Checked B) → Only k c → Only k (guard k t >> c)
+  only-guard true c h = h
+  only-guard false c h = only-this
 
-  pub up-to-guard : {B : Type 0} (j : ℕ) (t : Bool) (c : Checked B) → j ≤ k → Up-to k c → Up-to k (guard j t >> c)
-  up-to-guard j true c h g = g
-  up-to-guard j false c h g = number j h
-
-  pub up-to-held : {A : Type 0} (j : ℕ) (o : Option A) → j ≤ k → Up-to k (held j o)
-  up-to-held j none h = number j h
-  up-to-held j (some a) h = value a
-
-  pub never-over : {A : Type 0} (c : Checked A) → Up-to k c → (j : ℕ) → k < j → c ≡ refused j → ⊥
-  never-over c u j l e = omega (arith, ap refusal e, u .few, l)
-
--- ---- a sheet and its plan
-
-pub up-to-sheet : (n start : ℕ) (b : Bytes) → Up-to 10 (read-sheet n start b)
-unfolding read-sheet
-up-to-sheet n start b =
-    up-to-guard 1 (whole-blocks 1 3 b) _ (omega arith)
-    (up-to-guard 2 (sums-right b) _ (omega arith)
-    (up-to-guard 3 (every (block-count b) (λ k. headed b k 4 k)) _ (omega arith)
-    (up-to-guard 4 (every (block-count b) (head-right n start b)) _ (omega arith)
-    (up-to-guard 5 (every (block-count b) (λ k. count-right b k && weight-right b k)) _ (omega arith)
-    (up-to-guard 6 (every (block-count b) (spare-right b)) _ (omega arith) (value (sheet-of b)))))))
-
-up-to-each : {A B : Type 0} (f : A → List ℕ → Checked (B × List ℕ)) → ((x : A) (cs : List ℕ) → Up-to 10 (f x cs))
-    → (xs : List A) (cs : List ℕ) → Up-to 10 (read-each f xs cs)
+only-each : {A B : Type 0} (f : A → List ℕ → Checked (B × List ℕ)) → ((x : A) (cs : List ℕ) → Only 10 (f x cs))
+    → (xs : List A) (cs : List ℕ) → Only 10 (read-each f xs cs)
 unfolding read-each
-up-to-each f h [] cs = value _
-up-to-each f h (x ∷ xs) cs = up-to-bind (f x cs) _ (h x cs) (λ y. up-to-bind (read-each f xs (y .1)) _ (up-to-each f h xs (y .1)) (λ ys. value _))
+only-each f h [] cs = only-value _
+only-each f h (x ∷ xs) cs = only-bind (f x cs) _ (h x cs) (λ y. only-bind (read-each f xs (y .1)) _ (only-each f h xs (y .1)) (λ ys. only-value _))
 
-up-to-read : (m : Model) (n s : ℕ) (cs : List ℕ) → Up-to 10 (read-plan m n s cs)
+only-read : (m : Model) (n s : ℕ) (cs : List ℕ) → Only 10 (read-plan m n s cs)
 unfolding read-plan
-up-to-read m zero s cs = value _
-up-to-read m (suc n) s [] = number 10 (omega arith)
-up-to-read m (suc n) s (a ∷ cs) =
-    up-to-guard 10 (any (eqb a) (enabled m s)) _ (omega arith)
-    (up-to-bind (read-each (λ o. read-plan m n (o .target)) (outcomes m s a) cs) _
-    (up-to-each (λ o. read-plan m n (o .target)) (λ o ds. up-to-read m n (o .target) ds) (outcomes m s a) cs) (λ qs. value _))
+only-read m zero s cs = only-value _
+only-read m (suc n) s [] = only-this
+only-read m (suc n) s (a ∷ cs) =
+    only-guard (any (eqb a) (enabled m s)) _
+    (only-bind (read-each (λ o. read-plan m n (o .target)) (outcomes m s a) cs) _
+    (only-each (λ o. read-plan m n (o .target)) (λ o ds. only-read m n (o .target) ds) (outcomes m s a) cs) (λ qs. only-value _))
 
-pub up-to-plan : (m : Model) (n s : ℕ) (cs : List ℕ) → Up-to 10 (plan-of m n s cs)
+-- The plan on a sheet.
+pub plan-only : (m : Model) (n s : ℕ) (cs : List ℕ) → Only 10 (plan-of m n s cs)
 unfolding plan-of
-up-to-plan m n s cs = up-to-bind (read-plan m n s cs) _ (up-to-read m n s cs) (λ x. up-to-guard 10 (is-empty (x .1)) _ (omega arith) (value (x .0)))
+plan-only m n s cs = only-bind (read-plan m n s cs) _ (only-read m n s cs) (λ x. only-guard (is-empty (x .1)) _ (only-value (x .0)))
+
+-- The goal of a root.
+pub goal-only : (m : Model) (s : ℕ) (φ : Formula) → Only 22 (goal m s φ)
+unfolding goal
+goal-only m s never = only-this
+goal-only m s (prop i) = only-this
+goal-only m s (neg φ) = only-this
+goal-only m s (both φ ψ) = only-this
+goal-only m s (does a) = only-this
+goal-only m s (next φ) = only-this
+goal-only m s (gain n r p) = only-this
+goal-only m s (plan n φ r p q) = only-value _

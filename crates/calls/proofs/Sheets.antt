@@ -9,16 +9,18 @@ use mathlib.Core.Bool.{Bool, true, false, cond, _&&_, false≢true}
 use mathlib.Core.Logic.{⊎-elim}
 use mathlib.Core.List.{List, [], _∷_, flatMap, List·Memᴰ, List·Memᴰ·head, List·Memᴰ·tail, List·Memᴰ·not-nil, List·Memᴰ·cases-cons, List·Memᴰ·append-cases}
 use lib.Dec.{leb, lit<}
+use lib.IntN.{pos}
 use lib.ListN.{length, getD, length-append}
 use Rattle.logic.specs.Checked.{ok, refusal}
 use Rattle.logic.specs.Lists.{keep}
 use Rattle.logic.specs.Model.{Model, enabled, outcomes}
-use Rattle.logic.specs.Quantity.{naturals, sum}
+use Rattle.logic.specs.Quantity.{naturals, sum, Relation}
 use Rattle.logic.specs.Plan.{Plan, plans, choices, paths, weight, Match, ends, pair}
 use Rattle.logic.specs.Accepted.{Accepted}
 use Rattle.logic.specs.Order.{Is-plan}
-use Rattle.logic.specs.Formula.{Formula, never, prop, neg, both, does, next, gain, plan, sat, W}
-use Rattle.logic.proofs.Checked.{ok-same}
+use Rattle.logic.specs.Formula.{Formula, never, prop, neg, both, does, next, gain, plan, sat, W, nonnegative}
+use Rattle.logic.specs.Verdict.{Goal, goal}
+use Rattle.logic.proofs.Checked.{not-ok, ok-same}
 use Rattle.logic.proofs.Dictionary.{plans-are}
 use Rattle.logic.proofs.PathWeights.{path-weights}
 use Rattle.logic.proofs.Tests.{and-left, and-right, keep-member, counted-range, length-tabulate}
@@ -38,11 +40,13 @@ use Rattle.extension.specs.Choices.{room}
 use Rattle.extension.proofs.Laws.{room-most}
 use Rattle.sheets.proofs.ReadsBack.{reads-back}
 use Rattle.sheets.proofs.Small.{sheet-small}
-use Rattle.calls.specs.Calls.{Call}
-use Rattle.calls.specs.Demand3.{Plan-question}
-use Rattle.calls.proofs.Histories.{model-told, question-told}
+use Rattle.calls.specs.Calls.{Call, Held, Reply, yields}
+use Rattle.calls.specs.History.{after}
+use Rattle.calls.specs.Demand2.{Session}
+use Rattle.calls.specs.Demand3.{Plan-question, Demand-3, Demand-3-always}
+use Rattle.calls.proofs.Histories.{Sound, sound}
 use Rattle.calls.proofs.Held as held
-use Rattle.calls.proofs.Demand3.{Reads-back}
+use Rattle.calls.proofs.Demand3.{Reads-back, demand-3}
 
 -- ---- how many choices
 
@@ -178,13 +182,40 @@ actions-most b e =
 
 -- ---- the whole
 
-module _ {calls : List Call} (x : Plan-question calls) where
+-- What a goal asks: its root is "plan".
+pub record Asks (m : Model) (s : ℕ) (φ : Formula) (g : Goal) : Type 0 where
+  pub condition : Formula
+  pub relation : Relation
+  pub p : ℕ
+  pub q : ℕ
+  pub root : φ ≡ plan (g .steps) condition relation p q
+  pub totals : (π : Plan (g .steps)) → g .total π ≡ pos (W m condition (g .steps) s π)
+
+asks : (m : Model) (s : ℕ) (φ : Formula) (g : Goal) → goal m s φ ≡ ok g → Asks m s φ g
+unfolding goal
+asks m s never g e = absurd (not-ok e)
+asks m s (prop i) g e = absurd (not-ok e)
+asks m s (neg φ) g e = absurd (not-ok e)
+asks m s (both φ ψ) g e = absurd (not-ok e)
+asks m s (does a) g e = absurd (not-ok e)
+asks m s (next φ) g e = absurd (not-ok e)
+asks m s (gain n r p) g e = absurd (not-ok e)
+asks m s (plan n φ r p q) g e =
+    subst (Asks m s (plan n φ r p q)) (ok-same e) (record { condition = φ; relation = r; p = p; q = q; root = refl; totals = λ π. refl })
+
+module _ {h : Held} (sound-held : Sound h) (x : Plan-question h) where
   abbrev s : ℕ
   s = x .question .start
 
+  abbrev n : ℕ
+  n = x .asked .steps
+
+  asked-for : Asks (x .model) s (x .question .root) (x .asked)
+  asked-for = asks (x .model) s (x .question .root) (x .asked) (x .plan-root)
+
   -- The bytes that the held model and question were read from.
   model-bytes : (b : Bytes) × (read-model b ≡ ok (x .model))
-  model-bytes = model-told calls (x .model) (x .held-model)
+  model-bytes = sound-held .model-read (x .model) (x .held-model)
 
   abbrev b : Bytes
   b = model-bytes .0
@@ -196,7 +227,7 @@ module _ {calls : List Call} (x : Plan-question calls) where
   same-model = ok-same (sym (model-bytes .1) ∙ read-passed b (passed-all b passed))
 
   question-bytes : (c : Bytes) × (read-question (length (x .model .states)) (length (x .model .actions)) (x .model .propositions) c ≡ ok (x .question))
-  question-bytes = question-told calls (x .model) (x .question) (x .held-model) (x .held-question)
+  question-bytes = sound-held .question-read (x .model) (x .question) (x .held-model) (x .held-question)
 
   abbrev c : Bytes
   c = question-bytes .0
@@ -210,18 +241,18 @@ module _ {calls : List Call} (x : Plan-question calls) where
   last-node : node-count c - 1 < node-count c
   last-node = omega (arith, asked .some-node)
 
-  root-plan : getD (formulas-of c) (node-count c - 1) never ≡ plan (x .n) (x .condition) (x .relation) (x .p) (x .q)
+  root-plan : getD (formulas-of c) (node-count c - 1) never ≡ plan n (asked-for .condition) (asked-for .relation) (asked-for .p) (asked-for .q)
   unfolding question-of
-  root-plan = sym (ap (λ q. q .root) same-question) ∙ x .plan-root
+  root-plan = sym (ap (λ q. q .root) same-question) ∙ asked-for .root
 
-  steps-asked : (1 ≤ x .n) × (x .n ≤ 6)
+  steps-asked : (1 ≤ n) × (n ≤ 6)
   unfolding steps is-plan
   steps-asked =
       subst (λ n. (1 ≤ n) × (n ≤ 6)) (ap steps root-plan)
       (plan-steps (length (x .model .states)) (length (x .model .actions)) (x .model .propositions) c asked (node-count c - 1) last-node (ap is-plan root-plan))
 
   start-inside : s < length (x .model .states)
-  start-inside = held.start-inside calls (x .model) (x .held-model) (x .question) (x .held-question)
+  start-inside = held.start-inside sound-held (x .model) (x .held-model) (x .question) (x .held-question)
 
   outcomes-few : (t a : ℕ) → length (outcomes (x .model) t a) ≤ 4
   outcomes-few t a =
@@ -241,30 +272,35 @@ module _ {calls : List Call} (x : Plan-question calls) where
   unfolding model-of
   actions-few = subst (λ m. length (m .actions) ≤ 8) (sym same-model) (subst (λ n. n ≤ 8) (sym (length-tabulate _ (action-count b))) (actions-most b (passed-all b passed .sizes)))
 
-  module _ (π : Plan (x .n)) (i : List·Memᴰ π (plans (x .model) (x .n) s)) where
-    choices-few : length (choices (x .n) π) ≤ 1365
-    choices-few = le-trans (few-choices (x .model) outcomes-few (x .n) s π (plans-are (x .model) (x .n) s π .0 i)) (room-most (x .n) (steps-asked .1))
+  module _ (π : Plan (n)) (i : List·Memᴰ π (plans (x .model) (n) s)) where
+    choices-few : length (choices (n) π) ≤ 1365
+    choices-few = le-trans (few-choices (x .model) outcomes-few (n) s π (plans-are (x .model) (n) s π .0 i)) (room-most (n) (steps-asked .1))
 
-    choices-small : (k : ℕ) → getD (choices (x .n) π) k 0 < 256
+    choices-small : (k : ℕ) → getD (choices (n) π) k 0 < 256
     choices-small =
-        small-at (choices (x .n) π)
-        (λ c j. let h = choice-action (x .model) (x .n) s π (plans-are (x .model) (x .n) s π .0 i) j in omega (arith, actions-few, h))
+        small-at (choices (n) π)
+        (λ c j. let h = choice-action (x .model) (n) s π (plans-are (x .model) (n) s π .0 i) j in omega (arith, actions-few, h))
 
-    weight-few : W (x .model) (x .condition) (x .n) s π < 18446744073709551616
+    weight-few : W (x .model) (asked-for .condition) (n) s π < 18446744073709551616
     unfolding W
     weight-few =
-        let k = kept-less weight (sat (x .model) (x .condition) s) (paths (x .model) (x .n) s π) in
-        let e = path-weights (x .model) (subst Accepted (sym same-model) (accepted b (passed-all b passed))) (x .n) s start-inside π i in
-        let d : x .model .denominator ^ x .n ≤ 100 ^ 6 = le-trans (pow-le-pow-left denominator-few (x .n)) (pow-le-pow-right (lit< tt) (steps-asked .1)) in
+        let k = kept-less weight (sat (x .model) (asked-for .condition) s) (paths (x .model) (n) s π) in
+        let e = path-weights (x .model) (subst Accepted (sym same-model) (accepted b (passed-all b passed))) (n) s start-inside π i in
+        let d : x .model .denominator ^ n ≤ 100 ^ 6 = le-trans (pow-le-pow-left denominator-few (n)) (pow-le-pow-right (lit< tt) (steps-asked .1)) in
         lt-of-le-of-lt (le-trans k (subst (λ z. z ≤ 100 ^ 6) (sym e) d)) (lit< tt)
 
-pub sheets-read-back : Reads-back
-sheets-read-back =
-    record {
-      sheet = λ calls x π i.
-          reads-back (x .n) (x .question .start) (W (x .model) (x .condition) (x .n) (x .question .start) π) (choices (x .n) π)
-          (weight-few x π i) (some-choice (x .n) π (steps-asked x .0)) (choices-few x π i);
-      bytes = λ calls x π i.
-          sheet-small (x .n) (x .question .start) (W (x .model) (x .condition) (x .n) (x .question .start) π) (choices (x .n) π)
-          (omega (arith, steps-asked x .1)) (start-few x) (choices-few x π i) (record { below = choices-small x π i }) .below;
-    }
+    reads-whole : Reads-back (x .question) (x .asked) (record { weight = x .asked .total π; choices = choices n π })
+    unfolding nonnegative
+    reads-whole =
+        let w : ℕ = W (x .model) (asked-for .condition) n s π in
+        subst (λ z. Reads-back (x .question) (x .asked) (record { weight = z; choices = choices n π })) (sym (asked-for .totals π))
+        (record {
+          sheet = reads-back n s w (choices n π) weight-few (some-choice n π (steps-asked .0)) choices-few;
+          bytes = sheet-small n s w (choices n π) (omega (arith, steps-asked .1)) start-few choices-few (record { below = choices-small }) .below;
+        })
+
+  pub demand-3-held : (reply : Call → Reply) → ((c : Call) → reply c ≡ yields h c) → Demand-3 reply x
+  demand-3-held reply yielding = demand-3 reply yielding x sound-held reads-whole
+
+pub demand-3-always : (session : Session) → ((calls : List Call) (c : Call) → session calls c ≡ yields (after calls) c) → Demand-3-always session
+demand-3-always session yielding calls x = demand-3-held (sound calls) x (session calls) (yielding calls)

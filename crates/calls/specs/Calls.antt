@@ -1,30 +1,46 @@
--- The five calls, and what each yields by what the desk holds. Document 01, "The desk" and "Refused because of the state". The desk is
--- document 01's word for the judge's state.
+-- The five calls, and what each yields by what the desk holds. Document 01, "The desk", "Refused because of the input" and "Refused because
+-- of the state". The desk is document 01's word for the judge's state.
 use Prim.Native.Nat.{ℕ}
 use mathlib.Core.Bool.{Bool, _&&_}
-use mathlib.Core.List.{[], _++_}
-use mathlib.Core.Option.{Option}
+use mathlib.Core.List.{List, [], _∷_, _++_}
+use mathlib.Core.Option.{Option, none, some}
 use lib.Dec.{leb}
 use lib.IntN.{ℤ}
 use lib.ListN.{length, drop}
 use lib.Signed.{leZ}
-use Rattle.logic.specs.Checked.{Checked, ok, refused, _>>=_, _>>_, held, guard}
+use Rattle.logic.specs.Checked.{Checked, ok, refused, got}
+use Rattle.logic.specs.Grounds.{Ground, _unless_}
 use Rattle.logic.specs.Model.{Model}
+use Rattle.logic.specs.Plan.{Plan}
 use Rattle.logic.specs.Formula.{nonnegative}
-use Rattle.logic.specs.Verdict.{goal, Verdict, no, yes, yes-plan, verdict}
-use Rattle.logic.specs.Limits.{limits}
+use Rattle.logic.specs.Verdict.{Goal, goal, Verdict, no, yes, yes-plan, verdict}
+use Rattle.logic.specs.Limits.{limit-grounds}
 use Rattle.logic.specs.Choices.{plan-of}
 use Rattle.blocks.specs.Bytes.{Bytes}
-use Rattle.models.specs.Grounds.{read-model}
+use Rattle.models.specs.Grounds.{model-grounds}
 use Rattle.questions.specs.Layout.{Question}
-use Rattle.questions.specs.Grounds.{read-question}
-use Rattle.sheets.specs.Layout.{Sheet, sheet-bytes}
-use Rattle.sheets.specs.Grounds.{read-sheet}
+use Rattle.questions.specs.Grounds.{question-grounds, read-question}
+use Rattle.sheets.specs.Layout.{Sheet, sheet-of, sheet-bytes}
+use Rattle.sheets.specs.Grounds.{sheet-grounds}
+use Rattle.calls.specs.Tested.{Tested, value, _>>=_, _>>_, found, tests, run}
 
--- Each call with its input, or with the contents of the lent buffer.
+-- A query leaves the desk as it is: write with the contents of the lent buffer, check with a sheet.
+pub data Query : Type 0 where
+  write check : Bytes → Query
+
+-- Each call with its input.
 pub data Call : Type 0 where
-  load put check write : Bytes → Call
+  load put : Bytes → Call
   judge : Call
+  query : Query → Call
+
+-- The lent buffer as it is found; nothing for calls that are lent none.
+unfoldable pub lent : Call → Bytes
+lent (load b) = []
+lent (put b) = []
+lent judge = []
+lent (query (write a)) = a
+lent (query (check b)) = []
 
 -- What the desk holds.
 pub record Held : Type 0 where
@@ -32,82 +48,91 @@ pub record Held : Type 0 where
   pub question : Option Question
   pub verdict : Option Verdict
 
+-- What check reports of a sheet that it accepts: whether the sheet's weight meets the bound.
+pub record Report : Type 0 where
+  pub met : Bool
+
 pub data Answer : Type 0 where
   done : Answer
   judged : Verdict → Answer
   written : (bytes : ℕ) → Answer
-  accepted : (met : Bool) → Answer
+  accepted : Report → Answer
   refuse : (number : ℕ) → Answer
 
--- A call's answer, and the lent buffer after it (empty for calls that are lent none).
+-- A call's answer, and the lent buffer after it.
 pub record Reply : Type 0 where
   pub answer : Answer
   pub buffer : Bytes
 
--- ---- the grounds of each call, in their order, and what it gives if none applies
+abbrev pub says : Answer → Reply
+says a = record { answer = a; buffer = [] }
 
 -- A question is read for the model's numbers of states, actions and propositions.
 abbrev pub question-for : Model → Bytes → Checked Question
 question-for m b = read-question (length (m .states)) (length (m .actions)) (m .propositions) b
 
-unfoldable pub do-put : Held → Bytes → Checked Question
-do-put h b = do
-  m ← held 20 (h .model)
-  question-for m b
+-- The sheet of the shown plan: none if not judged, or judged no.
+unfoldable pub shown-sheet : Option Verdict → Option Sheet
+shown-sheet none = none
+shown-sheet (some (no k)) = none
+shown-sheet (some yes) = none
+shown-sheet (some (yes-plan w n k cs)) = some (record { weight = w; choices = cs })
 
-unfoldable pub do-judge : Held → Checked Verdict
-do-judge h = do
-  m ← held 20 (h .model)
-  q ← held 21 (h .question)
-  limits m (q .nodes)
-  ok (verdict m (q .start) (q .root))
-
--- The shown plan's sheet, or ground 23: judged no.
-unfoldable pub shown-sheet : Verdict → Checked Sheet
-shown-sheet (no k) = refused 23
-shown-sheet yes = refused 23
-shown-sheet (yes-plan w n k cs) = ok (record { weight = w; choices = cs })
-
--- The bytes to write into a buffer of this size.
-unfoldable pub do-write : Held → ℕ → Checked Bytes
-do-write h size = do
-  m ← held 20 (h .model)
-  q ← held 21 (h .question)
-  g ← goal m (q .start) (q .root)
-  v ← held 23 (h .verdict)
-  x ← shown-sheet v
-  guard 12 (leb (length (sheet-bytes (g .steps) (q .start) (nonnegative (x .weight)) (x .choices))) size)
-  ok (sheet-bytes (g .steps) (q .start) (nonnegative (x .weight)) (x .choices))
+-- The bytes that are written of it.
+abbrev pub written-bytes : Question → Goal → Sheet → Bytes
+written-bytes q g x = sheet-bytes (g .steps) (q .start) (nonnegative (x .weight)) (x .choices)
 
 unfoldable pub same : ℤ → ℤ → Bool
 same a b = leZ a b && leZ b a
 
--- What check does with a sheet where a model and a question are held: whether its total meets the bound.
-unfoldable pub check-on : Model → Question → Bytes → Checked Bool
-check-on m q b = do
-  g ← goal m (q .start) (q .root)
-  limits m (q .nodes)
-  x ← read-sheet (g .steps) (q .start) b
-  π ← plan-of m (g .steps) (q .start) (x .choices)
-  guard 11 (same (x .weight) (g .total π))
-  ok (g .met π)
+-- ---- each call: its grounds, in their order, and what it yields if none applies
 
-unfoldable pub do-check : Held → Bytes → Checked Bool
-do-check h b = do
-  m ← held 20 (h .model)
-  q ← held 21 (h .question)
-  check-on m q b
+-- The plan on a sheet that is accepted for a goal.
+unfoldable pub accepted-plan : Model → Question → (g : Goal) → Bytes → Tested (Plan (g .steps))
+accepted-plan m q g b = do
+  tests (sheet-grounds (g .steps) (q .start) b)
+  π ← found 10 (got (plan-of m (g .steps) (q .start) ((sheet-of b) .choices)))
+  tests (11 unless same ((sheet-of b) .weight) (g .total π) ∷ [])
+  value π
+
+-- What is reported of it.
+abbrev pub reported : (g : Goal) → Plan (g .steps) → Report
+reported g π = record { met = g .met π }
+
+unfoldable pub described : Held → Call → Tested Reply
+described h (load b) = do
+  tests (model-grounds b)
+  value (says done)
+described h (put b) = do
+  m ← found 20 (h .model)
+  tests (question-grounds (length (m .states)) (length (m .actions)) (m .propositions) b)
+  value (says done)
+described h judge = do
+  m ← found 20 (h .model)
+  q ← found 21 (h .question)
+  tests (limit-grounds m (q .nodes))
+  value (says (judged (verdict m (q .start) (q .root))))
+described h (query (write a)) = do
+  m ← found 20 (h .model)
+  q ← found 21 (h .question)
+  g ← found 22 (got (goal m (q .start) (q .root)))
+  x ← found 23 (shown-sheet (h .verdict))
+  tests (12 unless leb (length (written-bytes q g x)) (length a) ∷ [])
+  value (record { answer = written (length (written-bytes q g x)); buffer = written-bytes q g x ++ drop (length (written-bytes q g x)) a })
+described h (query (check b)) = do
+  m ← found 20 (h .model)
+  q ← found 21 (h .question)
+  g ← found 22 (got (goal m (q .start) (q .root)))
+  tests (limit-grounds m (q .nodes))
+  π ← accepted-plan m q g b
+  value (says (accepted (reported g π)))
 
 -- ---- what each call yields
 
--- The reply to a call that was refused, and to one that was not.
-abbrev pub replied : {A : Type 0} → Bytes → Checked A → (A → Reply) → Reply
-replied a (ok x) f = f x
-replied a (refused k) f = record { answer = refuse k; buffer = a }
+-- The reply to a call that is not refused, and to one that is: the lent buffer is as it was found.
+abbrev pub replied : Bytes → Checked Reply → Reply
+replied a (ok r) = r
+replied a (refused k) = record { answer = refuse k; buffer = a }
 
 unfoldable pub yields : Held → Call → Reply
-yields h (load b) = replied [] (read-model b) (λ m. record { answer = done; buffer = [] })
-yields h (put b) = replied [] (do-put h b) (λ q. record { answer = done; buffer = [] })
-yields h judge = replied [] (do-judge h) (λ v. record { answer = judged v; buffer = [] })
-yields h (write a) = replied a (do-write h (length a)) (λ b. record { answer = written (length b); buffer = b ++ drop (length b) a })
-yields h (check b) = replied [] (do-check h b) (λ met. record { answer = accepted met; buffer = [] })
+yields h c = replied (lent c) (run (described h c))

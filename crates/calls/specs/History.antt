@@ -4,40 +4,32 @@ use mathlib.Core.Bool.{Bool, true, false, cond, _&&_}
 use mathlib.Core.List.{List, [], _∷_}
 use mathlib.Core.Option.{Option, none, some}
 use Rattle.logic.specs.Lists.{any}
-use Rattle.logic.specs.Checked.{Checked, ok, refused}
+use Rattle.logic.specs.Checked.{Checked, ok, refused, got}
 use Rattle.logic.specs.Model.{Model}
 use Rattle.logic.specs.Verdict.{Verdict, verdict}
 use Rattle.logic.specs.Limits.{limits}
 use Rattle.models.specs.Grounds.{read-model}
 use Rattle.questions.specs.Layout.{Question}
-use Rattle.calls.specs.Calls.{Call, load, put, check, write, judge, Held, question-for}
-
--- What was read, if it was not refused.
-unfoldable pub got : {A : Type 0} → Checked A → Option A
-got (ok a) = some a
-got (refused k) = none
+use Rattle.calls.specs.Calls.{Call, load, put, judge, query, Held, question-for}
 
 -- What a call that is done leaves on the desk: a load its model, a put its question.
 unfoldable pub loaded : Call → Option Model
 loaded (load b) = got (read-model b)
 loaded (put b) = none
-loaded (check b) = none
-loaded (write a) = none
+loaded (query c) = none
 loaded judge = none
 
 unfoldable pub asked : Model → Call → Option Question
 asked m (put b) = got (question-for m b)
 asked m (load b) = none
-asked m (check b) = none
-asked m (write a) = none
+asked m (query c) = none
 asked m judge = none
 
 unfoldable pub is-judge : Call → Bool
 is-judge judge = true
 is-judge (load b) = false
 is-judge (put b) = false
-is-judge (check b) = false
-is-judge (write a) = false
+is-judge (query c) = false
 
 -- The last call of a list that leaves something, with the calls since: a later one counts before this one.
 unfoldable pub or-else : {A : Type 0} → Option (A × List Call) → Option A → List Call → Option (A × List Call)

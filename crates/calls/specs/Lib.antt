@@ -1,4 +1,8 @@
+pub mod Tested
 pub mod Calls
 pub mod History
-pub mod Demand3
+pub mod Replies
+pub mod Demand1
 pub mod Demand2
+pub mod Demand3
+pub mod promises
