@@ -43,7 +43,7 @@ use Rattle.questions.proofs.Laws.{by-operator}
 use Rattle.questions.proofs.Accepted as questions
 use Rattle.limits.specs.Totals.{fits}
 use Rattle.limits.specs.Totals as totals
-use Rattle.limits.proofs.Nodes.{nodes-all}
+use Rattle.limits.proofs.Nodes.{nodes-all, done}
 use Rattle.evaluation.specs.Reached.{formula}
 use Rattle.bounds.specs.Bounded.{Bounded, meets-at}
 use Rattle.tables.specs.Need.{Given}
@@ -351,10 +351,10 @@ module _ {m q : Bytes} {used counts depths : List ℕ} (asked : Asked m q used c
   within-limits : every-plan (fits true (model-of m)) (model-of m) (formulas-of q) ≡ true
   unfolding limits fits
   within-limits =
-      let a = guard-passed 23 (every-plan (fits false (model-of m)) (model-of m) (formulas-of q)) (guard 25 (every-plan (fits true (model-of m)) (model-of m) (formulas-of q))) (asked .within) in
+      let a = guard-passed 23 (every-plan (fits false (model-of m)) (model-of m) (formulas-of q)) (done (every-plan (fits true (model-of m)) (model-of m) (formulas-of q))) (asked .within) in
       guarded (every-plan (fits true (model-of m)) (model-of m) (formulas-of q)) (a .1)
     where
-      guarded : (t : Bool) → refusal (guard 25 t) ≡ 0 → t ≡ true
+      guarded : (t : Bool) → refusal (done t) ≡ 0 → t ≡ true
       guarded true f = refl
       guarded false f = absurd (omega arith)
 

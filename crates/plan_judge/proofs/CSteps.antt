@@ -4,12 +4,12 @@ use Prim.Native.Nat.{ℕ, _+_, _≤_}
 use native.Mathlib.Omega.{arith}
 use mathlib.Core.Path.{_≡_, refl, sym, ap, ap₂, subst, _∙_}
 use mathlib.Core.Bool.{Bool, true, false}
-use mathlib.Core.List.{List, []}
+use mathlib.Core.List.{List, [], _++_}
 use mathlib.Core.Option.{Option, none, some}
 use lib.Dec.{leb}
 use lib.IntN.{ℤ}
-use lib.ListN.{length}
-use Rattle.logic.specs.Checked.{Checked, ok, refused, _>>=_, _>>_, held, guard, refusal}
+use lib.ListN.{length, drop}
+use Rattle.logic.specs.Checked.{Checked, ok, refused, _>>=_, _>>_, held, guard}
 use Rattle.logic.specs.Model.{Model}
 use Rattle.logic.specs.Plan.{Plan}
 use Rattle.logic.specs.Formula.{Formula, nonnegative, sat}
@@ -21,7 +21,8 @@ use Rattle.blocks.specs.Bytes.{Bytes}
 use Rattle.models.specs.Grounds.{read-model}
 use Rattle.questions.specs.Layout.{Question}
 use Rattle.sheets.specs.Layout.{sheet-bytes}
-use Rattle.calls.specs.Calls.{Held, question-for, do-put, do-judge, do-write, shown-sheet}
+use Rattle.calls.specs.Calls.{load, put, judge, query, write, Held, done, judged, written, says, question-for}
+use Rattle.calls.specs.promises.Chains.{do-put, do-judge, do-write, sheet-shown, answered, by-chain}
 use Rattle.plan_judge.specs.declared.Desk.{Desk}
 use Rattle.plan_judge.specs.declared.Taking.{Taking}
 use Rattle.plan_judge.specs.declared.Taken.the-variants.{Done, Refused}
@@ -35,10 +36,10 @@ use Rattle.plan_judge.specs.declared.Written.{Written}
 use Rattle.plan_judge.specs.declared.Written.the-variants.{Bytes as Filled}
 use Rattle.plan_judge.specs.View.{view}
 use Rattle.plan_judge.specs.Values.{taking, holding, loaded-by, asking, put-by, verdict-code, settling, judging, judged-by, writing, written-by, filling, filled-by}
-use Rattle.plan_judge.specs.CCall.{Told, told-of, told-on, c-call, Tells}
+use Rattle.plan_judge.specs.CChain.{Told, told-of, told-on, c-chain, Tells}
 use Rattle.plan_judge.specs.CSteps.{told-put, told-judge, told-write}
 use Rattle.plan_judge.proofs.Kept.{view-holding, view-asking, view-settling}
-use Rattle.plan_judge.proofs.Listed.{listed-model, listed-put, listed-judge, listed-write}
+use Rattle.plan_judge.proofs.Listed.{few}
 
 -- ---- load and put, by their answers
 
@@ -70,17 +71,18 @@ module _ (d : Desk) (model : Bytes) (r : Taking) (i : r ≡ loaded-by d model) w
   load-refused k a = taken-refused d (holding model) (read-model model) r i k a
 
   pub load-few : (k : ℕ) → r .answer ≡ Refused k → k ≤ 25
-  load-few k a = subst (λ c. refusal c ≤ 25) (load-refused k a) ((listed-model model) .few)
+  unfolding by-chain
+  load-few k a = few (view d) (load model) k (ap (λ c. (answered [] c (λ m. says done)) .answer) (load-refused k a))
 
-  pub load-tells : (k : ℕ) → r .answer ≡ Refused k → (question found : Bytes) → Tells (c-call model question (length found)) found found (100 + k)
-  unfolding c-call
+  pub load-tells : (k : ℕ) → r .answer ≡ Refused k → (question found : Bytes) → Tells (c-chain model question (length found)) found found (100 + k)
+  unfolding c-chain
   load-tells k a question found =
       told-same (sym (ap (λ c. c >>= (λ m. question-for m question >>= told-on (length found) m)) (load-refused k a))) (record { number = refl; buffer = refl })
 
   pub loaded-tells : r .answer ≡ Done → (question found left : Bytes) (n : ℕ)
       → Tells (told-put (view (r .desk)) question (length found)) found left n
-      → Tells (c-call model question (length found)) found left n
-  unfolding loaded-by c-call told-put
+      → Tells (c-chain model question (length found)) found left n
+  unfolding loaded-by c-chain told-put
   loaded-tells a question found left n t =
       let x = taken-done d (holding model) (read-model model) r i a in
       told-same
@@ -94,7 +96,8 @@ module _ (d : Desk) (question : Bytes) (r : Taking) (i : r ≡ put-by d question
   put-refused k a = taken-refused d (asking d question) (do-put (view d) question) r i k a
 
   pub put-few : (k : ℕ) → r .answer ≡ Refused k → k ≤ 25
-  put-few k a = subst (λ c. refusal c ≤ 25) (put-refused k a) ((listed-put (view d) question) .few)
+  unfolding by-chain
+  put-few k a = few (view d) (put question) k (ap (λ c. (answered [] c (λ q. says done)) .answer) (put-refused k a))
 
   pub put-tells : (k : ℕ) → r .answer ≡ Refused k → (found : Bytes) → Tells (told-put (view d) question (length found)) found found (100 + k)
   unfolding told-put do-put
@@ -149,12 +152,19 @@ module _ (size : ℕ) (m : Model) (q : Question) (w : ℤ) (n k : ℕ) (cs : Lis
   told-plan : (g : Goal) → goal m (q .start) (q .root) ≡ ok g → g .steps ≡ n
       → told-write (record { model = some m; question = some q; verdict = some (logic.yes-plan w n k cs) }) size
       ≡ told-of (q .start) size (logic.yes-plan w n k cs)
-  unfolding told-write do-write shown-sheet told-of
+  unfolding told-write do-write sheet-shown told-of
   told-plan g i j = ap (λ c. c >>= (λ g. fitted (g .steps)) >>= yes-with) i ∙ ap (λ s. fitted s >>= yes-with) j ∙ by (leb (length (sheet n)) size)
     where
       by : (t : Bool) → (guard 12 t >> ok (sheet n) >>= yes-with) ≡ (guard 12 t >> yes-with (sheet n))
       by true = refl
       by false = refl
+
+-- A shown plan, held with its question, is written as it is told.
+pub shown-written : (m : Model) (q : Question) (size : ℕ) (w : ℤ) (n k : ℕ) (cs : List ℕ) → logic.yes-plan w n k cs ≡ verdict m (q .start) (q .root)
+    → told-write (record { model = some m; question = some q; verdict = some (logic.yes-plan w n k cs) }) size ≡ told-of (q .start) size (logic.yes-plan w n k cs)
+shown-written m q size w n k cs e =
+    let g = verdict-goal m (q .start) (q .root) w n k cs e in
+    told-plan size m q w n k cs (g .0) (g .1) (g .2)
 
 -- What a verdict is told as, from what is held.
 module _ (h : Held) (size : ℕ) (v : logic.Verdict) (e : do-judge h ≡ ok v) where
@@ -197,10 +207,9 @@ module _ (h : Held) (size : ℕ) (v : logic.Verdict) (e : do-judge h ≡ ok v) w
       → told-write (record { model = h .model; question = h .question; verdict = some v }) size ≡ told-judge h size
   told-written w n k cs i =
       let j = judged-from in
-      let g = verdict-goal (j .model) (j .question .start) (j .question .root) w n k cs (sym i ∙ j .said) in
       ap₂ (λ o p. told-write (record { model = o; question = p; verdict = some v }) size) (j .held-model) (j .held-question)
       ∙ ap (λ l. told-write (record { model = some (j .model); question = some (j .question); verdict = some l }) size) i
-      ∙ told-plan size (j .model) (j .question) w n k cs (g .0) (g .1) (g .2)
+      ∙ shown-written (j .model) (j .question) size w n k cs (sym i ∙ j .said)
       ∙ sym (j .told ∙ ap (told-of (j .question .start) size) i)
 
 told-refused : (h : Held) (size k : ℕ) → do-judge h ≡ refused k → told-judge h size ≡ refused k
@@ -228,7 +237,8 @@ module _ (d : Desk) (r : Judging) (i : r ≡ judged-by d) where
       by (refused j) z = let y : j ≡ k = cc in ap refused y
 
   pub judge-few : (k : ℕ) → r .answer ≡ Judgement.Refused k → k ≤ 25
-  judge-few k a = subst (λ c. refusal c ≤ 25) (judge-refused k a) ((listed-judge (view d)) .few)
+  unfolding by-chain
+  judge-few k a = few (view d) judge k (ap (λ c. (answered [] c (λ v. says (judged v))) .answer) (judge-refused k a))
 
   pub judge-tells : (k : ℕ) → r .answer ≡ Judgement.Refused k → (found : Bytes) → Tells (told-judge (view d) (length found)) found found (100 + k)
   judge-tells k a found = told-same (sym (told-refused (view d) (length found) k (judge-refused k a))) (record { number = refl; buffer = refl })
@@ -294,7 +304,8 @@ module _ (d : Desk) (found left : Bytes) (r : Written) (i : r ≡ written-by d (
       by (refused l) z = let y : l ≡ k = cc in ap refused y
 
   pub write-few : (k : ℕ) → r ≡ Written.Refused k → k ≤ 25
-  write-few k a = subst (λ c. refusal c ≤ 25) (write-refused k a) ((listed-write (view d) (length found)) .few)
+  unfolding by-chain
+  write-few k a = few (view d) (query (write found)) k (ap (λ c. (answered found c (λ b. record { answer = written (length b); buffer = b ++ drop (length b) found })) .answer) (write-refused k a))
 
   pub write-tells : (k : ℕ) → r ≡ Written.Refused k → Tells (told-write (view d) (length found)) found left (100 + k)
   unfolding told-write filled-by

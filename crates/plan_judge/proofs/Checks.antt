@@ -24,7 +24,8 @@ use Rattle.sheets.specs.Layout.{Sheet, weight-of, sheet-of}
 use Rattle.sheets.specs.Grounds.{read-sheet}
 use Rattle.sheets.specs.Reader.{Blocks, Gathered}
 use Rattle.sheets.proofs.Laws.{sheet-passed}
-use Rattle.calls.specs.Calls.{same, check-on, do-check}
+use Rattle.calls.specs.Calls.{Report, same, reported}
+use Rattle.calls.specs.promises.Chains.{check-on, do-check}
 use Rattle.bounds.specs.Bounded.{Bounded, meets-at}
 use Rattle.weighing.proofs.Plans.{plan-there, weight-most}
 use Rattle.judging.specs.Asked.{Served}
@@ -73,15 +74,15 @@ module _ (M : Model) (n s : ℕ) (b : Bytes) where
 
 -- ---- each return
 
-refused-by : (c : Checked Bool) (k : ℕ) → k ≡ refusal c → (k ≡ 0 → ⊥) → Refused k ≡ checking c
+refused-by : (c : Checked Report) (k : ℕ) → k ≡ refusal c → (k ≡ 0 → ⊥) → Refused k ≡ checking c
 refused-by (ok t) k i h = absurd (h i)
 refused-by (refused j) k i h = ap Refused i
 
 -- What check does with a goal.
-abbrev check-for : Bytes → Model → Question → Goal → Checked Bool
+abbrev check-for : Bytes → Model → Question → Goal → Checked Report
 check-for b m q g =
     limits m (q .nodes)
-    >> (read-sheet (g .steps) (q .start) b >>= (λ x. plan-of m (g .steps) (q .start) (x .choices) >>= (λ π. guard 11 (same (x .weight) (g .total π)) >> ok (g .met π))))
+    >> (read-sheet (g .steps) (q .start) b >>= (λ x. plan-of m (g .steps) (q .start) (x .choices) >>= (λ π. guard 11 (same (x .weight) (g .total π)) >> ok (reported g π))))
 
 same-weight : (a b : ℕ) → a ≡ b → same (pos a) (pos b) ≡ true
 unfolding same
@@ -118,8 +119,8 @@ module _ (m q : Bytes) (r : PlanRoot m q) (b : Bytes) where
   s = start-of q
 
   -- What check does with the plan on a sheet that claims a weight.
-  abbrev weighed : ℤ → Plan n → Checked Bool
-  weighed w π = guard 11 (same w (pos (W M (condition q) n s π))) >> ok (meets-at m q (node-count q - 1) (W M (condition q) n s π))
+  abbrev weighed : ℤ → Plan n → Checked Report
+  weighed w π = guard 11 (same w (pos (W M (condition q) n s π))) >> ok (record { met = meets-at m q (node-count q - 1) (W M (condition q) n s π) })
 
   check-is : check-on M (question-of q) b ≡ check-for b M (question-of q) (asked-goal m q)
   unfolding check-on
@@ -165,20 +166,20 @@ module _ (m q : Bytes) (r : PlanRoot m q) (b : Bytes) where
           let l : w ≤ denominator-of m ^ n = omega (arith, weight-is, weight-most m (r .passed) (condition q) n s (accepted _ _ _ q (r .asked) .starts) (sheet-of b .choices) (o .plan) (o .read)) in
           subst (λ k. w ≤ denominator-of m ^ (node-of q k .n)) (sym i) l
 
-      past-sheet : check-on M (question-of q) b ≡ (guard 11 (same (pos (weight-of b 0)) (pos w)) >> ok (meets-at m q (node-count q - 1) w))
+      past-sheet : check-on M (question-of q) b ≡ (guard 11 (same (pos (weight-of b 0)) (pos w)) >> ok (record { met = meets-at m q (node-count q - 1) w }))
       unfolding sheet-of
       past-sheet =
           past-limits
           ∙ ap (λ c. c >>= (λ x. plan-of M n s (x .choices) >>= weighed (x .weight))) (o .sheet)
           ∙ ap (λ c. c >>= weighed (pos (weight-of b 0))) (o .read)
-          ∙ ap (λ z. guard 11 (same (pos (weight-of b 0)) (pos z)) >> ok (meets-at m q (node-count q - 1) z)) (sym weight-is)
+          ∙ ap (λ z. guard 11 (same (pos (weight-of b 0)) (pos z)) >> ok (record { met = meets-at m q (node-count q - 1) z })) (sym weight-is)
 
       pub check-weight : (weight-of b 0 ≡ w → ⊥) → Refused 11 ≡ checking (check-on M (question-of q) b)
       check-weight h =
           refused-by (check-on M (question-of q) b) 11
-          (sym (ap refusal (past-sheet ∙ ap (λ t. guard 11 t >> ok (meets-at m q (node-count q - 1) w)) (other-weight (weight-of b 0) w h))))
+          (sym (ap refusal (past-sheet ∙ ap (λ t. guard 11 t >> ok (record { met = meets-at m q (node-count q - 1) w })) (other-weight (weight-of b 0) w h))))
           (λ z. omega arith)
 
       pub check-met : weight-of b 0 ≡ w → (t : Bool) → t ≡ meets-at m q (node-count q - 1) w → Accepted t ≡ checking (check-on M (question-of q) b)
       check-met h t j =
-          ap Accepted j ∙ sym (ap checking (past-sheet ∙ ap (λ t. guard 11 t >> ok (meets-at m q (node-count q - 1) w)) (same-weight (weight-of b 0) w h)))
+          ap Accepted j ∙ sym (ap checking (past-sheet ∙ ap (λ t. guard 11 t >> ok (record { met = meets-at m q (node-count q - 1) w })) (same-weight (weight-of b 0) w h)))

@@ -2,16 +2,16 @@
 -- `calls`, specs/Demand3.antt) is document 00's third demand of a session, sentence by sentence. Here it is claimed of the replies that
 -- the functions' own contracts give (`Of-the-code`, in `Ran`), which are the described ones (`EveryList`).
 use mathlib.Core.Path.{sym, _∙_}
-use Rattle.calls.specs.Demand3.{Session, Demand-3-always}
-use Rattle.calls.proofs.Demand3.{demand-3}
-use Rattle.calls.proofs.Sheets.{sheets-read-back}
-use Rattle.plan_judge.specs.Session.{session}
+use Rattle.calls.specs.Demand2.{Session}
+use Rattle.calls.specs.Demand3.{Demand-3-always}
+use Rattle.calls.proofs.Sheets.{demand-3-always}
+use Rattle.plan_judge.specs.promises.Session.{session}
 use Rattle.plan_judge.proofs.Kept.{session-yields}
-use Rattle.plan_judge.proofs.Ran.{Of-the-code}
+use Rattle.plan_judge.proofs.Claims.Ran.{Of-the-code}
 use Rattle.plan_judge.proofs.EveryList.{every-answer, code-yields}
 
 pub demand-3-of-the-code : (session : Session) → Of-the-code session → Demand-3-always session
-demand-3-of-the-code session h = demand-3 session (code-yields session h) sheets-read-back
+demand-3-of-the-code session h = demand-3-always session (code-yields session h)
 
 -- There is such a session.
 pub session-of-the-code : Of-the-code session

@@ -4,9 +4,9 @@ use mathlib.Core.Path.{_≡_, refl, sym, ap, ap₂, subst, _∙_}
 use mathlib.Core.List.{List, [], _∷_, _++_, append-nil, append-assoc}
 use lib.ListN.{length}
 use Rattle.blocks.specs.Bytes.{Bytes}
-use Rattle.calls.specs.Calls.{Call, load, put, check, write, judge, Reply, yields}
+use Rattle.calls.specs.Calls.{Query, write, check, Call, load, put, judge, query, Reply, says, yields}
 use Rattle.calls.specs.History.{after}
-use Rattle.calls.specs.Demand3.{Session}
+use Rattle.calls.specs.Demand2.{Session}
 use Rattle.plan_judge.specs.declared.Desk.{Desk}
 use Rattle.plan_judge.specs.declared.Taking.{Taking}
 use Rattle.plan_judge.specs.declared.Judging.{Judging}
@@ -14,22 +14,27 @@ use Rattle.plan_judge.specs.declared.Written.{Written}
 use Rattle.plan_judge.specs.declared.Checking.{Checking}
 use Rattle.plan_judge.specs.View.{view}
 use Rattle.plan_judge.specs.Values.{nothing, loaded-by, put-by, judged-by, written-by, filled-by, checked-by}
-use Rattle.plan_judge.specs.Session.{said-taken, said-judgement, said-written, said-checking, step, desk-after}
-use Rattle.plan_judge.specs.Replies.{replies-after, replies-to}
+use Rattle.plan_judge.specs.Said.{said-taken, said-judgement, said-written, said-checking}
+use Rattle.plan_judge.specs.promises.Session.{step, desk-after}
+use Rattle.calls.specs.Replies.{replies-after, replies-to}
 use Rattle.plan_judge.proofs.Kept.{replies, desk-holds}
-use Rattle.plan_judge.proofs.Ran.{Slice, Answered, loads, puts, judges, writes, checks, Ran, began, further, Described, Of-the-code}
+use Rattle.plan_judge.proofs.Claims.Ran.{Slice, Asked, writes, checks, Answered, loads, puts, judges, asks, Ran, began, further, Described, Of-the-code}
+use Rattle.plan_judge.proofs.Claims.Demand1.{Next}
 
 -- ---- one call
 
 -- The contracts ask nothing and give the values of `Session`'s step.
-stepped : {d : Desk} {c : Call} {r : Reply} {e : Desk} → Answered d c r e → (r ≡ (step d c) .reply) × (e ≡ (step d c) .desk)
+asked-step : {d : Desk} {c : Query} {r : Reply} → Asked d c r → (r ≡ (step d (query c)) .reply) × (d ≡ (step d (query c)) .desk)
 unfolding step
-stepped (loads κ b r p) = (ap (λ (x : Taking). record { answer = said-taken (x .answer); buffer = [] }) (p tt), ap (λ (x : Taking). x .desk) (p tt))
-stepped (puts κ b r p) = (ap (λ (x : Taking). record { answer = said-taken (x .answer); buffer = [] }) (p tt), ap (λ (x : Taking). x .desk) (p tt))
-stepped {d} (judges r p) =
-    (ap (λ (x : Judging). record { answer = said-judgement (view d) (x .answer) (x .choices); buffer = [] }) (p tt), ap (λ (x : Judging). x .desk) (p tt))
-stepped (writes κ a b r p) = (ap₂ (λ (x : Written) (y : Bytes). record { answer = said-written x; buffer = y }) (p tt .0) (p tt .1), refl)
-stepped (checks κ b r p) = (ap (λ (x : Checking). record { answer = said-checking x; buffer = [] }) (p tt), refl)
+asked-step (writes κ a b r p) = (ap₂ (λ (x : Written) (y : Bytes). record { answer = said-written x; buffer = y }) (p tt .0) (p tt .1), refl)
+asked-step (checks κ b r p) = (ap (λ (x : Checking). says (said-checking x)) (p tt), refl)
+
+pub stepped : {d : Desk} {c : Call} {r : Reply} {e : Desk} → Answered d c r e → (r ≡ (step d c) .reply) × (e ≡ (step d c) .desk)
+unfolding step
+stepped (loads κ b r p) = (ap (λ (x : Taking). says (said-taken (x .answer))) (p tt), ap (λ (x : Taking). x .desk) (p tt))
+stepped (puts κ b r p) = (ap (λ (x : Taking). says (said-taken (x .answer))) (p tt), ap (λ (x : Taking). x .desk) (p tt))
+stepped {d} (judges r p) = (ap (λ (x : Judging). says (said-judgement (view d) (x .answer) (x .choices))) (p tt), ap (λ (x : Judging). x .desk) (p tt))
+stepped (asks a) = asked-step a
 
 -- ---- the lists
 
@@ -77,21 +82,15 @@ every-list h = record { answers = every-reply h; contents = every-ran h }
 slice : Bytes → Slice
 slice b = record { ptr = (0, 0); name = 0; now = b }
 
--- What a call leads to.
-pub record Next (d : Desk) (c : Call) : Type 0 where
-  pub reply : Reply
-  pub desk : Desk
-  pub answered : Answered d c reply desk
-
 -- Every call is answered.
 pub answer-there : (d : Desk) (c : Call) → Next d c
 unfolding slice
 answer-there d (load b) = record { reply = _; desk = _; answered = loads ([], tt) (slice b) (loaded-by d b) (λ _. refl) }
 answer-there d (put b) = record { reply = _; desk = _; answered = puts ([], tt) (slice b) (put-by d b) (λ _. refl) }
 answer-there d judge = record { reply = _; desk = _; answered = judges (judged-by d) (λ _. refl) }
-answer-there d (write a) =
-    record { reply = _; desk = _; answered = writes ([], tt) (slice a) (slice (filled-by d a)) (written-by d (length a)) (λ _. (refl, refl)) }
-answer-there d (check b) = record { reply = _; desk = _; answered = checks ([], tt) (slice b) (checked-by d b) (λ _. refl) }
+answer-there d (query (write a)) =
+    record { reply = _; desk = _; answered = asks (writes ([], tt) (slice a) (slice (filled-by d a)) (written-by d (length a)) (λ _. (refl, refl))) }
+answer-there d (query (check b)) = record { reply = _; desk = _; answered = asks (checks ([], tt) (slice b) (checked-by d b) (λ _. refl)) }
 
 -- What a list of calls leads to.
 pub record There (cs : List Call) : Type 0 where

@@ -8,7 +8,7 @@ use mathlib.Core.Option.{Option, none, some}
 use lib.Dec.{eqb, leb}
 use lib.ListN.{getD}
 use borrow.Author.Tests.{eqb-true, eqb-false}
-use Rattle.logic.specs.Checked.{Checked, ok, refused, refusal, _>>=_, _>>_, held, guard}
+use Rattle.logic.specs.Checked.{Checked, ok, refused, refusal, _>>=_, _>>_, held, guard, got}
 use Rattle.logic.specs.Model.{Model}
 use Rattle.logic.specs.Formula.{Formula, Node, never, relation, nonnegative}
 use Rattle.logic.specs.Limits.{path-total, plan-total, every-plan, limits}
@@ -20,8 +20,8 @@ use Rattle.questions.specs.Layout.{Question, start-of, node-count, node-of, for
 use Rattle.questions.specs.Grounds.{read-question}
 use Rattle.questions.proofs.Accepted.{Accepted, accepted, at-never, at-prop, at-neg, at-both, at-does, at-next, at-gain, at-plan}
 use Rattle.questions.proofs.Laws.{by-operator}
+use Rattle.limits.proofs.Nodes.{done}
 use Rattle.calls.specs.Calls.{Held}
-use Rattle.calls.specs.History.{got}
 use Rattle.plan_judge.specs.declared.Desk.{Desk}
 use Rattle.plan_judge.specs.View.{held-size, question-in, view}
 use Rattle.plan_judge.specs.State.{held-both, held-goal, PlanRoot}
@@ -44,7 +44,7 @@ pub limits-passed : (m : Model) (fs : List Formula) → refusal (limits m fs) �
 unfolding limits
 limits-passed m fs e = by (every-plan (λ n r s. leb (path-total m n s) 1000000) m fs) (every-plan (λ n r s. not (is-equal r) || leb (plan-total m n s) 65536) m fs) e
   where
-    by : (t u : Bool) → refusal (guard 24 t >> guard 25 u) ≡ 0 → (guard 24 t >> guard 25 u) ≡ ok tt
+    by : (t u : Bool) → refusal (guard 24 t >> done u) ≡ 0 → (guard 24 t >> done u) ≡ ok tt
     by true true z = refl
     by true false z = absurd (omega arith)
     by false u z = absurd (omega arith)

@@ -15,7 +15,7 @@ use Rattle.questions.specs.Layout.{Question, question-of}
 use Rattle.blocks.specs.Splice.{splice}
 use Rattle.judging.specs.Asked.{Served}
 use Rattle.judging.specs.Announced.{root-verdict, told, shown-choices}
-use Rattle.calls.specs.Calls.{do-judge}
+use Rattle.calls.specs.promises.Chains.{do-judge}
 use Rattle.plan_judge.specs.declared.Desk.{Desk}
 use Rattle.plan_judge.specs.declared.Verdict.{Verdict}
 use Rattle.plan_judge.specs.declared.Judgement.the-variants.{Judged, Refused}

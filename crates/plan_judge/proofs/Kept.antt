@@ -8,7 +8,7 @@ use mathlib.Core.Option.{Option, none, some}
 use lib.IntN.{pos}
 use lib.ListN.{length, drop, replicate}
 use lib.Seq.{take-at}
-use Rattle.logic.specs.Checked.{Checked, ok, refused, _>>=_, _>>_, held}
+use Rattle.logic.specs.Checked.{Checked, ok, refused, _>>=_, _>>_, held, got}
 use Rattle.logic.specs.Model.{Model}
 use Rattle.logic.specs.Plan.{Plan, plans, choices}
 use Rattle.logic.specs.Formula.{Formula, never, prop, neg, both, does, next as then, gain, plan, nonnegative, sat}
@@ -27,47 +27,50 @@ use Rattle.blocks.specs.Block.{whole-blocks, block-count}
 use Rattle.models.specs.Grounds.{read-model}
 use Rattle.questions.specs.Layout.{Question}
 use Rattle.questions.specs.Grounds.{read-question}
-use Rattle.calls.specs.Calls.{Call, load, put, check, write, judge, Held, done, judged, written, accepted, replied, yields, do-put, do-judge, do-write, do-check}
-use Rattle.calls.specs.History.{got, last-left, held-from, after}
+use Rattle.calls.specs.Calls.{Call, load, put, judge, query, write, check, Held, Report, done, judged, written, accepted, says, yields}
+use Rattle.calls.specs.promises.Chains.{do-put, do-judge, do-write, do-check, answered, by-chain}
+use Rattle.calls.specs.History.{last-left, held-from, after}
 use Rattle.calls.proofs.Histories.{settled, next, after-next}
+use Rattle.calls.proofs.Described.{yields-is}
 use Rattle.calls.proofs.Demand3.{held-some, then-ok}
 use Rattle.plan_judge.specs.declared.Desk.{Desk}
 use Rattle.plan_judge.specs.View.{model-bytes, question-in, choices-in, verdict-in, verdict-on, view}
 use Rattle.plan_judge.specs.Values.{padded, nothing, taking, holding, loaded-by, asking, put-by, verdict-code, choices-code, settling, judging, judged-by, writing, written-by, filling, filled-by, checking, checked-by}
-use Rattle.plan_judge.specs.Session.{said-taken, said-verdict, said-judgement, said-written, said-checking, step, desk-after, session}
+use Rattle.plan_judge.specs.Said.{said-taken, said-verdict, said-judgement, said-written, said-checking}
+use Rattle.plan_judge.specs.promises.Session.{step, desk-after, session}
 
 -- ---- the replies
 
-reply-load : (d : Desk) (b : Bytes) → (step d (load b)) .reply ≡ yields (view d) (load b)
-unfolding step loaded-by yields said-taken
+reply-load : (d : Desk) (b : Bytes) → (step d (load b)) .reply ≡ by-chain (view d) (load b)
+unfolding step loaded-by by-chain said-taken
 reply-load d b = by (read-model b)
   where
-    by : (c : Checked Model) → record { answer = said-taken ((taking d c (holding b)) .answer); buffer = [] } ≡ replied [] c (λ m. record { answer = done; buffer = [] })
+    by : (c : Checked Model) → says (said-taken ((taking d c (holding b)) .answer)) ≡ answered [] c (λ m. says done)
     by (ok m) = refl
     by (refused k) = refl
 
-reply-put : (d : Desk) (b : Bytes) → (step d (put b)) .reply ≡ yields (view d) (put b)
-unfolding step put-by yields said-taken
+reply-put : (d : Desk) (b : Bytes) → (step d (put b)) .reply ≡ by-chain (view d) (put b)
+unfolding step put-by by-chain said-taken
 reply-put d b = by (do-put (view d) b)
   where
-    by : (c : Checked Question) → record { answer = said-taken ((taking d c (asking d b)) .answer); buffer = [] } ≡ replied [] c (λ q. record { answer = done; buffer = [] })
+    by : (c : Checked Question) → says (said-taken ((taking d c (asking d b)) .answer)) ≡ answered [] c (λ q. says done)
     by (ok q) = refl
     by (refused k) = refl
 
-reply-write : (d : Desk) (a : Bytes) → (step d (write a)) .reply ≡ yields (view d) (write a)
-unfolding step written-by filled-by yields said-written
+reply-write : (d : Desk) (a : Bytes) → (step d (query (write a))) .reply ≡ by-chain (view d) (query (write a))
+unfolding step written-by filled-by by-chain said-written
 reply-write d a = by (do-write (view d) (length a))
   where
-    by : (c : Checked Bytes) → record { answer = said-written (writing c); buffer = filling a c } ≡ replied a c (λ b. record { answer = written (length b); buffer = b ++ drop (length b) a })
+    by : (c : Checked Bytes) → record { answer = said-written (writing c); buffer = filling a c } ≡ answered a c (λ b. record { answer = written (length b); buffer = b ++ drop (length b) a })
     by (ok b) = refl
     by (refused k) = refl
 
-reply-check : (d : Desk) (b : Bytes) → (step d (check b)) .reply ≡ yields (view d) (check b)
-unfolding step checked-by yields said-checking
+reply-check : (d : Desk) (b : Bytes) → (step d (query (check b))) .reply ≡ by-chain (view d) (query (check b))
+unfolding step checked-by by-chain said-checking
 reply-check d b = by (do-check (view d) b)
   where
-    by : (c : Checked Bool) → record { answer = said-checking (checking c); buffer = [] } ≡ replied [] c (λ met. record { answer = accepted met; buffer = [] })
-    by (ok met) = refl
+    by : (c : Checked Report) → says (said-checking (checking c)) ≡ answered [] c (λ r. says (accepted r))
+    by (ok r) = refl
     by (refused k) = refl
 
 -- ---- the verdict with its choices beside it
@@ -146,21 +149,25 @@ verdict-back h v e =
     ap₂ (λ o p. verdict-on o p (choices-code v) (verdict-code v)) (w .held-model) (w .held-question)
     ∙ subst (λ u. verdict-on (some (w .model)) (some (w .question)) (choices-code u) (verdict-code u) ≡ some u) (sym (w .said)) (verdict-read (w .model) (w .question))
 
-reply-judge : (d : Desk) → (step d judge) .reply ≡ yields (view d) judge
-unfolding step judged-by yields said-judgement said-verdict
+reply-judge : (d : Desk) → (step d judge) .reply ≡ by-chain (view d) judge
+unfolding step judged-by by-chain said-judgement said-verdict
 reply-judge d = by (do-judge (view d)) refl
   where
     by : (c : Checked logic.Verdict) → do-judge (view d) ≡ c
-        → record { answer = said-judgement (view d) ((judging d c) .answer) ((judging d c) .choices); buffer = [] } ≡ replied [] c (λ v. record { answer = judged v; buffer = [] })
-    by (ok v) e = ap (λ o. record { answer = said-verdict o; buffer = [] }) (verdict-back (view d) v e)
+        → says (said-judgement (view d) ((judging d c) .answer) ((judging d c) .choices)) ≡ answered [] c (λ v. says (judged v))
+    by (ok v) e = ap (λ o. says (said-verdict o)) (verdict-back (view d) v e)
     by (refused k) e = refl
 
+by-step : (d : Desk) (c : Call) → (step d c) .reply ≡ by-chain (view d) c
+by-step d (load b) = reply-load d b
+by-step d (put b) = reply-put d b
+by-step d judge = reply-judge d
+by-step d (query (write a)) = reply-write d a
+by-step d (query (check b)) = reply-check d b
+
+-- Of every desk the reply is the one described by what it holds.
 pub replies : (d : Desk) (c : Call) → (step d c) .reply ≡ yields (view d) c
-replies d (load b) = reply-load d b
-replies d (put b) = reply-put d b
-replies d judge = reply-judge d
-replies d (write a) = reply-write d a
-replies d (check b) = reply-check d b
+replies d c = by-step d c ∙ sym (yields-is (view d) c)
 
 -- ---- the desks
 
@@ -248,8 +255,8 @@ unfolding step next
 kept-step d (load b) = kept-load d b
 kept-step d (put b) = kept-put d b
 kept-step d judge = kept-judge d
-kept-step d (write a) = refl
-kept-step d (check b) = refl
+kept-step d (query (write a)) = refl
+kept-step d (query (check b)) = refl
 
 -- From a desk that holds what a list says, a further list leads to one that holds what both say.
 kept-from : (before : List Call) (d : Desk) → view d ≡ after before → (cs : List Call) → view (desk-after d cs) ≡ after (before ++ cs)

@@ -1,3 +1,4 @@
+pub mod Claims
 pub mod Kept
 pub mod Returns
 pub mod Grounds
@@ -6,10 +7,11 @@ pub mod Spelling
 pub mod Writes
 pub mod Checks
 pub mod Judges
-pub mod Ran
 pub mod EveryList
+pub mod CodeDemand1
 pub mod CodeDemand2
 pub mod CodeDemand3
-pub mod Offered
 pub mod Listed
 pub mod CSteps
+pub mod CList
+pub mod Offered

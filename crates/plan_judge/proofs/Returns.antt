@@ -10,7 +10,7 @@ use lib.Dec.{eqb, leb}
 use lib.ListN.{length, take, drop, replicate, length-take}
 use lib.Seq.{take-all, getD-take}
 use borrow.Author.Tests.{eq-eqb, ne-eqb, eqb-true, leb-true, leb-false}
-use Rattle.logic.specs.Checked.{Checked, ok, refused, refusal, _>>=_, held}
+use Rattle.logic.specs.Checked.{Checked, ok, refused, refusal, _>>=_, held, got}
 use Rattle.logic.specs.Model.{Model}
 use Rattle.logic.proofs.Tests.{length-tabulate}
 use Rattle.blocks.specs.Bytes.{Bytes, byte}
@@ -21,8 +21,8 @@ use Rattle.models.proofs.Held.{states-held}
 use Rattle.questions.specs.Layout.{Question, question-of}
 use Rattle.questions.specs.Grounds.{read-question}
 use Rattle.questions.proofs.Accepted.{accepted}
-use Rattle.calls.specs.Calls.{question-for, do-put}
-use Rattle.calls.specs.History.{got}
+use Rattle.calls.specs.Calls.{question-for}
+use Rattle.calls.specs.promises.Chains.{do-put}
 use Rattle.plan_judge.specs.declared.Desk.{Desk}
 use Rattle.plan_judge.specs.declared.Taken.the-variants.{Done, Refused}
 use Rattle.plan_judge.specs.declared.Verdict.the-variants.{No}

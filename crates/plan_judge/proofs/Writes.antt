@@ -27,7 +27,7 @@ use Rattle.questions.proofs.Accepted.{accepted}
 use Rattle.extension.specs.Choices.{extend}
 use Rattle.sheets.specs.Layout.{Sheet, sheet-bytes, blocks-for}
 use Rattle.sheets.proofs.ReadsBack.{sheet-length}
-use Rattle.calls.specs.Calls.{shown-sheet, do-write}
+use Rattle.calls.specs.promises.Chains.{sheet-shown, do-write}
 use Rattle.plan_judge.specs.declared.Desk.{Desk}
 use Rattle.plan_judge.specs.declared.PlanRecord.{PlanRecord}
 use Rattle.plan_judge.specs.declared.Verdict.{Verdict}
@@ -103,7 +103,7 @@ module _ (d : Desk) (e : refusal (held-goal (view d)) ≡ 0) where
 
   -- The sheet to write, or ground 23.
   abbrev sheet-held : Option logic.Verdict → Checked Sheet
-  sheet-held o = held 23 o >>= shown-sheet
+  sheet-held o = held 23 o >>= sheet-shown
 
   -- The sheet by the number of choices of the shown plan.
   pub record ShownBy (o : Option logic.Verdict) : Type 0 where
@@ -113,7 +113,7 @@ module _ (d : Desk) (e : refusal (held-goal (view d)) ≡ 0) where
     pub some-shown : (shown-size o ≡ 0 → ⊥) → sheet-held o ≡ ok (record { weight = pos (shown-weight (d .verdict)); choices = take (shown-size o) (d .choices) })
 
   pub shown-by : ShownBy ((view d) .verdict)
-  unfolding verdict-in shown-sheet shown-size shown-weight
+  unfolding verdict-in sheet-shown shown-size shown-weight
   shown-by = by (d .judged) (d .verdict) found refl refl refl
     where
       nothing : (o : Option logic.Verdict) → (view d) .verdict ≡ o → shown-size o ≡ 0 → sheet-held o ≡ refused 23 → ShownBy ((view d) .verdict)
@@ -169,7 +169,7 @@ bind-assoc (refused k) f g = refl
 
 -- What write does with a goal.
 abbrev write-for : Option logic.Verdict → ℕ → Model → Question → Goal → Checked Bytes
-write-for o size m q g = held 23 o >>= (λ v. shown-sheet v >>= sheet-for (g .steps) (q .start) size)
+write-for o size m q g = held 23 o >>= (λ v. sheet-shown v >>= sheet-for (g .steps) (q .start) size)
 
 module _ (d : Desk) (a : Bytes) where
   refused-both : (k : ℕ) → k ≡ refusal (do-write (view d) (length a)) → (k ≡ 0 → ⊥) → (Refused k ≡ written-by d (length a)) × (a ≡ filled-by d a)
@@ -193,7 +193,7 @@ module _ (d : Desk) (a : Bytes) where
 
     write-is : do-write (view d) (length a) ≡ (sheet-held d e ((view d) .verdict) >>= sheet-for steps start (length a))
     unfolding do-write question-of
-    write-is = goal-passed d e (write-for ((view d) .verdict) (length a)) ∙ bind-assoc (held 23 ((view d) .verdict)) shown-sheet (sheet-for steps start (length a))
+    write-is = goal-passed d e (write-for ((view d) .verdict) (length a)) ∙ bind-assoc (held 23 ((view d) .verdict)) sheet-shown (sheet-for steps start (length a))
 
     pub write-none : (count : ℕ) → count ≡ shown-size ((view d) .verdict) → count ≡ 0 → (Refused 23 ≡ written-by d (length a)) × (a ≡ filled-by d a)
     write-none count i z =

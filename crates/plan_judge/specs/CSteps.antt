@@ -3,8 +3,9 @@ use Prim.Native.Nat.{ℕ}
 use mathlib.Core.Bool.{true}
 use Rattle.logic.specs.Checked.{Checked, ok, _>>=_, held}
 use Rattle.blocks.specs.Bytes.{Bytes}
-use Rattle.calls.specs.Calls.{Held, question-for, do-write}
-use Rattle.plan_judge.specs.CCall.{Told, told-on}
+use Rattle.calls.specs.Calls.{Held, question-for}
+use Rattle.calls.specs.promises.Chains.{do-write}
+use Rattle.plan_judge.specs.CChain.{Told, told-on}
 
 unfoldable pub told-put : Held → Bytes → ℕ → Checked Told
 told-put h b size = do

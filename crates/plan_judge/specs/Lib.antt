@@ -1,7 +1,7 @@
 pub mod View
+pub mod Said
 pub mod Values
-pub mod Session
 pub mod State
-pub mod CCall
+pub mod CChain
 pub mod CSteps
-pub mod Replies
+pub mod promises

@@ -1,6 +1,6 @@
 -- What each call returns, for every desk value and every input, by the grounds and definitions of the calls.
 use Prim.Native.Nat.{ℕ, _-_, _/_}
-use mathlib.Core.Bool.{Bool, true, false}
+use mathlib.Core.Bool.{true, false}
 use mathlib.Core.List.{_++_}
 use lib.ListN.{length, drop, replicate}
 use Rattle.logic.specs.Checked.{Checked, ok, refused}
@@ -8,7 +8,8 @@ use Rattle.logic.specs.Verdict as logic
 use Rattle.logic.specs.Formula.{nonnegative}
 use Rattle.blocks.specs.Bytes.{Bytes}
 use Rattle.models.specs.Grounds.{read-model}
-use Rattle.calls.specs.Calls.{do-put, do-judge, do-write, do-check}
+use Rattle.calls.specs.Calls.{Report}
+use Rattle.calls.specs.promises.Chains.{do-put, do-judge, do-write, do-check}
 use Rattle.plan_judge.specs.declared.Desk.{Desk}
 use Rattle.plan_judge.specs.declared.Taken.the-variants.{Done, Refused}
 use Rattle.plan_judge.specs.declared.Taking.{Taking}
@@ -95,8 +96,8 @@ filling a (refused k) = a
 unfoldable pub filled-by : Desk → Bytes → Bytes
 filled-by d a = filling a (do-write (view d) (length a))
 
-abbrev pub checking : Checked Bool → Checking
-checking (ok met) = Accepted met
+abbrev pub checking : Checked Report → Checking
+checking (ok r) = Accepted (r .met)
 checking (refused k) = Checking.Refused k
 
 unfoldable pub checked-by : Desk → Bytes → Checking

@@ -8,7 +8,7 @@ use mathlib.Core.Option.{Option, none, some}
 use lib.Dec.{eqb}
 use lib.IntN.{pos}
 use lib.ListN.{length, take}
-use Rattle.logic.specs.Checked.{Checked, ok, refused, refusal, _>>=_}
+use Rattle.logic.specs.Checked.{Checked, ok, refused, refusal, _>>=_, got}
 use Rattle.logic.specs.Model.{Model}
 use Rattle.logic.specs.Plan.{choices}
 use Rattle.logic.specs.Verdict.{goal}
@@ -18,7 +18,6 @@ use Rattle.blocks.specs.Bytes.{Bytes}
 use Rattle.models.specs.Grounds.{read-model}
 use Rattle.questions.specs.Layout.{Question}
 use Rattle.calls.specs.Calls.{Held, question-for}
-use Rattle.calls.specs.History.{got}
 use Rattle.plan_judge.specs.declared.Desk.{Desk}
 use Rattle.plan_judge.specs.declared.Verdict.{Verdict}
 use Rattle.plan_judge.specs.declared.Verdict.the-variants.{No, Yes, YesPlan}

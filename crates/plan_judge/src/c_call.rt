@@ -2,7 +2,7 @@
 // stops at the first refusal. Each function makes one call and hands the desk on.
 ghost use lib.ListN.{length};
 ghost use Rattle.plan_judge.specs.View.{view};
-ghost use Rattle.plan_judge.specs.CCall.{c-call, Tells};
+ghost use Rattle.plan_judge.specs.CChain.{c-chain, Tells};
 ghost use Rattle.plan_judge.specs.CSteps.{told-put, told-judge, told-write};
 use crate::Desk;
 use crate::Judgement;
@@ -13,7 +13,7 @@ use crate::Written;
 // Gives 0 for no, 1 for yes, or 100 plus the refusal. The sheet buffer changes only by the write.
 #[no_mangle]
 pub extern "C" fn plan_judge(model: &[u8], question: &[u8], sheet: &mut [u8]) -> u32
-    ensures { λ r. ⌜ Tells (c-call (now (model .entry)) (now (question .entry)) (length (now (sheet .entry)))) (now (sheet .entry)) (now (sheet .exit)) r ⌝ }
+    ensures { λ r. ⌜ Tells (c-chain (now (model .entry)) (now (question .entry)) (length (now (sheet .entry)))) (now (sheet .entry)) (now (sheet .exit)) r ⌝ }
 {
     let loaded = crate::load(crate::empty(), model);
     let a = loaded.answer;

@@ -14,7 +14,7 @@ ghost use Rattle.questions.specs.Layout.{start-of, node-of, node-count, questio
 ghost use Rattle.questions.specs.Grounds.{read-question};
 ghost use Rattle.sheets.specs.Layout.{blocks-for, sheet-of};
 ghost use Rattle.sheets.specs.Reader.{Blocks};
-ghost use Rattle.calls.specs.Calls.{do-judge, check-on};
+ghost use Rattle.calls.specs.promises.Chains.{do-judge, check-on};
 ghost use Rattle.judging.specs.Asked.{Served};
 ghost use Rattle.judging.specs.Announced.{Weighs};
 ghost use Rattle.plan_judge.specs.View.{held-size, choices-in, view};

@@ -6,7 +6,7 @@ use mathlib.Core.Bool.{cond}
 use mathlib.Core.List.{List, [], _∷_}
 use mathlib.Core.Option.{none, some}
 use Rattle.logic.specs.Lists.{any}
-use Rattle.logic.specs.Checked.{Checked, ok, refused, refusal, _>>=_, _>>_, held}
+use Rattle.logic.specs.Checked.{Checked, ok, refused, refusal, _>>=_, _>>_, held, got}
 use Rattle.logic.specs.Model.{Model}
 use Rattle.logic.specs.Limits.{limits}
 use Rattle.logic.specs.Verdict as logic
@@ -16,8 +16,9 @@ use Rattle.models.specs.Grounds.{read-model}
 use Rattle.models.proofs.Passed.{passed-all, read-passed}
 use Rattle.questions.specs.Layout.{Question, question-of}
 use Rattle.questions.proofs.Accepted.{accepted}
-use Rattle.calls.specs.Calls.{Call, load, put, judge, question-for, do-put, do-judge}
-use Rattle.calls.specs.History.{got, loaded, asked, is-judge, or-else, last-left, passed, verdict-since, held-since, held-from, after}
+use Rattle.calls.specs.Calls.{Call, load, put, judge, question-for}
+use Rattle.calls.specs.promises.Chains.{do-put, do-judge}
+use Rattle.calls.specs.History.{loaded, asked, is-judge, or-else, last-left, passed, verdict-since, held-since, held-from, after}
 use Rattle.lines.specs.Line.{verdict-line}
 use Rattle.plan_judge.specs.declared.Desk.{Desk}
 use Rattle.plan_judge.specs.declared.Taken.the-variants.{Done, Refused}

@@ -9,7 +9,8 @@ use lib.Dec.{leb}
 use lib.IntN.{pos}
 use lib.ListN.{length}
 use Rattle.logic.specs.Lists.{all, every, keep}
-use Rattle.logic.specs.Checked.{Checked, ok, refused, refusal, guard, _>>_}
+use Rattle.logic.specs.Checked.{Checked, ok, refused, refusal}
+use Rattle.logic.specs.Grounds.{_unless_, decided}
 use Rattle.logic.specs.Model.{Model}
 use Rattle.logic.specs.Quantity.{Relation, naturals, sum}
 use Rattle.logic.specs.Plan.{Plan, plans, paths, weight}
@@ -104,6 +105,6 @@ module _ {S A N : ℕ} {q q′ : Bytes} (h : Shared S A N q q′) (m : Model) wh
   pub same-limits : refusal (limits m (formulas-of q)) ≡ refusal (limits m (formulas-of q′))
   unfolding limits
   same-limits =
-      ap₂ (λ a b. refusal (guard 24 a >> guard 25 b))
+      ap₂ (λ a b. refusal (decided {A = Unit {0}} (24 unless a ∷ 25 unless b ∷ []) tt))
       (test-same (λ n r s. leb (path-total m n s) 1000000))
       (test-same (λ n r s. not (is-equal r) || leb (plan-total m n s) 65536))

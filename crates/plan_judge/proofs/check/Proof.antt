@@ -8,7 +8,7 @@ use Rattle.models.specs.Layout.{model-of}
 use Rattle.questions.specs.Layout.{question-of}
 use Rattle.plan_judge.specs.View.{view}
 use Rattle.plan_judge.specs.Values.{checking}
-use Rattle.calls.specs.Calls.{check-on}
+use Rattle.calls.specs.promises.Chains.{check-on}
 use Rattle.plan_judge.specs.State.{held-goal, PlanRoot}
 use Rattle.plan_judge.proofs.Returns.{said-bytes, cut-inside, cut-said}
 use Rattle.plan_judge.proofs.Grounds.{plan-asked}

@@ -5,7 +5,7 @@ use mathlib.Core.Path.{_≡_, sym, ap, subst, _∙_}
 use lib.ListN.{length, take}
 use lib.Seq.{length-take-le}
 use Rattle.logic.specs.Checked.{refusal}
-use Rattle.calls.specs.Calls.{do-judge}
+use Rattle.calls.specs.promises.Chains.{do-judge}
 use Rattle.judging.specs.Asked.{Served}
 use Rattle.judging.specs.Announced.{root-verdict}
 use Rattle.plan_judge.specs.View.{view}

@@ -8,17 +8,17 @@ use mathlib.Core.List.{List, [], _∷_, _++_}
 use contract.Lifetimes.{Lfts}
 use denote.Ref.{RefT}
 use Rattle.blocks.specs.Bytes.{Bytes}
-use Rattle.calls.specs.Calls.{Call, load, put, check, write, judge, Reply}
+use Rattle.calls.specs.Calls.{Query, write, check, Call, load, put, judge, query, Reply, says}
 use Rattle.calls.specs.History.{after}
-use Rattle.calls.specs.Demand3.{Session}
+use Rattle.calls.specs.Demand2.{Session}
 use Rattle.plan_judge.specs.declared.Desk.{Desk}
 use Rattle.plan_judge.specs.declared.Taking.{Taking}
 use Rattle.plan_judge.specs.declared.Judging.{Judging}
 use Rattle.plan_judge.specs.declared.Written.{Written}
 use Rattle.plan_judge.specs.declared.Checking.{Checking}
 use Rattle.plan_judge.specs.View.{view}
-use Rattle.plan_judge.specs.Session.{said-taken, said-judgement, said-written, said-checking}
-use Rattle.plan_judge.specs.Replies.{replies-to}
+use Rattle.plan_judge.specs.Said.{said-taken, said-judgement, said-written, said-checking}
+use Rattle.calls.specs.Replies.{replies-to}
 use Rattle.plan_judge.proofs.empty.Reads as empty-reads
 use Rattle.plan_judge.proofs.load.Reads as load-reads
 use Rattle.plan_judge.proofs.put.Reads as put-reads
@@ -30,25 +30,29 @@ use Rattle.plan_judge.proofs.check.Reads as check-reads
 abbrev pub Slice : Type 0
 Slice = RefT Bytes
 
--- The call c on the desk d is answered r and gives back the desk e, as the contract of its function says: the answer in document 01's
--- words, the lent buffer's bytes at the return, and the desk. Write and check give none back, so the caller goes on with d. Refused calls
--- are among these: the contracts cover them.
-pub data Answered : Desk → Call → Reply → Desk → Type 0 where
-  loads : {d : Desk} (κ : Lfts 1) (b : Slice) (r : Taking)
-      → (load-reads.Pre κ (d, (b, tt)) → load-reads.Post κ (d, (b, tt)) r (d, (b, tt)))
-      → Answered d (load (b .now)) (record { answer = said-taken (r .answer); buffer = [] }) (r .desk)
-  puts : {d : Desk} (κ : Lfts 1) (b : Slice) (r : Taking)
-      → (put-reads.Pre κ (d, (b, tt)) → put-reads.Post κ (d, (b, tt)) r (d, (b, tt)))
-      → Answered d (put (b .now)) (record { answer = said-taken (r .answer); buffer = [] }) (r .desk)
-  judges : {d : Desk} (r : Judging)
-      → (judge-reads.Pre tt (d, tt) → judge-reads.Post tt (d, tt) r (d, tt))
-      → Answered d judge (record { answer = said-judgement (view d) (r .answer) (r .choices); buffer = [] }) (r .desk)
-  writes : {d : Desk} (κ : Lfts 1) (found left : Slice) (r : Written)
+-- A query c on the desk d is answered r, as the contract of its function says. It gives no desk back.
+pub data Asked (d : Desk) : Query → Reply → Type 0 where
+  writes : (κ : Lfts 1) (found left : Slice) (r : Written)
       → (write-reads.Pre κ (d, (found, tt)) → write-reads.Post κ (d, (found, tt)) r (d, (left, tt)))
-      → Answered d (write (found .now)) (record { answer = said-written r; buffer = left .now }) d
-  checks : {d : Desk} (κ : Lfts 1) (b : Slice) (r : Checking)
+      → Asked d (write (found .now)) (record { answer = said-written r; buffer = left .now })
+  checks : (κ : Lfts 1) (b : Slice) (r : Checking)
       → (check-reads.Pre κ (d, (b, tt)) → check-reads.Post κ (d, (b, tt)) r (d, (b, tt)))
-      → Answered d (check (b .now)) (record { answer = said-checking r; buffer = [] }) d
+      → Asked d (check (b .now)) (says (said-checking r))
+
+-- The call c on the desk d is answered r and gives back the desk e, as the contract of its function says: the answer in document 01's
+-- words, the lent buffer's bytes at the return, and the desk; after a query the caller goes on with d. Refused calls are among these: the
+-- contracts cover them.
+pub data Answered (d : Desk) : Call → Reply → Desk → Type 0 where
+  loads : (κ : Lfts 1) (b : Slice) (r : Taking)
+      → (load-reads.Pre κ (d, (b, tt)) → load-reads.Post κ (d, (b, tt)) r (d, (b, tt)))
+      → Answered d (load (b .now)) (says (said-taken (r .answer))) (r .desk)
+  puts : (κ : Lfts 1) (b : Slice) (r : Taking)
+      → (put-reads.Pre κ (d, (b, tt)) → put-reads.Post κ (d, (b, tt)) r (d, (b, tt)))
+      → Answered d (put (b .now)) (says (said-taken (r .answer))) (r .desk)
+  judges : (r : Judging)
+      → (judge-reads.Pre tt (d, tt) → judge-reads.Post tt (d, tt) r (d, tt))
+      → Answered d judge (says (said-judgement (view d) (r .answer) (r .choices))) (r .desk)
+  asks : {c : Query} {r : Reply} → Asked d c r → Answered d (query c) r d
 
 -- The calls cs, made one after the other from the desk that `empty` returns, each on the desk that the last one gave back, are answered
 -- rs and end with the desk d.

@@ -1,7 +1,4 @@
--- The call for the arm's controller, which is in C: what it gives and what it leaves in the sheet buffer, for every model, question and
--- buffer, by the logic and the formats alone. Document 01: "One call takes the model, question and sheet buffer as byte slices and gives 0
--- for no, 1 for yes, or 100 plus the refusal: it loads, puts, judges and, on yes with a "plan" root, writes, on an empty desk, stopping at
--- the first refusal. The buffer changes only in that last step."
+-- The C call as a chain of refusals: what its contract cites. That it is the list load, put, judge, write is proved (`CList`).
 use Prim.Native.Nat.{ℕ, _+_}
 use mathlib.Core.Path.{_≡_}
 use mathlib.Core.Bool.{Bool, true, false, cond}
@@ -39,8 +36,8 @@ told-on size m q = do
   told-of (q .start) size (verdict m (q .start) (q .root))
 
 -- The whole: grounds 1 to 8 of the model, 1 to 6 and 9 of the question, 24 and 25, and 12 last.
-unfoldable pub c-call : (model question : Bytes) (size : ℕ) → Checked Told
-c-call model question size = do
+unfoldable pub c-chain : (model question : Bytes) (size : ℕ) → Checked Told
+c-chain model question size = do
   m ← read-model model
   q ← question-for m question
   told-on size m q

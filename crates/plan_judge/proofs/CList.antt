@@ -1,0 +1,94 @@
+-- The chain that the C call's contract cites is what the list load, put, judge, write on an empty desk tells: after each call of the list
+-- that is done, the desk holds what the next one asks for, and a refusal is told on.
+use Prim.Native.Nat.{ℕ, _+_}
+use native.Mathlib.Omega.{arith}
+use mathlib.Core.Path.{_≡_, refl, sym, ap, ap₂, _∙_}
+use mathlib.Core.Bool.{true}
+use mathlib.Core.List.{List, [], _∷_, _++_}
+use mathlib.Core.Option.{none, some}
+use lib.ListN.{length, drop}
+use lib.IntN.{ℤ}
+use Rattle.logic.specs.Checked.{Checked, ok, refused, _>>=_, _>>_, held}
+use Rattle.logic.specs.Model.{Model}
+use Rattle.logic.specs.Verdict.{verdict}
+use Rattle.logic.specs.Verdict as logic
+use Rattle.logic.specs.Limits.{limits}
+use Rattle.blocks.specs.Bytes.{Bytes}
+use Rattle.models.specs.Grounds.{read-model}
+use Rattle.questions.specs.Layout.{Question}
+use Rattle.calls.specs.Calls.{Call, load, put, judge, query, write, Held, done, judged, written, refuse, Reply, says, question-for, yields}
+use Rattle.calls.specs.History.{last-left, held-from, after}
+use Rattle.calls.specs.Replies.{replies-after}
+use Rattle.calls.specs.CCall as list
+use Rattle.calls.specs.CCall.{told, c-call}
+use Rattle.calls.specs.promises.Chains.{do-put, do-judge, do-write, answered, by-chain}
+use Rattle.calls.proofs.Histories.{settled, next, after-next}
+use Rattle.calls.proofs.Described.{yields-is}
+use Rattle.plan_judge.specs.CChain.{Told, told-of, told-on, c-chain, c-number, c-buffer}
+use Rattle.plan_judge.specs.CSteps.{told-write}
+use Rattle.plan_judge.proofs.CSteps.{shown-written}
+
+abbrev empty : Held
+empty = record { model = none; question = none; verdict = none }
+
+abbrev with-model : Model → Held
+with-model m = record { model = some m; question = none; verdict = none }
+
+abbrev with-question : Model → Question → Held
+with-question m q = record { model = some m; question = some q; verdict = none }
+
+module _ (found : Bytes) where
+  -- What is told of a chain.
+  abbrev chained : Checked Told → list.Told
+  chained c = record { number = c-number c; buffer = c-buffer found c }
+
+  abbrev filled : Bytes → Reply
+  filled b = record { answer = written (length b); buffer = b ++ drop (length b) found }
+
+  -- The write, from the desk with a shown plan.
+  writes : (c : Checked Bytes) → told found (answered found c filled ∷ []) ≡ chained (c >>= (λ b. ok (record { answer = true; sheet = b })))
+  unfolding told
+  writes (ok b) = refl
+  writes (refused k) = refl
+
+  -- A verdict, and the write where it shows a plan.
+  judges : (m : Model) (q : Question) (v : logic.Verdict) → v ≡ verdict m (q .start) (q .root)
+      → told found (says (judged v) ∷ answered found (do-write (record { model = some m; question = some q; verdict = some v }) (length found)) filled ∷ [])
+      ≡ chained (told-of (q .start) (length found) v)
+  unfolding told told-of told-write
+  judges m q (logic.no k) e = refl
+  judges m q logic.yes e = refl
+  judges m q (logic.yes-plan w n k cs) e =
+      writes (do-write (record { model = some m; question = some q; verdict = some (logic.yes-plan w n k cs) }) (length found))
+      ∙ ap chained (shown-written m q (length found) w n k cs e)
+
+  -- Judging, from the desk with a model and a question.
+  asks : (m : Model) (q : Question) (c : Checked (Unit {0})) → limits m (q .nodes) ≡ c
+      → told found (by-chain (with-question m q) judge ∷ by-chain (next (with-question m q) judge) (query (write found)) ∷ [])
+      ≡ chained (told-on (length found) m q)
+  unfolding told by-chain next do-judge told-on
+  asks m q (ok u) e = rw e (judges m q (verdict m (q .start) (q .root)) refl)
+  asks m q (refused k) e = rw e refl
+
+  -- Putting, from the desk with a model.
+  puts : (m : Model) (question : Bytes) (c : Checked Question) → question-for m question ≡ c
+      → told found (by-chain (with-model m) (put question) ∷ by-chain (next (with-model m) (put question)) judge
+      ∷ by-chain (next (next (with-model m) (put question)) judge) (query (write found)) ∷ [])
+      ≡ chained (c >>= told-on (length found) m)
+  unfolding told by-chain next do-put
+  puts m question (ok q) e = rw e (asks m q (limits m (q .nodes)) refl)
+  puts m question (refused k) e = rw e refl
+
+  loads : (model question : Bytes) (c : Checked Model) → read-model model ≡ c
+      → told found (by-chain empty (load model) ∷ by-chain (next empty (load model)) (put question)
+      ∷ by-chain (next (next empty (load model)) (put question)) judge
+      ∷ by-chain (next (next (next empty (load model)) (put question)) judge) (query (write found)) ∷ [])
+      ≡ chained (c >>= (λ m. question-for m question >>= told-on (length found) m))
+  unfolding told by-chain next
+  loads model question (ok m) e = rw e (puts m question (question-for m question) refl)
+  loads model question (refused k) e = rw e refl
+
+pub c-list : (model question found : Bytes)
+    → c-call model question found ≡ record { number = c-number (c-chain model question (length found)); buffer = c-buffer found (c-chain model question (length found)) }
+unfolding c-call replies-after c-chain after last-left held-from
+c-list model question found = ?
