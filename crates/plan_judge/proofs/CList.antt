@@ -88,7 +88,30 @@ module _ (found : Bytes) where
   loads model question (ok m) e = rw e (puts m question (question-for m question) refl)
   loads model question (refused k) e = rw e refl
 
-pub c-list : (model question found : Bytes)
-    → c-call model question found ≡ record { number = c-number (c-chain model question (length found)); buffer = c-buffer found (c-chain model question (length found)) }
-unfolding c-call replies-after c-chain after last-left held-from
-c-list model question found = ?
+-- The list's replies, by what is held after each call.
+module _ (model question found : Bytes) where
+  reply-is : (cs : List Call) (c : Call) {h : Held} → after cs ≡ h → yields (after cs) c ≡ by-chain h c
+  reply-is cs c {h} e = ap (λ k. yields k c) e ∙ yields-is h c
+
+  after-none : after [] ≡ empty
+  unfolding after last-left held-from
+  after-none = refl
+
+  after-more : (cs : List Call) (c : Call) {h : Held} → after cs ≡ h → after (cs ++ (c ∷ [])) ≡ next h c
+  after-more cs c e = after-next cs c ∙ ap (λ k. next k c) e
+
+  four : {a b c d a′ b′ c′ d′ : Reply} → a ≡ a′ → b ≡ b′ → c ≡ c′ → d ≡ d′ → told found (a ∷ b ∷ c ∷ d ∷ []) ≡ told found (a′ ∷ b′ ∷ c′ ∷ d′ ∷ [])
+  four {b = b} {c = c} {d = d} {a′ = a′} {b′ = b′} e f g h =
+      ap₂ (λ x y. told found (x ∷ y ∷ c ∷ d ∷ [])) e f ∙ ap₂ (λ x y. told found (a′ ∷ b′ ∷ x ∷ y ∷ [])) g h
+
+  pub c-list : c-call model question found ≡ record { number = c-number (c-chain model question (length found)); buffer = c-buffer found (c-chain model question (length found)) }
+  unfolding c-call replies-after c-chain
+  c-list =
+      let one : List Call = load model ∷ [] in
+      let two : List Call = load model ∷ put question ∷ [] in
+      let three : List Call = load model ∷ put question ∷ judge ∷ [] in
+      let h = after-more [] (load model) after-none in
+      let k = after-more one (put question) h in
+      let l = after-more two judge k in
+      four (reply-is [] (load model) after-none) (reply-is one (put question) h) (reply-is two judge k) (reply-is three (query (write found)) l)
+      ∙ loads found model question (read-model model) refl

@@ -15,7 +15,7 @@ use Rattle.plan_judge.specs.declared.Checking.{Checking}
 use Rattle.plan_judge.specs.View.{view}
 use Rattle.plan_judge.specs.Values.{nothing, loaded-by, put-by, judged-by, written-by, filled-by, checked-by}
 use Rattle.plan_judge.specs.Said.{said-taken, said-judgement, said-written, said-checking}
-use Rattle.plan_judge.specs.promises.Session.{step, desk-after}
+use Rattle.plan_judge.specs.promises.Session.{asked, step, desk-after}
 use Rattle.calls.specs.Replies.{replies-after, replies-to}
 use Rattle.plan_judge.proofs.Kept.{replies, desk-holds}
 use Rattle.plan_judge.proofs.Claims.Ran.{Slice, Asked, writes, checks, Answered, loads, puts, judges, asks, Ran, began, further, Described, Of-the-code}
@@ -24,17 +24,17 @@ use Rattle.plan_judge.proofs.Claims.Demand1.{Next}
 -- ---- one call
 
 -- The contracts ask nothing and give the values of `Session`'s step.
-asked-step : {d : Desk} {c : Query} {r : Reply} → Asked d c r → (r ≡ (step d (query c)) .reply) × (d ≡ (step d (query c)) .desk)
-unfolding step
-asked-step (writes κ a b r p) = (ap₂ (λ (x : Written) (y : Bytes). record { answer = said-written x; buffer = y }) (p tt .0) (p tt .1), refl)
-asked-step (checks κ b r p) = (ap (λ (x : Checking). says (said-checking x)) (p tt), refl)
+asked-step : {d : Desk} {c : Query} {r : Reply} → Asked d c r → r ≡ asked d c
+unfolding asked
+asked-step (writes κ a b r p) = ap₂ (λ (x : Written) (y : Bytes). record { answer = said-written x; buffer = y }) (p tt .0) (p tt .1)
+asked-step (checks κ b r p) = ap (λ (x : Checking). says (said-checking x)) (p tt)
 
 pub stepped : {d : Desk} {c : Call} {r : Reply} {e : Desk} → Answered d c r e → (r ≡ (step d c) .reply) × (e ≡ (step d c) .desk)
 unfolding step
 stepped (loads κ b r p) = (ap (λ (x : Taking). says (said-taken (x .answer))) (p tt), ap (λ (x : Taking). x .desk) (p tt))
 stepped (puts κ b r p) = (ap (λ (x : Taking). says (said-taken (x .answer))) (p tt), ap (λ (x : Taking). x .desk) (p tt))
 stepped {d} (judges r p) = (ap (λ (x : Judging). says (said-judgement (view d) (x .answer) (x .choices))) (p tt), ap (λ (x : Judging). x .desk) (p tt))
-stepped (asks a) = asked-step a
+stepped (asks a) = (asked-step a, refl)
 
 -- ---- the lists
 

@@ -37,7 +37,7 @@ use Rattle.plan_judge.specs.declared.Desk.{Desk}
 use Rattle.plan_judge.specs.View.{model-bytes, question-in, choices-in, verdict-in, verdict-on, view}
 use Rattle.plan_judge.specs.Values.{padded, nothing, taking, holding, loaded-by, asking, put-by, verdict-code, choices-code, settling, judging, judged-by, writing, written-by, filling, filled-by, checking, checked-by}
 use Rattle.plan_judge.specs.Said.{said-taken, said-verdict, said-judgement, said-written, said-checking}
-use Rattle.plan_judge.specs.promises.Session.{step, desk-after, session}
+use Rattle.plan_judge.specs.promises.Session.{asked, step, desk-after, session}
 
 -- ---- the replies
 
@@ -58,7 +58,7 @@ reply-put d b = by (do-put (view d) b)
     by (refused k) = refl
 
 reply-write : (d : Desk) (a : Bytes) → (step d (query (write a))) .reply ≡ by-chain (view d) (query (write a))
-unfolding step written-by filled-by by-chain said-written
+unfolding step asked written-by filled-by by-chain said-written
 reply-write d a = by (do-write (view d) (length a))
   where
     by : (c : Checked Bytes) → record { answer = said-written (writing c); buffer = filling a c } ≡ answered a c (λ b. record { answer = written (length b); buffer = b ++ drop (length b) a })
@@ -66,7 +66,7 @@ reply-write d a = by (do-write (view d) (length a))
     by (refused k) = refl
 
 reply-check : (d : Desk) (b : Bytes) → (step d (query (check b))) .reply ≡ by-chain (view d) (query (check b))
-unfolding step checked-by by-chain said-checking
+unfolding step asked checked-by by-chain said-checking
 reply-check d b = by (do-check (view d) b)
   where
     by : (c : Checked Report) → says (said-checking (checking c)) ≡ answered [] c (λ r. says (accepted r))
@@ -255,8 +255,7 @@ unfolding step next
 kept-step d (load b) = kept-load d b
 kept-step d (put b) = kept-put d b
 kept-step d judge = kept-judge d
-kept-step d (query (write a)) = refl
-kept-step d (query (check b)) = refl
+kept-step d (query c) = refl
 
 -- From a desk that holds what a list says, a further list leads to one that holds what both say.
 kept-from : (before : List Call) (d : Desk) → view d ≡ after before → (cs : List Call) → view (desk-after d cs) ≡ after (before ++ cs)

@@ -2,7 +2,7 @@
 -- contract the value of `Values`.
 use mathlib.Core.List.{List, [], _∷_}
 use lib.ListN.{length}
-use Rattle.calls.specs.Calls.{Call, load, put, judge, query, write, check, Reply, says}
+use Rattle.calls.specs.Calls.{Query, write, check, Call, load, put, judge, query, Reply, says}
 use Rattle.calls.specs.Demand2.{Session}
 use Rattle.plan_judge.specs.declared.Desk.{Desk}
 use Rattle.plan_judge.specs.View.{view}
@@ -13,12 +13,16 @@ pub record Outcome : Type 0 where
   pub reply : Reply
   pub desk : Desk
 
+-- The reply to a query, which leaves the desk.
+unfoldable pub asked : Desk → Query → Reply
+asked d (write a) = record { answer = said-written (written-by d (length a)); buffer = filled-by d a }
+asked d (check b) = says (said-checking (checked-by d b))
+
 unfoldable pub step : Desk → Call → Outcome
 step d (load b) = let r = loaded-by d b in record { reply = says (said-taken (r .answer)); desk = r .desk }
 step d (put b) = let r = put-by d b in record { reply = says (said-taken (r .answer)); desk = r .desk }
 step d judge = let r = judged-by d in record { reply = says (said-judgement (view d) (r .answer) (r .choices)); desk = r .desk }
-step d (query (write a)) = record { reply = record { answer = said-written (written-by d (length a)); buffer = filled-by d a }; desk = d }
-step d (query (check b)) = record { reply = says (said-checking (checked-by d b)); desk = d }
+step d (query c) = record { reply = asked d c; desk = d }
 
 unfoldable pub desk-after : Desk → List Call → Desk
 desk-after d [] = d
