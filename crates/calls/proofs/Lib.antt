@@ -2,6 +2,7 @@ pub mod Histories
 pub mod Held
 pub mod Refusals
 pub mod Described
+pub mod Lists
 pub mod Announcing
 pub mod Demand2
 pub mod Demand3

@@ -1,7 +1,7 @@
 -- The program's lines for some inputs are computed, from the stored bytes on: each row of the table has the line as it is printed.
 use Prim.Native.Nat.{ℕ}
 use Prim.Native.String.{String}
-use mathlib.Core.Path.{_≡_, refl}
+use mathlib.Core.Path.{_≡_, refl, ap₂, _∙_}
 use mathlib.Core.List.{List, [], _∷_, _++_, map, flatMap, foldr}
 use lib.ListN.{replicate}
 use Rattle.logic.specs.Lists.{all, any, every, some-below, find, keep, product, join, count-from, tabulate}
@@ -20,7 +20,9 @@ use Rattle.questions.specs.Grounds.{compares, gain-bound, plan-bound, plan-in-r
 use Rattle.sheets.specs.Layout.{with-word-sum}
 use Rattle.blocks.specs.Splice.{splice}
 use Rattle.lines.specs.Text.{text, decimal, decimal-in}
-use Rattle.lines.specs.Line.{refused-line, plain-line, no-plans-line, yes-plan-line, is-plan, verdict-line, judged-line, line-of, answer-line}
+use Rattle.lines.specs.Line.{refused-line, plain-line, no-plans-line, yes-plan-line, is-plan, verdict-line, printed}
+use Rattle.lines.specs.promises.Chain.{judged-line, line-of, answer-line}
+use Rattle.lines.proofs.Printed.{printed-is}
 
 -- A block of zeros but for what stands at some places, and the word that makes the sum right.
 unfoldable pub block : List (ℕ × List ℕ) → Bytes
@@ -88,6 +90,13 @@ table =
     ∷ row (replicate 6657 0) "refused 1\n"
     ∷ []
 
-pub input-lines : map (λ r. answer-line (r .input)) table ≡ map (λ r. text (r .printed)) table
+chain-lines : map (λ r. answer-line (r .input)) table ≡ map (λ r. text (r .printed)) table
 unfolding table block stored question coins five-steps flatMap all any every some-below find keep product join count-from tabulate no-action true-of contradict mask prop-in enabled outcomes sum related plans choices paths weight nonnegative relation formula-of formulas depth is-path shallow sat W meets leads is-equal goal shown verdict path-total multiply plan-total every-plan limits u16 u32 signed i16 i32 little-endian zeros within sum-below block-count whole-blocks word-sum sums-right headed literals state-mask pre-of post-count post-of cell-at outcome-of entries model-of kinds-right sizes-right mask-in-range literals-in-range action-in-range outcome-in-range cell-in-range fields-right action-spare head-spare row-spare rows-spare cell-spare cells-spare posts-contradict cell-consistent consistent no-dead-ends read-model node-of formulas-of question-of compares gain-bound plan-bound plan-in-range node-in-range node-spare spare-zero formed read-question with-word-sum splice text decimal decimal-in refused-line plain-line no-plans-line yes-plan-line is-plan verdict-line judged-line line-of answer-line
-input-lines = refl
+chain-lines = refl
+
+map-same : {A B : Type 0} {f g : A → B} → ((x : A) → f x ≡ g x) → (l : List A) → map f l ≡ map g l
+map-same h [] = refl
+map-same h (x ∷ l) = ap₂ _∷_ (h x) (map-same h l)
+
+pub input-lines : map (λ r. printed (r .input)) table ≡ map (λ r. text (r .printed)) table
+input-lines = map-same (λ r. printed-is (r .input)) table ∙ chain-lines

@@ -1,4 +1,5 @@
 pub mod Decimal
 pub mod Texts
 pub mod Examples
+pub mod Printed
 pub mod Inputs

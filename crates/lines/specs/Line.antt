@@ -1,16 +1,17 @@
 -- The one line that the program `verdict` prints for its input. Document 01, "The program named verdict".
 use Prim.Native.Nat.{ℕ, _-_, _^_}
 use mathlib.Core.Bool.{Bool, true, false, cond}
-use mathlib.Core.List.{List, _++_, flatMap}
+use mathlib.Core.List.{List, [], _∷_, _++_, flatMap}
+use mathlib.Core.Option.{Option, none, some}
 use lib.ListN.{length, take, drop}
-use Rattle.logic.specs.Checked.{Checked, ok, refused, _>>=_, _>>_, guard}
 use Rattle.logic.specs.Model.{Model}
 use Rattle.logic.specs.Formula.{Formula, never, prop, neg, both, does, next, gain, plan, nonnegative}
-use Rattle.logic.specs.Verdict.{Verdict, no, yes, yes-plan, verdict}
-use Rattle.logic.specs.Limits.{limits}
+use Rattle.logic.specs.Verdict.{Verdict, no, yes, yes-plan}
 use Rattle.blocks.specs.Bytes.{Bytes, within}
-use Rattle.models.specs.Grounds.{read-model}
-use Rattle.calls.specs.Calls.{question-for}
+use Rattle.questions.specs.Layout.{Question}
+use Rattle.calls.specs.Calls.{load, put, judge, Held, Answer, done, judged, written, accepted, refuse, Reply}
+use Rattle.calls.specs.History.{after}
+use Rattle.calls.specs.Replies.{replies-to}
 use Rattle.lines.specs.Text.{text, numbered}
 
 -- ---- the line of each answer
@@ -49,19 +50,29 @@ verdict-line m φ (yes-plan w n count cs) = yes-plan-line (nonnegative w) (m .de
 
 -- ---- the line of each input
 
--- The line of the verdict, or the first refusal: the last 512 bytes are the question, those before it the model.
-unfoldable pub judged-line : Bytes → Checked (List ℕ)
-judged-line b = do
-  guard 1 (within 512 6656 (length b))
-  m ← read-model (take (length b - 512) b)
-  q ← question-for m (drop (length b - 512) b)
-  limits m (q .nodes)
-  ok (verdict-line m (q .root) (verdict m (q .start) (q .root)))
+-- The line of a verdict on what is held.
+abbrev pub held-line : Option Model → Option Question → Verdict → List ℕ
+held-line (some m) (some q) v = verdict-line m (q .root) v
+held-line (some m) none v = []
+held-line none o v = []
 
-unfoldable pub line-of : Checked (List ℕ) → List ℕ
-line-of (ok line) = line
-line-of (refused k) = refused-line k
+-- The line of the replies, up to the first refusal or the verdict: `rest` is that of the later ones.
+abbrev pub reply-line : Held → Answer → (rest : List ℕ) → List ℕ
+reply-line h done rest = rest
+reply-line h (judged v) rest = held-line (h .model) (h .question) v
+reply-line h (written bytes) rest = rest
+reply-line h (accepted report) rest = rest
+reply-line h (refuse k) rest = refused-line k
 
--- What the program prints, of every input.
-unfoldable pub answer-line : Bytes → List ℕ
-answer-line b = line-of (judged-line b)
+unfoldable pub replies-line : Held → List Reply → List ℕ
+replies-line h [] = []
+replies-line h (r ∷ rs) = reply-line h (r .answer) (replies-line h rs)
+
+-- "loads, puts and judges in turn up to the first refusal"
+unfoldable pub printed-for : (model question : Bytes) → List ℕ
+printed-for model question = replies-line (after (load model ∷ put question ∷ [])) (replies-to (load model ∷ put question ∷ judge ∷ []))
+
+-- What the program prints, of every input: the last 512 bytes are the question, those before it the model. "Input under 512 bytes or over
+-- 13 blocks is refused with 1."
+unfoldable pub printed : Bytes → List ℕ
+printed b = cond (within 512 6656 (length b)) (printed-for (take (length b - 512) b) (drop (length b - 512) b)) (refused-line 1)

@@ -8,7 +8,7 @@ use mathlib.Core.List.{List, [], _∷_, _++_}
 use mathlib.Core.Option.{none, some}
 use lib.ListN.{length, drop}
 use lib.IntN.{ℤ}
-use Rattle.logic.specs.Checked.{Checked, ok, refused, _>>=_, _>>_, held}
+use Rattle.logic.specs.Checked.{Checked, ok, refused, _>>=_, _>>_}
 use Rattle.logic.specs.Model.{Model}
 use Rattle.logic.specs.Verdict.{verdict}
 use Rattle.logic.specs.Verdict as logic
@@ -16,26 +16,16 @@ use Rattle.logic.specs.Limits.{limits}
 use Rattle.blocks.specs.Bytes.{Bytes}
 use Rattle.models.specs.Grounds.{read-model}
 use Rattle.questions.specs.Layout.{Question}
-use Rattle.calls.specs.Calls.{Call, load, put, judge, query, write, Held, done, judged, written, refuse, Reply, says, question-for, yields}
-use Rattle.calls.specs.History.{last-left, held-from, after}
+use Rattle.calls.specs.Calls.{Call, load, put, judge, query, write, Held, done, judged, written, refuse, Reply, says, question-for}
 use Rattle.calls.specs.Replies.{replies-after}
 use Rattle.calls.specs.CCall as list
 use Rattle.calls.specs.CCall.{told, c-call}
 use Rattle.calls.specs.promises.Chains.{do-put, do-judge, do-write, answered, by-chain}
-use Rattle.calls.proofs.Histories.{settled, next, after-next}
-use Rattle.calls.proofs.Described.{yields-is}
+use Rattle.calls.proofs.Histories.{settled, next}
+use Rattle.calls.proofs.Lists.{empty, with-model, with-question, after-none, after-more, reply-is}
 use Rattle.plan_judge.specs.CChain.{Told, told-of, told-on, c-chain, c-number, c-buffer}
 use Rattle.plan_judge.specs.CSteps.{told-write}
 use Rattle.plan_judge.proofs.CSteps.{shown-written}
-
-abbrev empty : Held
-empty = record { model = none; question = none; verdict = none }
-
-abbrev with-model : Model → Held
-with-model m = record { model = some m; question = none; verdict = none }
-
-abbrev with-question : Model → Question → Held
-with-question m q = record { model = some m; question = some q; verdict = none }
 
 module _ (found : Bytes) where
   -- What is told of a chain.
@@ -90,16 +80,6 @@ module _ (found : Bytes) where
 
 -- The list's replies, by what is held after each call.
 module _ (model question found : Bytes) where
-  reply-is : (cs : List Call) (c : Call) {h : Held} → after cs ≡ h → yields (after cs) c ≡ by-chain h c
-  reply-is cs c {h} e = ap (λ k. yields k c) e ∙ yields-is h c
-
-  after-none : after [] ≡ empty
-  unfolding after last-left held-from
-  after-none = refl
-
-  after-more : (cs : List Call) (c : Call) {h : Held} → after cs ≡ h → after (cs ++ (c ∷ [])) ≡ next h c
-  after-more cs c e = after-next cs c ∙ ap (λ k. next k c) e
-
   four : {a b c d a′ b′ c′ d′ : Reply} → a ≡ a′ → b ≡ b′ → c ≡ c′ → d ≡ d′ → told found (a ∷ b ∷ c ∷ d ∷ []) ≡ told found (a′ ∷ b′ ∷ c′ ∷ d′ ∷ [])
   four {b = b} {c = c} {d = d} {a′ = a′} {b′ = b′} e f g h =
       ap₂ (λ x y. told found (x ∷ y ∷ c ∷ d ∷ [])) e f ∙ ap₂ (λ x y. told found (a′ ∷ b′ ∷ x ∷ y ∷ [])) g h

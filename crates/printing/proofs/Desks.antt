@@ -29,7 +29,7 @@ use Rattle.plan_judge.specs.declared.Judgement.{Judgement}
 use Rattle.plan_judge.specs.declared.Judging.{Judging}
 use Rattle.plan_judge.specs.View.{view}
 use Rattle.plan_judge.specs.Values.{nothing, taking, holding, loaded-by, asking, put-by, verdict-code, choices-code, judging, judged-by}
-use Rattle.plan_judge.specs.Session.{step, desk-after}
+use Rattle.plan_judge.specs.promises.Session.{step, desk-after}
 use Rattle.plan_judge.proofs.Kept.{desk-holds}
 use Rattle.printing.specs.Printed.{judging-line, asking-line, loading-line, Loaded, Asked}
 

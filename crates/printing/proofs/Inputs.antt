@@ -10,7 +10,8 @@ use lib.Seq.{take-all}
 use borrow.Author.Tests.{le-leb, lt-leb}
 use Rattle.logic.specs.Checked.{guard, _>>_}
 use Rattle.blocks.specs.Bytes.{Bytes, within}
-use Rattle.lines.specs.Line.{refused-line, judged-line, line-of, answer-line}
+use Rattle.lines.specs.Line.{refused-line}
+use Rattle.lines.specs.promises.Chain.{judged-line, line-of, answer-line}
 use Rattle.printing.specs.Printed.{loading-line}
 
 module _ (b : Bytes) where

@@ -1,3 +1,4 @@
+pub mod Claims
 pub mod Verdicts
 pub mod Desks
 pub mod Told

@@ -1,14 +1,12 @@
--- `answer` asks nothing and gives the value described: whatever its own contract allows is that value. A contract that asks something or
--- says less allows more, and this fails.
-use Prim.Native.Nat.{ℕ}
-use contract.Lifetimes.{Lfts}
-use denote.Ref.{RefT}
-use Rattle.blocks.specs.Bytes.{Bytes}
+-- `answer` is what is claimed of it (`Claims.Answer`): its contract's own value, which is the line printed (lines/proofs/Printed).
+use mathlib.Core.Path.{sym, subst}
 use Rattle.lines.specs.Text.{Put}
-use Rattle.lines.specs.Line.{answer-line}
-use Rattle.printing.proofs.answer.Reads as answer-reads
+use Rattle.lines.proofs.Printed.{printed-is}
+use Rattle.printing.proofs.Claims.Answer.{Answer-printed}
 
-pub answer-prints : (κ : Lfts 2) (input found left : RefT Bytes) (r : ℕ)
-    → (answer-reads.Pre κ (input, (found, tt)) → answer-reads.Post κ (input, (found, tt)) r (input, (left, tt)))
-    → Put (answer-line (input .now)) (found .now) (left .now) 0 r
-answer-prints κ input found left r p = p tt
+pub answer-printed : Answer-printed
+answer-printed =
+    record {
+      asks-nothing = λ κ input found. tt;
+      prints = λ κ input found left r p. subst (λ l. Put l (found .now) (left .now) 0 r) (sym (printed-is (input .now))) (p tt);
+    }

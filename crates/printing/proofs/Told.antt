@@ -14,7 +14,7 @@ use Rattle.blocks.specs.Bytes.{Bytes}
 use Rattle.questions.specs.Layout.{question-of}
 use Rattle.questions.proofs.Accepted.{accepted}
 use Rattle.lines.specs.Text.{Put}
-use Rattle.lines.specs.Line.{line-of}
+use Rattle.lines.specs.promises.Chain.{line-of}
 use Rattle.plan_judge.specs.declared.Desk.{Desk}
 use Rattle.plan_judge.specs.declared.Verdict.{Verdict}
 use Rattle.plan_judge.specs.declared.Judgement.the-variants.{Judged}

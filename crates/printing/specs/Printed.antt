@@ -19,7 +19,7 @@ use Rattle.plan_judge.specs.declared.Desk.{Desk}
 use Rattle.plan_judge.specs.declared.Verdict.{Verdict}
 use Rattle.plan_judge.specs.declared.Verdict.the-variants.{No, Yes, YesPlan}
 use Rattle.plan_judge.specs.Values.{nothing}
-use Rattle.plan_judge.specs.Session.{desk-after}
+use Rattle.plan_judge.specs.promises.Session.{desk-after}
 
 -- ---- what is left to do
 

@@ -2,7 +2,7 @@
 use mathlib.Core.Path.{_≡_, sym, ap}
 use lib.ListN.{length}
 use lib.Seq.{length-take-le}
-use Rattle.lines.specs.Line.{line-of}
+use Rattle.lines.specs.promises.Chain.{line-of}
 use Rattle.printing.proofs.Desks.{judge-refused}
 use Rattle.printing.proofs.Told.{put-as, Printable, printable}
 use borrow.Author.Needs.{needs}
