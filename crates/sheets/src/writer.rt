@@ -184,9 +184,9 @@ fn seal_blocks(buf: &mut [u8], blocks: usize)
 {
     let mut k: usize = 0;
     while k < blocks {
-        let a = 512 * k;
-        let e = a + 512;
-        seal(&mut buf[a..e]);
+        let from = 512 * k;
+        let to = from + 512;
+        seal(&mut buf[from..to]);
         k += 1;
     }
 }

@@ -25,11 +25,11 @@ loop-holds : tie.Need-loop-holds Inv-loop μ-loop
 unfolding flatMap count-from
 loop-holds c = (omega arith, refl, refl)
 
-mul-a : tie.Need-mul-a Inv-loop μ-loop
-mul-a c = omega arith
+mul-from : tie.Need-mul-from Inv-loop μ-loop
+mul-from c = omega arith
 
-add-e : tie.Need-add-e Inv-loop μ-loop
-add-e c = omega arith
+add-to : tie.Need-add-to Inv-loop μ-loop
+add-to c = omega arith
 
 sub-seal : tie.Need-sub-seal Inv-loop μ-loop
 sub-seal c = omega arith
@@ -84,8 +84,8 @@ seal-blocks-spec =
     Inv-loop
     μ-loop
     loop-holds
-    mul-a
-    add-e
+    mul-from
+    add-to
     sub-seal
     part-seal-start
     part-seal-end
