@@ -29,7 +29,7 @@ module _ (cs : List ℕ) where
   unfolding stored
   stored-one p b = ap (λ k. set b (place k) (getD cs k 0)) (sym (add-zero p))
 
-  -- The choices from q on, behind those from p to q.
+  -- So many choices, and then those behind them.
   adds : (p i j : ℕ) (b : Bytes) → stored cs (p + i) j (stored cs p i b) ≡ stored cs p (i + j) b
   unfolding stored
   adds p i zero b = ap (λ k. stored cs p k b) (sym (add-zero i))
