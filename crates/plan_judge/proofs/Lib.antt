@@ -3,7 +3,6 @@ pub mod Kept
 pub mod Returns
 pub mod Grounds
 pub mod Sizes
-pub mod Spelling
 pub mod Writes
 pub mod Checks
 pub mod Judges

@@ -4,7 +4,7 @@ use Prim.Native.Nat.{ℕ, zero, suc, _*_, _-_, _≤_, _<_}
 use native.Mathlib.Omega.{arith}
 use mathlib.Core.Path.{_≡_, refl, sym, ap, ap₂, _∙_}
 use mathlib.Core.Bool.{Bool, true, false, cond}
-use mathlib.Core.List.{List, _++_}
+use mathlib.Core.List.{List, [], _++_, append-nil}
 use mathlib.Core.Option.{Option, none, some}
 use lib.Dec.{leb}
 use lib.IntN.{pos}
@@ -19,12 +19,13 @@ use Rattle.logic.specs.Verdict.{Goal, goal}
 use Rattle.logic.specs.Verdict as logic
 use Rattle.logic.specs.Choices.{read-plan}
 use Rattle.logic.proofs.Checked.{bind-ok, ok-same}
-use Rattle.logic.proofs.Reading.{read-sound}
+use Rattle.logic.proofs.Reading.{read-sound, read-complete}
 use Rattle.blocks.specs.Bytes.{Bytes}
 use Rattle.models.specs.Layout.{model-of}
 use Rattle.questions.specs.Layout.{Question, start-of, node-count, node-of, question-of}
 use Rattle.questions.proofs.Accepted.{accepted}
-use Rattle.extension.specs.Choices.{extend}
+use Rattle.sheets.specs.declared.plans.End.the-variants.{At}
+use Rattle.sheets.specs.Ends.{end-of, all-read}
 use Rattle.sheets.specs.Layout.{Sheet, sheet-bytes, blocks-for}
 use Rattle.sheets.proofs.ReadsBack.{sheet-length}
 use Rattle.calls.specs.promises.Chains.{sheet-shown, do-write}
@@ -38,7 +39,6 @@ use Rattle.plan_judge.specs.Values.{writing, written-by, filling, filled
 use Rattle.plan_judge.specs.State.{held-both, held-goal, PlanRoot, plan-size, size-in, shown-size, shown-weight}
 use Rattle.plan_judge.proofs.Returns.{said-bytes}
 use Rattle.plan_judge.proofs.Grounds.{root-goal, both-of, both-asked, plan-asked, goal-refused, root-node, goal-passed}
-use Rattle.plan_judge.proofs.Spelling.{spelled}
 
 -- ---- the choices of a "plan" root
 
@@ -76,11 +76,16 @@ module _ (m q : Bytes) (r : PlanRoot m q) (cs : List ℕ) where
       let i : cs ≡ l ++ x .0 .1 = w .1 ∙ ap (λ k. k ++ x .0 .1) z in
       (omega (arith, some-choice n (x .0 .0) s, ap length z), omega (arith, ap length i ∙ length-append l (x .0 .1)), sym (ap (take (length l)) i ∙ take-append-seam l (x .0 .1)))
 
-  -- Spelled by recursion they are the same.
-  pub spelled-choices : (l : List ℕ) → choices-in (model-of m) (question-of q) cs ≡ ok l → extend (model-of m) n n (start-of q) cs .0 ≡ l
-  spelled-choices l e =
+  -- Read by themselves they are the same plan's, and none is left over.
+  pub choices-read : (l : List ℕ) → choices-in (model-of m) (question-of q) cs ≡ ok l → all-read (read-plan (model-of m) n (start-of q) l) l
+  unfolding end-of
+  choices-read l e =
       let x = bind-ok (read-plan (model-of m) n (start-of q) cs) _ (sym choices-are ∙ e) in
-      spelled (model-of m) n (start-of q) cs (x .0) (x .1) ∙ ok-same (x .2)
+      let z : l ≡ choices n (x .0 .0) ++ [] = sym (ok-same (x .2)) ∙ sym (append-nil (choices n (x .0 .0))) in
+      let c : read-plan (model-of m) n (start-of q) l ≡ ok (x .0 .0, []) =
+      ap (read-plan (model-of m) n (start-of q)) z ∙ read-complete (model-of m) n (start-of q) (x .0 .0) [] (read-sound (model-of m) n (start-of q) cs (x .0) (x .1) .0) in
+      let y : length l - 0 ≡ length l = omega arith in
+      sym (ap (end-of (length l)) c ∙ ap At y)
 
 -- ---- the shown plan
 

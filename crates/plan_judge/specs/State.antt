@@ -5,7 +5,7 @@ use mathlib.Core.Path.{_≡_}
 use mathlib.Core.Bool.{cond}
 use mathlib.Core.List.{List}
 use mathlib.Core.Option.{Option, none, some}
-use lib.ListN.{length, take}
+use lib.ListN.{length}
 use Rattle.logic.specs.Checked.{Checked, ok, refused, refusal, _>>=_, held}
 use Rattle.logic.specs.Model.{Model}
 use Rattle.logic.specs.Plan.{Plan, choices}
@@ -62,10 +62,6 @@ unfoldable pub shown-weight : Verdict → ℕ
 shown-weight (No k) = 0
 shown-weight Yes = 0
 shown-weight (YesPlan r) = r .weight
-
--- Where choices were found, the first r bytes are just these.
-pub record Spells (found : Checked (List ℕ)) (out : Bytes) (r : ℕ) : Type 0 where
-  pub spelled : (l : List ℕ) → found ≡ ok l → (r ≡ length l) × (take r out ≡ l)
 
 -- ---- the plan on a sheet: grounds 1 to 6, then 10
 

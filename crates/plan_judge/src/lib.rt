@@ -19,7 +19,7 @@ ghost use Rattle.judging.specs.Asked.{Served};
 ghost use Rattle.judging.specs.Announced.{Weighs};
 ghost use Rattle.plan_judge.specs.View.{held-size, choices-in, view};
 ghost use Rattle.plan_judge.specs.Values.{nothing, loaded-by, put-by, judged-by, written-by, filled-by, checking, checked-by};
-ghost use Rattle.plan_judge.specs.State.{held-both, held-goal, plan-size, size-in, shown-size, shown-weight, PlanRoot, Spells, plan-on, verdict-from};
+ghost use Rattle.plan_judge.specs.State.{held-both, held-goal, plan-size, size-in, shown-size, shown-weight, PlanRoot, plan-on, verdict-from};
 
 pub mod c_call;
 
@@ -395,19 +395,6 @@ fn sheet_size(count: usize) -> usize
     512 * ((count + 489) / 490)
 }
 
-// Spells the plan that a question with a "plan" root asks for, where the choices begin with one: depth first, by recursion with the steps
-// left falling. Gives how many choices it has.
-fn spell(model: &[u8], blocks: usize, q: &[u8], choices: &[u8], out: &mut [u8]) -> usize
-    requires { ⌜ PlanRoot (take (512 * blocks) (now model)) (now q) × (1365 ≤ length (now out)) ⌝ }
-    ensures { λ r. ⌜ Spells (choices-in (model-of (take (512 * blocks) (now (model .entry)))) (question-of (now (q .entry))) (now (choices .entry))) (now (out .exit)) r ⌝ }
-{
-    let end = blocks_end(model.len(), blocks);
-    let used = models::used_entries(&model[..end]);
-    let n = root_steps(q) as usize;
-    let s = questions::start(q) as usize;
-    extension::extend(&model[..end], &used, choices, out, s, n, n)
-}
-
 // Writes the shown plan's sheet into the first blocks of a lent buffer; or refuses by grounds 20 to 23, then 12, and leaves the buffer.
 pub fn write(d: Desk, buf: &mut [u8]) -> Written
     ensures { λ r. ⌜ (r ≡ written-by d (length (now (buf .entry)))) × (now (buf .exit) ≡ filled-by d (now (buf .entry))) ⌝ }
@@ -426,11 +413,10 @@ pub fn write(d: Desk, buf: &mut [u8]) -> Written
     let n = root_steps(&d.question);
     let s = questions::start(&d.question);
     let w = shown_weight(d.verdict);
-    let q = d.question;
+    let m = d.model;
     let cs = d.choices;
-    let mut plan = [0u8; 1365];
-    let size = spell(&d.model, d.blocks, &q, &cs, &mut plan);
-    Written::Bytes(sheets::writer::write_sheet(buf, n, s, w, &plan[..size]))
+    let end = blocks_end(6144, d.blocks);
+    Written::Bytes(sheets::writer::write_sheet(buf, &m[..end], n, s, w, &cs[..count]))
 }
 
 // The first ground, 1 to 6 or 10, on which a sheet is refused for a question with a "plan" root; 0 where it has a plan.

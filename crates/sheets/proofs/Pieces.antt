@@ -1,15 +1,12 @@
 -- Lists made of pieces, one for each number from 0 on: the sheet's blocks, and the choices in them.
-use Prim.Native.Nat.{ℕ, zero, suc, _+_, _*_, _-_, _<_, min}
+use Prim.Native.Nat.{ℕ, zero, suc, _+_, _*_, _-_, _≤_, _<_}
 use native.Mathlib.Omega.{arith}
-use native.Mathlib.Nat.{add-zero, mul-suc}
+use native.Mathlib.Nat.{add-zero, mul-suc, mul-le-mul-left}
 use native.Mathlib.Numerals.{add-one}
 use mathlib.Core.Path.{_≡_, refl, sym, ap, ap₂, _∙_}
-use mathlib.Core.Bool.{Bool, true, false}
 use mathlib.Core.List.{List, [], _++_, flatMap, append-assoc, append-nil}
-use lib.Dec.{leb}
-use lib.ListN.{length, take, drop, length-append, length-drop}
-use lib.Seq.{take-all, take-add, drop-at}
-use borrow.Author.Tests.{leb-true, leb-false}
+use lib.ListN.{length, take, drop, length-append}
+use lib.Seq.{take-add, drop-at, drop-drop, drop-append-le}
 use borrow.Rule.Slice.PartMut.{putMid}
 use Rattle.logic.specs.Lists.{count-from}
 use Rattle.sheets.proofs.Parts.{put-mid}
@@ -62,6 +59,18 @@ module _ {A : Type 0} (f : ℕ → List A) where
       let e : pieces f n ≡ pieces f k ++ (f (0 + k) ++ t) = ap (pieces f) z ∙ from-split 0 k j in
       (t, ap (drop (m * k)) e ∙ drop-at (pieces f k) (f (0 + k) ++ t) (m * k) (pieces-length m k (λ i g. h i (omega arith))) ∙ ap (λ x. f x ++ t) y)
 
+  -- Piece k of n, and behind it the piece after it.
+  pub next-piece : (m k n : ℕ) (t : List A) → k < n → ((i : ℕ) → i < n → length (f i) ≡ m)
+      → drop (m * k) (pieces f n ++ t) ≡ f k ++ drop (m * (k + 1)) (pieces f n ++ t)
+  next-piece m k n t l h =
+      let all : List A = pieces f n ++ t in
+      let w = piece-at m k n l h in
+      let e : drop (m * k) all ≡ f k ++ (w .0 ++ t) =
+      drop-append-le (m * k) (pieces f n) t (let g : k ≤ n = omega arith in omega (arith, pieces-length m n h, mul-le-mul-left m g))
+      ∙ ap (λ x. x ++ t) (w .1) ∙ append-assoc (f k) (w .0) t in
+      let j : m * k + m ≡ m * (k + 1) = omega (arith, mul-suc m k, ap (λ z. m * z) (add-one k)) in
+      e ∙ ap (λ x. f k ++ x) (sym (ap (λ i. drop i all) (sym j) ∙ sym (drop-drop m (m * k) all) ∙ ap (drop m) e ∙ drop-at (f k) (w .0 ++ t) m (h k l)))
+
 pub pieces-same : {A : Type 0} (f g : ℕ → List A) (n : ℕ) → ((k : ℕ) → k < n → f k ≡ g k) → pieces f n ≡ pieces g n
 pieces-same f g zero h = pieces-none f ∙ sym (pieces-none g)
 pieces-same f g (suc n) h = pieces-more f n ∙ ap₂ _++_ (pieces-same f g n (λ k l. h k (omega arith))) (h n (omega arith)) ∙ sym (pieces-more g n)
@@ -74,17 +83,6 @@ parts l m (suc n) =
     ∙ ap (λ x. x ++ take m (drop (m * n) l)) (parts l m n)
     ∙ sym (take-add (m * n) m l)
     ∙ ap (λ i. take i l) (sym (mul-suc m n))
-
--- A part that ends n further on, or with the list.
-pub take-upto : (a n : ℕ) (l : List ℕ) → take (min (a + n) (length l) - a) (drop a l) ≡ take n (drop a l)
-take-upto a n l = by (leb (a + n) (length l)) refl
-  where
-    by : (t : Bool) → leb (a + n) (length l) ≡ t → take (min (a + n) (length l) - a) (drop a l) ≡ take n (drop a l)
-    by true q = let h = leb-true (a + n) (length l) q in let j : min (a + n) (length l) - a ≡ n = omega arith in ap (λ i. take i (drop a l)) j
-    by false q =
-        let h = leb-false (a + n) (length l) q in
-        let d = length-drop a l in
-        take-all (min (a + n) (length l) - a) (drop a l) (omega arith) ∙ sym (take-all n (drop a l) (omega arith))
 
 -- One piece more, put in the middle of d₀.
 pub piece-put : (f : ℕ → List ℕ) (d₀ d p : List ℕ) (m k : ℕ) → d ≡ pieces f k ++ drop (m * k) d₀ → length (pieces f k) ≡ m * k → p ≡ f k

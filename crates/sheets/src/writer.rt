@@ -1,11 +1,18 @@
-// The writer: each block, and each field in it, is lent on as a part of the buffer.
+// The writer of a plan's sheet: its blocks are begun, its choices stored, its blocks sealed. One function stores the choice for a history,
+// another walks its outcomes and calls back, with fewer steps left. Each block, and its choices from byte 18, is lent on as a part of the buffer.
 ghost use mathlib.Core.Path.{_≡_};
-ghost use Prim.Native.Nat.{_+_, _*_, _≤_, _<_, min};
-ghost use mathlib.Core.List.{_++_};
-ghost use lib.ListN.{length, take, drop, replicate};
+ghost use Prim.Native.Nat.{ℕ, _+_, _*_, _-_, _/_, _≤_, _<_};
+ghost use mathlib.Core.List.{[], _++_};
+ghost use lib.ListN.{length, take, drop, set, replicate};
+ghost use Rattle.logic.specs.Checked.{refusal};
+ghost use Rattle.logic.specs.Model.{outcomes};
+ghost use Rattle.logic.specs.Choices.{read-each, read-plan};
 ghost use Rattle.blocks.specs.Bytes.{little-endian};
-ghost use Rattle.sheets.specs.Layout.{with-word-sum, sheet-block, blocks-for, sheet-bytes};
-ghost use Rattle.sheets.specs.Writer.{started};
+ghost use Rattle.models.specs.Layout.{state-count, action-count, model-of};
+ghost use Rattle.models.specs.Grounds.{read-model};
+ghost use Rattle.sheets.specs.Layout.{with-word-sum, blocks-for, sheet-bytes};
+ghost use Rattle.sheets.specs.Ends.{all-read};
+ghost use Rattle.sheets.specs.Writer.{started, unsealed, chunk-size, begun, sealed, place, Ahead, Stored};
 
 // The first bytes of dst become src.
 pub fn copy(dst: &mut [u8], src: &[u8])
@@ -65,52 +72,135 @@ fn head(dst: &mut [u8], k: u8, n: u8, start: u8)
     dst[3] = start;
 }
 
-// Block k of a sheet.
-fn block(dst: &mut [u8], k: u8, n: u8, start: u8, weight: u64, choices: &[u8])
-    requires { ⌜ (length (now dst) ≡ 512) × (length (now choices) ≤ 490) ⌝ }
-    ensures { λ _. ⌜ now (dst .exit) ≡ sheet-block n start weight k (now (choices .entry)) ⌝ }
+// Begins block k of a sheet: all but its choices and its last word.
+fn begin(dst: &mut [u8], k: u8, n: u8, start: u8, weight: u64, count: u64)
+    requires { ⌜ length (now dst) ≡ 512 ⌝ }
+    ensures { λ _. ⌜ now (dst .exit) ≡ unsealed n start weight k count [] ⌝ }
 {
     clear(dst);
     head(dst, k, n, start);
     put_number(&mut dst[8..], 8, weight);
-    put_number(&mut dst[16..], 2, choices.len() as u64);
-    copy(&mut dst[18..], choices);
-    seal(dst);
+    put_number(&mut dst[16..], 2, count);
 }
 
-// Where the choices of a block that start at `from` end: after 490, or with the last.
-fn chunk_end(from: usize, count: usize) -> usize
-    requires { ⌜ (from < 4096) × (from ≤ count) ⌝ }
-    ensures { λ r. ⌜ r ≡ min (from + 490) count ⌝ }
+// How many of a sheet's choices stand in block k: 490, or what is left.
+fn chunk_size(count: usize, k: usize) -> u64
+    requires { ⌜ (k < 3) × (490 * k ≤ count) ⌝ }
+    ensures { λ r. ⌜ r ≡ chunk-size count k ⌝ }
 {
-    if count < from + 490 {
-        return count;
+    let left = count - 490 * k;
+    if left < 490 {
+        return left as u64;
     }
-    from + 490
+    490
 }
 
-// The blocks of a sheet at the front of buf, and no byte beyond; gives the number of bytes written.
-pub fn write_sheet(buf: &mut [u8], n: u8, start: u8, weight: u64, choices: &[u8]) -> usize
-    requires { ⌜ (length (now choices) ≤ 1365) × (512 * blocks-for (length (now choices)) ≤ length (now buf)) ⌝ }
-    ensures { λ r. ⌜ (now (buf .exit) ≡ sheet-bytes n start weight (now (choices .entry)) ++ drop r (now (buf .entry))) × (r ≡ 512 * blocks-for (length (now (choices .entry)))) ⌝ }
+// Begins the blocks of a sheet with so many choices, at the front of buf.
+fn begin_blocks(buf: &mut [u8], n: u8, start: u8, weight: u64, count: usize)
+    requires { ⌜ (count ≤ 1365) × (512 * blocks-for count ≤ length (now buf)) ⌝ }
+    ensures { λ _. ⌜ now (buf .exit) ≡ begun n start weight count ++ drop (512 * blocks-for count) (now (buf .entry)) ⌝ }
 {
-    let count = choices.len();
     let blocks = (count + 489) / 490;
     let mut k: usize = 0;
     while k < blocks {
         let a = 512 * k;
         let e = a + 512;
-        let from = 490 * k;
-        let to = chunk_end(from, count);
-        block(
-            &mut buf[a..e],
-            k as u8,
-            n,
-            start,
-            weight,
-            &choices[from..to],
-        );
+        let here = chunk_size(count, k);
+        begin(&mut buf[a..e], k as u8, n, start, weight, here);
         k += 1;
     }
+}
+
+// Stores one choice among those of a block.
+fn store(choices: &mut [u8], i: usize, a: u8)
+    requires { ⌜ i < length (now choices) ⌝ }
+    ensures { λ _. ⌜ now (choices .exit) ≡ set (now (choices .entry)) i a ⌝ }
+{
+    choices[i] = a;
+}
+
+// Stores choice i of a block.
+fn store_in_block(block: &mut [u8], i: usize, a: u8)
+    requires { ⌜ (length (now block) ≡ 512) × (i < 490) ⌝ }
+    ensures { λ _. ⌜ now (block .exit) ≡ set (now (block .entry)) (18 + i) a ⌝ }
+{
+    store(&mut block[18..508], i, a);
+}
+
+// Stores choice p of a sheet in its block.
+fn store_choice(buf: &mut [u8], p: usize, a: u8)
+    requires { ⌜ (p < 1470) × (512 * (p / 490) + 512 ≤ length (now buf)) ⌝ }
+    ensures { λ _. ⌜ now (buf .exit) ≡ set (now (buf .entry)) (place p) a ⌝ }
+{
+    let from = 512 * (p / 490);
+    let to = from + 512;
+    store_in_block(&mut buf[from..to], p % 490, a);
+}
+
+// Stores the choices of the n-step plan from the state s that begins with choice p; gives where they end.
+fn store_plan(buf: &mut [u8], m: &[u8], choices: &[u8], n: usize, s: usize, p: usize) -> usize
+    requires { ⌜ (refusal (read-model (now m)) ≡ 0) × (s < state-count (now m)) ⌝ }
+    requires { ⌜ Ahead (read-plan (model-of (now m)) n s (drop p (now choices))) (now choices) p (now buf) ⌝ }
+    ensures { λ r. ⌜ Stored (read-plan (model-of (now (m .entry))) n s (drop p (now (choices .entry)))) (now (choices .entry)) p r (now (buf .entry)) (now (buf .exit)) ⌝ }
+{
+    if n == 0 {
+        return p;
+    }
+    let a = choices[p];
+    store_choice(buf, p, a);
+    store_below(buf, m, choices, n - 1, s, a as usize, p + 1)
+}
+
+// Stores the choices of a plan of k steps below each outcome of the action a.
+fn store_below(
+    buf: &mut [u8],
+    m: &[u8],
+    choices: &[u8],
+    k: usize,
+    s: usize,
+    a: usize,
+    p: usize,
+) -> usize
+    requires { ⌜ (refusal (read-model (now m)) ≡ 0) × (s < state-count (now m)) × (a < action-count (now m)) ⌝ }
+    requires { ⌜ Ahead (read-each (λ o. read-plan (model-of (now m)) k (o .target)) (outcomes (model-of (now m)) s a) (drop p (now choices))) (now choices) p (now buf) ⌝ }
+    ensures { λ r. ⌜ Stored (read-each (λ o. read-plan (model-of (now (m .entry))) k (o .target)) (outcomes (model-of (now (m .entry))) s a) (drop p (now (choices .entry)))) (now (choices .entry)) p r (now (buf .entry)) (now (buf .exit)) ⌝ }
+{
+    let count = models::entries(m, s, a);
+    let mut next = p;
+    let mut i: usize = 0;
+    while i < count {
+        let t = models::target(m, s, a, i);
+        next = store_plan(buf, m, choices, k, t, next);
+        i += 1;
+    }
+    next
+}
+
+// Seals the first blocks of buf.
+fn seal_blocks(buf: &mut [u8], blocks: usize)
+    requires { ⌜ (blocks ≤ 3) × (512 * blocks ≤ length (now buf)) ⌝ }
+    requires { ⌜ ((k : ℕ) → k < blocks → drop 510 (take 512 (drop (512 * k) (now buf))) ≡ replicate 2 0) ⌝ }
+    ensures { λ _. ⌜ now (buf .exit) ≡ sealed blocks (now (buf .entry)) ⌝ }
+{
+    let mut k: usize = 0;
+    while k < blocks {
+        let from = 512 * k;
+        let to = from + 512;
+        seal(&mut buf[from..to]);
+        k += 1;
+    }
+}
+
+// The sheet of the n-step plan that these choices are, at the front of buf, and no byte beyond; gives the number of bytes written.
+pub fn write_sheet(buf: &mut [u8], m: &[u8], n: u8, start: u8, weight: u64, choices: &[u8]) -> usize
+    requires { ⌜ (refusal (read-model (now m)) ≡ 0) × (start < state-count (now m)) × all-read (read-plan (model-of (now m)) n start (now choices)) (now choices) ⌝ }
+    requires { ⌜ (length (now choices) ≤ 1365) × (512 * blocks-for (length (now choices)) ≤ length (now buf)) ⌝ }
+    ensures { λ r. ⌜ (now (buf .exit) ≡ sheet-bytes n start weight (now (choices .entry)) ++ drop r (now (buf .entry))) × (r ≡ 512 * blocks-for (length (now (choices .entry)))) ⌝ }
+{
+    let count = choices.len();
+    begin_blocks(buf, n, start, weight, count);
+    store_plan(buf, m, choices, n as usize, start as usize, 0);
+    let blocks = (count + 489) / 490;
+    seal_blocks(buf, blocks);
     512 * blocks
 }

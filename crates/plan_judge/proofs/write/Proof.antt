@@ -3,16 +3,22 @@ use Prim.Native.Nat.{_*_, _-_, _≤_}
 use native.Mathlib.Omega.{arith}
 use mathlib.Core.Path.{_≡_, sym, ap, ap₂, _∙_}
 use mathlib.Core.List.{_++_}
-use lib.ListN.{length, take, drop, length-take}
+use lib.ListN.{length, take, drop}
 use lib.Seq.{length-take-le}
 use borrow.Author.Needs.{needs}
 use Rattle.logic.specs.Checked.{refusal}
+use Rattle.logic.specs.Choices.{read-plan}
+use Rattle.models.specs.Layout.{state-count, model-of}
+use Rattle.models.specs.Grounds.{read-model}
 use Rattle.questions.specs.Layout.{start-of, node-count, node-of}
+use Rattle.questions.proofs.Accepted.{accepted}
+use Rattle.sheets.specs.Ends.{end-of}
 use Rattle.sheets.specs.Layout.{blocks-for, sheet-bytes}
 use Rattle.plan_judge.specs.View.{view}
 use Rattle.plan_judge.specs.State.{held-goal}
+use Rattle.plan_judge.proofs.Returns.{said-bytes, cut-inside, cut-said}
 use Rattle.plan_judge.proofs.Grounds.{plan-asked}
-use Rattle.plan_judge.proofs.Writes.{found-shown, write-state, write-none, count-few, write-short, write-done}
+use Rattle.plan_judge.proofs.Writes.{choices-read, found-shown, write-state, write-none, count-few, write-short, write-done}
 use Rattle.plan_judge.proofs.write.Statement.{statement}
 use Rattle.plan_judge.proofs.write.Tie as tie
 
@@ -31,17 +37,16 @@ small c = let l = few c in
 whole : (c : tie.Else2) → length (take (c .before .shown-size .result) (c .before .before .before .before .before .args .t1 .choices)) ≡ c .before .shown-size .result
 whole c = length-take-le (c .before .shown-size .result) (c .before .before .before .before .before .args .t1 .choices) (few c)
 
--- From where the plan is spelled back to past 23.
-abbrev past : tie.After-plan → tie.Else2
-past c = c .before .before .before .before .before .before .before .before .before .before .before .before .before .before .before .before .before .before .before
+-- From where the model is cut back to past 23.
+abbrev past : tie.After-blocks-end → tie.Else2
+past c = c .before .before .before .before .before .before .before .before .before .before .before .before .before .before
 
--- What is spelled are the desk's first choices.
-spelt : (c : tie.After-spell) → let E = past (c .before) in
-    (c .spell .result ≡ length (take (E .before .shown-size .result) (E .before .before .before .before .before .args .t1 .choices)))
-    × (take (c .spell .result) (c .spell .last .1 .1 .1 .1 .0) ≡ take (E .before .shown-size .result) (E .before .before .before .before .before .args .t1 .choices))
-spelt c = let E = past (c .before) in
-    c .spell .ensures .spelled (take (E .before .shown-size .result) (E .before .before .before .before .before .args .t1 .choices))
-    (found-shown (E .before .before .before .before .before .args .t1) (E .before .before .before .before .before .args .buf .now) (asked (E .before .before)) (E .before .shown-size .result) (E .before .shown-size .ensures) (E .if2 .left))
+-- The bytes that are cut are those that the desk says it has.
+inside : (c : tie.After-blocks-end) → c .blocks-end .result ≤ length (past c .before .before .before .before .before .args .t1 .model)
+inside c = cut-inside (past c .before .before .before .before .before .args .t1) (search needs) (c .blocks-end .result) (c .blocks-end .ensures)
+
+cut : (c : tie.After-blocks-end) → take (c .blocks-end .result) (past c .before .before .before .before .before .args .t1 .model) ≡ said-bytes (past c .before .before .before .before .before .args .t1)
+cut c = cut-said (past c .before .before .before .before .before .args .t1) (search needs) (c .blocks-end .result) (c .blocks-end .ensures)
 
 plan-ground-requires : tie.Need-plan-ground-requires
 plan-ground-requires c κs = search needs
@@ -71,51 +76,62 @@ start-requires c κs = search needs
 shown-weight-requires : tie.Need-shown-weight-requires
 shown-weight-requires c κs = search needs
 
-slice-aggregate-spell : tie.Need-slice-aggregate-spell
-slice-aggregate-spell c = search needs
+blocks-end-requires : tie.Need-blocks-end-requires
+blocks-end-requires c κs = search needs
 
-slice-aggregate-spell-2 : tie.Need-slice-aggregate-spell-2
-slice-aggregate-spell-2 c = search needs
-
-slice-aggregate-spell-3 : tie.Need-slice-aggregate-spell-3
-slice-aggregate-spell-3 c = search needs
-
-spell-requires : tie.Need-spell-requires
-spell-requires c κs = let E = past c in
-    (plan-asked (E .before .before .before .before .before .args .t1) (asked (E .before .before)), omega arith)
-
-array-share-prefix-plan : tie.Need-array-share-prefix-plan
-array-share-prefix-plan c = let P = c .before .before in
-    let w = spelt P in
-    omega (arith, w .0, ap length (w .1), length-take (P .spell .result) (P .spell .last .1 .1 .1 .1 .0))
+array-share-prefix-m : tie.Need-array-share-prefix-m
+array-share-prefix-m c = inside (c .before)
 
 slice-aggregate-write-sheet : tie.Need-slice-aggregate-write-sheet
-slice-aggregate-write-sheet c = let w = spelt (c .before .before .before) in w .0 ∙ sym (ap length (w .1))
+slice-aggregate-write-sheet c = let P = c .before .before in sym (length-take-le (P .blocks-end .result) (past P .before .before .before .before .before .args .t1 .model) (inside P))
+
+array-share-prefix-cs : tie.Need-array-share-prefix-cs
+array-share-prefix-cs c = few (past (c .before .before))
+
+slice-aggregate-write-sheet-2 : tie.Need-slice-aggregate-write-sheet-2
+slice-aggregate-write-sheet-2 c = sym (whole (past (c .before .before .before)))
 
 write-sheet-requires : tie.Need-write-sheet-requires
 write-sheet-requires c κs = let P = c .before .before .before in
-    let E = past (P .before) in
-    let e = ap length (spelt P .1) ∙ whole E in
-    (omega (arith, small E), omega (arith, ap (λ n. 512 * blocks-for n) e, P .before .before .before .before .before .before .before .before .before .before .before .before .before .before .before .before .before .before .before .sheet-size .ensures, P .before .before .before .before .before .before .before .before .before .before .before .before .before .before .before .before .before .before .if3 .left))
+    let E = past P in
+    let S = E .before .before .before .before .before in
+    let d = S .args .t1 in
+    let q = d .question in
+    let l = take (E .before .shown-size .result) (d .choices) in
+    let r = plan-asked d (asked (E .before .before)) in
+    let n = P .before .before .before .before .before .before .before .before .root-steps in
+    let s = P .before .before .before .before .start in
+    let e = cut P in
+    let found = found-shown d (S .args .buf .now) (asked (E .before .before)) (E .before .shown-size .result) (E .before .shown-size .ensures) (E .if2 .left) in (
+      (
+        ap (λ z. refusal (read-model z)) e ∙ r .passed,
+        omega (arith, accepted _ _ _ q (r .asked) .starts, s .ensures, ap state-count e),
+        choices-read (said-bytes d) q r (d .choices) l found
+            ∙ ap₂ (λ n s. end-of (length l) (read-plan (model-of (said-bytes d)) n s l)) (sym (n .ensures)) (sym (s .ensures))
+            ∙ ap (λ z. end-of (length l) (read-plan (model-of z) (n .result) (s .result) l)) (sym e),
+      ),
+      (omega (arith, small E, whole E), omega (arith, ap (λ k. 512 * blocks-for k) (whole E), P .before .before .before .before .before .before .before .before .before .before .before .before .before .sheet-size .ensures, P .before .before .before .before .before .before .before .before .before .before .before .before .if3 .left)),
+    )
 
 same-length : tie.Need-same-length
 same-length c = search needs
 
 returns-4 : tie.Need-returns-4
 returns-4 c = let P = c .before .before .before .before .before .before in
-    let E = past (P .before) in
+    let E = past P in
     let S = E .before .before .before .before .before in
     let q = S .args .t1 .question in
     let cs = take (E .before .shown-size .result) (S .args .t1 .choices) in
-    let w = spelt P .1 in
-    let rest = drop (c .before .before .write-sheet .result) (S .args .buf .now) in
+    let n = P .before .before .before .before .before .before .before .before .root-steps in
+    let s = P .before .before .before .before .start in
+    let w = P .before .before .before .shown-weight in
+    let sheet = c .before .before .write-sheet in
+    let rest = drop (sheet .result) (S .args .buf .now) in
     write-done (S .args .t1) (S .args .buf .now) (asked (E .before .before)) (E .before .shown-size .result) (E .before .shown-size .ensures) (E .if2 .left)
-    (omega (arith, P .before .before .before .before .before .before .before .before .before .before .before .before .before .before .before .before .before .before .before .sheet-size .ensures, P .before .before .before .before .before .before .before .before .before .before .before .before .before .before .before .before .before .before .if3 .left)) (c .before .before .write-sheet .result)
-    (c .before .before .write-sheet .ensures .1 ∙ ap (λ z. 512 * blocks-for (length z)) w) (c .before .before .write-sheet .last .0)
-    (c .before .before .write-sheet .ensures .0
-    ∙ ap (λ z. sheet-bytes (P .before .before .before .before .before .before .before .before .before .before .before .before .before .before .root-steps .result) (P .before .before .before .before .before .before .before .before .before .before .start .result) (P .before .before .before .before .before .before .before .before .before .shown-weight .result) z ++ rest) w
-    ∙ ap₂ (λ n s. sheet-bytes n s (P .before .before .before .before .before .before .before .before .before .shown-weight .result) cs ++ rest) (P .before .before .before .before .before .before .before .before .before .before .before .before .before .before .root-steps .ensures) (P .before .before .before .before .before .before .before .before .before .before .start .ensures)
-    ∙ ap (λ w. sheet-bytes (node-of q (node-count q - 1) .n) (start-of q) w cs ++ rest) (P .before .before .before .before .before .before .before .before .before .shown-weight .ensures))
+    (omega (arith, P .before .before .before .before .before .before .before .before .before .before .before .before .before .sheet-size .ensures, P .before .before .before .before .before .before .before .before .before .before .before .before .if3 .left)) (sheet .result) (sheet .ensures .1) (sheet .last .0)
+    (sheet .ensures .0
+    ∙ ap₂ (λ n s. sheet-bytes n s (w .result) cs ++ rest) (n .ensures) (s .ensures)
+    ∙ ap (λ w. sheet-bytes (node-of q (node-count q - 1) .n) (start-of q) w cs ++ rest) (w .ensures))
 
 pub write-spec : {M : Type 1} → statement M
 write-spec =
@@ -130,12 +146,11 @@ write-spec =
     root-steps-requires
     start-requires
     shown-weight-requires
-    slice-aggregate-spell
-    slice-aggregate-spell-2
-    slice-aggregate-spell-3
-    spell-requires
-    array-share-prefix-plan
+    blocks-end-requires
+    array-share-prefix-m
     slice-aggregate-write-sheet
+    array-share-prefix-cs
+    slice-aggregate-write-sheet-2
     write-sheet-requires
     same-length
     returns-4)

@@ -1,153 +1,68 @@
--- The loop has put in the blocks before k, and nothing behind them. The measure is what is left of the blocks.
-use Prim.Native.Nat.{ℕ, _+_, _-_, _*_, _/_, _≤_, _<_}
-use native.Mathlib.Nat.{mul-div-le}
+-- The blocks are begun, each becomes full while the plan is stored, and sealed they are the sheet.
+use Prim.Native.Nat.{ℕ, _*_, _-_}
 use native.Mathlib.Omega.{arith}
-use mathlib.Core.List.{List, _++_, flatMap}
 use mathlib.Core.Path.{_≡_, refl, ap, _∙_}
-use lib.ListN.{length, take, drop, length-take, length-drop}
+use mathlib.Core.List.{List, _++_}
+use lib.ListN.{length, drop}
 use borrow.Author.Needs.{needs}
-use borrow.Rule.Slice.PartMut.{same-len-mid}
-use Rattle.logic.specs.Lists.{count-from}
-use Rattle.sheets.specs.Layout.{sheet-block, sheet-bytes, blocks-for}
-use Rattle.sheets.proofs.Pieces.{pieces, take-upto, piece-put}
-use Rattle.sheets.proofs.Block.{blocks-length}
+use Rattle.sheets.specs.Layout.{blocks-for}
+use Rattle.sheets.specs.Writer.{stored}
+use Rattle.sheets.proofs.Pieces.{pieces}
+use Rattle.sheets.proofs.Stored.{full, all-stored, last-words, all-sealed}
 use Rattle.sheets.proofs.writer.write_sheet.Statement.{statement}
 use Rattle.sheets.proofs.writer.write_sheet.Tie as tie
 
-abbrev Inv-loop : tie.InvT-loop
-Inv-loop buf₀ n start weight choices count blocks k₀ buf k = (k ≤ blocks) × (length buf ≡ length buf₀) × (buf ≡ pieces (λ i. sheet-block n start weight i (take 490 (drop (490 * i) choices))) k ++ drop (512 * k) buf₀)
+-- What the buffer has behind the sheet.
+abbrev beyond : tie.Start → List ℕ
+beyond S = drop (512 * blocks-for (length (S .args .choices .now))) (S .args .buf .now)
 
-abbrev μ-loop : tie.MeasureT-loop
-μ-loop buf₀ n start weight choices count blocks k₀ buf k = blocks - k
-
-add-blocks : tie.Need-add-blocks Inv-loop μ-loop
-add-blocks c = omega arith
-
-loop-holds : tie.Need-loop-holds Inv-loop μ-loop
-unfolding flatMap count-from
-loop-holds c = (omega arith, refl, refl)
-
-mul-a : tie.Need-mul-a Inv-loop μ-loop
-mul-a c = let S = c .before .before .before .before in
-    let few = mul-div-le (length (S .args .choices .now) + 489) 490 in
-    omega arith
-
-add-e : tie.Need-add-e Inv-loop μ-loop
-add-e c = let S = c .before .before .before .before in
-    let few = mul-div-le (length (S .args .choices .now) + 489) 490 in
-    omega arith
-
-mul-from : tie.Need-mul-from Inv-loop μ-loop
-mul-from c = let S = c .before .before .before .before in
-    let few = mul-div-le (length (S .args .choices .now) + 489) 490 in
-    omega arith
-
-chunk-end-requires : tie.Need-chunk-end-requires Inv-loop μ-loop
-chunk-end-requires c κs = let S = c .before .before .before .before in
-    let few = mul-div-le (length (S .args .choices .now) + 489) 490 in
-    (omega arith, omega arith)
-
-sub-block : tie.Need-sub-block Inv-loop μ-loop
-sub-block c = omega arith
-
-part-block-start : tie.Need-part-block-start Inv-loop μ-loop
-part-block-start c = omega arith
-
-part-block-end : tie.Need-part-block-end Inv-loop μ-loop
-unfolding blocks-for
-part-block-end c = let S = c .before .before .before .before .before in
-    let few = mul-div-le (length (S .args .choices .now) + 489) 490 in
-    omega arith
-
-cast-block : tie.Need-cast-block Inv-loop μ-loop
-cast-block c = let S = c .before .before .before .before .before .before in
-    let few = mul-div-le (length (S .args .choices .now) + 489) 490 in
-    omega arith
-
-sub-block-2 : tie.Need-sub-block-2 Inv-loop μ-loop
-sub-block-2 c = let S = c .before .before .before .before .before .before in
-    let few = mul-div-le (length (S .args .choices .now) + 489) 490 in
-    omega arith
-
-part-block-start-2 : tie.Need-part-block-start-2 Inv-loop μ-loop
-part-block-start-2 c = let S = c .before .before .before .before .before .before in
-    let few = mul-div-le (length (S .args .choices .now) + 489) 490 in
-    omega arith
-
-part-block-end-2 : tie.Need-part-block-end-2 Inv-loop μ-loop
-part-block-end-2 c = let S = c .before .before .before .before .before .before in
-    let few = mul-div-le (length (S .args .choices .now) + 489) 490 in
-    omega arith
-
-block-requires : tie.Need-block-requires Inv-loop μ-loop
-unfolding blocks-for
-block-requires c κs = let S = c .before .before .before .before .before .before .before in
-    let few = mul-div-le (length (S .args .choices .now) + 489) 490 in
-    (simp (length-take, length-drop) (omega arith), simp (length-take, length-drop) (omega arith))
-
-add-k : tie.Need-add-k Inv-loop μ-loop
-add-k c = let S = c .before .before .before .before .before .before .before .before .before .before in
-    let few = mul-div-le (length (S .args .choices .now) + 489) 490 in
-    omega arith
-
-loop-less : tie.Need-loop-less Inv-loop μ-loop
-loop-less c = let S = c .before .before .before .before .before .before .before .before .before .before in
-    let few = mul-div-le (length (S .args .choices .now) + 489) 490 in
-    omega arith
-
-loop-again : tie.Need-loop-again Inv-loop μ-loop
-loop-again c = let S = c .before .before .before .before .before .before .before .before .before .before in
-    let L = c .before .before .before .before .before .before .before .loop in
-    let block = c .before .before .block in
-    let f : ℕ → List ℕ = λ i. sheet-block (S .args .n) (S .args .start) (S .args .weight) i (take 490 (drop (490 * i) (S .args .choices .now))) in
-    let lt : L .k < (length (S .args .choices .now) + 489) / 490 = c .before .before .before .before .before .before .loop-test .taken in
+-- When the plan is stored, each block is full.
+made : (c : tie.After-store-plan) → let S = c .before .before .before .before .before .before .before .before .before in
+    c .store-plan .last .0 ≡ pieces (full (S .args .n) (S .args .start) (S .args .weight) (S .args .choices .now)) (blocks-for (length (S .args .choices .now))) ++ beyond S
+made c = let S = c .before .before .before .before .before .before .before .before .before in
     let cs = S .args .choices .now in
-    let chunk : take (c .before .before .before .before .before .chunk-end .result - 490 * L .k) (drop (490 * L .k) cs) ≡ take 490 (drop (490 * L .k) cs) =
-    ap (λ z. take (z - 490 * L .k) (drop (490 * L .k) cs)) (c .before .before .before .before .before .chunk-end .ensures) ∙ take-upto (490 * L .k) 490 cs in (
-      omega arith,
-      same-len-mid (512 * L .k) (512 * L .k + 512 - 512 * L .k) (L .buf) (block .last .0) (block .kept .0) ∙ L .inv .1,
-      piece-put f (S .args .buf .now) (L .buf) (block .last .0) 512 (L .k) (L .inv .2) (blocks-length (S .args .n) (S .args .start) (S .args .weight) (S .args .choices .now) (L .k)) (block .ensures ∙ ap (sheet-block (S .args .n) (S .args .start) (S .args .weight) (L .k)) chunk),
-    )
+    let e : c .store-plan .result ≡ length cs = let f = c .store-plan .ensures .ends in let g = S .pre .0 .2 in cc in
+    all-stored (S .args .n) (S .args .start) (S .args .weight) cs (beyond S) (c .before .before .before .before .begin-blocks .last .0) (c .store-plan .last .0)
+    (c .before .before .before .before .begin-blocks .ensures) (c .store-plan .ensures .bytes ∙ ap (λ r. stored cs 0 (r - 0) (c .before .before .before .before .begin-blocks .last .0)) e)
 
-mul-result : tie.Need-mul-result Inv-loop μ-loop
-mul-result c = let S = c .before .before .before .before in
-    let few = mul-div-le (length (S .args .choices .now) + 489) 490 in
-    omega arith
+begin-blocks-requires : tie.Need-begin-blocks-requires
+begin-blocks-requires c κs = search needs
 
-same-length : tie.Need-same-length Inv-loop μ-loop
+store-plan-requires : tie.Need-store-plan-requires
+store-plan-requires c κs = let S = c .before .before .before .before .before .before .before .before in (
+  (S .pre .0 .0, S .pre .0 .1),
+  record { end = _; ends = S .pre .0 .2; inside = omega arith; few = S .pre .1 .0; room = omega (arith, S .pre .1 .1, c .before .before .before .begin-blocks .kept .0) },
+)
+
+add-blocks : tie.Need-add-blocks
+add-blocks c = search needs
+
+seal-blocks-requires : tie.Need-seal-blocks-requires
+unfolding blocks-for
+seal-blocks-requires c κs = let S = c .before .before .before .before .before .before .before .before .before .before .before .before in (
+  (omega arith, omega (arith, S .pre .1 .1, c .before .before .before .store-plan .kept .0, c .before .before .before .before .before .before .before .begin-blocks .kept .0)),
+  last-words (S .args .n) (S .args .start) (S .args .weight) (S .args .choices .now) (beyond S) (c .before .before .before .store-plan .last .0) (made (c .before .before .before)),
+)
+
+mul-result : tie.Need-mul-result
+mul-result c = search needs
+
+same-length : tie.Need-same-length
 same-length c = search needs
 
-returns : tie.Need-returns Inv-loop μ-loop
-unfolding sheet-bytes blocks-for
-returns c = let S = c .before .before .before .before in
-    let L = c .before .loop in
-    let f : ℕ → List ℕ = λ i. sheet-block (S .args .n) (S .args .start) (S .args .weight) i (take 490 (drop (490 * i) (S .args .choices .now))) in
-    let e : L .k ≡ (length (S .args .choices .now) + 489) / 490 = omega arith in
-    (L .inv .2 ∙ ap (λ i. pieces f i ++ drop (512 * i) (S .args .buf .now)) e, refl)
+returns : tie.Need-returns
+unfolding blocks-for
+returns c = let S = c .before .before .before .before .before .before .before .before .before .before .before .before .before .before .before in
+    (c .before .before .seal-blocks .ensures ∙ all-sealed (S .args .n) (S .args .start) (S .args .weight) (S .args .choices .now) (beyond S) (c .before .before .before .before .before .before .store-plan .last .0) (made (c .before .before .before .before .before .before)), refl)
 
 pub write-sheet-spec : {M : Type 1} → statement M
 write-sheet-spec =
     tie.close
     (tie.spec
-    Inv-loop
-    μ-loop
+    begin-blocks-requires
+    store-plan-requires
     add-blocks
-    loop-holds
-    mul-a
-    add-e
-    mul-from
-    chunk-end-requires
-    sub-block
-    part-block-start
-    part-block-end
-    cast-block
-    sub-block-2
-    part-block-start-2
-    part-block-end-2
-    block-requires
-    add-k
-    loop-less
-    loop-again
+    seal-blocks-requires
     mul-result
     same-length
     returns)
