@@ -1,10 +1,15 @@
 //! The stream `tight` tells a judge in floats from one in whole numbers. The
 //! ordinary streams do not: this test fails on them.
 
+mod common;
+
+use common::{files, named, pack};
+use second::desk::Call;
 use second::floats::{differences, Arithmetic, Asked, Differences};
 use second::generate::stream;
 use second::logic::Relation;
 use std::ops::RangeInclusive;
+use std::path::PathBuf;
 
 /// So many calls at least that a judge in floats gets wrong, of each sort.
 const FEWEST: usize = 20;
@@ -103,5 +108,40 @@ fn ordinary_streams_do_not() {
         let passing = [Arithmetic::DividedDoubles, Arithmetic::MultipliedDoubles];
         assert!(counts.keys().all(|key| !passing.contains(&key.0)), "{kind}");
         assert!(!counts.is_empty(), "{kind}: no judge in floats is wrong");
+    }
+}
+
+/// The judges in floats that are wrong on a fixture's question.
+fn wrong_on(folder: &str, name: &str) -> Vec<Arithmetic> {
+    let questions = files(folder, "question");
+    let named_so = |file: &&PathBuf| file.file_stem().is_some_and(|stem| stem == name);
+    let file = questions.iter().find(named_so).expect(name);
+    let mut parts = pack(&[&named(file, "model"), file]).into_iter();
+    let mut part = || parts.next().expect("a model and a question");
+    let calls = [Call::Load(part()), Call::Put(part()), Call::Judge];
+    let stream: Vec<u8> = calls.iter().flat_map(Call::record).collect();
+    differences(&stream).keys().map(|key| key.0).collect()
+}
+
+/// The pharmacist's shelf, as in `tests/shelf`: just the fused build is wrong.
+#[test]
+fn shelf_tells_the_fused_build() {
+    for name in ["two-tries-at-least-935-1000", "two-tries-equal-935-1000"] {
+        assert_eq!(wrong_on("shelf", name), [Arithmetic::FusedDoubles]);
+    }
+}
+
+/// Fixtures that a judge in doubles gets wrong, for each relation.
+#[test]
+fn six_tries_tell_doubles() {
+    for name in [
+        "held-greater-928982-999987",
+        "held-equal-928982-999987",
+        "not-held-less-71005-999987",
+    ] {
+        let wrong = wrong_on("six-tries", name);
+        assert!(wrong.contains(&Arithmetic::DividedDoubles), "{name}");
+        assert!(wrong.contains(&Arithmetic::RoundedSingles), "{name}");
+        assert!(wrong.contains(&Arithmetic::MultipliedDoubles), "{name}");
     }
 }

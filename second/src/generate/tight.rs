@@ -1,7 +1,8 @@
 //! Totals that meet or miss their bound by less than a double can tell. A
 //! pack is tried for six times, and the weights of the tries are chosen so
 //! that one plan's total over D to the 6, about 10^12, lies some 10^-18 from
-//! p/q, with q near a million, or just at it.
+//! p/q, with q near a million, or just at it. D is called the base here, for
+//! its powers.
 
 use super::cases;
 use super::question::{gcd, random_choices};
@@ -145,8 +146,8 @@ fn met(rng: &mut Rng, base: u64) -> Option<(Vec<Try>, Bound)> {
 }
 
 /// So many tries that hold the pack with just this total, if some are found.
-/// A weight for trying again that shares no divisor with D leaves one weight
-/// for holding, of those near the total, that makes the total come out.
+/// Where the weight of trying again has no divisor in common with D, one
+/// weight of holding leaves a multiple of it for the tries after this one.
 fn tries_for(rng: &mut Rng, base: u64, left: u32, total: u64) -> Option<Vec<Try>> {
     let below = base.pow(left - 1);
     let mut agains: Vec<u64> = (1..base - 1).filter(|a| gcd(*a, base) == 1).collect();
