@@ -4,7 +4,6 @@
 
 use crate::blocks::Sheet;
 use crate::desk::{next_call, Answer, Call, Desk};
-use crate::generate::AFFORDABLE;
 use crate::ground::Ground;
 use crate::logic::{plain, Model, Node, Path, Plan, PlanNode, Question};
 use crate::logic::{Relation, Totals, Verdict};
@@ -41,6 +40,10 @@ pub const ALL: [Arithmetic; 8] = [
     Arithmetic::AddedSingles,
     Arithmetic::FusedDoubles,
 ];
+
+/// Questions that a judge looks at no more nodes than this for, by an
+/// estimate that is high where few of a model's states have a choice.
+const AFFORDABLE: u128 = 5_000_000;
 
 /// A judge straight from the definitions but for the comparison with a bound.
 struct FloatJudge<'a> {
