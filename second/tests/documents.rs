@@ -46,6 +46,16 @@ fn mary_questions() {
 }
 
 #[test]
+fn shelf_questions() {
+    check_questions("shelf", 3);
+}
+
+#[test]
+fn six_tries_questions() {
+    check_questions("six-tries", 6);
+}
+
+#[test]
 fn limit_questions() {
     check_questions("limits", 12);
 }
@@ -100,12 +110,12 @@ fn check_sheet(file: &Path) {
 
 #[test]
 fn sheets() {
-    let folders = ["two-shelf", "mary", "refusals"];
+    let folders = ["two-shelf", "mary", "shelf", "six-tries", "refusals"];
     let sheets: Vec<_> = folders
         .iter()
         .flat_map(|folder| files(folder, "sheet"))
         .collect();
-    assert!(sheets.len() >= 17);
+    assert!(sheets.len() >= 23);
     for file in sheets {
         check_sheet(&file);
     }

@@ -2,6 +2,7 @@
 
 use second::compare::compare;
 use second::desk::{c_calls, next_call, verdict_line, Desk, JudgeKind};
+use second::floats::differences;
 use second::generate::{bench_cases, stream};
 use second::tally::tally;
 use second::timing::time;
@@ -13,7 +14,8 @@ const USAGE: &str = "usage: second [--plain] COMMAND
   replay                     a stream of calls to a line for each
   ccalls                     the C call on what a stream of calls loads and puts
   tally                      a stream of calls to counts of its answers
-  generate KIND SEED COUNT   a stream of models, questions, judges, small, sheets or lists
+  floats                     a stream of calls to counts of the answers that judges in floats get wrong
+  generate KIND SEED COUNT   a stream of models, questions, judges, small, sheets, lists or tight
   compare SEED COUNT         the fast judge against the plain one
   bench-cases DIR            worst cases as DIR/NAME.bin
   bench FILE..               the time of each case in microseconds";
@@ -43,6 +45,7 @@ fn run(kind: JudgeKind, words: &[&str]) -> io::Result<ExitCode> {
         ["replay"] => replay(kind, &read_input()?)?,
         ["ccalls"] => ccalls(kind, &read_input()?)?,
         ["tally"] => print_tally(&read_input()?)?,
+        ["floats"] => print_floats(&read_input()?)?,
         ["generate", kind, seed, count] => return generate(kind, seed, count),
         ["compare", seed, count] => return compare_judges(seed, count),
         ["bench-cases", folder] => write_cases(folder)?,
@@ -89,6 +92,15 @@ fn ccalls(kind: JudgeKind, stream: &[u8]) -> io::Result<()> {
 fn print_tally(stream: &[u8]) -> io::Result<()> {
     for ((call, _, words), count) in tally(stream) {
         print_line(&format!("{count:8} {call} {words}"))?;
+    }
+    Ok(())
+}
+
+fn print_floats(stream: &[u8]) -> io::Result<()> {
+    for ((arithmetic, asked, relation, right), count) in differences(stream) {
+        let right = if right { "yes" } else { "no" };
+        let words = format!("{arithmetic:?} wrong on {asked:?} {relation:?}, rightly {right}");
+        print_line(&format!("{count:8} {words}"))?;
     }
     Ok(())
 }

@@ -11,6 +11,7 @@ mod question_damage;
 mod rng;
 mod sheet_damage;
 mod streams;
+mod tight;
 
 pub use cases::{bench_cases, Case};
 pub use lists::lists;
@@ -18,6 +19,7 @@ pub use model::{random_model, Size};
 pub use question::{random_question, Scale};
 pub use rng::Rng;
 pub use streams::{judges, models, questions, sheets, small, AFFORDABLE};
+pub use tight::tight;
 
 use crate::desk::Call;
 
@@ -31,6 +33,7 @@ pub fn stream(kind: &str, seed: u64, count: usize) -> Option<Vec<u8>> {
         "small" => small(&mut rng, count),
         "sheets" => sheets(&mut rng, count),
         "lists" => lists(&mut rng, count),
+        "tight" => tight(&mut rng, count),
         _ => return None,
     };
     calls.truncate(count);

@@ -216,7 +216,7 @@ fn fraction(weight: u64, whole: u64) -> Bound {
     }
 }
 
-fn gcd(a: u64, b: u64) -> u64 {
+pub(super) fn gcd(a: u64, b: u64) -> u64 {
     if b == 0 {
         a
     } else {

@@ -1,7 +1,7 @@
 //! Formulas as numbered nodes: state and path formulas, and their depth.
 
 /// How a total is compared with its bound.
-#[derive(Clone, Copy, Debug, PartialEq, Eq)]
+#[derive(Clone, Copy, Debug, PartialEq, Eq, PartialOrd, Ord)]
 pub enum Relation {
     Less,
     Equal,
@@ -27,7 +27,7 @@ impl Relation {
     }
 
     /// Whether `left` stands in this relation to `right`.
-    pub fn relates<T: Ord>(self, left: T, right: T) -> bool {
+    pub fn relates<T: PartialOrd>(self, left: T, right: T) -> bool {
         match self {
             Relation::Less => left < right,
             Relation::Equal => left == right,

@@ -1,0 +1,261 @@
+//! Judges that compare in floats, as the one before ours did and none should:
+//! which calls of a stream they answer otherwise than whole numbers do. A
+//! stream in which they answer all alike cannot tell them from a right judge.
+
+use crate::blocks::Sheet;
+use crate::desk::{next_call, Answer, Call, Desk};
+use crate::ground::Ground;
+use crate::logic::{plain, Model, Node, Path, Plan, PlanNode, Question};
+use crate::logic::{Relation, Totals, Verdict};
+use std::collections::BTreeMap;
+use std::ops::Div;
+
+/// How a total W over D to the n is compared with p/q; doubles have 53 bits,
+/// singles 24.
+#[derive(Clone, Copy, Debug, PartialEq, Eq, PartialOrd, Ord)]
+pub enum Arithmetic {
+    /// Two quotients of doubles.
+    DividedDoubles,
+    /// The same, each rounded to a single.
+    RoundedSingles,
+    /// Two quotients of singles.
+    DividedSingles,
+    /// Two products, W times q and p times D to the n.
+    MultipliedDoubles,
+    MultipliedSingles,
+    /// Products of chances added up, as the judge before ours did it.
+    AddedDoubles,
+    AddedSingles,
+    /// The same as its release build did it: each multiply and add fused.
+    FusedDoubles,
+}
+
+pub const ALL: [Arithmetic; 8] = [
+    Arithmetic::DividedDoubles,
+    Arithmetic::RoundedSingles,
+    Arithmetic::DividedSingles,
+    Arithmetic::MultipliedDoubles,
+    Arithmetic::MultipliedSingles,
+    Arithmetic::AddedDoubles,
+    Arithmetic::AddedSingles,
+    Arithmetic::FusedDoubles,
+];
+
+/// Questions that a judge looks at no more nodes than this for, by an
+/// estimate that is high where few of a model's states have a choice.
+const AFFORDABLE: u128 = 5_000_000;
+
+/// A judge straight from the definitions but for the comparison with a bound.
+struct FloatJudge<'a> {
+    model: &'a Model,
+    question: &'a Question,
+    arithmetic: Arithmetic,
+}
+
+impl FloatJudge<'_> {
+    fn yes(&self) -> bool {
+        let place = Path::standing(self.question.start);
+        self.holds(self.question.root(), &place, 0)
+    }
+
+    fn holds(&self, node: usize, path: &Path, place: usize) -> bool {
+        let Some(node) = self.question.nodes.get(node) else {
+            return false;
+        };
+        let state = path.states.get(place).copied().unwrap_or(u8::MAX);
+        let child = |number: u8, place: usize| self.holds(usize::from(number), path, place);
+        match *node {
+            Node::False => false,
+            Node::Proposition(number) => self.model.holds(state, number),
+            Node::Not(number) => !child(number, place),
+            Node::And(left, right) => child(left, place) && child(right, place),
+            Node::Do(action) => path.actions.get(place) == Some(&action),
+            Node::Next(number) => child(number, place + 1),
+            Node::Gain {
+                steps,
+                relation,
+                bound,
+            } => relation.relates(path.gain(place, usize::from(steps)), bound),
+            Node::Plan(plan) => self.some_plan(&plan, state),
+        }
+    }
+
+    fn some_plan(&self, node: &PlanNode, state: u8) -> bool {
+        let mut plan = Plan::first(self.model, state, node.steps());
+        loop {
+            if self.met(node, &plan, state) {
+                return true;
+            }
+            if !plan.advance(self.model) {
+                return false;
+            }
+        }
+    }
+
+    fn met(&self, node: &PlanNode, plan: &Plan, start: u8) -> bool {
+        let (p, q) = (u64::from(node.bound.p), u64::from(node.bound.q));
+        let (left, right) = self.sides(node, plan, start, (p, q));
+        node.relation.relates(left, right)
+    }
+
+    /// Whether a claimed weight passes for the plan's.
+    fn claim_right(&self, node: &PlanNode, plan: &Plan, claimed: u64) -> bool {
+        let whole = self.model.whole(node.steps());
+        let (left, right) = self.sides(node, plan, self.question.start, (claimed, whole));
+        left == right
+    }
+
+    /// The two numbers that are compared. Singles are exact as doubles.
+    fn sides(&self, node: &PlanNode, plan: &Plan, start: u8, (p, q): (u64, u64)) -> (f64, f64) {
+        let whole = self.model.whole(node.steps());
+        let weight = || self.weight(node, plan);
+        let double = |p: u64, q: u64| p as f64 / q as f64;
+        let rounded = |p: u64, q: u64| f64::from(double(p, q) as f32);
+        let single = |p: u64, q: u64| f64::from(p as f32 / q as f32);
+        let double_product = |a: u64, b: u64| a as f64 * b as f64;
+        let single_product = |a: u64, b: u64| f64::from(a as f32 * b as f32);
+        let begun = Path::standing(start);
+        match self.arithmetic {
+            Arithmetic::DividedDoubles => (double(weight(), whole), double(p, q)),
+            Arithmetic::RoundedSingles => (rounded(weight(), whole), rounded(p, q)),
+            Arithmetic::DividedSingles => (single(weight(), whole), single(p, q)),
+            Arithmetic::MultipliedDoubles => {
+                (double_product(weight(), q), double_product(p, whole))
+            }
+            Arithmetic::MultipliedSingles => {
+                (single_product(weight(), q), single_product(p, whole))
+            }
+            Arithmetic::AddedDoubles => {
+                let total = self.added(node, plan, &begun, &|t: f64, a, b| t + a * b);
+                (total, double(p, q))
+            }
+            Arithmetic::AddedSingles => {
+                let total = self.added(node, plan, &begun, &|t: f32, a, b| t + a * b);
+                (f64::from(total), single(p, q))
+            }
+            Arithmetic::FusedDoubles => {
+                let total = self.added(node, plan, &begun, &|t, a: f64, b| a.mul_add(b, t));
+                (total, double(p, q))
+            }
+        }
+    }
+
+    fn weight(&self, node: &PlanNode, plan: &Plan) -> u64 {
+        let condition = usize::from(node.condition);
+        let paths = plan.paths(self.model).into_iter();
+        let meeting = paths.filter(|path| self.holds(condition, path, 0));
+        meeting.map(|path| path.weight).sum()
+    }
+
+    /// The chance of a plan's condition: over the outcomes of its first
+    /// action, the chance of each times that from there on, added up.
+    fn added<F>(&self, node: &PlanNode, plan: &Plan, so_far: &Path, join: &Join<F>) -> F
+    where
+        F: From<u8> + Div<Output = F>,
+    {
+        let mut total = F::from(0);
+        let chosen = plan.chosen(self.model).into_iter();
+        let outcomes = chosen.flat_map(|entry| entry.outcomes.iter().map(|o| (entry.action, o)));
+        for (place, (action, outcome)) in outcomes.enumerate() {
+            let path = so_far.extended(action, outcome);
+            let further = match plan.below().get(place) {
+                Some(below) => self.added(node, below, &path, join),
+                None => u8::from(self.holds(usize::from(node.condition), &path, 0)).into(),
+            };
+            let chance = F::from(outcome.weight) / F::from(self.model.denominator);
+            total = join(total, chance, further);
+        }
+        total
+    }
+}
+
+/// Adds a product to a total, rounding twice or once.
+type Join<F> = dyn Fn(F, F, F) -> F;
+
+/// What a call asked: a verdict on a question whose root is its one "plan"
+/// node, or on another one; whether a sheet meets the bound, and whether its
+/// claimed weight is its plan's.
+#[derive(Clone, Copy, Debug, PartialEq, Eq, PartialOrd, Ord)]
+pub enum Asked {
+    Root,
+    Inner,
+    Met,
+    Claim,
+}
+
+/// How often an arithmetic answers otherwise, for each relation (that of the
+/// first "plan" node) and each right answer.
+pub type Differences = BTreeMap<(Arithmetic, Asked, Relation, bool), usize>;
+
+/// Replays a stream from the empty desk beside a judge of each arithmetic.
+pub fn differences(stream: &[u8]) -> Differences {
+    let mut rest = stream;
+    let mut desk = Desk::default();
+    let mut counts = Differences::new();
+    while let Some(call) = next_call(&mut rest) {
+        let answer = call.make(&mut desk);
+        let (Ok(model), Ok(question)) = (desk.model(), desk.question()) else {
+            continue;
+        };
+        let Some((_, first)) = question.plan_nodes().next() else {
+            continue;
+        };
+        for arithmetic in ALL {
+            let judge = FloatJudge {
+                model,
+                question,
+                arithmetic,
+            };
+            for (asked, right, given) in answers(&judge, &call, &answer) {
+                if right != given {
+                    let key = (arithmetic, asked, first.relation, right);
+                    *counts.entry(key).or_default() += 1;
+                }
+            }
+        }
+    }
+    counts
+}
+
+/// What was asked, the right answer and the judge's.
+fn answers(judge: &FloatJudge, call: &Call, answer: &Answer) -> Vec<(Asked, bool, bool)> {
+    match (call, answer) {
+        (_, Answer::Judge(Ok(judged))) => {
+            let totals = Totals::of(judge.model);
+            if plain::cost(judge.model, judge.question, &totals) > AFFORDABLE {
+                return Vec::new();
+            }
+            let alone = judge.question.plan_nodes().count() == 1;
+            let asked = match judge.question.root_plan() {
+                Some(_) if alone => Asked::Root,
+                _ => Asked::Inner,
+            };
+            let right = !matches!(judged.verdict, Verdict::No { .. });
+            vec![(asked, right, judge.yes())]
+        }
+        (Call::Check(bytes), Answer::Check(checked)) => sheet_answers(judge, bytes, *checked),
+        _ => Vec::new(),
+    }
+}
+
+/// The same for a sheet that is accepted, or refused for its weight alone.
+fn sheet_answers(
+    judge: &FloatJudge,
+    bytes: &[u8],
+    checked: Result<bool, Ground>,
+) -> Vec<(Asked, bool, bool)> {
+    let (start, root) = (judge.question.start, judge.question.root_plan());
+    let (Some(root), Ok(_) | Err(Ground::Weight)) = (root, checked) else {
+        return Vec::new();
+    };
+    let sheet = Sheet::unpack(bytes);
+    let Some(plan) = Plan::from_choices(judge.model, start, root.steps(), &sheet.choices) else {
+        return Vec::new();
+    };
+    let claim = judge.claim_right(&root, &plan, sheet.weight);
+    let mut found = vec![(Asked::Claim, checked.is_ok(), claim)];
+    if let Ok(met) = checked {
+        found.push((Asked::Met, met, judge.met(&root, &plan, start)));
+    }
+    found
+}
