@@ -4,7 +4,6 @@ ghost use Prim.Native.Nat.{_+_, _*_, _≤_, _<_, _%_};
 ghost use lib.ListN.{length};
 ghost use Rattle.blocks.specs.Bytes.{u16, u32, u64, i16, i32};
 ghost use Rattle.blocks.specs.Bytes as spec;
-ghost use lib.Signed.{mag};
 ghost use Rattle.blocks.specs.Block.{whole-blocks, word-sum, sums-right};
 ghost use Rattle.blocks.specs.Block as spec-block;
 
@@ -64,15 +63,15 @@ pub fn u64_at(b: &[u8], i: usize) -> u64
 }
 
 // The signed 16-bit number at i.
-pub fn i16_at(b: &[u8], i: usize) -> i32
+pub fn i16_at(b: &[u8], i: usize) -> i16
     requires { ⌜ i < 65536 ⌝ }
-    ensures { λ r. ⌜ (r ≡ i16 (now (b .entry)) i) × (mag r ≤ 32768) ⌝ }
+    ensures { λ r. ⌜ r ≡ i16 (now (b .entry)) i ⌝ }
 {
     let x = u16_at(b, i);
     if x < 32768 {
-        return x as i32;
+        return x as i16;
     }
-    x as i32 - 65536
+    (x as i32 - 65536) as i16
 }
 
 // The signed 32-bit number at i.

@@ -188,7 +188,7 @@ pub fn step(
     let at = outcome_at(s as usize, a as usize, o as usize);
     let n = h as usize;
     trail[n] = 4 * a + o;
-    gains[n + 1] = gains[n] + i16_at(m, at + 2);
+    gains[n + 1] = gains[n] + i16_at(m, at + 2) as i32;
     let t = byte(m, at);
     learn(q, depths, truth, trail, gains, cone, v, h + 1, t);
     t

@@ -10,7 +10,7 @@ use lib.Dec.{eqb, ltb}
 use lib.IntN.{ℤ}
 use lib.ListN.{getD, length, length-map}
 use lib.Pow.{pow-add}
-use borrow.Author.Tests.{le-ltb}
+use borrow.Author.Tests.{le-ltb, eqb-true, eqb-false}
 use Rattle.logic.specs.Checked.{refusal}
 use Rattle.logic.specs.Formula.{depth, sat, nonnegative}
 use Rattle.logic.specs.Quantity.{naturals}
@@ -50,6 +50,13 @@ use Rattle.judging.proofs.Remembering as remembering
 pub posed-at : {m q : Bytes} {used counts depths truth : List ℕ} {j s : ℕ} → Asked m q used counts depths → j < node-count q → (node-of q j) .operator ≡ 8
     → s < state-count m → Told m q truth ((node-of q j) .left) s → Posed m q truth j s
 posed-at a h o l t = record { node = h; is-plan = o; state = l; told = t }
+
+-- What a test for "equal" says of a node's relation.
+pub asked-equal : (q : Bytes) (j : ℕ) {t : Bool} → t ≡ eqb ((node-of q j) .right) 2 → t ≡ true → (node-of q j) .right ≡ 2
+asked-equal q j e h = eqb-true ((node-of q j) .right) 2 (sym e ∙ h)
+
+pub asked-other : (q : Bytes) (j : ℕ) {t : Bool} → t ≡ eqb ((node-of q j) .right) 2 → t ≡ false → (node-of q j) .right ≡ 2 → ⊥
+asked-other q j e h = eqb-false ((node-of q j) .right) 2 (sym e ∙ h)
 
 -- ---- a total over more steps
 
@@ -118,21 +125,21 @@ module _ {m q : Bytes} {used truth : List ℕ} {j s : ℕ} (given : Given m q us
   best-there : (least : Bool) → best-total m q ((node-of q j) .left) s least ≤ denominator-of m ^ depth (condition q j)
   best-there least = best-small given (stands-there refl) least
 
-  module _ {c i : ℕ} (top : c ≡ (node-of q j) .left) (same : i ≡ (node-of q j) .right) where
-    total-there : best-total m q c s (eqb i 1) ≡ best-total m q ((node-of q j) .left) s (eqb ((node-of q j) .right) 1)
-    total-there = ap₂ (λ c i. best-total m q c s (eqb i 1)) top same
+  module _ {c : ℕ} {least : Bool} (top : c ≡ (node-of q j) .left) (same : least ≡ eqb ((node-of q j) .right) 1) where
+    total-there : best-total m q c s least ≡ best-total m q ((node-of q j) .left) s (eqb ((node-of q j) .right) 1)
+    total-there = ap₂ (λ c least. best-total m q c s least) top same
 
-    pub found-small : {after : List ℕ} {r : Found} → Searched m q c s (eqb i 1) after r → r .value ≤ denominator-of m ^ depth (condition q j)
+    pub found-small : {after : List ℕ} {r : Found} → Searched m q c s least after r → r .value ≤ denominator-of m ^ depth (condition q j)
     found-small f = subst (λ v. v ≤ denominator-of m ^ depth (condition q j)) (sym (f .value ∙ total-there)) (best-there (eqb ((node-of q j) .right) 1))
 
-    pub found-led : {after : List ℕ} {r : Found} {w : ℕ} {t : Bool} → Searched m q c s (eqb i 1) after r → Lengthened m q j (r .value) w → t ≡ meets-at m q j w
+    pub found-led : {after : List ℕ} {r : Found} {w : ℕ} {t : Bool} → Searched m q c s least after r → Lengthened m q j (r .value) w → t ≡ meets-at m q j w
         → Led m q j s after (record { met = t; weight = w; place = 0; count = r .count })
     found-led f l e =
         record {
           weighs = l .weighs ∙ ap (λ v. model-of m .denominator ^ ((node-of q j) .n - depth (condition q j)) * v) (f .value ∙ total-there);
           bounds = e;
           unplaced = refl;
-          chosen = f .chosen ∙ ap₂ (λ c i. choices (depth (formula q c)) (best (model-of m) (formula q c) (depth (formula q c)) s (eqb i 1))) top same;
+          chosen = f .chosen ∙ ap₂ (λ c least. choices (depth (formula q c)) (best (model-of m) (formula q c) (depth (formula q c)) s least)) top same;
         }
 
   -- What is left of the condition decides.
@@ -160,9 +167,9 @@ module _ {m q : Bytes} {used truth : List ℕ} {j s : ℕ} (given : Given m q us
       pub left-few : depth (formula q (r .node)) ≤ 6
       left-few = omega (arith, left-there .looks, few-there top)
 
-      module _ {i v : ℕ} (same : i ≡ (node-of q j) .right) (f : v ≡ best-total m q (r .node) s (eqb i 1)) where
+      module _ {least : Bool} {v : ℕ} (same : least ≡ eqb ((node-of q j) .right) 1) (f : v ≡ best-total m q (r .node) s least) where
         left-total : v ≡ best-total m q ((node-of q j) .left) s (eqb ((node-of q j) .right) 1)
-        left-total = f ∙ same-best (eqb i 1) left-there ∙ total-there top same
+        left-total = f ∙ same-best least left-there ∙ total-there top same
 
         pub left-small : v ≤ denominator-of m ^ depth (condition q j)
         left-small = subst (λ v. v ≤ denominator-of m ^ depth (condition q j)) (sym left-total) (best-there (eqb ((node-of q j) .right) 1))

@@ -31,11 +31,11 @@ use lanes::rewards;
 use lanes::sums;
 use limits::plan_totals;
 use models::used_entries;
+use questions::asks_equal;
 use questions::depth_table;
 use questions::left;
 use questions::node_count;
 use questions::operator;
-use questions::right;
 use questions::start;
 use questions::steps;
 use ranking::nth;
@@ -130,7 +130,7 @@ fn show(
     let n = steps(q, j);
     let weight = r.weight;
     let place = r.place;
-    if right(q, j) == 2 {
+    if asks_equal(q, j) {
         nth(m, used, counts, choices, s, n, place as u64);
         return with_plan(weight, n, 1 + place as u32);
     }

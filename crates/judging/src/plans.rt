@@ -23,8 +23,9 @@ use bounds::power;
 use equal::first_equal;
 use evaluation::depth_at;
 use limits::plans_counted;
+use questions::asks_equal;
+use questions::asks_less;
 use questions::left;
-use questions::right;
 use questions::steps;
 use tables::cone;
 
@@ -75,7 +76,7 @@ fn led(
         scratch,
         left(q, j),
         s,
-        right(q, j) == 1,
+        asks_less(q, j),
     );
     let weight = over_all_steps(m, q, depths, j, r.value);
     Decision {
@@ -109,7 +110,7 @@ fn plan_led(
     if rest.dead {
         return meets(m, q, j, 0);
     }
-    let least = right(q, j) == 1;
+    let least = asks_less(q, j);
     let x = best_value(
         m,
         q,
@@ -197,7 +198,7 @@ pub fn decide(
     requires { ⌜ Equipped (now m) (now rewards) (now sums) (now scratch) ⌝ }
     ensures { λ r. ⌜ Decided (now (m .entry)) (now (q .entry)) j s (now (scratch .exit)) r ⌝ }
 {
-    if right(q, j) == 2 {
+    if asks_equal(q, j) {
         return first(m, q, used, counts, depths, truth, j, s);
     }
     led(m, q, used, depths, rewards, sums, truth, scratch, j, s)
@@ -223,7 +224,7 @@ pub fn plan_true(
     requires { ⌜ Equipped (now m) (now rewards) (now sums) (now scratch) × Remembers (now m) (now q) (now memo) ⌝ }
     ensures { λ r. ⌜ (r ≡ sat (model-of (now (m .entry))) (formula (now (q .entry)) j) s []) × Remembers (now (m .entry)) (now (q .entry)) (now (memo .exit)) ⌝ }
 {
-    if right(q, j) == 2 {
+    if asks_equal(q, j) {
         let r = first(m, q, used, counts, depths, truth, j, s);
         return r.met;
     }

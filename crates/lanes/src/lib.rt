@@ -205,7 +205,7 @@ fn reward_row(m: &[u8], r: &mut [i32], s: usize, n: usize)
 {
     let mut i: usize = 0;
     while i < n {
-        r[32 * s + i] = reward(m, s, i / 4, i % 4);
+        r[32 * s + i] = reward(m, s, i / 4, i % 4) as i32;
         i += 1;
     }
 }

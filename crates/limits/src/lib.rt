@@ -18,9 +18,9 @@ ghost use Rattle.limits.specs.Totals.{gather, step-total, Totals, fits, 
 ghost use Rattle.limits.specs.Totals as spec;
 use blocks::wide;
 use models::target;
+use questions::asks_equal;
 use questions::node_count;
 use questions::operator;
-use questions::right;
 use questions::steps;
 
 // The most that is served: plans, or else paths.
@@ -167,7 +167,7 @@ fn bounded(q: &[u8], i: u8, plans: bool) -> bool
     if operator(q, i) != 8 {
         return false;
     }
-    !plans || right(q, i) == 2
+    !plans || asks_equal(q, i)
 }
 
 fn node_fits(m: &[u8], q: &[u8], table: &[u64; 224], plans: bool, i: u8) -> bool

@@ -2,7 +2,6 @@
 ghost use mathlib.Core.Path.{_≡_};
 ghost use Prim.Native.Nat.{_+_, _*_, _<_, _≤_};
 ghost use mathlib.Core.Bool.{true};
-ghost use lib.Signed.{mag};
 ghost use Rattle.logic.specs.Model.{true-of};
 ghost use Rattle.logic.specs.Checked.{refusal};
 ghost use Rattle.blocks.specs.Block.{whole-blocks};
@@ -88,9 +87,9 @@ pub fn weight(b: &[u8], s: usize, a: usize, i: usize) -> usize
     wide(b, outcome_at(s, a, i) + 1)
 }
 
-pub fn reward(b: &[u8], s: usize, a: usize, i: usize) -> i32
+pub fn reward(b: &[u8], s: usize, a: usize, i: usize) -> i16
     requires { ⌜ (s < 256) × (a < 256) × (i < 256) ⌝ }
-    ensures { λ r. ⌜ (r ≡ (outcome-of (now (b .entry)) s a i) .reward) × (mag r ≤ 32768) ⌝ }
+    ensures { λ r. ⌜ r ≡ (outcome-of (now (b .entry)) s a i) .reward ⌝ }
 {
     i16_at(b, outcome_at(s, a, i) + 2)
 }

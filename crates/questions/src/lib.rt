@@ -2,7 +2,7 @@
 ghost use mathlib.Core.Path.{_≡_};
 ghost use mathlib.Core.Bool.{false, _&&_};
 ghost use Prim.Native.Nat.{_+_, _≤_, _<_, max, min};
-ghost use lib.Dec.{ltb};
+ghost use lib.Dec.{eqb, ltb};
 ghost use lib.ListN.{length, getD, take};
 ghost use Rattle.logic.specs.Lists.{all, every};
 ghost use Rattle.logic.specs.Checked.{refusal};
@@ -71,11 +71,43 @@ pub fn q(b: &[u8], i: u8) -> u32
     blocks::u32_at(b, node_at(i) + 8)
 }
 
+// Whether node i, a "gain" or a "plan", asks for less than its bound.
+pub fn asks_less(b: &[u8], i: u8) -> bool
+    ensures { λ r. ⌜ r ≡ eqb (node-of (now (b .entry)) i .right) 1 ⌝ }
+{
+    let relation = right(b, i);
+    match relation {
+        1 => true,
+        _ => false,
+    }
+}
+
+// Whether it asks for just its bound.
+pub fn asks_equal(b: &[u8], i: u8) -> bool
+    ensures { λ r. ⌜ r ≡ eqb (node-of (now (b .entry)) i .right) 2 ⌝ }
+{
+    let relation = right(b, i);
+    match relation {
+        2 => true,
+        _ => false,
+    }
+}
+
+// Whether a number stands for a relation: 1 less, 2 equal, 3 greater.
+fn relation_in_range(relation: u8) -> bool
+    ensures { λ r. ⌜ r ≡ spec-bytes.within 1 3 relation ⌝ }
+{
+    match relation {
+        1 | 2 | 3 => true,
+        _ => false,
+    }
+}
+
 // Whether the steps and the relation of node i, a "gain" or a "plan", are in range.
 fn compares(b: &[u8], i: u8) -> bool
     ensures { λ r. ⌜ r ≡ spec.compares (node-of (now (b .entry)) i) ⌝ }
 {
-    blocks::within(1, 6, steps(b, i) as usize) && blocks::within(1, 3, right(b, i) as usize)
+    blocks::within(1, 6, steps(b, i) as usize) && relation_in_range(right(b, i))
 }
 
 fn gain_bound(p: i32, q: u32) -> bool

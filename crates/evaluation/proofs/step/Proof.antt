@@ -8,7 +8,7 @@ use lib.ListN.{length, getD, set, take}
 use lib.Seq.{length-take-le}
 use lib.Signed.{mag}
 use Rattle.evaluation.specs.Reached.{Ready}
-use Rattle.evaluation.proofs.Integers.{fits32, sum32, mag-add}
+use Rattle.evaluation.proofs.Integers.{fits32, wider16, widened16, sum16, mag-add}
 use Rattle.evaluation.proofs.Trails.{gain-small}
 use Rattle.evaluation.proofs.Stepping.{outcome-small, sizes-small, stepped}
 use borrow.Author.Needs.{needs}
@@ -31,7 +31,7 @@ gain-so-far S =
     let g = gain-small (S .args .m .now) (P S .model-accepted) (K .followed) (P S .state) (S .args .h) in
     rw (K .gained .right (S .args .h) (omega arith)) (omega (arith, S .pre .1 .1 .0 .steps))
 
-sum-fits : (S : tie.Start) (r : ℤ) → mag r ≤ 32768 → mag (getD (S .args .gains .now) (S .args .h) (pos 0) +ℤ r) < 2 ^ 31
+sum-fits : (S : tie.Start) (r : ℤ) → mag r < 2 ^ 15 → mag (getD (S .args .gains .now) (S .args .h) (pos 0) +ℤ r) < 2 ^ 31
 sum-fits S r h = omega (arith, gain-so-far S, mag-add (getD (S .args .gains .now) (S .args .h) (pos 0)) r)
 
 outcome-at-requires : tie.Need-outcome-at-requires
@@ -58,17 +58,20 @@ add-i16-at c = search needs
 i16-at-requires : tie.Need-i16-at-requires
 i16-at-requires c κs = search needs
 
+cast-gains : tie.Need-cast-gains
+cast-gains c = wider16 (c .i16-at .result) (c .i16-at .ok)
+
 add-gains : tie.Need-add-gains
 add-gains c = let S = c .before .before .before .before .before .before .before .before .before .before in
     let r = c .i16-at in
-    rw (fits32 (getD (S .args .gains .now) (S .args .h) (pos 0)) (omega (arith, gain-so-far S)), fits32 (r .result) (omega (arith, r .ensures .1)))
-    (record { sfits = sum-fits S (r .result) (r .ensures .1) })
+    rw (fits32 (getD (S .args .gains .now) (S .args .h) (pos 0)) (omega (arith, gain-so-far S)), widened16 (r .result) (r .ok))
+    (record { sfits = sum-fits S (r .result) (r .ok) })
 
 add-t19 : tie.Need-add-t19
 add-t19 c = search needs
 
-mul-t27 : tie.Need-mul-t27
-mul-t27 c = search needs
+mul-t28 : tie.Need-mul-t28
+mul-t28 c = search needs
 
 slice-set-from-gains : tie.Need-slice-set-from-gains
 slice-set-from-gains c = search needs
@@ -100,8 +103,8 @@ returns c = let S = c .before .before .before .before .before .before .before .b
     stepped (P S) (S .pre .1 .1 .0) (S .pre .1 .1 .1) (S .pre .1 .0) _ _ _
     (c .before .before .before .before .before .before .byte .ensures ∙ ap (byte (S .args .m .now)) at)
     (ap (set (S .args .gains .now) (S .args .h + 1))
-    (sum32 g (r .result) (omega (arith, gain-so-far S)) (omega (arith, r .ensures .1)) (sum-fits S (r .result) (r .ensures .1))
-    ∙ ap (λ z. g +ℤ z) (r .ensures .0 ∙ ap (λ i. i16 (S .args .m .now) (i + 2)) at)))
+    (sum16 g (r .result) (omega (arith, gain-so-far S)) (r .ok) (sum-fits S (r .result) (r .ok))
+    ∙ ap (λ z. g +ℤ z) (r .ensures ∙ ap (λ i. i16 (S .args .m .now) (i + 2)) at)))
     (c .before .before .learn .ensures)
 
 pub step-spec : {M : Type 1} → statement M
@@ -116,9 +119,10 @@ step-spec =
     slice-copy-out-gains
     add-i16-at
     i16-at-requires
+    cast-gains
     add-gains
     add-t19
-    mul-t27
+    mul-t28
     slice-set-from-gains
     byte-requires
     add-learn

@@ -1,15 +1,14 @@
 -- The plan at the place found, or the plan found, extended, is the shown plan.
 use Prim.Native.Nat.{ℕ, _≤_, _<_}
 use native.Mathlib.Omega.{arith}
-use mathlib.Core.Path.{_≡_, sym, ap, subst, _∙_}
+use mathlib.Core.Path.{sym, ap, subst}
 use Rattle.logic.specs.Plan.{choices}
 use Rattle.logic.specs.Limits.{plan-total}
 use Rattle.models.specs.Layout.{model-of}
-use Rattle.questions.specs.Layout.{node-of}
 use Rattle.tables.proofs.Marks.{given-readable}
 use Rattle.judging.specs.Decided.{plan-at}
 use Rattle.judging.proofs.Deciding.{plan-here}
-use Rattle.judging.proofs.Posing.{depth-there}
+use Rattle.judging.proofs.Posing.{asked-equal, asked-other, depth-there}
 use Rattle.judging.proofs.Announcing.{announces-plan, equal-few, equal-inside, equal-verdict, place-few, led-verdict, led-choices}
 use borrow.Author.Needs.{needs}
 use Rattle.judging.proofs.show.Statement.{statement}
@@ -18,15 +17,15 @@ use Rattle.judging.proofs.show.Tie as tie
 steps-requires : tie.Need-steps-requires
 steps-requires c κs = search needs
 
-right-requires : tie.Need-right-requires
-right-requires c κs = search needs
+asks-equal-requires : tie.Need-asks-equal-requires
+asks-equal-requires c κs = search needs
 
 nth-requires : tie.Need-nth-requires
 nth-requires c κs = let R = c .before .before in
     let S = R .before .before .before .before .before .before .before in
     let P = S .pre .0 in
     let N = S .pre .1 in
-    let e = sym (R .right .ensures) ∙ c .before .if1 .taken in
+    let e = asked-equal (S .args .q .now) (S .args .j) (R .asks-equal .ensures) (c .before .if1 .taken) in
     let n = R .before .steps .ensures in
     let few = equal-few (P .0) (S .args .j) (S .args .s) (N .0) (N .1) (N .2) (P .1) e .0 in
     let here = equal-inside (P .0) (S .args .j) (S .args .s) (N .0) (N .1) (N .2) (P .1) e (P .2) in (
@@ -63,7 +62,7 @@ returns c = let R = c .before .before .before .before .before .before in
     let S = R .before .before .before .before .before .before .before in
     let P = S .pre .0 in
     let N = S .pre .1 in
-    let e = sym (R .right .ensures) ∙ c .before .before .before .before .before .if1 .taken in
+    let e = asked-equal (S .args .q .now) (S .args .j) (R .asks-equal .ensures) (c .before .before .before .before .before .if1 .taken) in
     let n = R .before .steps .ensures in
     announces-plan (S .args .choices .now) (equal-verdict (P .0) (S .args .j) (S .args .s) (N .0) (N .1) (N .2) (P .1) e (P .2)) n
     (ap (λ (i : ℕ). choices i (plan-at (model-of (S .args .m .now)) i (S .args .s) (S .args .r .place))) n) (c .with-plan .ensures) (c .before .before .before .nth .ensures .0)
@@ -99,7 +98,7 @@ returns-2 c = let R = c .before .before .before .before .before .before .before 
     let S = R .before .before .before .before .before .before .before in
     let P = S .pre .0 in
     let N = S .pre .1 in
-    let e : (node-of (S .args .q .now) (S .args .j)) .right ≡ 2 → ⊥ = λ z. c .before .before .before .before .before .before .before .if1 .left (R .right .ensures ∙ z) in
+    let e = asked-other (S .args .q .now) (S .args .j) (R .asks-equal .ensures) (c .before .before .before .before .before .before .before .if1 .left) in
     let n = R .before .steps .ensures in
     let d = depth-there (P .0) (N .0) (N .1) (c .before .before .before .before .before .before .left .ensures) (c .before .before .before .before .before .depth-at .ensures) in
     announces-plan (S .args .choices .now) (led-verdict (P .0) (S .args .j) (S .args .s) (N .0) (N .1) (N .2) (P .1) e (P .2)) n
@@ -110,7 +109,7 @@ show-spec =
     tie.close
     (tie.spec
     steps-requires
-    right-requires
+    asks-equal-requires
     nth-requires
     cast-with-plan
     add-with-plan

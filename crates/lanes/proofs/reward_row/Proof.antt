@@ -3,7 +3,7 @@ use Prim.Native.Nat.{_+_, _*_, _-_, _≤_}
 use native.Mathlib.Omega.{arith}
 use mathlib.Core.Path.{_≡_, _∙_}
 use lib.ListN.{length, length-set}
-use Rattle.evaluation.proofs.Integers.{fits32}
+use Rattle.evaluation.proofs.Integers.{wider16, widened16}
 use Rattle.lanes.specs.Lanes.{Rewarded}
 use Rattle.lanes.proofs.Gains.{rewarded-more}
 use Rattle.lanes.proofs.reward_row.Statement.{statement}
@@ -21,14 +21,17 @@ loop-holds c = (omega arith, omega arith, record { right = λ k h g. c .before .
 reward-requires : tie.Need-reward-requires Inv-loop μ-loop
 reward-requires c κs = omega arith
 
-mul-t10 : tie.Need-mul-t10 Inv-loop μ-loop
-mul-t10 c = omega arith
+cast-r : tie.Need-cast-r Inv-loop μ-loop
+cast-r c = wider16 (c .reward .result) (c .reward .ok)
 
-add-t11 : tie.Need-add-t11 Inv-loop μ-loop
-add-t11 c = omega arith
+mul-t11 : tie.Need-mul-t11 Inv-loop μ-loop
+mul-t11 c = omega arith
 
-mul-t12 : tie.Need-mul-t12 Inv-loop μ-loop
-mul-t12 c = omega arith
+add-t12 : tie.Need-add-t12 Inv-loop μ-loop
+add-t12 c = omega arith
+
+mul-t13 : tie.Need-mul-t13 Inv-loop μ-loop
+mul-t13 c = omega arith
 
 slice-set-from-r : tie.Need-slice-set-from-r Inv-loop μ-loop
 slice-set-from-r c = omega arith
@@ -43,10 +46,10 @@ loop-again : tie.Need-loop-again Inv-loop μ-loop
 loop-again c = let S = c .before .before .before .before in
     let L = c .before .before .loop in
     let v = c .reward .result in
-    rw (fits32 v (c .reward .ok)) (
+    rw (widened16 v (c .reward .ok)) (
       omega arith,
       length-set (L .r) (32 * S .args .s + L .i) v ∙ L .inv .1,
-      rewarded-more (S .args .s) (L .i) (L .inv .2) (omega arith) (omega arith) (c .reward .ensures .0),
+      rewarded-more (S .args .s) (L .i) (L .inv .2) (omega arith) (omega arith) (c .reward .ensures),
     )
 
 same-length : tie.Need-same-length Inv-loop μ-loop
@@ -63,9 +66,10 @@ reward-row-spec =
     μ-loop
     loop-holds
     reward-requires
-    mul-t10
-    add-t11
-    mul-t12
+    cast-r
+    mul-t11
+    add-t12
+    mul-t13
     slice-set-from-r
     add-i
     loop-less

@@ -1,12 +1,9 @@
--- The number two bytes after the place that `outcome_at` gives; it is small, so that a local holds it.
+-- The number two bytes after the place that `outcome_at` gives.
 use Prim.Native.Nat.{_+_}
 use native.Mathlib.Omega.{arith}
-use mathlib.Core.Path.{_≡_, ap, _∙_}
-use lib.Dec.{lit<}
-use mir.Syntax.{w32}
-use mir.Val.{toZ, ofZ}
+use mathlib.Core.Path.{ap, _∙_}
+use mir.Syntax.{w16}
 use mir.ValLaws.{toZ-ofZ}
-use Rattle.blocks.proofs.Laws.{small}
 use Rattle.blocks.specs.Bytes.{i16}
 use Rattle.models.specs.Layout.{outcome-of}
 use Rattle.models.proofs.reward.Statement.{statement}
@@ -23,9 +20,8 @@ i16-at-requires c κs = omega arith
 
 returns : tie.Need-returns
 unfolding outcome-of
-returns c = let f = small (c .i16-at .result) 32768 (c .i16-at .ensures .1) (lit< tt) in
-    let e : toZ w32 (ofZ w32 (c .i16-at .result)) ≡ c .i16-at .result = toZ-ofZ w32 (c .i16-at .result) f in
-    (e ∙ c .i16-at .ensures .0 ∙ ap (λ x. i16 (c .before .before .before .args .b .now) (x + 2)) (c .before .outcome-at .ensures .0), rw e (c .i16-at .ensures .1))
+returns c = let r = c .i16-at in
+    toZ-ofZ w16 (r .result) (record { sfits = r .ok }) ∙ r .ensures ∙ ap (λ x. i16 (c .before .before .before .args .b .now) (x + 2)) (c .before .outcome-at .ensures .0)
 
 pub reward-spec : {M : Type 1} → statement M
 reward-spec = tie.close (tie.spec outcome-at-requires add-i16-at i16-at-requires returns)

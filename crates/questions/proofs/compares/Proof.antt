@@ -20,15 +20,12 @@ within-requires c κs = search needs
 right-requires : tie.Need-right-requires
 right-requires c κs = search needs
 
-cast-within-2 : tie.Need-cast-within-2
-cast-within-2 c = search needs
-
-within-requires-2 : tie.Need-within-requires-2
-within-requires-2 c κs = search needs
+relation-in-range-requires : tie.Need-relation-in-range-requires
+relation-in-range-requires c κs = search needs
 
 returns : tie.Need-returns
 unfolding compares
-returns c = both-tests (ap (within 1 6) (sym (c .before .before .before .before .steps .ensures)) ∙ sym (c .before .before .before .within .ensures) ∙ c .before .before .if1 .taken) (c .within2 .ensures ∙ ap (within 1 3) (c .before .right .ensures))
+returns c = both-tests (ap (within 1 6) (sym (c .before .before .before .before .steps .ensures)) ∙ sym (c .before .before .before .within .ensures) ∙ c .before .before .if1 .taken) (c .relation-in-range .ensures ∙ ap (within 1 3) (c .before .right .ensures))
 
 returns-2 : tie.Need-returns-2
 unfolding compares
@@ -45,7 +42,6 @@ compares-spec =
     cast-within
     within-requires
     right-requires
-    cast-within-2
-    within-requires-2
+    relation-in-range-requires
     returns
     returns-2)

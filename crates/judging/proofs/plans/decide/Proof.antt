@@ -1,34 +1,40 @@
 -- By the relation, one search or the other.
-use mathlib.Core.Path.{sym, _∙_}
+use Rattle.judging.proofs.Posing.{asked-equal, asked-other}
 use borrow.Author.Needs.{needs}
 use Rattle.judging.proofs.plans.decide.Statement.{statement}
 use Rattle.judging.proofs.plans.decide.Tie as tie
 
-right-requires : tie.Need-right-requires
-right-requires c κs = search needs
+asks-equal-requires : tie.Need-asks-equal-requires
+asks-equal-requires c κs = search needs
 
 first-requires : tie.Need-first-requires
-first-requires c κs = search needs
+first-requires c κs = let S = c .before .before .before .before .before .before .before in
+    let e = asked-equal (S .args .q .now) (S .args .j) (c .before .asks-equal .ensures) (c .if1 .taken) in
+    search needs
 
 returns : tie.Need-returns
-returns c = let e = sym (c .before .before .right .ensures) ∙ c .before .if1 .taken in
+returns c = let S = c .before .before .before .before .before .before .before .before in
+    let e = asked-equal (S .args .q .now) (S .args .j) (c .before .before .asks-equal .ensures) (c .before .if1 .taken) in
     record { led = λ n. absurd (n e); placed = λ f. c .first .ensures }
 
 led-requires : tie.Need-led-requires
-led-requires c κs = search needs
+led-requires c κs = let S = c .before .before .before .before .before .before .before .before in
+    let n = asked-other (S .args .q .now) (S .args .j) (c .before .before .asks-equal .ensures) (c .before .if1 .left) in
+    search needs
 
 same-length : tie.Need-same-length
 same-length c = search needs
 
 returns-2 : tie.Need-returns-2
-returns-2 c = let n = c .before .before .before .before .if1 .left in
-    record { led = λ f. c .before .before .led .ensures; placed = λ e. absurd (n (c .before .before .before .before .before .right .ensures ∙ e)) }
+returns-2 c = let S = c .before .before .before .before .before .before .before .before .before .before .before in
+    let n = asked-other (S .args .q .now) (S .args .j) (c .before .before .before .before .before .asks-equal .ensures) (c .before .before .before .before .if1 .left) in
+    record { led = λ f. c .before .before .led .ensures; placed = λ e. absurd (n e) }
 
 pub decide-spec : {M : Type 1} → statement M
 decide-spec =
     tie.close
     (tie.spec
-    right-requires
+    asks-equal-requires
     first-requires
     returns
     led-requires

@@ -7,8 +7,8 @@ use Rattle.judging.proofs.plans.led.Tie as tie
 left-requires : tie.Need-left-requires
 left-requires c κs = search needs
 
-right-requires : tie.Need-right-requires
-right-requires c κs = search needs
+asks-less-requires : tie.Need-asks-less-requires
+asks-less-requires c κs = search needs
 
 searched-requires : tie.Need-searched-requires
 searched-requires c κs = let S = c .before .before .before .before .before .before .before .before in
@@ -19,7 +19,7 @@ searched-requires c κs = let S = c .before .before .before .before .before .bef
 over-all-steps-requires : tie.Need-over-all-steps-requires
 over-all-steps-requires c κs = let F = c .before .before in
     let P = c .before .before .before .before .before .before .before .before .before .before .before .pre .0 in
-    ((bounded (P .0) (P .2), P .1), found-small (P .0) (P .2) (F .before .before .left .ensures) (F .before .right .ensures) (F .searched .ensures))
+    ((bounded (P .0) (P .2), P .1), found-small (P .0) (P .2) (F .before .before .left .ensures) (F .before .asks-less .ensures) (F .searched .ensures))
 
 meets-requires : tie.Need-meets-requires
 meets-requires c κs = let P = c .before .before .before .before .before .before .before .before .before .before .before .before .pre .0 in (bounded (P .0) (P .2), c .over-all-steps .ensures .small)
@@ -30,14 +30,14 @@ same-length c = search needs
 returns : tie.Need-returns
 returns c = let F = c .before .before .before .before in
     let P = c .before .before .before .before .before .before .before .before .before .before .before .before .before .pre .0 in
-    found-led (P .0) (P .2) (F .before .before .left .ensures) (F .before .right .ensures) (F .searched .ensures) (c .before .over-all-steps .ensures) (c .meets .ensures)
+    found-led (P .0) (P .2) (F .before .before .left .ensures) (F .before .asks-less .ensures) (F .searched .ensures) (c .before .over-all-steps .ensures) (c .meets .ensures)
 
 pub led-spec : {M : Type 1} → statement M
 led-spec =
     tie.close
     (tie.spec
     left-requires
-    right-requires
+    asks-less-requires
     searched-requires
     over-all-steps-requires
     meets-requires

@@ -19,8 +19,8 @@ returns c = let S = c .before .before .before .before .before .before .before .b
     let P = S .pre .0 in
     (dead-truth (P .0) (P .2) (S .pre .1 .0) (c .before .before .before .left .ensures) (c .before .before .peel .ensures) (c .before .if1 .taken) (c .meets .ensures), S .pre .1 .2)
 
-right-requires : tie.Need-right-requires
-right-requires c κs = search needs
+asks-less-requires : tie.Need-asks-less-requires
+asks-less-requires c κs = search needs
 
 best-value-requires : tie.Need-best-value-requires
 best-value-requires c κs = let S = c .before .before .before .before .before .before .before .before .before .before .before in
@@ -36,7 +36,7 @@ over-all-steps-requires c κs = let S = c .before .before .before .before .befor
     let P = S .pre .0 in
     let R = c .before .before .before .before .before in (
       (bounded (P .0) (P .2), P .1),
-      left-small (P .0) (P .2) (S .pre .1 .0) (R .before .before .before .left .ensures) (R .before .before .peel .ensures) (R .before .if1 .left) (R .right .ensures) (c .before .before .best-value .ensures .0),
+      left-small (P .0) (P .2) (S .pre .1 .0) (R .before .before .before .left .ensures) (R .before .before .peel .ensures) (R .before .if1 .left) (R .asks-less .ensures) (c .before .before .best-value .ensures .0),
     )
 
 meets-requires-2 : tie.Need-meets-requires-2
@@ -50,7 +50,7 @@ returns-2 c = let S = c .before .before .before .before .before .before .before 
     let P = S .pre .0 in
     let R = c .before .before .before .before .before .before .before in
     let b = c .before .before .before .before .best-value .ensures in (
-      left-truth (P .0) (P .2) (S .pre .1 .0) (R .before .before .before .left .ensures) (R .before .before .peel .ensures) (R .before .if1 .left) (R .right .ensures) (b .0)
+      left-truth (P .0) (P .2) (S .pre .1 .0) (R .before .before .before .left .ensures) (R .before .before .peel .ensures) (R .before .if1 .left) (R .asks-less .ensures) (b .0)
           (c .before .over-all-steps .ensures) (c .meets2 .ensures),
       b .1,
     )
@@ -63,7 +63,7 @@ plan-led-spec =
     peel-requires
     meets-requires
     returns
-    right-requires
+    asks-less-requires
     best-value-requires
     over-all-steps-requires
     meets-requires-2

@@ -1,29 +1,31 @@
 -- A "plan" node is true where its search says so.
-use mathlib.Core.Path.{sym, _∙_}
-use Rattle.judging.proofs.Posing.{posed-at, placed-truth}
+use Rattle.judging.proofs.Posing.{posed-at, asked-equal, asked-other, placed-truth}
 use borrow.Author.Needs.{needs}
 use Rattle.judging.proofs.plans.plan_true.Statement.{statement}
 use Rattle.judging.proofs.plans.plan_true.Tie as tie
 
-right-requires : tie.Need-right-requires
-right-requires c κs = search needs
+asks-equal-requires : tie.Need-asks-equal-requires
+asks-equal-requires c κs = search needs
 
 first-requires : tie.Need-first-requires
-first-requires c κs = let P = c .before .before .before .before .before .before .before .pre in
-    ((P .0 .0, posed-at (P .0 .0) (P .0 .1) (P .1 .0 .0) (P .0 .2) (P .1 .0 .1)), sym (c .before .right .ensures) ∙ c .if1 .taken)
+first-requires c κs = let S = c .before .before .before .before .before .before .before in
+    let P = S .pre in
+    ((P .0 .0, posed-at (P .0 .0) (P .0 .1) (P .1 .0 .0) (P .0 .2) (P .1 .0 .1)), asked-equal (S .args .q .now) (S .args .j) (c .before .asks-equal .ensures) (c .if1 .taken))
 
 returns : tie.Need-returns
-returns c = let P = c .before .before .before .before .before .before .before .before .pre in (
-  placed-truth (P .0 .0 .given) (posed-at (P .0 .0) (P .0 .1) (P .1 .0 .0) (P .0 .2) (P .1 .0 .1))
-      (sym (c .before .before .right .ensures) ∙ c .before .if1 .taken) (c .first .ensures),
-  P .1 .1 .1,
-)
+returns c = let S = c .before .before .before .before .before .before .before .before in
+    let P = S .pre in (
+      placed-truth (P .0 .0 .given) (posed-at (P .0 .0) (P .0 .1) (P .1 .0 .0) (P .0 .2) (P .1 .0 .1))
+          (asked-equal (S .args .q .now) (S .args .j) (c .before .before .asks-equal .ensures) (c .before .if1 .taken)) (c .first .ensures),
+      P .1 .1 .1,
+    )
 
 plan-led-requires : tie.Need-plan-led-requires
-plan-led-requires c κs = let P = c .before .before .before .before .before .before .before .before .before .pre in (
-  (P .0 .0 .given, P .0 .0 .deep, posed-at (P .0 .0) (P .0 .1) (P .1 .0 .0) (P .0 .2) (P .1 .0 .1)),
-  ((λ e. c .before .before .if1 .left (c .before .before .before .right .ensures ∙ e)), P .1 .1 .0, P .1 .1 .1),
-)
+plan-led-requires c κs = let S = c .before .before .before .before .before .before .before .before .before in
+    let P = S .pre in (
+      (P .0 .0 .given, P .0 .0 .deep, posed-at (P .0 .0) (P .0 .1) (P .1 .0 .0) (P .0 .2) (P .1 .0 .1)),
+      (asked-other (S .args .q .now) (S .args .j) (c .before .before .before .asks-equal .ensures) (c .before .before .if1 .left), P .1 .1 .0, P .1 .1 .1),
+    )
 
 same-length : tie.Need-same-length
 same-length c = search needs
@@ -35,7 +37,7 @@ pub plan-true-spec : {M : Type 1} → statement M
 plan-true-spec =
     tie.close
     (tie.spec
-    right-requires
+    asks-equal-requires
     first-requires
     returns
     plan-led-requires

@@ -1,15 +1,14 @@
--- The tests are the definition, of what the readers give; the reward is small, so that a local holds it.
+-- The tests are the definition, of what the readers give.
 use native.Mathlib.Omega.{arith}
 use mathlib.Core.Path.{_≡_, ap, ap₂, _∙_}
 use mathlib.Core.Bool.{_&&_}
 use lib.IntN.{pos, negsuc}
 use lib.Signed.{leZ}
-use lib.Dec.{lit<, ltb}
-use mir.Syntax.{w32}
+use lib.Dec.{ltb}
+use mir.Syntax.{w16}
 use mir.Val.{toZ, ofZ}
 use mir.ValLaws.{toZ-ofZ}
 use Rattle.blocks.specs.Bytes.{within}
-use Rattle.blocks.proofs.Laws.{small}
 use Rattle.models.specs.Grounds.{outcome-in-range}
 use Rattle.models.specs.Layout.{outcome-of}
 use Rattle.models.proofs.fields.outcome_in_range.Statement.{statement}
@@ -34,8 +33,7 @@ returns : tie.Need-returns
 unfolding outcome-in-range
 returns c = let S = c .before .before .before .before .before .before .args in
     let z = c .before .before .before .before .reward in
-    let f = small (z .result) 32768 (z .ensures .1) (lit< tt) in
-    let e : toZ w32 (ofZ w32 (z .result)) ≡ (outcome-of (S .b .now) (S .s) (S .a) (S .i)) .reward = toZ-ofZ w32 (z .result) f ∙ z .ensures .0 in
+    let e : toZ w16 (ofZ w16 (z .result)) ≡ (outcome-of (S .b .now) (S .s) (S .a) (S .i)) .reward = toZ-ofZ w16 (z .result) (record { sfits = z .ok }) ∙ z .ensures in
     let t = ap₂ ltb (c .before .before .before .target .ensures .0) (c .before .before .wide .ensures .0) in
     let w = c .within .ensures ∙ ap (within 1 100) (c .before .weight .ensures .0) in
     ap₂ (λ x z. x && leZ (negsuc 999) z && leZ z (pos 1000)) (ap₂ _&&_ t w) e
