@@ -76,6 +76,7 @@ demand-2 h s reply yielding =
           let w = refuse-first h c k in
           let e : (reply c) .answer ≡ (yields h c) .answer = ap (λ r. r .answer) (yielding c) in
           (λ i. w .0 (sym e ∙ i), λ i. e ∙ w .1 i);
+      model-right = λ m e. model-accepted s m e;
       verdict-right = λ m q e f l.
           record {
             said = verdict m (q .start) (q .root);

@@ -2,3 +2,4 @@
 pub mod Ran
 pub mod Demand1
 pub mod Offered
+pub mod Delivery

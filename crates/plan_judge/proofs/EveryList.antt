@@ -20,6 +20,7 @@ use Rattle.calls.specs.Replies.{replies-after, replies-to}
 use Rattle.plan_judge.proofs.Kept.{replies, desk-holds}
 use Rattle.plan_judge.proofs.Claims.Ran.{Slice, Asked, writes, checks, Answered, loads, puts, judges, asks, Ran, began, further, Described, Of-the-code}
 use Rattle.plan_judge.proofs.Claims.Demand1.{Next}
+use Rattle.plan_judge.proofs.Claims.Delivery.{There}
 
 -- ---- one call
 
@@ -91,12 +92,6 @@ answer-there d judge = record { reply = _; desk = _; answered = judges (judged-b
 answer-there d (query (write a)) =
     record { reply = _; desk = _; answered = asks (writes ([], tt) (slice a) (slice (filled-by d a)) (written-by d (length a)) (λ _. (refl, refl))) }
 answer-there d (query (check b)) = record { reply = _; desk = _; answered = asks (checks ([], tt) (slice b) (checked-by d b) (λ _. refl)) }
-
--- What a list of calls leads to.
-pub record There (cs : List Call) : Type 0 where
-  pub replies : List Reply
-  pub desk : Desk
-  pub ran : Ran cs replies desk
 
 there-after : (before : List Call) → There before → (cs : List Call) → There (before ++ cs)
 there-after before t [] = subst There (sym (append-nil before)) t

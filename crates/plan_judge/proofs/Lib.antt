@@ -8,9 +8,8 @@ pub mod Checks
 pub mod Judges
 pub mod EveryList
 pub mod CodeDemand1
-pub mod CodeDemand2
-pub mod CodeDemand3
 pub mod Listed
 pub mod CSteps
 pub mod CList
 pub mod Offered
+pub mod Delivered

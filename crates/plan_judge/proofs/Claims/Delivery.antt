@@ -1,0 +1,28 @@
+-- What the delivery claims of the code, whole: the three demands of document 00, the claim about every list of calls (document 01, "The
+-- desk"), and what is offered beside the five calls. (Proved in `Delivered`.)
+use mathlib.Core.List.{List}
+use Rattle.calls.specs.Calls.{Call, Reply}
+use Rattle.calls.specs.Demand2.{Session, Demand-2-always}
+use Rattle.calls.specs.Demand3.{Demand-3-always}
+use Rattle.plan_judge.specs.declared.Desk.{Desk}
+use Rattle.plan_judge.proofs.Claims.Ran.{Ran, Described, Of-the-code}
+use Rattle.plan_judge.proofs.Claims.Demand1.{Demand-1}
+use Rattle.plan_judge.proofs.Claims.Offered.{C-call-told, Shown-choices-told}
+
+-- What a list of calls leads to.
+pub record There (cs : List Call) : Type 0 where
+  pub replies : List Reply
+  pub desk : Desk
+  pub ran : Ran cs replies desk
+
+pub record Delivery : Type 0 where
+  pub demand-1 : Demand-1
+  -- "In every list of calls .. from the empty desk": no list is left out, and each yields what is described
+  pub every-list-runs : (cs : List Call) → There cs
+  pub every-list : {cs : List Call} {rs : List Reply} {d : Desk} → Ran cs rs d → Described cs rs d
+  -- demands 2 and 3 of each session that tells the replies of the code, and there is one
+  pub some-session : (session : Session) × Of-the-code session
+  pub demand-2 : (session : Session) → Of-the-code session → Demand-2-always session
+  pub demand-3 : (session : Session) → Of-the-code session → Demand-3-always session
+  pub c-call : C-call-told
+  pub shown-choices : Shown-choices-told
