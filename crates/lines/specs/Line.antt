@@ -5,7 +5,7 @@ use mathlib.Core.List.{List, [], _∷_, _++_, flatMap}
 use mathlib.Core.Option.{Option, none, some}
 use lib.ListN.{length, take, drop}
 use Rattle.logic.specs.Model.{Model}
-use Rattle.logic.specs.Formula.{Formula, never, prop, neg, both, does, next, gain, plan, nonnegative}
+use Rattle.logic.specs.Formula.{Formula, on-plan, nonnegative}
 use Rattle.logic.specs.Verdict.{Verdict, no, yes, yes-plan}
 use Rattle.blocks.specs.Bytes.{Bytes, within}
 use Rattle.questions.specs.Layout.{Question}
@@ -33,14 +33,7 @@ yes-plan-line w t count cs =
     numbered "yes " w ++ numbered "/" t ++ numbered " plans " count ++ text " choices" ++ flatMap (numbered " ") cs ++ text "\n"
 
 unfoldable pub is-plan : Formula → Bool
-is-plan never = false
-is-plan (prop i) = false
-is-plan (neg φ) = false
-is-plan (both φ ψ) = false
-is-plan (does a) = false
-is-plan (next φ) = false
-is-plan (gain n b p) = false
-is-plan (plan n φ b p q) = true
+is-plan φ = on-plan false (λ n ψ r p q. true) φ
 
 -- The line of a verdict on this root.
 unfoldable pub verdict-line : Model → Formula → Verdict → List ℕ

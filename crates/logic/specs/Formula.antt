@@ -20,6 +20,17 @@ pub data Formula : Type 0 where
   gain : (n : ℕ) → Relation → (p : ℤ) → Formula
   plan : (n : ℕ) → Formula → Relation → (p q : ℕ) → Formula
 
+-- What is said of a "plan" by its steps, condition, relation, p and q; of every other formula, `other`.
+abbrev pub on-plan : {A : Type 0} → (other : A) → (ℕ → Formula → Relation → ℕ → ℕ → A) → Formula → A
+on-plan other f never = other
+on-plan other f (prop i) = other
+on-plan other f (neg φ) = other
+on-plan other f (both φ ψ) = other
+on-plan other f (does a) = other
+on-plan other f (next φ) = other
+on-plan other f (gain n b p) = other
+on-plan other f (plan n φ r p q) = f n φ r p q
+
 -- The bound: a total w of an n-step plan, times q, stands in the relation to p times D to the n.
 unfoldable pub meets : (Q : Quantity) → Model → ℕ → Relation → Q .Value → ℕ → Q .Value → Bool
 meets Q m n r p q w = related Q r (Q .times q w) (Q .times (m .denominator ^ n) p)
@@ -64,14 +75,7 @@ is-path (plan n φ b p q) = false
 
 -- The child of "plan" has depth at most its n.
 unfoldable pub shallow : Formula → Bool
-shallow never = true
-shallow (prop i) = true
-shallow (neg φ) = true
-shallow (both φ ψ) = true
-shallow (does a) = true
-shallow (next φ) = true
-shallow (gain n b p) = true
-shallow (plan n φ b p q) = leb (depth φ) n
+shallow φ = on-plan true (λ n ψ r p q. leb (depth ψ) n) φ
 
 -- A node of a question as it is stored.
 pub record Node : Type 0 where

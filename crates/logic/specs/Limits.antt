@@ -10,7 +10,7 @@ use Rattle.logic.specs.Checked.{Checked}
 use Rattle.logic.specs.Grounds.{Ground, _unless_, decided}
 use Rattle.logic.specs.Model.{Model, Step, enabled, outcomes}
 use Rattle.logic.specs.Quantity.{naturals, sum, Relation}
-use Rattle.logic.specs.Formula.{Formula, never, prop, neg, both, does, next, gain, plan}
+use Rattle.logic.specs.Formula.{Formula, on-plan}
 use Rattle.logic.specs.Verdict.{is-equal}
 
 -- The steps r are a path from s: each is an outcome of an enabled choice in the state reached. Definition 10 of source document 000,
@@ -40,17 +40,7 @@ plan-total m (suc n) s = sum naturals (λ a. multiply (λ o. plan-total m n (o .
 
 -- f is true of the steps and the relation of each "plan" node, in every state of the model.
 unfoldable pub every-plan : (ℕ → Relation → ℕ → Bool) → Model → List Formula → Bool
-every-plan f m fs = all (λ φ. at φ) fs
-  where
-    at : Formula → Bool
-    at never = true
-    at (prop i) = true
-    at (neg φ) = true
-    at (both φ ψ) = true
-    at (does a) = true
-    at (next φ) = true
-    at (gain n b p) = true
-    at (plan n φ r p q) = every (length (m .states)) (f n r)
+every-plan f m fs = all (on-plan true (λ n φ r p q. every (length (m .states)) (f n r))) fs
 
 -- 24: over 1,000,000 paths; 25: over 65,536 plans of an "equal" node.
 abbrev pub limit-grounds : Model → List Formula → List Ground

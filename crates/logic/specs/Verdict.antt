@@ -10,7 +10,7 @@ use Rattle.logic.specs.Checked.{Checked, ok, refused}
 use Rattle.logic.specs.Model.{Model}
 use Rattle.logic.specs.Quantity.{Quantity, naturals, Relation, less, equal, greater}
 use Rattle.logic.specs.Plan.{Plan, plans, choices}
-use Rattle.logic.specs.Formula.{Formula, never, prop, neg, both, does, next, gain, plan, sat, W, meets}
+use Rattle.logic.specs.Formula.{Formula, on-plan, sat, W, meets}
 
 -- For "greater" no plan has a greater total, for "less" none has a smaller one.
 unfoldable pub leads : (Q : Quantity) {A : Type 0} → (A → Q .Value) → Relation → List A → A → Bool
@@ -45,14 +45,7 @@ plan-goal m s n φ r p q =
 
 -- The goal of a root, or refusal 22: root not "plan".
 unfoldable pub goal : Model → ℕ → Formula → Checked Goal
-goal m s never = refused 22
-goal m s (prop i) = refused 22
-goal m s (neg φ) = refused 22
-goal m s (both φ ψ) = refused 22
-goal m s (does a) = refused 22
-goal m s (next φ) = refused 22
-goal m s (gain n b p) = refused 22
-goal m s (plan n φ r p q) = ok (plan-goal m s n φ r p q)
+goal m s φ = on-plan (refused 22) (λ n ψ r p q. ok (plan-goal m s n ψ r p q)) φ
 
 -- The shown plan with its place, from 1: the first in dictionary order that meets the bound and leads.
 unfoldable pub shown : Model → ℕ → (g : Goal) → Option (ℕ × Plan (g .steps))
