@@ -32,7 +32,7 @@ use Rattle.sheets.specs.Layout.{Sheet, sheet-of}
 use Rattle.sheets.specs.Grounds.{sheet-grounds, read-sheet}
 use Rattle.calls.specs.Calls.{Call, judge, query, write, check, Held, Report, Answer, judged, written, accepted, refuse, Reply, says, written-bytes, same, reported, yields}
 use Rattle.calls.specs.History.{after}
-use Rattle.calls.specs.Demand2.{Session}
+use Rattle.calls.specs.Replies.{Session}
 use Rattle.calls.specs.Demand3.{All-bytes, Plan-question, Asked-plan, total, meets-bound, Claims, Accepts, Differs, Meeting-sheet, Says-yes, Writes-shown, Demand-3, Demand-3-always}
 use Rattle.calls.specs.promises.Chains.{sheet-shown, do-write, check-on, do-check, answered, by-chain}
 use Rattle.calls.proofs.Histories.{Sound, sound}

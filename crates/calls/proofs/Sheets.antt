@@ -42,7 +42,7 @@ use Rattle.sheets.proofs.ReadsBack.{reads-back}
 use Rattle.sheets.proofs.Small.{sheet-small}
 use Rattle.calls.specs.Calls.{Call, Held, Reply, yields}
 use Rattle.calls.specs.History.{after}
-use Rattle.calls.specs.Demand2.{Session}
+use Rattle.calls.specs.Replies.{Session}
 use Rattle.calls.specs.Demand3.{Plan-question, Demand-3, Demand-3-always}
 use Rattle.calls.proofs.Histories.{Sound, sound}
 use Rattle.calls.proofs.Held as held

@@ -12,7 +12,7 @@ pub record Told : Type 0 where
   pub number : ℕ
   pub buffer : Bytes
 
--- What is told of a verdict, and of an answer, with the buffer found so and left so, if the rest is what is told of the later replies.
+-- What is told of one answer: `found` is the buffer before the calls, `left` the buffer after this one, `rest` what the later replies tell.
 abbrev pub told-verdict : (found : Bytes) → Verdict → (rest : Told) → Told
 told-verdict found (no count) rest = record { number = 0; buffer = found }
 told-verdict found yes rest = record { number = 1; buffer = found }
@@ -25,7 +25,7 @@ told-answer found left (written bytes) rest = record { number = 1; buffer = left
 told-answer found left (accepted report) rest = rest
 told-answer found left (refuse k) rest = record { number = 100 + k; buffer = found }
 
--- What is told of the replies, one after the other.
+-- What is told of the replies, one after the other. (The end of the list is not reached: the write is answered or refused.)
 unfoldable pub told : (found : Bytes) → List Reply → Told
 told found [] = record { number = 0; buffer = found }
 told found (r ∷ rs) = told-answer found (r .buffer) (r .answer) (told found rs)

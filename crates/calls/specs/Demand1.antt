@@ -1,5 +1,5 @@
--- Of demand 1, document 00: "every call on every input finishes with its result or a numbered refusal". The numbers that document 01 lists
--- for each call, in the order in which it is refused. (The demand itself speaks of desk values: plan_judge/proofs/claims/Demand1.)
+-- Of demand 1, document 00: "every call on every input finishes with its result or a numbered refusal". These are the numbers that document
+-- 01 lists for each call. (The demand itself speaks of desk values: plan_judge/proofs/Claims/Demand1.)
 use Prim.Native.Nat.{ℕ}
 use mathlib.Core.List.{List, [], _∷_}
 use Rattle.calls.specs.Calls.{Call, load, put, judge, query, write, check}

@@ -1,4 +1,4 @@
--- Demand 2: what is held, and the replies to a next call. Document 00:
+-- Demand 2 speaks of what is held and of the replies to a next call. Document 00:
 --   "Verdicts are those of the published definitions: yes if the formula is true in the asked state, no if it is false, refusal only on
 --   the listed grounds and on every one of them. On yes to a plan question the shown plan is the one that document 01 singles out, and
 --   each count is the one defined there."
@@ -6,7 +6,7 @@
 use Prim.Native.Nat.{ℕ, suc, _<_}
 use mathlib.Core.Path.{_≡_}
 use mathlib.Core.Logic.{_↔_}
-use mathlib.Core.Bool.{Bool, true, false, cond, _&&_}
+use mathlib.Core.Bool.{Bool, true, false, cond}
 use mathlib.Core.List.{List, [], List·Memᴰ}
 use mathlib.Core.Option.{none, some}
 use lib.ListN.{length}
@@ -15,7 +15,7 @@ use Rattle.logic.specs.Checked.{ok, refused}
 use Rattle.logic.specs.Grounds.{first}
 use Rattle.logic.specs.Model.{Model, Step}
 use Rattle.logic.specs.Quantity.{Relation, naturals}
-use Rattle.logic.specs.Plan.{Plan, choices}
+use Rattle.logic.specs.Plan.{Plan, plans, choices}
 use Rattle.logic.specs.Accepted.{Accepted}
 use Rattle.logic.specs.Order.{Before, Rising, Is-plan}
 use Rattle.logic.specs.Formula.{Formula, plan, sat, meets}
@@ -26,6 +26,7 @@ use Rattle.questions.specs.Layout.{Question}
 use Rattle.calls.specs.Tested.{grounds}
 use Rattle.calls.specs.Calls.{Call, judge, Held, Answer, judged, refuse, Reply, described}
 use Rattle.calls.specs.History.{after}
+use Rattle.calls.specs.Replies.{Session}
 
 unfoldable pub says-yes : Verdict → Bool
 says-yes (no count) = false
@@ -87,7 +88,9 @@ pub record Judged (m : Model) (q : Question) (answer : Answer) : Type 0 where
   pub answers : answer ≡ judged said
   -- "yes if the formula is true in the asked state, no if it is false"
   pub as-true : says-yes said ≡ sat m (q .root) (q .start) []
+  -- of the definitions alone: `sat` means what is published, and the list over which it asks for "some plan" has every plan, once
   pub published : As-published m
+  pub all-plans : (n s : ℕ) → In-order n (Is-plan m n s) (plans m n s)
   -- a plan question: "no with its count .. or yes with a plan record"
   pub on-plans : (g : Goal) → goal m (q .start) (q .root) ≡ ok g → Announces m (q .start) g said
   -- another: no, with the count 0, or yes
@@ -97,15 +100,11 @@ pub record Demand-2 (h : Held) (reply : Call → Reply) : Type 0 where
   -- "refusal only on the listed grounds and on every one of them": with k exactly when k is the first of the call's grounds, in document
   -- 01's order, that applies
   pub refused-by-first : (c : Call) (k : ℕ) → ((reply c) .answer ≡ refuse k) ↔ (first (grounds (described h c)) ≡ some k)
-  -- "the published definitions": the model that is held is one of Definition 1
+  -- "the published definitions": the model that is held is one of Definition 1, which says of load what it accepts
   pub model-right : (m : Model) → h .model ≡ some m → Accepted m
   -- where neither 20 nor 21, 24 nor 25 applies
   pub verdict-right : (m : Model) (q : Question) → h .model ≡ some m → h .question ≡ some q → first (limit-grounds m (q .nodes)) ≡ none
       → Judged m q ((reply judge) .answer)
-
--- What the calls reply: to a call made after a list of calls on a desk that began empty.
-abbrev pub Session : Type 0
-Session = List Call → Call → Reply
 
 -- "After every list of calls"
 abbrev pub Demand-2-always : Session → Type 0

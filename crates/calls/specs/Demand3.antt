@@ -1,10 +1,10 @@
--- Demand 3: what is held, and the replies to a next call; then after every list of calls. Document 00:
+-- Demand 3 speaks of what is held and of the replies to a next call, and then of every list of calls. Document 00:
 --   "After every list of calls (load, put, judge, write, check, refused ones too) on a desk that began empty, and for every plan question
 --   that the desk then holds with its accepted model, within the path and plan limits: whoever wrote a sheet, if it has no other ground
 --   for refusal, the sheet check accepts it exactly when two weights are equal: the weight claimed on it, and the summed weights of those
 --   paths that its plan allows and on which the condition is true. Judging says yes exactly when some accepted sheet meets the bound, and
 --   each write that is then not refused writes one of these, that of the shown plan."
--- The paragraphs of the sentence stand beside the parts.
+-- The clauses stand beside the parts.
 use Prim.Native.Nat.{ℕ, _<_}
 use mathlib.Core.Path.{_≡_}
 use mathlib.Core.Logic.{_↔_, _⊎_}
@@ -24,7 +24,7 @@ use Rattle.questions.specs.Layout.{Question}
 use Rattle.sheets.specs.Grounds.{read-sheet}
 use Rattle.calls.specs.Calls.{Call, judge, query, write, check, Held, Report, judged, written, accepted, refuse, Reply}
 use Rattle.calls.specs.History.{after}
-use Rattle.calls.specs.Demand2.{Session}
+use Rattle.calls.specs.Replies.{Session}
 
 -- Every element is a byte: `Bytes` alone are numbers of any size.
 abbrev pub All-bytes : Bytes → Type 0

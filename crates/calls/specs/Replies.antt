@@ -12,3 +12,7 @@ replies-after before (c ∷ cs) = yields (after before) c ∷ replies-after (bef
 -- The replies to a list of calls.
 abbrev pub replies-to : List Call → List Reply
 replies-to cs = replies-after [] cs
+
+-- What the calls reply: to a call made after a list of calls on a desk that began empty.
+abbrev pub Session : Type 0
+Session = List Call → Call → Reply

@@ -49,7 +49,8 @@ held-line (some m) (some q) v = verdict-line m (q .root) v
 held-line (some m) none v = []
 held-line none o v = []
 
--- The line of the replies, up to the first refusal or the verdict: `rest` is that of the later ones.
+-- The line of the replies, up to the first refusal or the verdict: `rest` is that of the later ones. (Their end is not reached, and there is
+-- no verdict where nothing is held: judge is answered or refused.)
 abbrev pub reply-line : Held → Answer → (rest : List ℕ) → List ℕ
 reply-line h done rest = rest
 reply-line h (judged v) rest = held-line (h .model) (h .question) v

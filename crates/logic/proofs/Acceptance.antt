@@ -2,6 +2,7 @@
 -- weights that sum to D, name the action, lead to states by weights of at least 1 and to different ones, and fulfil its postconditions; an
 -- action that is not enabled has none; postconditions contradict in pairs.
 use Prim.Native.Nat.{ℕ, _<_}
+use native.Mathlib.Omega.{arith}
 use mathlib.Core.Path.{_≡_, refl, sym, ap, subst, _∙_}
 use mathlib.Core.Bool.{Bool, true, false, not, _&&_, _||_, false≢true}
 use mathlib.Core.List.{List, [], _∷_, List·Memᴰ}
@@ -14,7 +15,8 @@ use Rattle.logic.specs.Quantity.{naturals, sum}
 use Rattle.logic.specs.Order.{Rising, nothing, first}
 use Rattle.logic.specs.Plan.{Match, ends, pair}
 use Rattle.logic.specs.Accepted.{posts-of, Accepted, Executable}
-use Rattle.logic.proofs.Tests.{and-both, eqb-eq, eq-eqb, ltb-lt, all-at, any-some, every-at}
+use Rattle.logic.proofs.Tests.{and-both, eqb-eq, eq-eqb, ltb-lt, all-at, any-some, every-at, keep-member, counted-range}
+use Rattle.logic.proofs.Postconditions.{unique-post, unique-target}
 
 unfoldable pub step-ok : Model → ℕ → Step → Bool
 step-ok m a o = eqb (o .choice) a && (ltb (o .target) (length (m .states)) && ltb 0 (o .weight))
@@ -47,7 +49,7 @@ unfoldable pub state-ok : Model → ℕ → Bool
 state-ok m s = not (is-empty (enabled m s)) && (all (choice-ok m s) (enabled m s) && row-ok m s)
 
 unfoldable pub states-ok : Model → Bool
-states-ok m = every (length (m .states)) (state-ok m) && every (length (m .actions)) (λ a. all-contradict (posts-of m a))
+states-ok m = ltb 0 (m .denominator) && every (length (m .states)) (state-ok m) && every (length (m .actions)) (λ a. all-contradict (posts-of m a))
 
 rising-targets : (l : List Step) → targets-differ l ≡ true → Rising (λ x y. x .target ≡ y .target → ⊥) l
 unfolding targets-differ
@@ -80,16 +82,27 @@ unfolding is-empty
 a-choice [] e = absurd (false≢true e)
 a-choice (a ∷ k) e = (a, k, refl)
 
+-- An enabled action is an action of the model.
+enabled-action : (m : Model) (s : ℕ) {a : ℕ} → List·Memᴰ a (enabled m s) → a < length (m .actions)
+unfolding enabled
+enabled-action m s i = let w = keep-member _ _ i in let r = counted-range 0 (length (m .actions)) (w .0) in omega (arith, r .1)
+
 module _ (m : Model) (passed : states-ok m ≡ true) where
-  both-parts : (every (length (m .states)) (state-ok m) ≡ true) × (every (length (m .actions)) (λ a. all-contradict (posts-of m a)) ≡ true)
+  parts : (ltb 0 (m .denominator) ≡ true) × (every (length (m .states)) (state-ok m) ≡ true) × (every (length (m .actions)) (λ a. all-contradict (posts-of m a)) ≡ true)
   unfolding states-ok
-  both-parts = and-both (every (length (m .states)) (state-ok m)) _ passed
+  parts =
+      let w = and-both (ltb 0 (m .denominator) && every (length (m .states)) (state-ok m)) _ passed in
+      let u = and-both (ltb 0 (m .denominator)) _ (w .0) in
+      (u .0, u .1, w .1)
+
+  posts-rising : (a : ℕ) → a < length (m .actions) → Rising (λ k l. contradict k l ≡ true) (posts-of m a)
+  posts-rising a k = rising-posts (posts-of m a) (every-at (λ a. all-contradict (posts-of m a)) (length (m .actions)) (parts .2) k)
 
   at-state : (s : ℕ) → s < length (m .states)
       → (not (is-empty (enabled m s)) ≡ true) × (all (choice-ok m s) (enabled m s) ≡ true) × (row-ok m s ≡ true)
   unfolding state-ok
   at-state s k =
-      let w = and-both (not (is-empty (enabled m s))) _ (every-at (state-ok m) (length (m .states)) (both-parts .0) k) in
+      let w = and-both (not (is-empty (enabled m s))) _ (every-at (state-ok m) (length (m .states)) (parts .1) k) in
       let u = and-both (all (choice-ok m s) (enabled m s)) _ (w .1) in
       (w .0, u .0, u .1)
 
@@ -132,7 +145,10 @@ module _ (m : Model) (passed : states-ok m ≡ true) where
         some-choice = λ s k. a-choice (enabled m s) (at-state s k .0);
         defined = none-there;
         fulfils = λ {s} {a} x. matched m (posts-of m a) (outcomes m s a) (at-choice x .3);
-        contradicts = λ a k. rising-posts (posts-of m a) (every-at (λ a. all-contradict (posts-of m a)) (length (m .actions)) (both-parts .1) k);
+        one-post = λ {s} {a} x o i k l. unique-post m (posts-rising a (enabled-action m s (x .choice))) o;
+        one-target = λ {s} {a} x. unique-target m (matched m (posts-of m a) (outcomes m s a) (at-choice x .3)) (posts-rising a (enabled-action m s (x .choice)));
+        contradicts = posts-rising;
+        divides = ltb-lt 0 (m .denominator) (parts .0);
         apart = λ x. rising-targets _ (at-choice x .2);
         sums = λ x. at-choice x .0;
         weighs = λ x o i. at-step x o i .2;

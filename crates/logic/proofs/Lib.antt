@@ -13,6 +13,7 @@ pub mod Reading
 pub mod Shown
 pub mod Search
 pub mod Contradiction
+pub mod Postconditions
 pub mod PolicyPaths
 pub mod Policies
 pub mod Acceptance

@@ -1,5 +1,5 @@
--- What an accepted model promises: Definition 1 of source document 001 in whole numbers, each of its conditions, and document 01's "The
--- model" where that says more.
+-- What an accepted model promises: Definition 1 of source document 001 in whole numbers, each of its conditions, and that postconditions
+-- contradict. (The ranges of document 01 are grounds 4 and 5.)
 use Prim.Native.Nat.{ℕ, _<_}
 use mathlib.Core.Path.{_≡_}
 use mathlib.Core.List.{List, [], _∷_, List·Memᴰ}
@@ -26,11 +26,18 @@ pub record Accepted (m : Model) : Type 0 where
   pub defined : (s a : ℕ) → s < length (m .states) → (List·Memᴰ a (enabled m s) → ⊥) → outcomes m s a ≡ []
   -- (iii) an enabled action has one outcome for each postcondition, in their order, in a target where that postcondition is true;
   pub fulfils : {s a : ℕ} → Executable m s a → Match (λ k o. true-of k (mask m (o .target)) ≡ true) (posts-of m a) (outcomes m s a)
-  -- and in no target is another one true: any two postconditions contradict
+  -- (iii.i) in a target one postcondition is true and no other,
+  pub one-post : {s a : ℕ} → Executable m s a → (o : Step) → List·Memᴰ o (outcomes m s a) → (k l : Literals) → List·Memᴰ k (posts-of m a)
+      → List·Memᴰ l (posts-of m a) → true-of k (mask m (o .target)) ≡ true → true-of l (mask m (o .target)) ≡ true → k ≡ l
+  -- (iii.ii) a postcondition is true in one target and in no other,
+  pub one-target : {s a : ℕ} → Executable m s a → (k : Literals) → List·Memᴰ k (posts-of m a) → (x y : Step) → List·Memᴰ x (outcomes m s a)
+      → List·Memᴰ y (outcomes m s a) → true-of k (mask m (x .target)) ≡ true → true-of k (mask m (y .target)) ≡ true → x ≡ y
+  -- since any two postconditions contradict
   pub contradicts : (a : ℕ) → a < length (m .actions) → Rising (λ k l. contradict k l ≡ true) (posts-of m a)
   -- so that different outcomes of an action lead to different states
   pub apart : {s a : ℕ} → Executable m s a → Rising (λ x y. x .target ≡ y .target → ⊥) (outcomes m s a)
-  -- the weights of an action's outcomes are at least 1 and sum to D
+  -- chances are weights over D: the weights of an action's outcomes are at least 1 and sum to D
+  pub divides : 0 < m .denominator
   pub sums : {s a : ℕ} → Executable m s a → sum naturals (λ o. o .weight) (outcomes m s a) ≡ m .denominator
   pub weighs : {s a : ℕ} → Executable m s a → (o : Step) → List·Memᴰ o (outcomes m s a) → 0 < o .weight
   -- outcomes lead to states of the model, and are outcomes of this action

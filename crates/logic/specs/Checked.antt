@@ -1,4 +1,4 @@
--- A value, or the number of a refusal. A call's grounds, in their order, are a `do` block of these.
+-- A value, or the number of a refusal: what bytes are read as, and a sheet's choices.
 use Prim.Native.Nat.{ℕ}
 use mathlib.Core.Bool.{Bool, true, false}
 use mathlib.Core.Option.{Option, none, some}

@@ -36,7 +36,8 @@ unfoldable pub meets : (Q : Quantity) → Model → ℕ → Relation → Q .Valu
 meets Q m n r p q w = related Q r (Q .times q w) (Q .times (m .denominator ^ n) p)
 
 -- The formula is true at the state s of a path, of which the steps r are left: Definition 4. A state formula is read in s and does not
--- look at r. "do" and "next" with no step left are false; depth keeps that from being asked.
+-- look at r. "do" and "next" with no step left are false, "gain" with fewer than n steps left sums those; depth keeps that from
+-- being asked.
 unfoldable pub sat : Model → Formula → ℕ → List Step → Bool
 sat m never s r = false
 sat m (prop i) s r = prop-in m s i

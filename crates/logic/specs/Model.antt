@@ -24,7 +24,8 @@ pub record Step : Type 0 where
   pub weight : ℕ
   pub reward : ℤ
 
--- `states` are the masks of true propositions; `rows` has for each state, and each action enabled there, its outcomes in postcondition order.
+-- `states` are the masks of true propositions; `rows` has for each state and each action its outcomes in postcondition order, none where it
+-- is not enabled.
 pub record Model : Type 0 where
   pub propositions : ℕ
   pub denominator : ℕ

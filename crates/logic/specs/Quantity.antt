@@ -6,6 +6,7 @@ use lib.IntN.{ℤ, pos, _+ℤ_, _*ℤ_}
 use lib.Signed.{leZ}
 use lib.Dec.{leb}
 
+-- `none` is the sum of nothing.
 pub record Quantity : Type 1 where
   pub Value : Type 0
   pub none : Value

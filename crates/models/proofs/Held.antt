@@ -21,10 +21,11 @@ use Rattle.logic.proofs.Members.{map-member}
 use Rattle.logic.proofs.Tests.{and-both, eqb-eq, ne-eqb, ltb-lt, every-at, some-below-index, counted-in, counted-range, length-tabulate, getD-tabulate, count-more, in-keep, keep-member, keep-same}
 use Rattle.logic.proofs.Sums.{naturals-additive, sum-append, sum-map}
 use Rattle.logic.proofs.Contradiction.{not-both}
+use Rattle.logic.proofs.Postconditions.{unique-post, unique-target}
 use Rattle.blocks.specs.Bytes.{Bytes, within}
 use Rattle.blocks.specs.Block.{sum-below}
-use Rattle.models.specs.Layout.{state-count, action-count, denominator-of, state-mask, pre-of, post-count, post-of, outcome-of, entries, model-of}
-use Rattle.models.specs.Grounds.{outcome-in-range, posts-contradict, cell-consistent}
+use Rattle.models.specs.Layout.{state-count, action-count, prop-count, denominator-of, state-mask, pre-of, post-count, post-of, outcome-of, entries, model-of}
+use Rattle.models.specs.Grounds.{sizes-right, outcome-in-range, posts-contradict, cell-consistent}
 use Rattle.models.proofs.Laws.{entries-inside, at-least}
 use Rattle.models.proofs.Passed.{Passed, some-post, outcome-passed, action-passed, cell-passed, state-passed}
 
@@ -155,6 +156,18 @@ module _ (b : Bytes) (p : Passed b) where
       every-at (λ i. contradict (post-of b a i) (post-of b a j)) j
       (every-at (λ i. every i (λ j. contradict (post-of b a j) (post-of b a i))) (post-count b a) (action-passed b p a h) l) k
 
+  posts-rising : (a : ℕ) → a < action-count b → Rising (λ k l. contradict k l ≡ true) (posts-of (model-of b) a)
+  posts-rising a l =
+      subst (Rising (λ k l. contradict k l ≡ true)) (sym (posts-held b a l)) (rising-tabulate (λ k l. contradict k l ≡ true) (post-of b a) (post-count b a) (contrary a l))
+
+  -- The denominator is at least 1.
+  some-weight : 0 < denominator-of b
+  unfolding sizes-right
+  some-weight =
+      let three : Bool = within 1 32 (state-count b) && within 1 8 (action-count b) && within 1 32 (prop-count b) in
+      let w = and-both (three && within 1 100 (denominator-of b)) _ (p .sizes) in
+      at-least 1 100 (denominator-of b) (and-both three (within 1 100 (denominator-of b)) (w .0) .1)
+
   module _ {s a : ℕ} (x : Executable (model-of b) s a) where
     state : s < state-count b
     state = subst (λ n. s < n) (states-held b) (x .state)
@@ -230,9 +243,10 @@ module _ (b : Bytes) (p : Passed b) where
         some-choice = λ s h. let l = subst (λ n. s < n) (states-held b) h in let w = some-below-index _ (action-count b) (state-passed b p s l) in first-of (enabled (model-of b) s) (enabled-in b s (w .0) l (w .1) (w .2));
         defined = λ s a h e. undefined s a (subst (λ n. s < n) (states-held b) h) e;
         fulfils = λ x. fulfilled x;
-        contradicts = λ a h.
-            let l = subst (λ n. a < n) (actions-held b) h in
-            subst (Rising (λ k l. contradict k l ≡ true)) (sym (posts-held b a l)) (rising-tabulate (λ k l. contradict k l ≡ true) (post-of b a) (post-count b a) (contrary a l));
+        one-post = λ {s} {a} x o i k l. unique-post (model-of b) (posts-rising a (choice x .0)) o;
+        one-target = λ {s} {a} x. unique-target (model-of b) (fulfilled x) (posts-rising a (choice x .0));
+        contradicts = λ a h. posts-rising a (subst (λ n. a < n) (actions-held b) h);
+        divides = rw (denominator-held b) some-weight;
         sums = λ x. summed x ∙ sym (denominator-held b);
         weighs = λ x o i. let w = member x o i in subst (λ z. 0 < z .weight) (sym (w .2)) (range x (w .0) (w .1) .1);
         inside = λ x o i. let w = member x o i in rw (states-held b) (subst (λ z. z .target < state-count b) (sym (w .2)) (range x (w .0) (w .1) .0));

@@ -65,17 +65,20 @@ asks-nothing =
       of-c-call = λ κ model question sheet. tt;
     }
 
+described : {d : Desk} {c : Call} {r : Reply} {e : Desk} → Answered d c r e → r ≡ yields (view d) c
+described {d} {c} a = stepped a .0 ∙ replies d c
+
 pub demand-1-of-the-code : Demand-1
 demand-1-of-the-code =
     record {
       asks-nothing = asks-nothing;
       answered = answer-there;
+      its-result = described;
       refused = λ {d} {c} {r} {e} a k i.
-          let w = stepped a in
-          let y : r ≡ yields (view d) c = w .0 ∙ replies d c in
+          let y = described a in
           let l = refuse-listed (view d) c k (sym (ap (λ z. z .answer) y) ∙ i) in
           record {
-            same-desk = w .1 ∙ desk-kept d k c (sym (ap (λ z. z .answer) (y ∙ yields-is (view d) c)) ∙ i);
+            same-desk = stepped a .1 ∙ desk-kept d k c (sym (ap (λ z. z .answer) (y ∙ yields-is (view d) c)) ∙ i);
             same-buffer = ap (λ z. z .buffer) y ∙ l .0;
             number = l .1;
           };

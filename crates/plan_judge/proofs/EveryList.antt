@@ -6,7 +6,7 @@ use lib.ListN.{length}
 use Rattle.blocks.specs.Bytes.{Bytes}
 use Rattle.calls.specs.Calls.{Query, write, check, Call, load, put, judge, query, Reply, says, yields}
 use Rattle.calls.specs.History.{after}
-use Rattle.calls.specs.Demand2.{Session}
+use Rattle.calls.specs.Replies.{Session}
 use Rattle.plan_judge.specs.declared.Desk.{Desk}
 use Rattle.plan_judge.specs.declared.Taking.{Taking}
 use Rattle.plan_judge.specs.declared.Judging.{Judging}
@@ -80,12 +80,11 @@ every-list h = record { answers = every-reply h; contents = every-ran h }
 -- ---- no list is left out
 
 -- A slice with these bytes.
-slice : Bytes → Slice
+abbrev pub slice : Bytes → Slice
 slice b = record { ptr = (0, 0); name = 0; now = b }
 
 -- Every call is answered.
 pub answer-there : (d : Desk) (c : Call) → Next d c
-unfolding slice
 answer-there d (load b) = record { reply = _; desk = _; answered = loads ([], tt) (slice b) (loaded-by d b) (λ _. refl) }
 answer-there d (put b) = record { reply = _; desk = _; answered = puts ([], tt) (slice b) (put-by d b) (λ _. refl) }
 answer-there d judge = record { reply = _; desk = _; answered = judges (judged-by d) (λ _. refl) }

@@ -3,17 +3,24 @@
 use mathlib.Core.Path.{_≡_, refl, sym, ap, ap₂, _∙_}
 use mathlib.Core.Option.{Option, none, some}
 use Rattle.logic.specs.Verdict.{Verdict, no, yes, yes-plan}
-use Rattle.calls.specs.CCall as list
+use lib.ListN.{length}
 use Rattle.plan_judge.specs.declared.Desk.{Desk}
 use Rattle.plan_judge.specs.View.{view}
 use Rattle.plan_judge.specs.State.{shown-size}
+use Rattle.plan_judge.specs.CChain.{c-chain, c-number, c-buffer}
+use Rattle.plan_judge.proofs.EveryList.{slice}
 use Rattle.plan_judge.proofs.CList.{c-list}
 use Rattle.plan_judge.proofs.Claims.Offered.{C-call-told, choices-shown, Shown-choices-told}
 
 pub c-call-told : C-call-told
-c-call-told κ model question found left r p =
-    let t = p tt in
-    ap₂ (λ n b. record { number = n; buffer = b }) (t .number) (t .buffer) ∙ sym (c-list (model .now) (question .now) (found .now))
+c-call-told =
+    record {
+      answers = λ κ model question found.
+          let c = c-chain (model .now) (question .now) (length (found .now)) in
+          (slice (c-buffer (found .now) c), c-number c, record { number = refl; buffer = refl });
+      tells = λ κ model question found left r p.
+          ap₂ (λ n b. record { number = n; buffer = b }) (p tt .number) (p tt .buffer) ∙ sym (c-list (model .now) (question .now) (found .now));
+    }
 
 sized : (o : Option Verdict) → shown-size o ≡ choices-shown o
 unfolding shown-size choices-shown
@@ -23,4 +30,4 @@ sized (some yes) = refl
 sized (some (yes-plan w n k cs)) = refl
 
 pub shown-choices-told : Shown-choices-told
-shown-choices-told d r p = p tt ∙ sized ((view d) .verdict)
+shown-choices-told = record { answers = λ d. (shown-size ((view d) .verdict), refl); tells = λ d r p. p tt ∙ sized ((view d) .verdict) }

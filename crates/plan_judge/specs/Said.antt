@@ -18,8 +18,8 @@ unfoldable pub said-taken : Taken → Answer
 said-taken Done = done
 said-taken (Refused k) = refuse k
 
--- A verdict is said with the choices beside it. Where they are not those of a plan it would be a refusal with the number 0, which
--- document 01 lists for no call: demand 1 says that this does not happen.
+-- A verdict is said with the choices beside it. Where no model or question is held, or they are not those of a plan, it would be a refusal
+-- with the number 0, which document 01 lists for no call: demand 1 says that this does not happen.
 unfoldable pub said-verdict : Option logic.Verdict → Answer
 said-verdict none = refuse 0
 said-verdict (some v) = judged v

@@ -1,6 +1,12 @@
 -- `answer` is what is claimed of it (`Claims.Answer`): its contract's own value, which is the line printed (lines/proofs/Printed).
-use mathlib.Core.Path.{sym, subst}
+use Prim.Native.Nat.{ℕ}
+use native.Mathlib.Omega.{arith}
+use mathlib.Core.Path.{refl, sym, subst}
+use mathlib.Core.List.{List}
+use lib.ListN.{length}
+use Rattle.blocks.specs.Splice.{splice}
 use Rattle.lines.specs.Text.{Put}
+use Rattle.lines.specs.promises.Chain.{answer-line}
 use Rattle.lines.proofs.Printed.{printed-is}
 use Rattle.printing.proofs.Claims.Answer.{Answer-printed}
 
@@ -8,5 +14,8 @@ pub answer-printed : Answer-printed
 answer-printed =
     record {
       asks-nothing = λ κ input found. tt;
+      answers = λ κ input found.
+          let line : List ℕ = answer-line (input .now) in
+          (record { ptr = (0, 0); name = 0; now = splice (found .now) 0 line }, length line, record { wrote = refl; next = omega arith });
       prints = λ κ input found left r p. subst (λ l. Put l (found .now) (left .now) 0 r) (sym (printed-is (input .now))) (p tt);
     }

@@ -1,8 +1,10 @@
 -- What the delivery claims of the code, whole: the three demands of document 00, the claim about every list of calls (document 01, "The
--- desk"), and what is offered beside the five calls. (Proved in `Delivered`.)
+-- desk"), and what is offered beside the five calls. That each function meets its contract and returns is what the checker proves of it;
+-- these statements begin at the contracts. (Proved in `Delivered`.)
 use mathlib.Core.List.{List}
 use Rattle.calls.specs.Calls.{Call, Reply}
-use Rattle.calls.specs.Demand2.{Session, Demand-2-always}
+use Rattle.calls.specs.Replies.{Session}
+use Rattle.calls.specs.Demand2.{Demand-2-always}
 use Rattle.calls.specs.Demand3.{Demand-3-always}
 use Rattle.plan_judge.specs.declared.Desk.{Desk}
 use Rattle.plan_judge.proofs.Claims.Ran.{Ran, Described, Of-the-code}

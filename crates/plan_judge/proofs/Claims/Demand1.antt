@@ -1,7 +1,7 @@
 -- Demand 1 of the code, for any desk value, also one that a caller put together by hand, every call and every input. Document 00:
 --   "So that no file can halt an arm, every call on every input finishes with its result or a numbered refusal, asks nothing of its caller
 --   beforehand, and on refusal leaves the desk (the judge's state) and each lent buffer exactly as found."
--- That a function returns where its contract is met is what the checker proves of it. The clauses stand beside the parts. (Proved in
+-- That a function returns where what it requires is there is what the checker proves of it. The clauses stand beside the parts. (Proved in
 -- `CodeDemand1`.)
 use Prim.Native.Nat.{ℕ}
 use mathlib.Core.Path.{_≡_}
@@ -9,9 +9,10 @@ use mathlib.Core.Bool.{true}
 use lib.Dec.{eqb}
 use contract.Lifetimes.{Lfts}
 use Rattle.logic.specs.Lists.{any}
-use Rattle.calls.specs.Calls.{Call, lent, refuse, Reply}
+use Rattle.calls.specs.Calls.{Call, lent, refuse, Reply, yields}
 use Rattle.calls.specs.Demand1.{listed}
 use Rattle.plan_judge.specs.declared.Desk.{Desk}
+use Rattle.plan_judge.specs.View.{view}
 use Rattle.plan_judge.proofs.Claims.Ran.{Slice, Answered}
 use Rattle.plan_judge.proofs.empty.Reads as empty-reads
 use Rattle.plan_judge.proofs.load.Reads as load-reads
@@ -50,7 +51,9 @@ pub record Refused (d : Desk) (c : Call) (r : Reply) (e : Desk) (k : ℕ) : Type
 
 pub record Demand-1 : Type 0 where
   pub asks-nothing : Asks-nothing
-  -- "every call on every input finishes with its result or a numbered refusal"
+  -- "every call on every input finishes with its result or a numbered refusal": every call is answered, and its reply is the one described
+  -- by what the desk holds, whoever put it together
   pub answered : (d : Desk) (c : Call) → Next d c
+  pub its-result : {d : Desk} {c : Call} {r : Reply} {e : Desk} → Answered d c r e → r ≡ yields (view d) c
   -- "on refusal .."
   pub refused : {d : Desk} {c : Call} {r : Reply} {e : Desk} → Answered d c r e → (k : ℕ) → r .answer ≡ refuse k → Refused d c r e k

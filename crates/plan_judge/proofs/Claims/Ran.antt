@@ -1,4 +1,4 @@
--- Lists of calls of the code, and what is claimed of them (proved in `EveryList`, `CodeDemand2`, `CodeDemand3`). Document 01: "In every
+-- Lists of calls of the code, and what is claimed of them (proved in `EveryList` and `Delivered`). Document 01: "In every
 -- list of calls .. from the empty desk, each call gets any bytes and the desk that the last one returned, altered by nobody". What a call
 -- returns is here whatever the function's own contract allows: `F.Pre` and `F.Post` are the plain readings of what the source says after
 -- `requires` and `ensures`, of the arguments, the result and the arguments at the return. So a contract that asks something or says less
@@ -10,7 +10,7 @@ use denote.Ref.{RefT}
 use Rattle.blocks.specs.Bytes.{Bytes}
 use Rattle.calls.specs.Calls.{Query, write, check, Call, load, put, judge, query, Reply, says}
 use Rattle.calls.specs.History.{after}
-use Rattle.calls.specs.Demand2.{Session}
+use Rattle.calls.specs.Replies.{Session}
 use Rattle.plan_judge.specs.declared.Desk.{Desk}
 use Rattle.plan_judge.specs.declared.Taking.{Taking}
 use Rattle.plan_judge.specs.declared.Judging.{Judging}
