@@ -14,7 +14,7 @@ use Rattle.logic.specs.Model.{Model}
 use Rattle.logic.specs.Plan.{Plan, plans, choices}
 use Rattle.logic.specs.Order.{Before, differ, agree, Rising, nothing, first, Is-plan}
 use Rattle.logic.specs.Formula.{Formula, sat}
-use Rattle.logic.specs.Verdict.{Goal, goal, shown, announced, verdict-by, verdict}
+use Rattle.logic.specs.Verdict.{Goal, goal, shown, denial, plan-record, announced, verdict-by, verdict}
 use Rattle.logic.proofs.Tests.{and-both, not-true, none≢some, some-same}
 use Rattle.logic.proofs.Dictionary.{plans-are, plans-rising, before-differs}
 use Rattle.logic.proofs.Shown.{goal-led, shown-there}
@@ -129,7 +129,7 @@ module _ (m : Model) (s : ℕ) (g : Goal) where
           rising = rising-left ahead early rest order;
         }
 
-    shows : Shows m s g (g .total (x .1)) n (cond (g .counts) (x .0) 0) (choices n (x .1))
+    shows : Shows m s g (plan-record g x)
     shows =
         let w = and-both (g .met (x .1)) (g .lead (x .1)) (parted .passes) in
         record {
@@ -145,7 +145,7 @@ module _ (m : Model) (s : ℕ) (g : Goal) where
         }
 
   module _ (φ : Formula) (a : goal m s φ ≡ ok g) where
-    denies : shown m s g ≡ none → Denies m s g (cond (g .counts) (length (plans m n s)) 0)
+    denies : shown m s g ≡ none → Denies m s g (denial m s g)
     denies e =
         record {
           none-meets = λ π i. not-true (g .met π) (λ t. none≢some (sym e ∙ shown-there m s g (goal-led m s φ g a) π (plans-are m n s π .1 i) t .1));

@@ -4,7 +4,7 @@
 use Prim.Native.Nat.{ℕ}
 use mathlib.Core.Path.{_≡_, refl, sym, ap, subst, _∙_}
 use mathlib.Core.Logic.{_↔_}
-use mathlib.Core.Bool.{Bool, true, false, cond}
+use mathlib.Core.Bool.{Bool, true, false}
 use mathlib.Core.Option.{Option, none, some}
 use mathlib.Core.List.{List, []}
 use Rattle.logic.specs.Checked.{Checked, ok, refused, _>>=_, _>>_, held}
@@ -12,7 +12,7 @@ use Rattle.logic.specs.Grounds.{first}
 use Rattle.logic.specs.Model.{Model}
 use Rattle.logic.specs.Plan.{Plan}
 use Rattle.logic.specs.Formula.{Formula, never, prop, neg, both, does, next, gain, plan, sat}
-use Rattle.logic.specs.Verdict.{Goal, plan-goal, goal, Verdict, no, yes, shown, announced, verdict-by, verdict}
+use Rattle.logic.specs.Verdict.{Goal, plan-goal, goal, shown, announced, verdict-by, verdict}
 use Rattle.logic.specs.Limits.{limit-grounds, limits}
 use Rattle.logic.proofs.Tests.{not-true, none≢some}
 use Rattle.logic.proofs.Shown.{sat-shown}
@@ -32,10 +32,10 @@ use Rattle.calls.proofs.Announcing.{verdict-announces}
 
 -- ---- the verdict says yes exactly where the formula is true
 
-says-told : (t : Bool) → says-yes (cond t yes (no 0)) ≡ t
+says-told : (m : Model) (s k : ℕ) (t : Bool) → says-yes (verdict-by m s t (refused k)) ≡ t
 unfolding says-yes
-says-told true = refl
-says-told false = refl
+says-told m s k true = refl
+says-told m s k false = refl
 
 says-shown : (m : Model) (s : ℕ) (g : Goal) (t : Bool) (o : Option (ℕ × Plan (g .steps)))
     → (t ≡ true) ↔ ((y : ℕ × Plan (g .steps)) × (o ≡ some y)) → says-yes (announced m s g o) ≡ t
@@ -45,13 +45,13 @@ says-shown m s g t (some y) h = sym (h .1 (y, refl))
 
 pub says-true : (m : Model) (s : ℕ) (φ : Formula) → says-yes (verdict m s φ) ≡ sat m φ s []
 unfolding verdict goal
-says-true m s never = says-told (sat m never s [])
-says-true m s (prop i) = says-told (sat m (prop i) s [])
-says-true m s (neg φ) = says-told (sat m (neg φ) s [])
-says-true m s (both φ ψ) = says-told (sat m (both φ ψ) s [])
-says-true m s (does a) = says-told (sat m (does a) s [])
-says-true m s (next φ) = says-told (sat m (next φ) s [])
-says-true m s (gain n b p) = says-told (sat m (gain n b p) s [])
+says-true m s never = says-told m s 22 (sat m never s [])
+says-true m s (prop i) = says-told m s 22 (sat m (prop i) s [])
+says-true m s (neg φ) = says-told m s 22 (sat m (neg φ) s [])
+says-true m s (both φ ψ) = says-told m s 22 (sat m (both φ ψ) s [])
+says-true m s (does a) = says-told m s 22 (sat m (does a) s [])
+says-true m s (next φ) = says-told m s 22 (sat m (next φ) s [])
+says-true m s (gain n b p) = says-told m s 22 (sat m (gain n b p) s [])
 says-true m s (plan n φ r p q) =
     let g = plan-goal m s n φ r p q in
     says-shown m s g (sat m (plan n φ r p q) s []) (shown m s g) (sat-shown m s n φ r p q [])

@@ -6,7 +6,7 @@ use native.Mathlib.Omega.{arith}
 use native.Mathlib.Nat.{le-antisymm, le-refl}
 use mathlib.Core.Path.{_≡_, refl, sym, ap, ap₂, subst, _∙_}
 use mathlib.Core.Logic.{_↔_, _⊎_, inl, inr, ⊎-elim}
-use mathlib.Core.Bool.{Bool, true, false, cond, _&&_, false≢true}
+use mathlib.Core.Bool.{Bool, true, false, _&&_, false≢true}
 use mathlib.Core.Option.{Option, none, some}
 use mathlib.Core.List.{List, [], _++_, List·Memᴰ}
 use lib.Dec.{T, eqb, leb, le→leb, leb→le}
@@ -19,7 +19,7 @@ use Rattle.logic.specs.Lists.{all}
 use Rattle.logic.specs.Plan.{Plan, plans, choices}
 use Rattle.logic.specs.Formula.{sat}
 use Rattle.logic.specs.Model.{Model}
-use Rattle.logic.specs.Verdict.{Goal, goal, Verdict, no, yes-plan, shown, announced, verdict-by, verdict}
+use Rattle.logic.specs.Verdict.{Goal, goal, Denial, Shown-plan, Verdict, no, yes-plan, shown, plan-record, announced, verdict-by, verdict}
 use Rattle.logic.specs.Limits.{limit-grounds, limits}
 use Rattle.logic.specs.Choices.{plan-of}
 use Rattle.logic.proofs.Tests.{T→true, true→T, and-left, and-right}
@@ -96,12 +96,12 @@ refused-later (refused k) f j n e = absurd (n (ap (λ r. refused (refusal r)) e)
 -- ---- the verdict on a goal, by its shown plan
 
 module _ (m : Model) (s : ℕ) (g : Goal) where
-  no≢yes : {j n k : ℕ} {w : ℤ} {cs : List ℕ} → no j ≡ yes-plan w n k cs → ⊥
+  no≢yes : {d : Denial} {v : Shown-plan} → no d ≡ yes-plan v → ⊥
   no≢yes e = let z : _≡_ {A = ℕ} 0 1 = cc in omega arith
 
-  shown-said : (o : Option (ℕ × Plan (g .steps))) (w : ℤ) (n k : ℕ) (cs : List ℕ) → announced m s g o ≡ yes-plan w n k cs → (y : ℕ × Plan (g .steps)) × (o ≡ some y)
-  shown-said none w n k cs e = absurd (no≢yes e)
-  shown-said (some y) w n k cs e = (y, refl)
+  shown-said : (o : Option (ℕ × Plan (g .steps))) (v : Shown-plan) → announced m s g o ≡ yes-plan v → (y : ℕ × Plan (g .steps)) × (o ≡ some y)
+  shown-said none v e = absurd (no≢yes e)
+  shown-said (some y) v e = (y, refl)
 
   -- The sheet of a verdict is that of the shown plan.
   sheet-said : (o : Option (ℕ × Plan (g .steps))) (z : Sheet) → sheet-shown (announced m s g o) ≡ ok z
@@ -265,15 +265,14 @@ module _ {h : Held} (reply : Call → Reply) (yielding : (c : Call) → reply c 
     yes-exact : Says-yes reply x ↔ ((sheet : Bytes) × (π : Plan n) × Meeting-sheet reply x sheet π)
     yes-exact = (
       λ y.
-          let u = shown-said (x .model) s g (shown (x .model) s g) (y .total) n (y .count) (y .chosen) (judged-same (sym judge-answer ∙ y .answers)) in
+          let u = shown-said (x .model) s g (shown (x .model) s g) (y .shown) (judged-same (sym judge-answer ∙ y .answers)) in
           let k = shown-meets (x .model) s g (u .0) (u .1) in
           (sheet-for (u .0 .1), u .0 .1, meeting (u .0 .1) (k .0) (k .1)),
       λ z.
           let u = led-shown (z .1) (z .2 .claims .is-plan) (z .2 .meets-it) in
           record {
-            total = g .total (u .0 .1);
-            count = cond (g .counts) (u .0 .0) 0;
-            chosen = choices n (u .0 .1);
+            shown = plan-record g (u .0);
+            steps = refl;
             answers = judge-answer ∙ ap (λ o. judged (announced (x .model) s g o)) (u .1);
           },
     )

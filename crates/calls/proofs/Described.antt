@@ -121,9 +121,9 @@ yields-write h a = by (h .model) (h .question)
         → replied a (run (found 23 (shown-sheet o) ⊳= (λ x. tests (12 unless leb (length (written-bytes q g x)) (length a) ∷ []) ⊳ value (filled a (written-bytes q g x)))))
         ≡ answered a (held 23 o >>= (λ v. sheet-shown v >>= (λ x. guard 12 (leb (length (written-bytes q g x)) (length a)) >> ok (written-bytes q g x)))) (filled a)
     shown q g none = refl
-    shown q g (some (no k)) = refl
+    shown q g (some (no v)) = refl
     shown q g (some yes) = refl
-    shown q g (some (yes-plan w n k cs)) = let x : Sheet = record { weight = w; choices = cs } in fits (leb (length (written-bytes q g x)) (length a)) (written-bytes q g x)
+    shown q g (some (yes-plan v)) = let x : Sheet = record { weight = v .total; choices = v .choices } in fits (leb (length (written-bytes q g x)) (length a)) (written-bytes q g x)
 
     asked : (m : Model) (q : Question) (c : Checked Goal) → goal m (q .start) (q .root) ≡ c
         → replied a (run (found 22 (got c) ⊳= (λ g. found 23 (shown-sheet (h .verdict)) ⊳= (λ x. tests (12 unless leb (length (written-bytes q g x)) (length a) ∷ []) ⊳ value (filled a (written-bytes q g x))))))

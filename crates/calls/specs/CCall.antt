@@ -14,9 +14,9 @@ pub record Told : Type 0 where
 
 -- What is told of one answer: `found` is the buffer before the calls, `left` the buffer after this one, `rest` what the later replies tell.
 abbrev pub told-verdict : (found : Bytes) → Verdict → (rest : Told) → Told
-told-verdict found (no count) rest = record { number = 0; buffer = found }
+told-verdict found (no x) rest = record { number = 0; buffer = found }
 told-verdict found yes rest = record { number = 1; buffer = found }
-told-verdict found (yes-plan total steps count choices) rest = rest
+told-verdict found (yes-plan x) rest = rest
 
 abbrev pub told-answer : (found left : Bytes) → Answer → (rest : Told) → Told
 told-answer found left done rest = rest

@@ -74,9 +74,9 @@ question-for m b = read-question (length (m .states)) (length (m .actions)) (m .
 -- The sheet of the shown plan: none if not judged, or judged no.
 unfoldable pub shown-sheet : Option Verdict → Option Sheet
 shown-sheet none = none
-shown-sheet (some (no k)) = none
+shown-sheet (some (no x)) = none
 shown-sheet (some yes) = none
-shown-sheet (some (yes-plan w n k cs)) = some (record { weight = w; choices = cs })
+shown-sheet (some (yes-plan x)) = some (record { weight = x .total; choices = x .choices })
 
 -- The bytes that are written of it.
 abbrev pub written-bytes : Question → Goal → Sheet → Bytes

@@ -10,7 +10,6 @@ use mathlib.Core.Bool.{Bool, true, false, cond}
 use mathlib.Core.List.{List, [], List·Memᴰ}
 use mathlib.Core.Option.{none, some}
 use lib.ListN.{length}
-use lib.IntN.{ℤ}
 use Rattle.logic.specs.Checked.{ok, refused}
 use Rattle.logic.specs.Grounds.{first}
 use Rattle.logic.specs.Model.{Model, Step}
@@ -20,7 +19,7 @@ use Rattle.logic.specs.Accepted.{Accepted}
 use Rattle.logic.specs.Order.{Before, Rising, Is-plan}
 use Rattle.logic.specs.Formula.{Formula, plan, sat, meets}
 use Rattle.logic.specs.Policy.{Policy, policy-weight}
-use Rattle.logic.specs.Verdict.{Goal, goal, Verdict, no, yes, yes-plan}
+use Rattle.logic.specs.Verdict.{Goal, goal, Denial, Shown-plan, Verdict, no, yes, yes-plan}
 use Rattle.logic.specs.Limits.{limit-grounds}
 use Rattle.questions.specs.Layout.{Question}
 use Rattle.calls.specs.Tested.{grounds}
@@ -29,9 +28,9 @@ use Rattle.calls.specs.History.{after}
 use Rattle.calls.specs.Replies.{Session}
 
 unfoldable pub says-yes : Verdict → Bool
-says-yes (no count) = false
+says-yes (no x) = false
 says-yes yes = true
-says-yes (yes-plan total steps count choices) = true
+says-yes (yes-plan x) = true
 
 -- "the published definitions": `sat` is Definition 4 clause by clause. Its clause for "plan" speaks of plans; the published one speaks of
 -- policies (Definition 2). In every state of the model, and for whatever is asked there, the two agree.
@@ -56,29 +55,29 @@ module _ (m : Model) (s : ℕ) (g : Goal) where
     pub leads : g .lead π ≡ true
 
   -- "the one first in dictionary order of choices", and "for "equal", the place of the shown plan in that order (from 1) ..; else 0"
-  pub record Shows (total : ℤ) (steps count : ℕ) (chosen : List ℕ) : Type 0 where
+  pub record Shows (v : Shown-plan) : Type 0 where
     pub shown-plan : Plan (g .steps)
     pub candidate : Candidate shown-plan
     pub first-one : (ρ : Plan (g .steps)) → Candidate ρ → Before (choices (g .steps) ρ) (choices (g .steps) shown-plan) → ⊥
     pub earlier : List (Plan (g .steps))
     pub all-earlier : In-order (g .steps) (λ ρ. Is-plan m (g .steps) s ρ × Before (choices (g .steps) ρ) (choices (g .steps) shown-plan)) earlier
-    pub counts : count ≡ cond (g .counts) (suc (length earlier)) 0
-    pub its-total : total ≡ g .total shown-plan
-    pub its-steps : steps ≡ g .steps
-    pub its-choices : chosen ≡ choices (g .steps) shown-plan
+    pub counts : v .count ≡ cond (g .counts) (suc (length earlier)) 0
+    pub its-total : v .total ≡ g .total shown-plan
+    pub its-steps : v .steps ≡ g .steps
+    pub its-choices : v .choices ≡ choices (g .steps) shown-plan
 
   -- "or on no the number of all plans; else 0"
-  pub record Denies (count : ℕ) : Type 0 where
+  pub record Denies (v : Denial) : Type 0 where
     pub none-meets : (π : Plan (g .steps)) → Is-plan m (g .steps) s π → g .met π ≡ false
     pub plans : List (Plan (g .steps))
     pub all-plans : In-order (g .steps) (Is-plan m (g .steps) s) plans
-    pub counts : count ≡ cond (g .counts) (length plans) 0
+    pub counts : v .count ≡ cond (g .counts) (length plans) 0
 
   -- The verdict on a plan question.
   abbrev pub Announces : Verdict → Type 0
-  Announces (no count) = Denies count
+  Announces (no v) = Denies v
   Announces yes = ⊥
-  Announces (yes-plan total steps count chosen) = Shows total steps count chosen
+  Announces (yes-plan v) = Shows v
 
 -- ---- the whole
 
@@ -94,7 +93,7 @@ pub record Judged (m : Model) (q : Question) (answer : Answer) : Type 0 where
   -- a plan question: "no with its count .. or yes with a plan record"
   pub on-plans : (g : Goal) → goal m (q .start) (q .root) ≡ ok g → Announces m (q .start) g said
   -- another: no, with the count 0, or yes
-  pub on-others : (k : ℕ) → goal m (q .start) (q .root) ≡ refused k → said ≡ cond (sat m (q .root) (q .start) []) yes (no 0)
+  pub on-others : (k : ℕ) → goal m (q .start) (q .root) ≡ refused k → said ≡ cond (sat m (q .root) (q .start) []) yes (no (record { count = 0 }))
 
 pub record Demand-2 (h : Held) (reply : Call → Reply) : Type 0 where
   -- "refusal only on the listed grounds and on every one of them": with k exactly when k is the first of the call's grounds, in document

@@ -17,7 +17,7 @@ use Rattle.logic.specs.Checked.{ok}
 use Rattle.logic.specs.Grounds.{first}
 use Rattle.logic.specs.Model.{Model}
 use Rattle.logic.specs.Plan.{Plan, plans, choices}
-use Rattle.logic.specs.Verdict.{Goal, goal, shown, yes-plan}
+use Rattle.logic.specs.Verdict.{Goal, goal, shown, Shown-plan, yes-plan}
 use Rattle.logic.specs.Limits.{limit-grounds}
 use Rattle.blocks.specs.Bytes.{Bytes, byte}
 use Rattle.questions.specs.Layout.{Question}
@@ -82,10 +82,9 @@ module _ {h : Held} (reply : Call → Reply) (x : Plan-question h) where
 
   -- "Judging says yes"
   pub record Says-yes : Type 0 where
-    pub total : ℤ
-    pub count : ℕ
-    pub chosen : List ℕ
-    pub answers : (reply judge) .answer ≡ judged (yes-plan total (x .asked .steps) count chosen)
+    pub shown : Shown-plan
+    pub steps : shown .steps ≡ x .asked .steps
+    pub answers : (reply judge) .answer ≡ judged (yes-plan shown)
 
   -- "writes one of these, that of the shown plan": the buffer has the bytes filled, these are such a sheet, and no byte beyond has changed
   pub record Writes-shown (buffer left : Bytes) (filled : ℕ) : Type 0 where

@@ -19,7 +19,7 @@ use Rattle.logic.specs.Choices.{plan-of}
 use Rattle.logic.specs.Limits.{plan-total}
 use Rattle.logic.specs.Order.{Is-plan}
 use Rattle.logic.specs.Total.{one-if, total, value-of}
-use Rattle.logic.specs.Verdict.{Verdict, yes-plan, verdict}
+use Rattle.logic.specs.Verdict.{Verdict, verdict}
 use Rattle.logic.specs.Verdict as verdicts
 use Rattle.logic.proofs.Best.{best-member}
 use Rattle.logic.proofs.Recursion.{best-plan-first}
@@ -44,11 +44,11 @@ use Rattle.judging.specs.Asked.{Asked, Served}
 use Rattle.judging.specs.Truth.{Supplied}
 use Rattle.judging.specs.Decided.{condition, best, led-plan, plan-at, Posed, Decided}
 use Rattle.judging.specs.Announced.{root, root-verdict, told, shown-choices, Announces, Weighs}
-use Rattle.judging.proofs.Deciding.{plan-here, given-model, given-states, led-yes, led-no, equal-yes, equal-no, few-plans, led-met}
+use Rattle.judging.proofs.Deciding.{shows, denies, plan-here, given-model, given-states, led-yes, led-no, equal-yes, equal-no, few-plans, led-met}
 
 -- ---- telling
 
-pub announces-plan : {v : Verdict} {w n k i : ℕ} {cs l after : List ℕ} {x : Outcome} (before : List ℕ) → v ≡ yes-plan (pos w) n k cs → i ≡ n → l ≡ cs
+pub announces-plan : {v : Verdict} {w n k i : ℕ} {cs l after : List ℕ} {x : Outcome} (before : List ℕ) → v ≡ shows w n k cs → i ≡ n → l ≡ cs
     → x ≡ record { yes = true; plan = true; weight = w; steps = i; count = k } → after ≡ splice before 0 l → Announces v x before after
 unfolding told shown-choices nonnegative
 announces-plan {w = w} {k = k} before e f same g h = (
@@ -56,12 +56,12 @@ announces-plan {w = w} {k = k} before e f same g h = (
   h ∙ ap (splice before 0) same ∙ ap (λ u. splice before 0 (shown-choices u)) (sym e),
 )
 
-pub announces-no : {v : Verdict} {k : ℕ} {x : Outcome} (before : List ℕ) → v ≡ verdicts.no k
+pub announces-no : {v : Verdict} {k : ℕ} {x : Outcome} (before : List ℕ) → v ≡ denies k
     → x ≡ record { yes = false; plan = false; weight = 0; steps = 0; count = k } → Announces v x before before
 unfolding told shown-choices
 announces-no before e f = (f ∙ ap told (sym e), sym (splice-none before 0) ∙ ap (λ u. splice before 0 (shown-choices u)) (sym e))
 
-pub announces-truth : {v : Verdict} {y : ℕ} {x : Outcome} (t : Bool) (before : List ℕ) → v ≡ cond t verdicts.yes (verdicts.no 0) → y ≡ one-if t
+pub announces-truth : {v : Verdict} {y : ℕ} {x : Outcome} (t : Bool) (before : List ℕ) → v ≡ cond t verdicts.yes (denies 0) → y ≡ one-if t
     → x ≡ record { yes = eqb y 1; plan = false; weight = 0; steps = 0; count = 0 } → Announces v x before before
 unfolding told shown-choices one-if
 announces-truth true before e f g = (
@@ -105,30 +105,30 @@ module _ {m q : Bytes} {used counts depths : List ℕ} (asked : Asked m q used c
 
   pub equal-verdict : (node-of q j) .right ≡ 2 → r .met ≡ true
       → verdict (model-of m) s (formula q j)
-      ≡ yes-plan (pos (r .weight)) ((node-of q j) .n) (1 + r .place) (choices ((node-of q j) .n) (plan-at (model-of m) ((node-of q j) .n) s (r .place)))
+      ≡ shows (r .weight) ((node-of q j) .n) (1 + r .place) (choices ((node-of q j) .n) (plan-at (model-of m) ((node-of q j) .n) s (r .place)))
   equal-verdict e t = equal-yes (asked .given) j s h o e (x .placed e .first) (equal-inside e t)
 
   pub led-verdict : ((node-of q j) .right ≡ 2 → ⊥) → r .met ≡ true
       → verdict (model-of m) s (formula q j)
-      ≡ yes-plan (pos (r .weight)) ((node-of q j) .n) 0
+      ≡ shows (r .weight) ((node-of q j) .n) 0
       (choices ((node-of q j) .n) (led-plan (model-of m) (condition q j) (depth (condition q j)) ((node-of q j) .n) s (eqb ((node-of q j) .right) 1)))
   led-verdict e t =
       let p = x .led e in
       let cs : List ℕ = choices ((node-of q j) .n) (led-plan (model-of m) (condition q j) (depth (condition q j)) ((node-of q j) .n) s (eqb ((node-of q j) .right) 1)) in
       led-yes (asked .given) j s h o e inside (sym (led-met (asked .given) j s h o e inside p) ∙ t)
-      ∙ ap (λ w. yes-plan (pos w) ((node-of q j) .n) 0 cs) (sym (p .weighs))
+      ∙ ap (λ w. shows w ((node-of q j) .n) 0 cs) (sym (p .weighs))
 
-  pub no-verdict : r .met ≡ false → verdict (model-of m) s (formula q j) ≡ verdicts.no (r .place)
+  pub no-verdict : r .met ≡ false → verdict (model-of m) s (formula q j) ≡ denies (r .place)
   no-verdict t = go (ℕ-discrete ((node-of q j) .right) 2)
     where
-      go : Dec ((node-of q j) .right ≡ 2) → verdict (model-of m) s (formula q j) ≡ verdicts.no (r .place)
+      go : Dec ((node-of q j) .right ≡ 2) → verdict (model-of m) s (formula q j) ≡ denies (r .place)
       go (yes e) =
           let p = x .placed e in
           let l = ltb-false (r .place) (plan-total (model-of m) ((node-of q j) .n) s) (sym (p .bounds) ∙ t) in
-          equal-no (asked .given) j s h o e (p .first) l ∙ ap verdicts.no (le-antisymm l (p .within))
+          equal-no (asked .given) j s h o e (p .first) l ∙ ap denies (le-antisymm l (p .within))
       go (no e) =
           let p = x .led e in
-          led-no (asked .given) j s h o e inside (sym (led-met (asked .given) j s h o e inside p) ∙ t) ∙ ap verdicts.no (sym (p .unplaced))
+          led-no (asked .given) j s h o e inside (sym (led-met (asked .given) j s h o e inside p) ∙ t) ∙ ap denies (sym (p .unplaced))
 
   pub place-few : r .place ≤ 65536
   place-few = go (ℕ-discrete ((node-of q j) .right) 2)

@@ -20,7 +20,7 @@ use Rattle.logic.specs.Plan.{Plan, plans, paths, choices}
 use Rattle.logic.specs.Formula.{Formula, plan, Node, sat, W, meets, depth, relation, nonnegative}
 use Rattle.logic.specs.Total.{total, value-of}
 use Rattle.logic.specs.Extension.{first-plan}
-use Rattle.logic.specs.Verdict.{plan-goal, goal, shown, announced, verdict, yes, no, yes-plan, is-equal}
+use Rattle.logic.specs.Verdict.{plan-goal, goal, shown, Verdict, announced, verdict, yes, no, yes-plan, is-equal}
 use Rattle.logic.specs.Accepted.{Accepted}
 use Rattle.logic.specs.Limits.{plan-total, every-plan, limits}
 use Rattle.logic.proofs.Tests.{not-true, none≢some, every-at, and-left, and-right}
@@ -52,6 +52,14 @@ use Rattle.judging.specs.Asked.{Asked}
 use Rattle.judging.specs.Decided.{led-weight, led-plan, plan-at, First, Led}
 use Rattle.judging.specs.declared.plans.Decision.{Decision}
 
+-- ---- verdicts by their parts
+
+abbrev pub shows : (weight steps count : ℕ) → List ℕ → Verdict
+shows w n k cs = yes-plan (record { total = pos w; steps = n; count = k; choices = cs })
+
+abbrev pub denies : (count : ℕ) → Verdict
+denies k = no (record { count = k })
+
 -- ---- a goal's shown plan and its truth
 
 module _ (M : Model) (φ : Formula) (n s : ℕ) (r : Relation) (p q : ℕ) where
@@ -75,16 +83,16 @@ module _ (M : Model) (φ : Formula) (n s : ℕ) (r : Relation) (p q : ℕ) where
     pub decides-truth : sat M (plan n φ r p q) s [] ≡ meets naturals M n r p q w
     decides-truth = by-shown (meets naturals M n r p q w) (λ e. let k = x .met e in ((k .0, π), k .1)) (x .missed)
 
-    pub decides-yes : is-equal r ≡ false → meets naturals M n r p q w ≡ true → verdict M s (plan n φ r p q) ≡ yes-plan (pos w) n 0 (choices n π)
+    pub decides-yes : is-equal r ≡ false → meets naturals M n r p q w ≡ true → verdict M s (plan n φ r p q) ≡ shows w n 0 (choices n π)
     decides-yes f e =
         let k = x .met e in
         verdict-plan ∙ ap (announced M s (plan-goal M s n φ r p q)) (k .1)
-        ∙ ap₂ (λ v t. yes-plan (pos v) n (cond t (k .0) 0) (choices n π)) (x .weighs) f
+        ∙ ap₂ (λ v t. shows v n (cond t (k .0) 0) (choices n π)) (x .weighs) f
 
-    pub decides-no : is-equal r ≡ false → meets naturals M n r p q w ≡ false → verdict M s (plan n φ r p q) ≡ no 0
+    pub decides-no : is-equal r ≡ false → meets naturals M n r p q w ≡ false → verdict M s (plan n φ r p q) ≡ denies 0
     decides-no f e =
         verdict-plan ∙ ap (announced M s (plan-goal M s n φ r p q)) (x .missed e)
-        ∙ ap (λ t. no (cond t (length (plans M n s)) 0)) f
+        ∙ ap (λ t. denies (cond t (length (plans M n s)) 0)) f
 
 -- ---- "less" and "greater"
 
@@ -188,17 +196,17 @@ module _ (M : Model) (φ : Formula) (n s p q : ℕ) where
         (λ e. ((1 + r, plan-at M n s r), f .found (ltb-true r (plan-total M n s) e)))
         (λ e. f .missed (ltb-false r (plan-total M n s) e))
 
-    pub first-yes : r < plan-total M n s → verdict M s (plan n φ equal p q) ≡ yes-plan (pos x) n (1 + r) (choices n (plan-at M n s r))
+    pub first-yes : r < plan-total M n s → verdict M s (plan n φ equal p q) ≡ shows x n (1 + r) (choices n (plan-at M n s r))
     unfolding is-equal
     first-yes h =
         verdict-plan M φ n s equal p q ∙ ap (announced M s (plan-goal M s n φ equal p q)) (f .found h)
-        ∙ ap (λ v. yes-plan (pos v) n (1 + r) (choices n (plan-at M n s r))) (f .weighs h)
+        ∙ ap (λ v. shows v n (1 + r) (choices n (plan-at M n s r))) (f .weighs h)
 
-    pub first-no : plan-total M n s ≤ r → verdict M s (plan n φ equal p q) ≡ no (plan-total M n s)
+    pub first-no : plan-total M n s ≤ r → verdict M s (plan n φ equal p q) ≡ denies (plan-total M n s)
     unfolding is-equal
     first-no h =
         verdict-plan M φ n s equal p q ∙ ap (announced M s (plan-goal M s n φ equal p q)) (f .missed h)
-        ∙ ap no (plan-count M n s)
+        ∙ ap denies (plan-count M n s)
 
 -- ---- the nodes of a question
 
@@ -284,12 +292,12 @@ module _ {m q : Bytes} {used : List ℕ} (given : Given m q used) where
       led-truth = ap (λ φ. sat M φ s []) here-extreme ∙ decides-truth M child (node .n) s (extreme least) (nonnegative (node .p)) (node .q) node-led
 
       pub led-yes : meets naturals M (node .n) (extreme least) (nonnegative (node .p)) (node .q) weight ≡ true
-          → verdict M s (formula q j) ≡ yes-plan (pos weight) (node .n) 0 (choices (node .n) best)
+          → verdict M s (formula q j) ≡ shows weight (node .n) 0 (choices (node .n) best)
       led-yes t =
           ap (verdict M s) here-extreme
           ∙ decides-yes M child (node .n) s (extreme least) (nonnegative (node .p)) (node .q) node-led (extreme-counts-not least) t
 
-      pub led-no : meets naturals M (node .n) (extreme least) (nonnegative (node .p)) (node .q) weight ≡ false → verdict M s (formula q j) ≡ no 0
+      pub led-no : meets naturals M (node .n) (extreme least) (nonnegative (node .p)) (node .q) weight ≡ false → verdict M s (formula q j) ≡ denies 0
       led-no t =
           ap (verdict M s) here-extreme
           ∙ decides-no M child (node .n) s (extreme least) (nonnegative (node .p)) (node .q) node-led (extreme-counts-not least) t
@@ -317,18 +325,18 @@ module _ {m q : Bytes} {used : List ℕ} (given : Given m q used) where
       pub equal-truth : sat M (formula q j) s [] ≡ ltb r (plan-total M (node .n) s)
       equal-truth = ap (λ φ. sat M φ s []) here-equal ∙ first-truth M child (node .n) s (nonnegative (node .p)) (node .q) f
 
-      pub equal-yes : r < plan-total M (node .n) s → verdict M s (formula q j) ≡ yes-plan (pos x) (node .n) (1 + r) (choices (node .n) (plan-at M (node .n) s r))
+      pub equal-yes : r < plan-total M (node .n) s → verdict M s (formula q j) ≡ shows x (node .n) (1 + r) (choices (node .n) (plan-at M (node .n) s r))
       equal-yes l = ap (verdict M s) here-equal ∙ first-yes M child (node .n) s (nonnegative (node .p)) (node .q) f l
 
-      pub equal-no : plan-total M (node .n) s ≤ r → verdict M s (formula q j) ≡ no (plan-total M (node .n) s)
+      pub equal-no : plan-total M (node .n) s ≤ r → verdict M s (formula q j) ≡ denies (plan-total M (node .n) s)
       equal-no l = ap (verdict M s) here-equal ∙ first-no M child (node .n) s (nonnegative (node .p)) (node .q) f l
 
   -- A root that is no "plan" is yes or no.
   pub other-verdict : (j s : ℕ) → j < node-count q → ((node-of q j) .operator ≡ 8 → ⊥)
-      → verdict (model-of m) s (formula q j) ≡ cond (sat (model-of m) (formula q j) s []) yes (no 0)
+      → verdict (model-of m) s (formula q j) ≡ cond (sat (model-of m) (formula q j) s []) yes (denies 0)
   unfolding verdict goal
   other-verdict j s h n =
-      by-operator (λ op. (node-of q j) .operator ≡ op → verdict (model-of m) s (formula q j) ≡ cond (sat (model-of m) (formula q j) s []) yes (no 0))
+      by-operator (λ op. (node-of q j) .operator ≡ op → verdict (model-of m) s (formula q j) ≡ cond (sat (model-of m) (formula q j) s []) yes (denies 0))
       (λ o. absurd (omega (arith, asks .in-range j h .operator-from)))
       (λ o. rw (questions.at-never (state-count m) (action-count m) (prop-count m) q asks j h o) refl)
       (λ o. rw (questions.at-prop (state-count m) (action-count m) (prop-count m) q asks j h o) refl)

@@ -24,14 +24,14 @@ abbrev pub root-verdict : (m q : Bytes) → Verdict
 root-verdict m q = verdict (model-of m) (start-of q) (formula q (root q))
 
 unfoldable pub told : Verdict → Outcome
-told (no k) = record { yes = false; plan = false; weight = 0; steps = 0; count = k }
+told (no x) = record { yes = false; plan = false; weight = 0; steps = 0; count = x .count }
 told yes = record { yes = true; plan = false; weight = 0; steps = 0; count = 0 }
-told (yes-plan w n k cs) = record { yes = true; plan = true; weight = nonnegative w; steps = n; count = k }
+told (yes-plan x) = record { yes = true; plan = true; weight = nonnegative (x .total); steps = x .steps; count = x .count }
 
 unfoldable pub shown-choices : Verdict → List ℕ
-shown-choices (no k) = []
+shown-choices (no x) = []
 shown-choices yes = []
-shown-choices (yes-plan w n k cs) = cs
+shown-choices (yes-plan x) = x .choices
 
 -- The outcome tells the verdict, and the choices are written over those before, from the beginning.
 abbrev pub Announces : Verdict → Outcome → (before after : List ℕ) → Type 0

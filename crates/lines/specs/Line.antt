@@ -37,9 +37,9 @@ is-plan φ = on-plan false (λ n ψ r p q. true) φ
 
 -- The line of a verdict on this root.
 unfoldable pub verdict-line : Model → Formula → Verdict → List ℕ
-verdict-line m φ (no count) = cond (is-plan φ) (no-plans-line count) (plain-line false)
+verdict-line m φ (no x) = cond (is-plan φ) (no-plans-line (x .count)) (plain-line false)
 verdict-line m φ yes = plain-line true
-verdict-line m φ (yes-plan w n count cs) = yes-plan-line (nonnegative w) (m .denominator ^ n) count cs
+verdict-line m φ (yes-plan x) = yes-plan-line (nonnegative (x .total)) (m .denominator ^ x .steps) (x .count) (x .choices)
 
 -- ---- the line of each input
 

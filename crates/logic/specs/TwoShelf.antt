@@ -50,6 +50,12 @@ pub record Row : Type 0 where
 row : ℕ → Formula → Relation → ℕ → ℕ → Verdict → Row
 row n φ r p q v = record { steps = n; condition = φ; rel = r; p = p; q = q; answer = v }
 
+shows : ℕ → ℕ → ℕ → List ℕ → Verdict
+shows w n k cs = yes-plan (record { total = pos w; steps = n; count = k; choices = cs })
+
+denies : ℕ → Verdict
+denies k = no (record { count = k })
+
 held : Formula
 held = prop 0
 
@@ -57,20 +63,20 @@ done : Formula
 done = prop 1
 
 unfoldable pub table : List Row
-unfolding row held done
+unfolding row shows denies held done
 table =
-    row 1 (next held) greater 7 10 (yes-plan (pos 8) 1 0 (0 ∷ []))
-    ∷ row 1 (next held) greater 8 10 (no 0)
-    ∷ row 1 (next held) equal 5 10 (yes-plan (pos 5) 1 2 (1 ∷ []))
-    ∷ row 2 (next (next done)) equal 72 100 (yes-plan (pos 72) 2 1 (0 ∷ 2 ∷ 0 ∷ []))
-    ∷ row 2 (next (next done)) equal 45 100 (yes-plan (pos 45) 2 3 (1 ∷ 2 ∷ 0 ∷ []))
-    ∷ row 2 (next (next done)) equal 50 100 (no 4)
-    ∷ row 2 (next (next held)) greater 0 1 (yes-plan (pos 45) 2 0 (1 ∷ 2 ∷ 0 ∷ []))
-    ∷ row 2 (next (next held)) less 1 1 (yes-plan (pos 18) 2 0 (0 ∷ 2 ∷ 1 ∷ []))
-    ∷ row 2 (gain 2 equal (pos 8)) greater 0 1 (yes-plan (pos 72) 2 0 (0 ∷ 2 ∷ 0 ∷ []))
-    ∷ row 2 (both (does 1) (neg (next (does 1)))) greater 9 10 (yes-plan (pos 100) 2 0 (1 ∷ 2 ∷ 0 ∷ []))
-    ∷ row 1 (next done) equal 0 1 (yes-plan (pos 0) 1 1 (0 ∷ []))
-    ∷ row 1 (next done) less 0 1 (no 0)
+    row 1 (next held) greater 7 10 (shows 8 1 0 (0 ∷ []))
+    ∷ row 1 (next held) greater 8 10 (denies 0)
+    ∷ row 1 (next held) equal 5 10 (shows 5 1 2 (1 ∷ []))
+    ∷ row 2 (next (next done)) equal 72 100 (shows 72 2 1 (0 ∷ 2 ∷ 0 ∷ []))
+    ∷ row 2 (next (next done)) equal 45 100 (shows 45 2 3 (1 ∷ 2 ∷ 0 ∷ []))
+    ∷ row 2 (next (next done)) equal 50 100 (denies 4)
+    ∷ row 2 (next (next held)) greater 0 1 (shows 45 2 0 (1 ∷ 2 ∷ 0 ∷ []))
+    ∷ row 2 (next (next held)) less 1 1 (shows 18 2 0 (0 ∷ 2 ∷ 1 ∷ []))
+    ∷ row 2 (gain 2 equal (pos 8)) greater 0 1 (shows 72 2 0 (0 ∷ 2 ∷ 0 ∷ []))
+    ∷ row 2 (both (does 1) (neg (next (does 1)))) greater 9 10 (shows 100 2 0 (1 ∷ 2 ∷ 0 ∷ []))
+    ∷ row 1 (next done) equal 0 1 (shows 0 1 1 (0 ∷ []))
+    ∷ row 1 (next done) less 0 1 (denies 0)
     ∷ []
 
 pub two-shelf-verdicts : map (λ r. verdict two-shelf 0 (plan (r .steps) (r .condition) (r .rel) (r .p) (r .q))) table ≡ map (λ r. r .answer) table

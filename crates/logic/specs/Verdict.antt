@@ -51,20 +51,44 @@ goal m s φ = on-plan (refused 22) (λ n ψ r p q. ok (plan-goal m s n ψ r p q)
 unfoldable pub shown : Model → ℕ → (g : Goal) → Option (ℕ × Plan (g .steps))
 shown m s g = find (λ π. g .met π && g .lead π) 1 (plans m (g .steps) s)
 
--- No with its count, yes, or yes with a plan: its total, its steps, the count, and its choices, which stand beside the rest.
+-- What goes with a no: the count.
+pub record Denial : Type 0 where
+  pub count : ℕ
+
+-- What goes with a yes to a "plan" root: "a plan record (W, n and the count; its choices stand beside the verdict)".
+pub record Shown-plan : Type 0 where
+  pub total : ℤ
+  pub steps : ℕ
+  pub count : ℕ
+  pub choices : List ℕ
+
+-- "no with its count, yes, or yes with a plan record"
 pub data Verdict : Type 0 where
-  no : (count : ℕ) → Verdict
+  no : Denial → Verdict
   yes : Verdict
-  yes-plan : (total : ℤ) (steps count : ℕ) → List ℕ → Verdict
+  yes-plan : Shown-plan → Verdict
+
+-- What goes with a no to a goal, and with a yes, by the shown plan with its place.
+abbrev pub denial : Model → ℕ → Goal → Denial
+denial m s g = record { count = cond (g .counts) (length (plans m (g .steps) s)) 0 }
+
+abbrev pub plan-record : (g : Goal) → ℕ × Plan (g .steps) → Shown-plan
+plan-record g x =
+    record {
+      total = g .total (x .1);
+      steps = g .steps;
+      count = cond (g .counts) (x .0) 0;
+      choices = choices (g .steps) (x .1);
+    }
 
 -- The verdict on a goal, by its shown plan.
 abbrev pub announced : Model → ℕ → (g : Goal) → Option (ℕ × Plan (g .steps)) → Verdict
-announced m s g none = no (cond (g .counts) (length (plans m (g .steps) s)) 0)
-announced m s g (some x) = yes-plan (g .total (x .1)) (g .steps) (cond (g .counts) (x .0) 0) (choices (g .steps) (x .1))
+announced m s g none = no (denial m s g)
+announced m s g (some x) = yes-plan (plan-record g x)
 
 abbrev pub verdict-by : Model → ℕ → Bool → Checked Goal → Verdict
 verdict-by m s t (ok g) = announced m s g (shown m s g)
-verdict-by m s t (refused k) = cond t yes (no 0)
+verdict-by m s t (refused k) = cond t yes (no (record { count = 0 }))
 
 -- The verdict on a root in a start state. That a "plan" root is true exactly where it has a shown plan is proved (`Shown`).
 unfoldable pub verdict : Model → ℕ → Formula → Verdict

@@ -46,11 +46,11 @@ module _ (found : Bytes) where
       → told found (says (judged v) ∷ answered found (do-write (record { model = some m; question = some q; verdict = some v }) (length found)) filled ∷ [])
       ≡ chained (told-of (q .start) (length found) v)
   unfolding told told-of told-write
-  judges m q (logic.no k) e = refl
+  judges m q (logic.no x) e = refl
   judges m q logic.yes e = refl
-  judges m q (logic.yes-plan w n k cs) e =
-      writes (do-write (record { model = some m; question = some q; verdict = some (logic.yes-plan w n k cs) }) (length found))
-      ∙ ap chained (shown-written m q (length found) w n k cs e)
+  judges m q (logic.yes-plan x) e =
+      writes (do-write (record { model = some m; question = some q; verdict = some (logic.yes-plan x) }) (length found))
+      ∙ ap chained (shown-written m q (length found) x e)
 
   -- Judging, from the desk with a model and a question.
   asks : (m : Model) (q : Question) (c : Checked (Unit {0})) → limits m (q .nodes) ≡ c

@@ -14,7 +14,7 @@ use Rattle.logic.specs.Model.{Model}
 use Rattle.logic.specs.Plan.{Plan}
 use Rattle.logic.specs.Formula.{Formula, nonnegative, sat}
 use Rattle.logic.specs.Limits.{limits}
-use Rattle.logic.specs.Verdict.{Goal, goal, shown, announced, verdict-by, verdict}
+use Rattle.logic.specs.Verdict.{Goal, goal, shown, plan-record, announced, verdict-by, verdict}
 use Rattle.logic.specs.Verdict as logic
 use Rattle.logic.proofs.Checked.{not-ok, ok-same}
 use Rattle.blocks.specs.Bytes.{Bytes}
@@ -28,6 +28,7 @@ use Rattle.plan_judge.specs.declared.Taking.{Taking}
 use Rattle.plan_judge.specs.declared.Taken.the-variants.{Done, Refused}
 use Rattle.plan_judge.specs.declared.PlanRecord.{PlanRecord}
 use Rattle.plan_judge.specs.declared.Verdict.{Verdict}
+use Rattle.plan_judge.specs.declared.Denial.{Denial}
 use Rattle.plan_judge.specs.declared.Verdict.the-variants.{No, Yes, YesPlan}
 use Rattle.plan_judge.specs.declared.Judgement.{Judgement}
 use Rattle.plan_judge.specs.declared.Judgement.the-variants.{Judged}
@@ -123,25 +124,25 @@ module _ (d : Desk) (question : Bytes) (r : Taking) (i : r ≡ put-by d question
 -- ---- judge
 
 -- A verdict with a plan is that of a goal with the plan's steps.
-verdict-goal : (m : Model) (s : ℕ) (φ : Formula) (w : ℤ) (n k : ℕ) (cs : List ℕ) → logic.yes-plan w n k cs ≡ verdict m s φ
-    → (g : Goal) × (goal m s φ ≡ ok g) × (g .steps ≡ n)
+verdict-goal : (m : Model) (s : ℕ) (φ : Formula) (p : logic.Shown-plan) → logic.yes-plan p ≡ verdict m s φ
+    → (g : Goal) × (goal m s φ ≡ ok g) × (g .steps ≡ p .steps)
 unfolding verdict
-verdict-goal m s φ w n k cs e = by (goal m s φ) refl (sat m φ s []) e
+verdict-goal m s φ p e = by (goal m s φ) refl (sat m φ s []) e
   where
-    by-shown : (g : Goal) (o : Option (ℕ × Plan (g .steps))) → logic.yes-plan w n k cs ≡ announced m s g o → g .steps ≡ n
+    by-shown : (g : Goal) (o : Option (ℕ × Plan (g .steps))) → logic.yes-plan p ≡ announced m s g o → g .steps ≡ p .steps
     by-shown g none z = let y : _≡_ {A = ℕ} 0 1 = cc in absurd (omega arith)
-    by-shown g (some x) z = cc
+    by-shown g (some x) z = let y : p ≡ plan-record g x = cc in ap (λ r. r .steps) (sym y)
 
-    by : (c : Checked Goal) → goal m s φ ≡ c → (t : Bool) → logic.yes-plan w n k cs ≡ verdict-by m s t c
-        → (g : Goal) × (goal m s φ ≡ ok g) × (g .steps ≡ n)
+    by : (c : Checked Goal) → goal m s φ ≡ c → (t : Bool) → logic.yes-plan p ≡ verdict-by m s t c
+        → (g : Goal) × (goal m s φ ≡ ok g) × (g .steps ≡ p .steps)
     by (ok g) i t z = (g, i, by-shown g (shown m s g) z)
     by (refused j) i true z = let y : _≡_ {A = ℕ} 0 1 = cc in absurd (omega arith)
     by (refused j) i false z = let y : _≡_ {A = ℕ} 0 1 = cc in absurd (omega arith)
 
 -- A shown plan is written as it is told.
-module _ (size : ℕ) (m : Model) (q : Question) (w : ℤ) (n k : ℕ) (cs : List ℕ) where
+module _ (size : ℕ) (m : Model) (q : Question) (p : logic.Shown-plan) where
   abbrev sheet : ℕ → Bytes
-  sheet steps = sheet-bytes steps (q .start) (nonnegative w) cs
+  sheet steps = sheet-bytes steps (q .start) (nonnegative (p .total)) (p .choices)
 
   abbrev fitted : ℕ → Checked Bytes
   fitted steps = guard 12 (leb (length (sheet steps)) size) >> ok (sheet steps)
@@ -149,22 +150,22 @@ module _ (size : ℕ) (m : Model) (q : Question) (w : ℤ) (n k : ℕ) (cs : Lis
   abbrev yes-with : Bytes → Checked Told
   yes-with b = ok (record { answer = true; sheet = b })
 
-  told-plan : (g : Goal) → goal m (q .start) (q .root) ≡ ok g → g .steps ≡ n
-      → told-write (record { model = some m; question = some q; verdict = some (logic.yes-plan w n k cs) }) size
-      ≡ told-of (q .start) size (logic.yes-plan w n k cs)
+  told-plan : (g : Goal) → goal m (q .start) (q .root) ≡ ok g → g .steps ≡ p .steps
+      → told-write (record { model = some m; question = some q; verdict = some (logic.yes-plan p) }) size
+      ≡ told-of (q .start) size (logic.yes-plan p)
   unfolding told-write do-write sheet-shown told-of
-  told-plan g i j = ap (λ c. c >>= (λ g. fitted (g .steps)) >>= yes-with) i ∙ ap (λ s. fitted s >>= yes-with) j ∙ by (leb (length (sheet n)) size)
+  told-plan g i j = ap (λ c. c >>= (λ g. fitted (g .steps)) >>= yes-with) i ∙ ap (λ s. fitted s >>= yes-with) j ∙ by (leb (length (sheet (p .steps))) size)
     where
-      by : (t : Bool) → (guard 12 t >> ok (sheet n) >>= yes-with) ≡ (guard 12 t >> yes-with (sheet n))
+      by : (t : Bool) → (guard 12 t >> ok (sheet (p .steps)) >>= yes-with) ≡ (guard 12 t >> yes-with (sheet (p .steps)))
       by true = refl
       by false = refl
 
 -- A shown plan, held with its question, is written as it is told.
-pub shown-written : (m : Model) (q : Question) (size : ℕ) (w : ℤ) (n k : ℕ) (cs : List ℕ) → logic.yes-plan w n k cs ≡ verdict m (q .start) (q .root)
-    → told-write (record { model = some m; question = some q; verdict = some (logic.yes-plan w n k cs) }) size ≡ told-of (q .start) size (logic.yes-plan w n k cs)
-shown-written m q size w n k cs e =
-    let g = verdict-goal m (q .start) (q .root) w n k cs e in
-    told-plan size m q w n k cs (g .0) (g .1) (g .2)
+pub shown-written : (m : Model) (q : Question) (size : ℕ) (p : logic.Shown-plan) → logic.yes-plan p ≡ verdict m (q .start) (q .root)
+    → told-write (record { model = some m; question = some q; verdict = some (logic.yes-plan p) }) size ≡ told-of (q .start) size (logic.yes-plan p)
+shown-written m q size p e =
+    let g = verdict-goal m (q .start) (q .root) p e in
+    told-plan size m q p (g .0) (g .1) (g .2)
 
 -- What a verdict is told as, from what is held.
 module _ (h : Held) (size : ℕ) (v : logic.Verdict) (e : do-judge h ≡ ok v) where
@@ -203,13 +204,13 @@ module _ (h : Held) (size : ℕ) (v : logic.Verdict) (e : do-judge h ≡ ok v) w
       by (some m) (some q) i j z = last m q i j (limits m (q .nodes)) refl z
 
   -- Written from what is then held.
-  told-written : (w : ℤ) (n k : ℕ) (cs : List ℕ) → v ≡ logic.yes-plan w n k cs
+  told-written : (p : logic.Shown-plan) → v ≡ logic.yes-plan p
       → told-write (record { model = h .model; question = h .question; verdict = some v }) size ≡ told-judge h size
-  told-written w n k cs i =
+  told-written p i =
       let j = judged-from in
       ap₂ (λ o p. told-write (record { model = o; question = p; verdict = some v }) size) (j .held-model) (j .held-question)
       ∙ ap (λ l. told-write (record { model = some (j .model); question = some (j .question); verdict = some l }) size) i
-      ∙ shown-written (j .model) (j .question) size w n k cs (sym i ∙ j .said)
+      ∙ shown-written (j .model) (j .question) size p (sym i ∙ j .said)
       ∙ sym (j .told ∙ ap (told-of (j .question .start) size) i)
 
 told-refused : (h : Held) (size k : ℕ) → do-judge h ≡ refused k → told-judge h size ≡ refused k
@@ -254,17 +255,17 @@ module _ (d : Desk) (r : Judging) (i : r ≡ judged-by d) where
       by (ok l) j z y = (l, j, cc, y)
       by (refused k) j z y = let w : _≡_ {A = ℕ} 0 1 = cc in absurd (omega arith)
 
-  pub no-tells : (v : Verdict) → r .answer ≡ Judged v → (k : ℕ) → v ≡ No k → (found : Bytes) → Tells (told-judge (view d) (length found)) found found 0
+  pub no-tells : (v : Verdict) → r .answer ≡ Judged v → (x : Denial) → v ≡ No x → (found : Bytes) → Tells (told-judge (view d) (length found)) found found 0
   unfolding told-of verdict-code
-  no-tells v a k e found =
-      let x = judge-said v a in
-      let j = judged-from (view d) (length found) (x .0) (x .1) in
-      told-same (sym (j .told)) (by (j .question .start) (x .0) (sym (x .2) ∙ e))
+  no-tells v a x e found =
+      let l = judge-said v a in
+      let j = judged-from (view d) (length found) (l .0) (l .1) in
+      told-same (sym (j .told)) (by (j .question .start) (l .0) (sym (l .2) ∙ e))
     where
-      by : (s : ℕ) (l : logic.Verdict) → verdict-code l ≡ No k → Tells (told-of s (length found) l) found found 0
-      by s (logic.no c) z = record { number = refl; buffer = refl }
+      by : (s : ℕ) (l : logic.Verdict) → verdict-code l ≡ No x → Tells (told-of s (length found) l) found found 0
+      by s (logic.no y) z = record { number = refl; buffer = refl }
       by s logic.yes z = let y : _≡_ {A = ℕ} 0 1 = cc in absurd (omega arith)
-      by s (logic.yes-plan w n c cs) z = let y : _≡_ {A = ℕ} 0 1 = cc in absurd (omega arith)
+      by s (logic.yes-plan y) z = let n : _≡_ {A = ℕ} 0 1 = cc in absurd (omega arith)
 
   pub yes-tells : (v : Verdict) → r .answer ≡ Judged v → v ≡ Yes → (found : Bytes) → Tells (told-judge (view d) (length found)) found found 1
   unfolding told-of verdict-code
@@ -274,9 +275,9 @@ module _ (d : Desk) (r : Judging) (i : r ≡ judged-by d) where
       told-same (sym (j .told)) (by (j .question .start) (x .0) (sym (x .2) ∙ e))
     where
       by : (s : ℕ) (l : logic.Verdict) → verdict-code l ≡ Yes → Tells (told-of s (length found) l) found found 1
-      by s (logic.no c) z = let y : _≡_ {A = ℕ} 0 1 = cc in absurd (omega arith)
+      by s (logic.no y) z = let n : _≡_ {A = ℕ} 0 1 = cc in absurd (omega arith)
       by s logic.yes z = record { number = refl; buffer = refl }
-      by s (logic.yes-plan w n c cs) z = let y : _≡_ {A = ℕ} 0 1 = cc in absurd (omega arith)
+      by s (logic.yes-plan y) z = let n : _≡_ {A = ℕ} 0 1 = cc in absurd (omega arith)
 
   pub plan-tells : (v : Verdict) → r .answer ≡ Judged v → (p : PlanRecord) → v ≡ YesPlan p → (found left : Bytes) (n : ℕ)
       → Tells (told-write (view (r .desk)) (length found)) found left n → Tells (told-judge (view d) (length found)) found left n
@@ -288,9 +289,9 @@ module _ (d : Desk) (r : Judging) (i : r ≡ judged-by d) where
       by : (l : logic.Verdict) → do-judge (view d) ≡ ok l → verdict-code l ≡ YesPlan p
           → told-write (record { model = (view d) .model; question = (view d) .question; verdict = some l }) (length found)
           ≡ told-judge (view d) (length found)
-      by (logic.no c) j z = let y : _≡_ {A = ℕ} 0 1 = cc in absurd (omega arith)
+      by (logic.no y) j z = let n : _≡_ {A = ℕ} 0 1 = cc in absurd (omega arith)
       by logic.yes j z = let y : _≡_ {A = ℕ} 0 1 = cc in absurd (omega arith)
-      by (logic.yes-plan w n c cs) j z = told-written (view d) (length found) (logic.yes-plan w n c cs) j w n c cs refl
+      by (logic.yes-plan y) j z = told-written (view d) (length found) (logic.yes-plan y) j y refl
 
 -- ---- write
 

@@ -118,9 +118,13 @@ module _ (m q : Bytes) (r : PlanRoot m q) (b : Bytes) where
   abbrev s : ℕ
   s = start-of q
 
+  -- What is reported of a sheet whose plan has this total.
+  abbrev on-total : ℕ → Report
+  on-total w = record { met = meets-at m q (node-count q - 1) w }
+
   -- What check does with the plan on a sheet that claims a weight.
   abbrev weighed : ℤ → Plan n → Checked Report
-  weighed w π = guard 11 (same w (pos (W M (condition q) n s π))) >> ok (record { met = meets-at m q (node-count q - 1) (W M (condition q) n s π) })
+  weighed w π = guard 11 (same w (pos (W M (condition q) n s π))) >> ok (on-total (W M (condition q) n s π))
 
   check-is : check-on M (question-of q) b ≡ check-for b M (question-of q) (asked-goal m q)
   unfolding check-on
@@ -166,20 +170,20 @@ module _ (m q : Bytes) (r : PlanRoot m q) (b : Bytes) where
           let l : w ≤ denominator-of m ^ n = omega (arith, weight-is, weight-most m (r .passed) (condition q) n s (accepted _ _ _ q (r .asked) .starts) (sheet-of b .choices) (o .plan) (o .read)) in
           subst (λ k. w ≤ denominator-of m ^ (node-of q k .n)) (sym i) l
 
-      past-sheet : check-on M (question-of q) b ≡ (guard 11 (same (pos (weight-of b 0)) (pos w)) >> ok (record { met = meets-at m q (node-count q - 1) w }))
+      past-sheet : check-on M (question-of q) b ≡ (guard 11 (same (pos (weight-of b 0)) (pos w)) >> ok (on-total w))
       unfolding sheet-of
       past-sheet =
           past-limits
           ∙ ap (λ c. c >>= (λ x. plan-of M n s (x .choices) >>= weighed (x .weight))) (o .sheet)
           ∙ ap (λ c. c >>= weighed (pos (weight-of b 0))) (o .read)
-          ∙ ap (λ z. guard 11 (same (pos (weight-of b 0)) (pos z)) >> ok (record { met = meets-at m q (node-count q - 1) z })) (sym weight-is)
+          ∙ ap (λ z. guard 11 (same (pos (weight-of b 0)) (pos z)) >> ok (on-total z)) (sym weight-is)
 
       pub check-weight : (weight-of b 0 ≡ w → ⊥) → Refused 11 ≡ checking (check-on M (question-of q) b)
       check-weight h =
           refused-by (check-on M (question-of q) b) 11
-          (sym (ap refusal (past-sheet ∙ ap (λ t. guard 11 t >> ok (record { met = meets-at m q (node-count q - 1) w })) (other-weight (weight-of b 0) w h))))
+          (sym (ap refusal (past-sheet ∙ ap (λ t. guard 11 t >> ok (on-total w)) (other-weight (weight-of b 0) w h))))
           (λ z. omega arith)
 
-      pub check-met : weight-of b 0 ≡ w → (t : Bool) → t ≡ meets-at m q (node-count q - 1) w → Accepted t ≡ checking (check-on M (question-of q) b)
+      pub check-met : weight-of b 0 ≡ w → (t : Bool) → t ≡ meets-at m q (node-count q - 1) w → Accepted (record { met = t }) ≡ checking (check-on M (question-of q) b)
       check-met h t j =
-          ap Accepted j ∙ sym (ap checking (past-sheet ∙ ap (λ t. guard 11 t >> ok (record { met = meets-at m q (node-count q - 1) w })) (same-weight (weight-of b 0) w h)))
+          ap (λ t. Accepted (record { met = t })) j ∙ sym (ap checking (past-sheet ∙ ap (λ t. guard 11 t >> ok (on-total w)) (same-weight (weight-of b 0) w h)))

@@ -30,16 +30,17 @@ use Rattle.plan_judge.proofs.Grounds.{Both, limits-passed, both, both-h
 
 pub verdict-told : (v : logic.Verdict) → verdict-from (told v) ≡ verdict-code v
 unfolding verdict-from told verdict-code
-verdict-told (logic.no k) = refl
+verdict-told (logic.no x) = refl
 verdict-told logic.yes = refl
-verdict-told (logic.yes-plan w n k cs) = refl
+verdict-told (logic.yes-plan x) = refl
 
 -- Its choices, written over zeros.
 pub choices-told : (v : logic.Verdict) → splice (replicate 1365 0) 0 (shown-choices v) ≡ choices-code v
 unfolding splice shown-choices choices-code
-choices-told (logic.no k) = refl
+choices-told (logic.no x) = refl
 choices-told logic.yes = refl
-choices-told (logic.yes-plan w n k cs) =
+choices-told (logic.yes-plan x) =
+    let cs : Bytes = x .choices in
     let e : 0 + length cs ≡ length cs = omega arith in
     padded-copy 1365 cs (cs ++ drop (0 + length cs) (replicate 1365 0)) (ap (λ i. cs ++ drop i (replicate 1365 0)) e)
 

@@ -13,7 +13,7 @@ use Rattle.logic.specs.Model.{Model}
 use Rattle.logic.specs.Plan.{Plan, plans, choices}
 use Rattle.logic.specs.Formula.{Formula, never, prop, neg, both, does, next as then, gain, plan, nonnegative, sat}
 use Rattle.logic.specs.Verdict as logic
-use Rattle.logic.specs.Verdict.{Goal, goal, shown, announced, verdict-by, verdict}
+use Rattle.logic.specs.Verdict.{Goal, goal, shown, plan-record, announced, verdict-by, verdict}
 use Rattle.logic.specs.Choices.{read-plan}
 use Rattle.logic.specs.Limits.{limits}
 use Rattle.logic.proofs.Checked.{not-ok, ok-same, bind-ok, guard-ok}
@@ -104,22 +104,19 @@ module _ (m : Model) (q : Question) where
   unfolding verdict-in verdict-code choices-code
   announced-read g e none h = refl
   announced-read g e (some x) h =
-      let k : ℕ = cond (g .counts) (x .0) 0 in
+      let p = plan-record g x in
       ap (λ c. verdict-in c (verdict-code (announced m s g (some x)))) (choices-read g e (x .1) (shown-meets m s g x h .0))
-      ∙ ap (λ w. some (logic.yes-plan w (g .steps) k (choices (g .steps) (x .1)))) (whole-total m s (q .root) g e (x .1))
+      ∙ ap (λ w. some (logic.yes-plan (record { total = w; steps = p .steps; count = p .count; choices = p .choices }))) (whole-total m s (q .root) g e (x .1))
 
   verdict-read : verdict-on (some m) (some q) (choices-code (verdict m s (q .root))) (verdict-code (verdict m s (q .root))) ≡ some (verdict m s (q .root))
   unfolding verdict verdict-on verdict-in verdict-code
   verdict-read = by (goal m s (q .root)) refl (sat m (q .root) s [])
     where
-      other : (t : Bool) → verdict-in (choices-in m q (choices-code (cond t logic.yes (logic.no 0)))) (verdict-code (cond t logic.yes (logic.no 0))) ≡ some (cond t logic.yes (logic.no 0))
-      other true = refl
-      other false = refl
-
       by : (c : Checked Goal) → goal m s (q .root) ≡ c → (t : Bool)
           → verdict-in (choices-in m q (choices-code (verdict-by m s t c))) (verdict-code (verdict-by m s t c)) ≡ some (verdict-by m s t c)
       by (ok g) e t = announced-read g e (shown m s g) refl
-      by (refused k) e t = other t
+      by (refused k) e true = refl
+      by (refused k) e false = refl
 
 -- What a judge that is not refused found held.
 pub record Judged-with (h : Held) (v : logic.Verdict) : Type 0 where

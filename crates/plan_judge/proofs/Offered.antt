@@ -25,9 +25,9 @@ c-call-told =
 sized : (o : Option Verdict) → shown-size o ≡ choices-shown o
 unfolding shown-size choices-shown
 sized none = refl
-sized (some (no k)) = refl
+sized (some (no x)) = refl
 sized (some yes) = refl
-sized (some (yes-plan w n k cs)) = refl
+sized (some (yes-plan x)) = refl
 
 pub shown-choices-told : Shown-choices-told
 shown-choices-told = record { answers = λ d. (shown-size ((view d) .verdict), refl); tells = λ d r p. p tt ∙ sized ((view d) .verdict) }

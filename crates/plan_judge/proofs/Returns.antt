@@ -25,9 +25,9 @@ use Rattle.calls.specs.Calls.{question-for}
 use Rattle.calls.specs.promises.Chains.{do-put}
 use Rattle.plan_judge.specs.declared.Desk.{Desk}
 use Rattle.plan_judge.specs.declared.Taken.the-variants.{Done, Refused}
-use Rattle.plan_judge.specs.declared.Verdict.the-variants.{No}
+use Rattle.plan_judge.specs.declared.Verdict.{Verdict}
 use Rattle.plan_judge.specs.View.{model-bytes, held-size, view}
-use Rattle.plan_judge.specs.Values.{padded, taking, holding, loaded-by, asking, put-by}
+use Rattle.plan_judge.specs.Values.{padded, unjudged, taking, holding, loaded-by, asking, put-by}
 use Rattle.plan_judge.proofs.Kept.{whole-length, model-length, question-length}
 
 -- ---- refusals and values
@@ -60,11 +60,11 @@ module _ (d : Desk) (b : Bytes) where
     model-read : read-model b ≡ ok (model-of b)
     model-read = read-passed b (passed-all b e)
 
-    pub load-done : (a : Bytes) → a ≡ padded 6144 b
-        → record { answer = Done; desk = record { blocks = length b / 512; model = a; asked = false; question = replicate 512 0; judged = false; verdict = No 0; choices = replicate 1365 0 } } ≡ loaded-by d b
+    pub load-done : (a : Bytes) → a ≡ padded 6144 b → (v : Verdict) → v ≡ unjudged
+        → record { answer = Done; desk = record { blocks = length b / 512; model = a; asked = false; question = replicate 512 0; judged = false; verdict = v; choices = replicate 1365 0 } } ≡ loaded-by d b
     unfolding loaded-by holding
-    load-done a i =
-        ap (λ m. record { answer = Done; desk = record { blocks = length b / 512; model = m; asked = false; question = replicate 512 0; judged = false; verdict = No 0; choices = replicate 1365 0 } }) i
+    load-done a i v j =
+        ap₂ (λ m v. record { answer = Done; desk = record { blocks = length b / 512; model = m; asked = false; question = replicate 512 0; judged = false; verdict = v; choices = replicate 1365 0 } }) i j
         ∙ taking-done d (holding b) (read-model b) model-read
 
     pub load-fits : length b ≤ 6144
@@ -172,11 +172,11 @@ module _ (d : Desk) where
         pub put-fits : length b ≤ 512
         put-fits = let l = question-length (byte (d .model) 2) (byte (d .model) 3) (byte (d .model) 4) b question-read in omega arith
 
-        pub put-done : (a : Bytes) → a ≡ padded 512 b
-            → record { answer = Done; desk = record { blocks = d .blocks; model = d .model; asked = true; question = a; judged = false; verdict = No 0; choices = replicate 1365 0 } } ≡ put-by d b
+        pub put-done : (a : Bytes) → a ≡ padded 512 b → (v : Verdict) → v ≡ unjudged
+            → record { answer = Done; desk = record { blocks = d .blocks; model = d .model; asked = true; question = a; judged = false; verdict = v; choices = replicate 1365 0 } } ≡ put-by d b
         unfolding put-by asking
-        put-done a i =
-            ap (λ z. record { answer = Done; desk = record { blocks = d .blocks; model = d .model; asked = true; question = z; judged = false; verdict = No 0; choices = replicate 1365 0 } }) i
+        put-done a i v j =
+            ap₂ (λ z v. record { answer = Done; desk = record { blocks = d .blocks; model = d .model; asked = true; question = z; judged = false; verdict = v; choices = replicate 1365 0 } }) i j
             ∙ taking-done d (asking d b) (do-put (view d) b) (put-is ∙ question-read)
 
   pub put-unheld : (b : Bytes) → held-size (d .model) (d .blocks) ≡ 0 → record { answer = Refused 20; desk = d } ≡ put-by d b

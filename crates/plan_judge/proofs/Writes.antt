@@ -128,12 +128,12 @@ module _ (d : Desk) (e : refusal (held-goal (view d)) ≡ 0) where
 
       by : (t : Bool) (v : Verdict) (c : Checked (List ℕ)) → d .judged ≡ t → d .verdict ≡ v → found ≡ c → ShownBy ((view d) .verdict)
       by false v c i j k = nothing none (verdict-is false v i j) refl refl
-      by true (No x) c i j k = nothing (some (logic.no x)) (verdict-is true (No x) i j) refl refl
+      by true (No x) c i j k = nothing _ (verdict-is true (No x) i j) refl refl
       by true Yes c i j k = nothing (some logic.yes) (verdict-is true Yes i j) refl refl
       by true (YesPlan p) (refused x) i j k = nothing none (verdict-is true (YesPlan p) i j ∙ ap (λ c. verdict-in c (YesPlan p)) k) refl refl
       by true (YesPlan p) (ok l) i j k =
           let w = first-choices (said-bytes d) (d .question) (plan-asked d e) (d .choices) l k in
-          let o : (view d) .verdict ≡ some (logic.yes-plan (pos (p .weight)) (p .steps) (p .count) l) = verdict-is true (YesPlan p) i j ∙ ap (λ c. verdict-in c (YesPlan p)) k in
+          let o : (view d) .verdict ≡ verdict-in (ok l) (YesPlan p) = verdict-is true (YesPlan p) i j ∙ ap (λ c. verdict-in c (YesPlan p)) k in
           let y : shown-size ((view d) .verdict) ≡ length l = ap shown-size o in
           let same : l ≡ take (shown-size ((view d) .verdict)) (d .choices) = w .2 ∙ ap (λ k. take k (d .choices)) (sym y) in
           record {
@@ -157,7 +157,7 @@ not-shown d h = by (d .judged) ((view d) .model) ((view d) .question) (d .verdic
     by false o p v i = refl
     by true none p v i = refl
     by true (some m) none v i = refl
-    by true (some m) (some q) (No k) i = refl
+    by true (some m) (some q) (No x) i = refl
     by true (some m) (some q) Yes i = refl
     by true (some m) (some q) (YesPlan x) i = none-found (goal m (q .start) (q .root)) _ x i
 

@@ -23,11 +23,11 @@ pub record Told : Type 0 where
 
 -- A verdict, told with a buffer of this size: a shown plan's sheet fits it, or ground 12.
 unfoldable pub told-of : (start size : ℕ) → Verdict → Checked Told
-told-of start size (no k) = ok (record { answer = false; sheet = [] })
+told-of start size (no x) = ok (record { answer = false; sheet = [] })
 told-of start size yes = ok (record { answer = true; sheet = [] })
-told-of start size (yes-plan w n k cs) = do
-  guard 12 (leb (length (sheet-bytes n start (nonnegative w) cs)) size)
-  ok (record { answer = true; sheet = sheet-bytes n start (nonnegative w) cs })
+told-of start size (yes-plan x) = do
+  guard 12 (leb (length (sheet-bytes (x .steps) start (nonnegative (x .total)) (x .choices))) size)
+  ok (record { answer = true; sheet = sheet-bytes (x .steps) start (nonnegative (x .total)) (x .choices) })
 
 -- A question on a model: grounds 24 and 25, then its verdict.
 unfoldable pub told-on : (size : ℕ) → Model → Question → Checked Told

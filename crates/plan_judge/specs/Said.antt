@@ -33,5 +33,5 @@ said-written (Filled n) = written n
 said-written (Written.Refused k) = refuse k
 
 unfoldable pub said-checking : Checking → Answer
-said-checking (Accepted met) = accepted (record { met = met })
+said-checking (Accepted r) = accepted (record { met = r .met })
 said-checking (Checking.Refused k) = refuse k

@@ -54,14 +54,14 @@ size-in (refused k) = 0
 
 unfoldable pub shown-size : Option logic.Verdict → ℕ
 shown-size none = 0
-shown-size (some (logic.no k)) = 0
+shown-size (some (logic.no x)) = 0
 shown-size (some logic.yes) = 0
-shown-size (some (logic.yes-plan w n k cs)) = length cs
+shown-size (some (logic.yes-plan x)) = length (x .choices)
 
 unfoldable pub shown-weight : Verdict → ℕ
-shown-weight (No k) = 0
+shown-weight (No x) = 0
 shown-weight Yes = 0
-shown-weight (YesPlan r) = r .weight
+shown-weight (YesPlan x) = x .weight
 
 -- ---- the plan on a sheet: grounds 1 to 6, then 10
 
@@ -73,4 +73,4 @@ plan-on m n start b = do
 -- ---- the verdict that an outcome of judging tells
 
 unfoldable pub verdict-from : Outcome → Verdict
-verdict-from o = cond (o .yes) (cond (o .plan) (YesPlan (record { weight = o .weight; steps = o .steps; count = o .count })) Yes) (No (o .count))
+verdict-from o = cond (o .yes) (cond (o .plan) (YesPlan (record { weight = o .weight; steps = o .steps; count = o .count })) Yes) (No (record { count = o .count }))

@@ -28,10 +28,14 @@ use Rattle.plan_judge.specs.View.{view}
 unfoldable pub padded : ℕ → Bytes → Bytes
 padded n b = b ++ replicate (n - length b) 0
 
+-- What stands for a verdict on a desk that is not judged.
+abbrev pub unjudged : Verdict
+unjudged = No (record { count = 0 })
+
 -- The empty desk.
 unfoldable pub nothing : Desk
 nothing =
-    record { blocks = 0; model = replicate 6144 0; asked = false; question = replicate 512 0; judged = false; verdict = No 0; choices = replicate 1365 0 }
+    record { blocks = 0; model = replicate 6144 0; asked = false; question = replicate 512 0; judged = false; verdict = unjudged; choices = replicate 1365 0 }
 
 -- The desk changes only where the call is not refused.
 abbrev pub taking : {A : Type 0} → Desk → Checked A → Desk → Taking
@@ -41,7 +45,7 @@ taking d (refused k) e = record { answer = Refused k; desk = d }
 -- A desk with this model and nothing else.
 unfoldable pub holding : Bytes → Desk
 holding b =
-    record { blocks = length b / 512; model = padded 6144 b; asked = false; question = replicate 512 0; judged = false; verdict = No 0; choices = replicate 1365 0 }
+    record { blocks = length b / 512; model = padded 6144 b; asked = false; question = replicate 512 0; judged = false; verdict = unjudged; choices = replicate 1365 0 }
 
 unfoldable pub loaded-by : Desk → Bytes → Taking
 loaded-by d b = taking d (read-model b) (holding b)
@@ -49,7 +53,7 @@ loaded-by d b = taking d (read-model b) (holding b)
 -- The desk with this question, not judged.
 unfoldable pub asking : Desk → Bytes → Desk
 asking d b =
-    record { blocks = d .blocks; model = d .model; asked = true; question = padded 512 b; judged = false; verdict = No 0; choices = replicate 1365 0 }
+    record { blocks = d .blocks; model = d .model; asked = true; question = padded 512 b; judged = false; verdict = unjudged; choices = replicate 1365 0 }
 
 unfoldable pub put-by : Desk → Bytes → Taking
 put-by d b = taking d (do-put (view d) b) (asking d b)
@@ -58,14 +62,14 @@ put-by d b = taking d (do-put (view d) b) (asking d b)
 
 -- A verdict as it is returned and held: its record, and its choices with zeros after them.
 unfoldable pub verdict-code : logic.Verdict → Verdict
-verdict-code (logic.no k) = No k
+verdict-code (logic.no x) = No (record { count = x .count })
 verdict-code logic.yes = Yes
-verdict-code (logic.yes-plan w n k cs) = YesPlan (record { weight = nonnegative w; steps = n; count = k })
+verdict-code (logic.yes-plan x) = YesPlan (record { weight = nonnegative (x .total); steps = x .steps; count = x .count })
 
 unfoldable pub choices-code : logic.Verdict → Bytes
-choices-code (logic.no k) = replicate 1365 0
+choices-code (logic.no x) = replicate 1365 0
 choices-code logic.yes = replicate 1365 0
-choices-code (logic.yes-plan w n k cs) = padded 1365 cs
+choices-code (logic.yes-plan x) = padded 1365 (x .choices)
 
 -- Sets the verdict only.
 unfoldable pub settling : Desk → logic.Verdict → Desk
@@ -97,7 +101,7 @@ unfoldable pub filled-by : Desk → Bytes → Bytes
 filled-by d a = filling a (do-write (view d) (length a))
 
 abbrev pub checking : Checked Report → Checking
-checking (ok r) = Accepted (r .met)
+checking (ok r) = Accepted (record { met = r .met })
 checking (refused k) = Checking.Refused k
 
 unfoldable pub checked-by : Desk → Bytes → Checking

@@ -41,10 +41,10 @@ choices-in m q cs = goal m (q .start) (q .root) >>= (λ g. read-plan m (g .steps
 
 -- A verdict by its cases: document 01's no with its count, yes, yes with a plan record and the choices beside it.
 unfoldable pub verdict-in : Checked (List ℕ) → Verdict → Option logic.Verdict
-verdict-in cs (No k) = some (logic.no k)
+verdict-in cs (No x) = some (logic.no (record { count = x .count }))
 verdict-in cs Yes = some logic.yes
-verdict-in (ok l) (YesPlan r) = some (logic.yes-plan (pos (r .weight)) (r .steps) (r .count) l)
-verdict-in (refused k) (YesPlan r) = none
+verdict-in (ok l) (YesPlan x) = some (logic.yes-plan (record { total = pos (x .weight); steps = x .steps; count = x .count; choices = l }))
+verdict-in (refused k) (YesPlan x) = none
 
 -- For the model and the question that are held.
 unfoldable pub verdict-on : Option Model → Option Question → List ℕ → Verdict → Option logic.Verdict

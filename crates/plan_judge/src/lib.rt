@@ -18,7 +18,7 @@ ghost use Rattle.calls.specs.promises.Chains.{do-judge, check-on};
 ghost use Rattle.judging.specs.Asked.{Served};
 ghost use Rattle.judging.specs.Announced.{Weighs};
 ghost use Rattle.plan_judge.specs.View.{held-size, choices-in, view};
-ghost use Rattle.plan_judge.specs.Values.{nothing, loaded-by, put-by, judged-by, written-by, filled-by, checking, checked-by};
+ghost use Rattle.plan_judge.specs.Values.{unjudged, nothing, loaded-by, put-by, judged-by, written-by, filled-by, checking, checked-by};
 ghost use Rattle.plan_judge.specs.State.{held-both, held-goal, plan-size, size-in, shown-size, shown-weight, PlanRoot, plan-on, verdict-from};
 
 pub mod c_call;
@@ -30,8 +30,13 @@ pub struct PlanRecord {
     pub count: u32,
 }
 
+// What goes with a no: for "equal" the number of all plans, else 0.
+pub struct Denial {
+    pub count: u32,
+}
+
 pub enum Verdict {
-    No(u32),
+    No(Denial),
     Yes,
     YesPlan(PlanRecord),
 }
@@ -77,10 +82,22 @@ pub enum Written {
     Refused(u32),
 }
 
-// The answer of check: accepted, and whether the sheet's weight meets the bound.
+// What check reports of a sheet that it accepts: whether the sheet's weight meets the bound.
+pub struct Report {
+    pub met: bool,
+}
+
+// The answer of check.
 pub enum Checking {
-    Accepted(bool),
+    Accepted(Report),
     Refused(u32),
+}
+
+// What stands for a verdict where a desk is not judged.
+fn unjudged() -> Verdict
+    ensures { λ r. ⌜ r ≡ unjudged ⌝ }
+{
+    Verdict::No(Denial { count: 0 })
 }
 
 // A desk that holds nothing.
@@ -93,7 +110,7 @@ pub fn empty() -> Desk
         asked: false,
         question: [0u8; 512],
         judged: false,
-        verdict: Verdict::No(0),
+        verdict: unjudged(),
         choices: [0u8; 1365],
     }
 }
@@ -121,7 +138,7 @@ pub fn load(d: Desk, b: &[u8]) -> Taking
             asked: false,
             question: q,
             judged: false,
-            verdict: Verdict::No(0),
+            verdict: unjudged(),
             choices: c,
         },
     }
@@ -187,7 +204,7 @@ pub fn put(d: Desk, b: &[u8]) -> Taking
             asked: true,
             question: q,
             judged: false,
-            verdict: Verdict::No(0),
+            verdict: unjudged(),
             choices: c,
         },
     }
@@ -239,7 +256,7 @@ fn verdict_of(o: judging::Outcome) -> Verdict
     ensures { λ r. ⌜ r ≡ verdict-from o ⌝ }
 {
     if !o.yes {
-        return Verdict::No(o.count);
+        return Verdict::No(Denial { count: o.count });
     }
     if !o.plan {
         return Verdict::Yes;
@@ -462,7 +479,9 @@ fn check_on(m: &[u8], q: &[u8], b: &[u8]) -> Checking
     if sheets::weight_at(b, 0) != w {
         return Checking::Refused(11);
     }
-    Checking::Accepted(bounds::meets(m, q, root(q), w))
+    Checking::Accepted(Report {
+        met: bounds::meets(m, q, root(q), w),
+    })
 }
 
 // Checks a sheet for the question that is held, and says whether its weight meets the bound; or refuses it by grounds 20, 21, 22, 24, 25,

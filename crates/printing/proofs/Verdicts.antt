@@ -4,7 +4,7 @@ use Prim.Native.Nat.{ℕ, _-_, _^_, _≤_}
 use native.Mathlib.Omega.{arith}
 use mathlib.Core.Path.{_≡_, refl, sym, ap, ap₂, _∙_}
 use mathlib.Core.Bool.{Bool, true, false, cond}
-use mathlib.Core.List.{[]}
+use mathlib.Core.List.{List, []}
 use mathlib.Core.Option.{Option, none, some}
 use lib.ListN.{length, take, replicate, length-append, length-replicate}
 use lib.Seq.{take-append-seam}
@@ -87,14 +87,14 @@ module _ {S A N : ℕ} {q : Bytes} (a : Accepted S A N q) (m : Model) (s : ℕ) 
 -- They are in the array, since it is no longer than its type says.
 pub few-choices : (v : logic.Verdict) → length (choices-code v) ≡ 1365 → shown-size (some v) ≤ 1365
 unfolding choices-code padded shown-size
-few-choices (logic.no k) e = omega arith
+few-choices (logic.no x) e = omega arith
 few-choices logic.yes e = omega arith
-few-choices (logic.yes-plan w n k cs) e = omega (arith, length-append cs (replicate (1365 - length cs) 0), length-replicate {A = ℕ} (1365 - length cs) 0)
+few-choices (logic.yes-plan x) e = let cs : List ℕ = x .choices in omega (arith, length-append cs (replicate (1365 - length cs) 0), length-replicate {A = ℕ} (1365 - length cs) 0)
 
 pub line-is : (m : Model) (φ : Formula) (v : logic.Verdict) (D : ℕ) (t : Bool) → m .denominator ≡ D → is-plan φ ≡ t
     → shown-line D t (verdict-code v) (take (shown-size (some v)) (choices-code v)) ≡ verdict-line m φ v
 unfolding shown-line verdict-line verdict-code choices-code padded shown-size
-line-is m φ (logic.no k) D t d i = ap (λ u. cond u (no-plans-line k) (plain-line false)) (sym i)
+line-is m φ (logic.no x) D t d i = ap (λ u. cond u (no-plans-line (x .count)) (plain-line false)) (sym i)
 line-is m φ logic.yes D t d i = refl
-line-is m φ (logic.yes-plan w n k cs) D t d i =
-    ap₂ (λ x l. yes-plan-line (nonnegative w) (x ^ n) k l) (sym d) (take-append-seam cs (replicate (1365 - length cs) 0))
+line-is m φ (logic.yes-plan x) D t d i =
+    ap₂ (λ D cs. yes-plan-line (nonnegative (x .total)) (D ^ x .steps) (x .count) cs) (sym d) (take-append-seam (x .choices) (replicate (1365 - length (x .choices)) 0))

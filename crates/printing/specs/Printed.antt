@@ -51,15 +51,15 @@ plan-root q = eqb (node-of q (node-count q - 1) .operator) 8
 
 -- Its line, with the denominator D.
 unfoldable pub shown-line : (D : ℕ) → Bool → Verdict → List ℕ → List ℕ
-shown-line D is-plan (No count) cs = cond is-plan (no-plans-line count) (plain-line false)
+shown-line D is-plan (No x) cs = cond is-plan (no-plans-line (x .count)) (plain-line false)
 shown-line D is-plan Yes cs = plain-line true
-shown-line D is-plan (YesPlan r) cs = yes-plan-line (r .weight) (D ^ r .steps) (r .count) cs
+shown-line D is-plan (YesPlan x) cs = yes-plan-line (x .weight) (D ^ x .steps) (x .count) cs
 
 -- The steps of the plan record; 0 where there is none.
 unfoldable pub shown-steps : Verdict → ℕ
-shown-steps (No count) = 0
+shown-steps (No x) = 0
 shown-steps Yes = 0
-shown-steps (YesPlan r) = r .steps
+shown-steps (YesPlan x) = x .steps
 
 pub record Shown (m q : Bytes) (v : Verdict) (cs : List ℕ) : Type 0 where
   pub small : denominator-of m ≤ 100

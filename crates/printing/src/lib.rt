@@ -47,7 +47,7 @@ fn verdict_line(out: &mut [u8], model: &[u8], q: &[u8], v: Verdict, choices: &[u
     ensures { λ r. ⌜ Put (shown-line (denominator-of (now (model .entry))) (plan-root (now (q .entry))) v (now (choices .entry))) (now (out .entry)) (now (out .exit)) 0 r ⌝ }
 {
     match v {
-        Verdict::No(count) => no_line(out, q, count),
+        Verdict::No(x) => no_line(out, q, x.count),
         Verdict::Yes => lines::plain_line(out, true),
         Verdict::YesPlan(p) => lines::yes_plan_line(
             out,

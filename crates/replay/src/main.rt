@@ -54,7 +54,7 @@ fn put_verdict(out: &mut [u8], at: usize, v: Verdict, choices: &[u8]) -> usize
     ensures { λ r. ⌜ r ≤ at + 5600 ⌝ }
 {
     match v {
-        Verdict::No(count) => lines::put_number(out, at, b" no ", count as u64),
+        Verdict::No(x) => lines::put_number(out, at, b" no ", x.count as u64),
         Verdict::Yes => lines::put_text(out, at, b" yes"),
         Verdict::YesPlan(p) => put_plan(out, at, p, choices),
     }
@@ -101,7 +101,7 @@ fn put_checked(out: &mut [u8], at: usize, answer: Checking) -> usize
     ensures { λ r. ⌜ r ≤ at + 29 ⌝ }
 {
     match answer {
-        Checking::Accepted(met) => put_met(out, at, met),
+        Checking::Accepted(r) => put_met(out, at, r.met),
         Checking::Refused(k) => put_refused(out, at, k),
     }
 }

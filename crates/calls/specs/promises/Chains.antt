@@ -29,9 +29,9 @@ do-judge h = do
 
 -- The shown plan's sheet, or ground 23: judged no.
 unfoldable pub sheet-shown : Verdict → Checked Sheet
-sheet-shown (no k) = refused 23
+sheet-shown (no x) = refused 23
 sheet-shown yes = refused 23
-sheet-shown (yes-plan w n k cs) = ok (record { weight = w; choices = cs })
+sheet-shown (yes-plan x) = ok (record { weight = x .total; choices = x .choices })
 
 -- The bytes to write into a buffer of this size.
 unfoldable pub do-write : Held → ℕ → Checked Bytes

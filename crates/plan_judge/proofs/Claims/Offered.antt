@@ -25,9 +25,9 @@ pub record C-call-told : Type 0 where
 -- How many choices the plan has that a desk holds as shown; 0 where it holds none.
 unfoldable pub choices-shown : Option Verdict → ℕ
 choices-shown none = 0
-choices-shown (some (no k)) = 0
+choices-shown (some (no x)) = 0
 choices-shown (some yes) = 0
-choices-shown (some (yes-plan w n k cs)) = length cs
+choices-shown (some (yes-plan x)) = length (x .choices)
 
 pub record Shown-choices-told : Type 0 where
   pub answers : (d : Desk) → (r : ℕ) × shown-reads.Post tt (d, tt) r (d, tt)

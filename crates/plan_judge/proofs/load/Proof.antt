@@ -16,12 +16,15 @@ slice-aggregate-copy c = search needs
 copy-requires : tie.Need-copy-requires
 copy-requires c κs = load-fits (c .before .before .before .before .args .d) (c .before .before .before .before .args .b .now) (sym (c .before .before .model-refusal .ensures) ∙ c .before .if1 .left)
 
+unjudged-requires : tie.Need-unjudged-requires
+unjudged-requires c κs = search needs
+
 returns-2 : tie.Need-returns-2
-returns-2 c = let d = c .before .before .before .before .before .before .args .d in
-    let b = c .before .before .before .before .before .before .args .b .now in
-    load-done d b (sym (c .before .before .before .before .model-refusal .ensures) ∙ c .before .before .before .if1 .left) _ (padded-copy 6144 b _ (c .before .copy .ensures))
+returns-2 c = let d = c .before .before .before .before .before .before .before .args .d in
+    let b = c .before .before .before .before .before .before .before .args .b .now in
+    load-done d b (sym (c .before .before .before .before .before .model-refusal .ensures) ∙ c .before .before .before .before .if1 .left) _ (padded-copy 6144 b _ (c .before .before .copy .ensures)) _ (c .unjudged .ensures)
 
 pub load-spec : {M : Type 1} → statement M
 load-spec =
     tie.close
-    (tie.spec model-refusal-requires returns slice-aggregate-copy copy-requires returns-2)
+    (tie.spec model-refusal-requires returns slice-aggregate-copy copy-requires unjudged-requires returns-2)

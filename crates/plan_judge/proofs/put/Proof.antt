@@ -22,8 +22,15 @@ slice-aggregate-copy c = search needs
 copy-requires : tie.Need-copy-requires
 copy-requires c κs = put-fits (c .before .before .before .before .before .before .before .before .before .before .before .before .before .args .t1) (λ z. c .before .before .before .before .before .before .before .if1 .left (c .before .before .before .before .before .before .before .before .held-bytes .ensures ∙ z)) (c .before .before .before .before .before .before .before .before .before .before .before .before .before .args .b .now) (sym (c .before .before .before .question-ground .ensures) ∙ c .before .before .if2 .left)
 
+unjudged-requires : tie.Need-unjudged-requires
+unjudged-requires c κs = search needs
+
 returns-3 : tie.Need-returns-3
-returns-3 c = put-done (c .before .before .before .before .before .before .before .before .before .before .before .before .before .before .before .args .t1) (λ z. c .before .before .before .before .before .before .before .before .before .if1 .left (c .before .before .before .before .before .before .before .before .before .before .held-bytes .ensures ∙ z)) (c .before .before .before .before .before .before .before .before .before .before .before .before .before .before .before .args .b .now) (sym (c .before .before .before .before .before .question-ground .ensures) ∙ c .before .before .before .before .if2 .left) _ (padded-copy 512 (c .before .before .before .before .before .before .before .before .before .before .before .before .before .before .before .args .b .now) _ (c .before .copy .ensures))
+returns-3 c = let R = c .before in
+    let S = R .before .before .before .before .before .before .before .before .before .before .before .before .before .before .before in
+    let d = S .args .t1 in
+    let b = S .args .b .now in
+    put-done d (λ z. R .before .before .before .before .before .before .before .before .before .if1 .left (R .before .before .before .before .before .before .before .before .before .before .held-bytes .ensures ∙ z)) b (sym (R .before .before .before .before .before .question-ground .ensures) ∙ R .before .before .before .before .if2 .left) _ (padded-copy 512 b _ (R .before .copy .ensures)) _ (c .unjudged .ensures)
 
 pub put-spec : {M : Type 1} → statement M
 put-spec =
@@ -35,4 +42,5 @@ put-spec =
     returns-2
     slice-aggregate-copy
     copy-requires
+    unjudged-requires
     returns-3)
