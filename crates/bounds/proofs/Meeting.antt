@@ -19,7 +19,7 @@ use Rattle.models.proofs.Laws.{at-most}
 use Rattle.models.proofs.Passed.{passed-all}
 use Rattle.questions.specs.Layout.{node-of}
 use Rattle.questions.proofs.Accepted.{PlanRange, accepted}
-use Rattle.bounds.specs.Bounded.{Bounded, meets-as, meets-at, Exactly}
+use Rattle.bounds.specs.promises.Bounded.{Bounded, meets-as, meets-at, Exactly}
 use Rattle.bounds.proofs.Powers.{power-le}
 
 -- ---- relations of whole numbers

@@ -1,1 +1,1 @@
-pub mod Bounded
+pub mod promises

@@ -6,7 +6,7 @@ ghost use Rattle.logic.specs.Quantity.{naturals};
 ghost use Rattle.logic.specs.Quantity as quantity;
 ghost use Rattle.models.specs.Layout.{denominator-of};
 ghost use Rattle.questions.specs.Layout.{node-of};
-ghost use Rattle.bounds.specs.Bounded.{Bounded, Exactly, meets-at};
+ghost use Rattle.bounds.specs.promises.Bounded.{Bounded, Exactly, meets-at};
 use blocks::wide;
 
 // The denominator to the number of steps.

@@ -7,7 +7,8 @@ use mathlib.Core.Logic.{_↔_}
 use mathlib.Core.Bool.{Bool, true, false}
 use mathlib.Core.Option.{Option, none, some}
 use mathlib.Core.List.{List, []}
-use Rattle.logic.specs.Checked.{Checked, ok, refused, _>>=_, _>>_, held}
+use Rattle.logic.specs.Checked.{Checked, ok, refused, _>>=_, _>>_}
+use Rattle.logic.specs.promises.Refusal.{held}
 use Rattle.logic.specs.Grounds.{first}
 use Rattle.logic.specs.Model.{Model}
 use Rattle.logic.specs.Plan.{Plan}

@@ -14,7 +14,8 @@ use lib.IntN.{ℤ, pos, negsuc}
 use lib.ListN.{length, take, drop, length-append, length-drop}
 use lib.Seq.{take-at, drop-at}
 use lib.Signed.{leZ}
-use Rattle.logic.specs.Checked.{Checked, ok, refused, _>>=_, _>>_, held, guard, refusal}
+use Rattle.logic.specs.Checked.{Checked, ok, refused, _>>=_, _>>_, guard}
+use Rattle.logic.specs.promises.Refusal.{held, refusal}
 use Rattle.logic.specs.Lists.{all}
 use Rattle.logic.specs.Plan.{Plan, plans, choices}
 use Rattle.logic.specs.Formula.{sat}

@@ -8,7 +8,8 @@ use mathlib.Core.List.{List, [], _∷_, _++_}
 use mathlib.Core.Option.{Option, none, some}
 use lib.Dec.{eqb, leb}
 use lib.ListN.{length, drop}
-use Rattle.logic.specs.Checked.{Checked, ok, refused, got, _>>=_, _>>_, held, guard}
+use Rattle.logic.specs.Checked.{Checked, ok, refused, got, _>>=_, _>>_, guard}
+use Rattle.logic.specs.promises.Refusal.{held}
 use Rattle.logic.specs.Lists.{any}
 use Rattle.logic.specs.Grounds.{Ground, _unless_, first, decided}
 use Rattle.logic.specs.Model.{Model}

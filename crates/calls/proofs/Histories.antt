@@ -7,7 +7,8 @@ use mathlib.Core.Bool.{Bool, true, false, cond, _&&_, _||_, or-false, or-true, a
 use mathlib.Core.List.{List, [], _∷_, _++_}
 use mathlib.Core.Option.{Option, none, some}
 use Rattle.logic.specs.Lists.{any}
-use Rattle.logic.specs.Checked.{Checked, ok, refused, _>>=_, _>>_, held, got}
+use Rattle.logic.specs.Checked.{Checked, ok, refused, _>>=_, _>>_, got}
+use Rattle.logic.specs.promises.Refusal.{held}
 use Rattle.logic.specs.Model.{Model}
 use Rattle.logic.specs.Verdict.{Verdict, verdict}
 use Rattle.logic.specs.Limits.{limits}

@@ -11,7 +11,8 @@ use mathlib.Core.List.{List, [], _∷_, flatMap, List·Memᴰ, List·Memᴰ·hea
 use lib.Dec.{leb, lit<}
 use lib.IntN.{pos}
 use lib.ListN.{length, getD, length-append}
-use Rattle.logic.specs.Checked.{ok, refusal}
+use Rattle.logic.specs.Checked.{ok}
+use Rattle.logic.specs.promises.Refusal.{refusal}
 use Rattle.logic.specs.Lists.{keep}
 use Rattle.logic.specs.Model.{Model, enabled, outcomes}
 use Rattle.logic.specs.Quantity.{naturals, sum, Relation}
@@ -36,7 +37,7 @@ use Rattle.questions.specs.Layout.{node-of, node-count, formulas-of, question-o
 use Rattle.questions.specs.Grounds.{read-question}
 use Rattle.questions.proofs.Accepted as questions
 use Rattle.questions.proofs.Laws.{by-operator}
-use Rattle.extension.specs.Choices.{room}
+use Rattle.extension.specs.promises.Choices.{room}
 use Rattle.extension.proofs.Laws.{room-most}
 use Rattle.sheets.proofs.ReadsBack.{reads-back}
 use Rattle.sheets.proofs.Small.{sheet-small}

@@ -12,18 +12,18 @@ use Rattle.logic.specs.Lists.{count-from, tabulate}
 use Rattle.logic.specs.Model.{Model, Step, outcomes}
 use Rattle.logic.specs.Quantity.{naturals, sum}
 use Rattle.logic.specs.Limits.{multiply, plan-total}
-use Rattle.logic.specs.Checked.{refusal}
+use Rattle.logic.specs.promises.Refusal.{refusal}
 use Rattle.logic.specs.Accepted.{Accepted, Executable}
 use Rattle.logic.proofs.Tests.{and-both}
 use Rattle.blocks.specs.Bytes.{Bytes, within}
 use Rattle.models.specs.Layout.{state-count, action-count, prop-count, denominator-of, outcome-of, entries, model-of}
 use Rattle.models.specs.Grounds.{sizes-right, read-model}
-use Rattle.models.specs.Used.{Sized}
+use Rattle.models.specs.promises.Used.{Sized}
 use Rattle.models.proofs.Passed.{passed-all, passed-sized}
 use Rattle.models.proofs.Held.{accepted, states-held}
 use Rattle.models.proofs.Rows.{outcomes-are}
 use Rattle.bounds.proofs.Powers.{power-le}
-use Rattle.equal.specs.Totals.{combined}
+use Rattle.equal.specs.promises.Totals.{combined}
 use Rattle.equal.proofs.Spans.{multiply-map, combined-map}
 
 -- A value of at most 1 times the denominator to the k.

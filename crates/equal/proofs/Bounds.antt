@@ -11,12 +11,12 @@ use Rattle.logic.specs.Quantity.{naturals, sum}
 use Rattle.logic.specs.Plan.{plans, paths, weight}
 use Rattle.logic.specs.Limits.{plan-total}
 use Rattle.logic.specs.Accepted.{Accepted}
-use Rattle.logic.specs.Total.{total}
+use Rattle.logic.specs.promises.Total.{total}
 use Rattle.logic.proofs.Members.{map-member, flatMap-member}
 use Rattle.logic.proofs.Sums.{naturals-additive, sum-ext, sum-times}
 use Rattle.logic.proofs.PathWeights.{total-ones}
 use Rattle.logic.proofs.Dictionary.{plan-count}
-use Rattle.equal.specs.Totals.{totals, grid, combined}
+use Rattle.equal.specs.promises.Totals.{totals, grid, combined}
 
 abbrev pub Up-to : ℕ → List ℕ → Type 0
 Up-to b l = (x : ℕ) → List·Memᴰ x l → x ≤ b

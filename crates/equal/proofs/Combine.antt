@@ -15,8 +15,8 @@ use Rattle.logic.specs.Limits.{multiply}
 use Rattle.logic.proofs.Members.{in-map}
 use Rattle.blocks.specs.Splice.{splice}
 use Rattle.blocks.proofs.Splice.{take-written}
-use Rattle.equal.specs.Totals.{part, joined, combined}
-use Rattle.equal.specs.Spread.{Joins}
+use Rattle.equal.specs.promises.Totals.{part, joined, combined}
+use Rattle.equal.specs.promises.Spread.{Joins}
 use Rattle.equal.proofs.Parts.{part-drop}
 use Rattle.equal.proofs.Grid.{length-grid}
 use Rattle.equal.proofs.Spans.{combined-right, combined-left, multiply-right, multiply-left}

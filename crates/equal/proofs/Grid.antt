@@ -7,7 +7,7 @@ use mathlib.Core.Path.{_≡_, refl, sym, ap, ap₂, _∙_, fun-ext}
 use mathlib.Core.List.{List, [], _∷_, _++_, map, flatMap, map-map, map-append, map-id, append-assoc, append-nil}
 use lib.ListN.{length, length-append, length-map}
 use Rattle.logic.specs.Limits.{multiply}
-use Rattle.equal.specs.Totals.{grid, combined}
+use Rattle.equal.specs.promises.Totals.{grid, combined}
 
 pub grid-append : (xs ys zs : List ℕ) → grid (xs ++ ys) zs ≡ grid xs zs ++ grid ys zs
 unfolding grid flatMap

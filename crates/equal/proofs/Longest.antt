@@ -8,7 +8,7 @@ use lib.ListN.{getD}
 use mathlib.Core.List.{List}
 use Rattle.blocks.specs.Bytes.{Bytes}
 use Rattle.models.specs.Layout.{outcome-of}
-use Rattle.equal.specs.Listing.{Longest}
+use Rattle.equal.specs.promises.Listing.{Longest}
 
 module _ {m : Bytes} {table : List ℕ} {s a o k best : ℕ} (L : Longest m table s a o k best) where
   abbrev pub size : ℕ → ℕ

@@ -9,7 +9,7 @@ use lib.ListN.{length, take, drop, getD, length-drop, length-take}
 use lib.Seq.{getD-drop, getD-take, take-suc}
 use Rattle.blocks.specs.Splice.{splice}
 use Rattle.blocks.proofs.Splice.{take-splice, drop-splice}
-use Rattle.equal.specs.Totals.{part}
+use Rattle.equal.specs.promises.Totals.{part}
 
 pub part-length : (l : List ℕ) (p n : ℕ) → p + n ≤ length l → length (part l p n) ≡ n
 unfolding part

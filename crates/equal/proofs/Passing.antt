@@ -18,10 +18,10 @@ use Rattle.blocks.specs.Bytes.{Bytes}
 use Rattle.models.specs.Layout.{action-count, model-of, entries}
 use Rattle.models.proofs.Passed.{passed-all}
 use Rattle.models.proofs.Held.{enabled-entries}
-use Rattle.equal.specs.Totals.{totals, combined, weighed}
-use Rattle.equal.specs.Room.{Room}
-use Rattle.evaluation.specs.Reached.{on-path}
-use Rattle.equal.specs.Listing.{Given, Here, Written}
+use Rattle.equal.specs.promises.Totals.{totals, combined, weighed}
+use Rattle.equal.specs.promises.Room.{Room}
+use Rattle.evaluation.specs.promises.Reached.{on-path}
+use Rattle.equal.specs.promises.Listing.{Given, Here, Written}
 use Rattle.equal.proofs.Totals.{totals-length, totals-step}
 use Rattle.equal.proofs.Grid.{combined-length}
 use Rattle.equal.proofs.Spans.{keep-no, flatMap-yes, sum-within}

@@ -4,7 +4,7 @@ use native.Mathlib.Nat.{le-trans, lt-of-not-le, lt-irrefl, lt-of-le-of-lt, le-of
 use native.Mathlib.Omega.{arith}
 use native.Mathlib.Decide.{decLe}
 use mathlib.Core.Path.{_≡_, refl, subst}
-use Rattle.equal.specs.Room.{Spare, nothing, roots, Room}
+use Rattle.equal.specs.promises.Room.{Spare, nothing, roots, Room}
 
 -- Fewer steps take no more.
 spare-less : {n root spare : ℕ} → Spare (suc n) root spare → (e : ℕ) × (e ≤ spare) × Spare n root e

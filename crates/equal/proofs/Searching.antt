@@ -8,14 +8,14 @@ use mathlib.Core.List.{List, []}
 use lib.IntN.{ℤ}
 use lib.ListN.{length, take, getD}
 use lib.Seq.{getD-take, length-take-le}
-use Rattle.logic.specs.Total.{value-of}
+use Rattle.logic.specs.promises.Total.{value-of}
 use Rattle.blocks.specs.Bytes.{Bytes}
 use Rattle.models.specs.Layout.{model-of}
-use Rattle.evaluation.specs.Path.{steps-of, state-after}
-use Rattle.evaluation.specs.Reached.{formula, root-of, on-path}
-use Rattle.evaluation.specs.Known.{Knows, Roomy}
-use Rattle.equal.specs.Totals.{totals}
-use Rattle.equal.specs.Listing.{Given, Here, Written, First}
+use Rattle.evaluation.specs.promises.Path.{steps-of, state-after}
+use Rattle.evaluation.specs.promises.Reached.{formula, root-of, on-path}
+use Rattle.evaluation.specs.promises.Known.{Knows, Roomy}
+use Rattle.equal.specs.promises.Totals.{totals}
+use Rattle.equal.specs.promises.Listing.{Given, Here, Written, First}
 
 module _ (buf : List ℕ) (len x : ℕ) (fits : len ≤ length buf) where
   -- None of the first i numbers is x.

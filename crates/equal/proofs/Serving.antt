@@ -9,8 +9,8 @@ use Rattle.logic.specs.Limits.{plan-total}
 use Rattle.blocks.specs.Bytes.{Bytes}
 use Rattle.models.specs.Layout.{model-of}
 use Rattle.models.proofs.Held.{states-held}
-use Rattle.limits.specs.Totals.{total, limit, Totals}
-use Rattle.equal.specs.Listing.{Counts}
+use Rattle.limits.specs.promises.Totals.{total, limit, Totals}
+use Rattle.equal.specs.promises.Listing.{Counts}
 
 pub counts-right : (m : Bytes) (table : List ℕ) → Totals true (model-of m) table → Counts m table
 unfolding total limit

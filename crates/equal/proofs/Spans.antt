@@ -9,7 +9,7 @@ use Rattle.logic.specs.Lists.{keep, count-from}
 use Rattle.logic.specs.Quantity.{naturals, sum}
 use Rattle.logic.specs.Limits.{multiply}
 use Rattle.logic.proofs.Sums.{naturals-additive, sum-append}
-use Rattle.equal.specs.Totals.{grid, combined}
+use Rattle.equal.specs.promises.Totals.{grid, combined}
 use Rattle.equal.proofs.Grid.{combined-append, combined-one}
 
 pub count-last : (k n : ℕ) → count-from k (suc n) ≡ count-from k n ++ ((k + n) ∷ [])

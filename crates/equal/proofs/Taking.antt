@@ -21,14 +21,14 @@ use Rattle.blocks.specs.Splice.{splice}
 use Rattle.models.specs.Layout.{state-count, pre-of, state-mask, post-count, model-of, entries, outcome-of}
 use Rattle.models.proofs.Laws.{entries-inside}
 use Rattle.models.proofs.Held.{states-held, denominator-held}
-use Rattle.evaluation.specs.Reached.{on-path}
+use Rattle.evaluation.specs.promises.Reached.{on-path}
 use Rattle.evaluation.proofs.Values.{one-if-small}
 use Rattle.evaluation.proofs.Trails.{fair}
 use Rattle.bounds.proofs.Powers.{power-le}
-use Rattle.equal.specs.Totals.{totals, part, joined, combined, weighed}
-use Rattle.equal.specs.Spread.{Shifts, Joins}
-use Rattle.equal.specs.Room.{Room}
-use Rattle.equal.specs.Listing.{Given, Here, Written, Longest, Grows}
+use Rattle.equal.specs.promises.Totals.{totals, part, joined, combined, weighed}
+use Rattle.equal.specs.promises.Spread.{Shifts, Joins}
+use Rattle.equal.specs.promises.Room.{Room}
+use Rattle.equal.specs.promises.Listing.{Given, Here, Written, Longest, Grows}
 use Rattle.equal.proofs.Parts.{part-length, part-drop}
 use Rattle.equal.proofs.Totals.{totals-length}
 use Rattle.equal.proofs.Grid.{combined-length, combined-one}

@@ -8,11 +8,11 @@ use Rattle.logic.specs.Model.{Model, Step, enabled, outcomes}
 use Rattle.logic.specs.Quantity.{naturals}
 use Rattle.logic.specs.Plan.{Plan, plans}
 use Rattle.logic.specs.Limits.{plan-total}
-use Rattle.logic.specs.Total.{total}
+use Rattle.logic.specs.promises.Total.{total}
 use Rattle.logic.proofs.Sums.{naturals-additive, sum-pairs, total-step}
 use Rattle.logic.proofs.Dictionary.{plan-count}
 use Rattle.logic.proofs.Members.{block}
-use Rattle.equal.specs.Totals.{totals, grid, combined, weighed}
+use Rattle.equal.specs.promises.Totals.{totals, grid, combined, weighed}
 
 map-flatMap : {A B C : Type 0} (g : B → C) (h : A → List B) (l : List A) → map g (flatMap h l) ≡ flatMap (λ a. map g (h a)) l
 unfolding flatMap

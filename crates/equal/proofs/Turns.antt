@@ -10,8 +10,8 @@ use lib.ListN.{length, drop, getD, set, replicate, length-map, length-drop, leng
 use lib.Seq.{drop-cons, drop-length}
 use Rattle.blocks.specs.Splice.{splice}
 use Rattle.blocks.proofs.Splice
-use Rattle.equal.specs.Totals.{part, grid, joined}
-use Rattle.equal.specs.Spread.{Shifts, Spreads, Joins}
+use Rattle.equal.specs.promises.Totals.{part, grid, joined}
+use Rattle.equal.specs.promises.Spread.{Shifts, Spreads, Joins}
 use Rattle.equal.proofs.Parts
 use Rattle.equal.proofs.Grid.{length-grid}
 

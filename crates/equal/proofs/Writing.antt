@@ -14,19 +14,19 @@ use Rattle.blocks.specs.Splice.{splice}
 use Rattle.blocks.proofs.Splice.{take-written}
 use Rattle.models.specs.Layout.{state-count, model-of, entries, outcome-of}
 use Rattle.models.proofs.Held.{states-held, denominator-held}
-use Rattle.models.specs.Used.{count-in}
+use Rattle.models.specs.promises.Used.{count-in}
 use Rattle.models.proofs.Readable.{readable}
 use Rattle.models.proofs.Table.{count-entries}
-use Rattle.evaluation.specs.Reached.{root-of, on-path}
-use Rattle.evaluation.specs.Learnt.{known}
-use Rattle.evaluation.specs.Known.{Knows, Offered, Stepped}
+use Rattle.evaluation.specs.promises.Reached.{root-of, on-path}
+use Rattle.evaluation.specs.promises.Learnt.{known}
+use Rattle.evaluation.specs.promises.Known.{Knows, Offered, Stepped}
 use Rattle.evaluation.proofs.Trails.{fair}
 use Rattle.evaluation.proofs.Values.{one-if-small}
 use Rattle.evaluation.proofs.Returning.{roomy-same, back-none, back-same, knows-back, state-back, step-back}
 use Rattle.evaluation.proofs.Stepping.{leaf-value, state-stepped, on-path-stepped}
-use Rattle.equal.specs.Totals.{totals}
-use Rattle.equal.specs.Room.{Room}
-use Rattle.equal.specs.Listing.{Given, Here, Written, Decides}
+use Rattle.equal.specs.promises.Totals.{totals}
+use Rattle.equal.specs.promises.Room.{Room}
+use Rattle.equal.specs.promises.Listing.{Given, Here, Written, Decides}
 use Rattle.equal.proofs.Totals.{totals-length}
 use Rattle.equal.proofs.Bounds.{totals-alike}
 use Rattle.equal.proofs.Accepting.{is-accepted, is-sized, denominator-small}

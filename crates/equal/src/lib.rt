@@ -2,11 +2,11 @@
 ghost use Prim.Native.Nat.{_+_, _≤_};
 ghost use lib.ListN.{length, take};
 ghost use Rattle.logic.specs.Limits.{plan-total};
-ghost use Rattle.logic.specs.Total.{value-of};
+ghost use Rattle.logic.specs.promises.Total.{value-of};
 ghost use Rattle.models.specs.Layout.{model-of};
-ghost use Rattle.evaluation.specs.Reached.{formula, root-of};
-ghost use Rattle.equal.specs.Totals.{totals};
-ghost use Rattle.equal.specs.Listing.{Given, First};
+ghost use Rattle.evaluation.specs.promises.Reached.{formula, root-of};
+ghost use Rattle.equal.specs.promises.Totals.{totals};
+ghost use Rattle.equal.specs.promises.Listing.{Given, First};
 
 mod lists;
 mod spread;

@@ -4,8 +4,8 @@ ghost use mathlib.Core.List.{map};
 ghost use Prim.Native.Nat.{_+_, _*_, _≤_};
 ghost use lib.ListN.{length, replicate};
 ghost use Rattle.blocks.specs.Splice.{splice};
-ghost use Rattle.equal.specs.Totals.{part, grid, joined};
-ghost use Rattle.equal.specs.Spread.{Shifts, Spreads, Joins};
+ghost use Rattle.equal.specs.promises.Totals.{part, grid, joined};
+ghost use Rattle.equal.specs.promises.Spread.{Shifts, Spreads, Joins};
 
 // Writes x + w * y at `to` for each of the numbers y at `from`.
 pub fn shift(buf: &mut [u64], from: usize, to: usize, count: usize, w: u64, x: u64)

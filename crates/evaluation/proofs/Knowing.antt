@@ -10,19 +10,19 @@ use lib.IntN.{ℤ, pos, _+ℤ_, +ℤ-idr}
 use lib.ListN.{length, getD, set, take, drop, length-append, length-drop}
 use lib.Seq.{take-all, take-length, take-append-le, drop-append-le, getD-set-same, getD-set-other}
 use Rattle.logic.specs.Formula.{depth}
-use Rattle.logic.specs.Total.{one-if, value-of}
+use Rattle.logic.specs.promises.Total.{one-if, value-of}
 use Rattle.logic.specs.Quantity.{sum}
 use Rattle.logic.proofs.Depth.{sat-same}
 use Rattle.logic.proofs.Tests.{getD-tabulate}
 use Rattle.blocks.specs.Bytes.{Bytes}
 use Rattle.models.specs.Layout.{state-count, action-count, prop-count, model-of}
 use Rattle.questions.specs.Layout.{formulas-of}
-use Rattle.questions.specs.Tables.{table}
+use Rattle.questions.specs.promises.Tables.{table}
 use Rattle.questions.proofs.Accepted as questions
-use Rattle.evaluation.specs.Path.{step-of, steps-of, state-after, Trail, gain-of}
-use Rattle.evaluation.specs.Reached.{formula, Reached, root-of, Ready}
-use Rattle.evaluation.specs.Learnt.{known, value-at, learn-node, learnt}
-use Rattle.evaluation.specs.Known.{Known, Gained, Knows}
+use Rattle.evaluation.specs.promises.Path.{step-of, steps-of, state-after, Trail, gain-of}
+use Rattle.evaluation.specs.promises.Reached.{formula, Reached, root-of, Ready}
+use Rattle.evaluation.specs.promises.Learnt.{known, value-at, learn-node, learnt}
+use Rattle.evaluation.specs.promises.Known.{Known, Gained, Knows}
 use Rattle.evaluation.proofs.Values.{learn-now, learn-later, learnt-more, learnt-length}
 use Rattle.evaluation.proofs.Trails.{steps-length, steps-append, trail-shorter}
 use Rattle.evaluation.proofs.Meaning.{gain-append, Needed, meaning, of-node}

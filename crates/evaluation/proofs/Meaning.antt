@@ -15,16 +15,16 @@ use lib.Seq.{take-all, drop-cons, getD-take}
 use Rattle.logic.specs.Model.{Step}
 use Rattle.logic.specs.Quantity.{integers, sum, related}
 use Rattle.logic.specs.Formula.{Formula, Node, does, next, sat, depth, relation}
-use Rattle.logic.specs.Total.{one-if, value-of}
+use Rattle.logic.specs.promises.Total.{one-if, value-of}
 use Rattle.blocks.specs.Bytes.{Bytes, byte}
 use Rattle.models.specs.Layout.{state-count, action-count, prop-count, outcome-of, model-of}
 use Rattle.questions.specs.Layout.{node-count, node-of}
 use Rattle.questions.proofs.Laws.{by-operator}
 use Rattle.questions.proofs.Accepted as questions
-use Rattle.evaluation.specs.Path.{step-of, steps-of, state-after, Trail, gain-of}
-use Rattle.evaluation.specs.Reached.{formula, Reached, under-not, and-left, and-right, under-next, reads-left, Earlier, root-of, Ready}
-use Rattle.evaluation.specs.Learnt.{known, gained, value-by, value-at}
-use Rattle.evaluation.specs.Known.{Known, Gained}
+use Rattle.evaluation.specs.promises.Path.{step-of, steps-of, state-after, Trail, gain-of}
+use Rattle.evaluation.specs.promises.Reached.{formula, Reached, under-not, and-left, and-right, under-next, reads-left, Earlier, root-of, Ready}
+use Rattle.evaluation.specs.promises.Learnt.{known, gained, value-by, value-at}
+use Rattle.evaluation.specs.promises.Known.{Known, Gained}
 use Rattle.evaluation.proofs.Integers.{rest-of-sum}
 use Rattle.evaluation.proofs.Values.{state-value, path-value}
 use Rattle.evaluation.proofs.Trails.{steps-length, steps-drop, state-next, used-at}

@@ -7,8 +7,8 @@ use lib.IntN.{ℤ}
 use lib.ListN.{length, take}
 use lib.Seq.{take-take, take-at}
 use Rattle.blocks.specs.Bytes.{Bytes}
-use Rattle.evaluation.specs.Path.{state-after}
-use Rattle.evaluation.specs.Known.{Knows, Roomy, Stepped, Back}
+use Rattle.evaluation.specs.promises.Path.{state-after}
+use Rattle.evaluation.specs.promises.Known.{Knows, Roomy, Stepped, Back}
 use Rattle.evaluation.proofs.Knowing.{knows-shorter}
 
 -- Buffers as long as before have the same room.

@@ -11,17 +11,17 @@ use lib.Seq.{take-suc-set, take-append-le, length-take-le}
 use Rattle.logic.specs.Model.{Step, true-of}
 use Rattle.blocks.specs.Bytes.{Bytes}
 use Rattle.models.specs.Layout.{state-count, action-count, pre-of, state-mask, post-count, entries, outcome-of, model-of}
-use Rattle.models.specs.Used.{Sized}
+use Rattle.models.specs.promises.Used.{Sized}
 use Rattle.models.proofs.Passed.{passed-all, passed-sized}
 use Rattle.models.proofs.Laws.{entries-inside}
 use Rattle.logic.specs.Formula.{depth}
 use Rattle.logic.specs.Quantity.{sum}
-use Rattle.logic.specs.Total.{one-if, value-of}
+use Rattle.logic.specs.promises.Total.{one-if, value-of}
 use Rattle.logic.proofs.Depth.{sat-same}
-use Rattle.evaluation.specs.Path.{step-of, steps-of, state-after, Trail, stop}
-use Rattle.evaluation.specs.Reached.{formula, root-of, on-path, itself, Ready}
-use Rattle.evaluation.specs.Learnt.{known, learnt}
-use Rattle.evaluation.specs.Known.{Known, Gained, Knows, Roomy, Offered, Stepped}
+use Rattle.evaluation.specs.promises.Path.{step-of, steps-of, state-after, Trail, stop}
+use Rattle.evaluation.specs.promises.Reached.{formula, root-of, on-path, itself, Ready}
+use Rattle.evaluation.specs.promises.Learnt.{known, learnt}
+use Rattle.evaluation.specs.promises.Known.{Known, Gained, Knows, Roomy, Offered, Stepped}
 use Rattle.evaluation.proofs.Trails.{fair, state-inside, trail-longer, state-append, steps-append, steps-length}
 use Rattle.evaluation.proofs.Knowing.{known-all, known-none, known-longer, gained-longer}
 

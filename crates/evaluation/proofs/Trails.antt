@@ -11,7 +11,7 @@ use lib.IntN.{ℤ, pos, negsuc}
 use lib.ListN.{length, getD, take, drop}
 use lib.Signed.{mag, leZ}
 use borrow.Author.Tests.{ltb-true, leb-true}
-use Rattle.logic.specs.Checked.{refusal}
+use Rattle.logic.specs.promises.Refusal.{refusal}
 use Rattle.logic.specs.Quantity.{sum}
 use Rattle.logic.proofs.Tests.{and-both}
 use Rattle.blocks.specs.Bytes.{Bytes, within}
@@ -19,7 +19,7 @@ use Rattle.models.specs.Layout.{state-count, action-count, entries, outcome-of}
 use Rattle.models.specs.Grounds.{outcome-in-range, read-model}
 use Rattle.models.proofs.Laws.{entries-past-actions}
 use Rattle.models.proofs.Passed.{passed-all, outcome-passed}
-use Rattle.evaluation.specs.Path.{step-of, steps-of, state-after, Trail, stop, move, gain-of}
+use Rattle.evaluation.specs.promises.Path.{step-of, steps-of, state-after, Trail, stop, move, gain-of}
 use Rattle.evaluation.proofs.Integers.{mag-add}
 
 module _ (m : Bytes) where

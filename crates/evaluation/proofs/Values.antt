@@ -10,10 +10,10 @@ use lib.Dec.{leb}
 use lib.ListN.{length, getD, set, take, length-set}
 use lib.Seq.{take-suc}
 use borrow.Author.Tests.{eq-eqb, ne-eqb, le-leb, lt-leb}
-use Rattle.logic.specs.Total.{one-if}
+use Rattle.logic.specs.promises.Total.{one-if}
 use Rattle.blocks.specs.Bytes.{Bytes, byte}
 use Rattle.questions.specs.Layout.{node-of}
-use Rattle.evaluation.specs.Learnt.{value-by, value-at, learn-node, learnt}
+use Rattle.evaluation.specs.promises.Learnt.{value-by, value-at, learn-node, learnt}
 
 -- A value is 0 or 1.
 pub one-if-small : (t : Bool) → one-if t ≤ 1

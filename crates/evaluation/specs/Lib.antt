@@ -1,4 +1,1 @@
-pub mod Path
-pub mod Reached
-pub mod Learnt
-pub mod Known
+pub mod promises

@@ -12,17 +12,17 @@ use lib.ListN.{length, getD, drop, set, length-append}
 use lib.Seq.{drop-drop, getD-drop}
 use Rattle.logic.specs.Lists.{keep, count-from, tabulate}
 use Rattle.logic.specs.Model.{Model, Step, outcomes}
-use Rattle.logic.specs.Extension.{first-choice}
+use Rattle.logic.specs.promises.Extension.{first-choice}
 use Rattle.logic.proofs.Tests.{tabulate-more, count-more, keep-append, keep-same}
 use Rattle.blocks.specs.Bytes.{Bytes}
 use Rattle.blocks.specs.Splice.{splice}
 use Rattle.blocks.proofs.Splice.{splice-none, splice-one, splice-behind}
 use Rattle.models.specs.Layout.{state-count, outcome-of, entries, model-of}
-use Rattle.models.specs.Readable.{Readable}
-use Rattle.models.specs.Used.{Used, count-in}
+use Rattle.models.specs.promises.Readable.{Readable}
+use Rattle.models.specs.promises.Used.{Used, count-in}
 use Rattle.models.proofs.Rows.{outcomes-are, enabled-are, entries-few}
 use Rattle.models.proofs.Table.{count-entries}
-use Rattle.extension.specs.Choices.{Run, each, choice-at, after-choice, extend, first-in, room, Ran}
+use Rattle.extension.specs.promises.Choices.{Run, each, choice-at, after-choice, extend, first-in, room, Ran}
 
 -- ---- runs
 

@@ -5,13 +5,13 @@ use mathlib.Core.List.{List}
 use Rattle.blocks.specs.Bytes.{Bytes}
 use Rattle.models.specs.Layout.{state-count, action-count, prop-count, model-of}
 use Rattle.questions.specs.Layout.{question-of}
-use Rattle.sharing.specs.Shared.{Shared}
-use Rattle.sharing.specs.Replaced.{Ordered}
+use Rattle.sharing.specs.promises.Shared.{Shared}
+use Rattle.sharing.specs.promises.Replaced.{Ordered}
 use Rattle.sharing.proofs.Nodes.{ordered}
 use Rattle.sharing.proofs.Judged.{same-verdict, same-limits}
-use Rattle.judging.specs.Asked.{Served}
+use Rattle.judging.specs.promises.Asked.{Served}
 use Rattle.judging.specs.declared.Outcome.{Outcome}
-use Rattle.judging.specs.Announced.{root-verdict, Announces}
+use Rattle.judging.specs.promises.Announced.{root-verdict, Announces}
 
 pub served-ordered : {m q : Bytes} → Served m q → Ordered q
 served-ordered {m} {q} h = ordered (state-count m) (action-count m) (prop-count m) q (h .question-accepted)

@@ -12,13 +12,13 @@ use lib.IntN.{pos}
 use lib.ListN.{drop, take-append-drop}
 use borrow.Author.Tests.{ltb-true, ltb-false}
 use Rattle.logic.specs.Formula.{Formula, never, prop, neg, both, does, next, gain, plan, depth, is-path, nonnegative, W}
-use Rattle.logic.specs.Quantity.{weights, order}
+use Rattle.logic.specs.promises.Orders.{weights, order}
 use Rattle.logic.specs.Checked.{ok}
 use Rattle.logic.specs.Plan.{Plan, choices}
 use Rattle.logic.specs.Choices.{plan-of}
 use Rattle.logic.specs.Limits.{plan-total}
 use Rattle.logic.specs.Order.{Is-plan}
-use Rattle.logic.specs.Total.{one-if, total, value-of}
+use Rattle.logic.specs.promises.Total.{one-if, total, value-of}
 use Rattle.logic.specs.Verdict.{Verdict, verdict}
 use Rattle.logic.specs.Verdict as verdicts
 use Rattle.logic.proofs.Best.{best-member}
@@ -28,22 +28,22 @@ use Rattle.blocks.specs.Bytes.{Bytes}
 use Rattle.blocks.specs.Splice.{splice}
 use Rattle.blocks.proofs.Splice.{splice-none}
 use Rattle.models.specs.Layout.{state-count, model-of}
-use Rattle.models.specs.Used.{Used}
+use Rattle.models.specs.promises.Used.{Used}
 use Rattle.questions.specs.Layout.{start-of, node-count, node-of, formulas-of, question-of}
-use Rattle.questions.specs.Tables.{table}
-use Rattle.limits.specs.Totals.{Totals}
-use Rattle.evaluation.specs.Reached.{formula, root-of}
-use Rattle.extension.specs.Choices.{extend}
+use Rattle.questions.specs.promises.Tables.{table}
+use Rattle.limits.specs.promises.Totals.{Totals}
+use Rattle.evaluation.specs.promises.Reached.{formula, root-of}
+use Rattle.extension.specs.promises.Choices.{extend}
 use Rattle.extension.proofs.Choices.{extend-choices}
 use Rattle.search.proofs.Orders.{ordered, additive}
-use Rattle.tables.specs.Need.{Given}
+use Rattle.tables.specs.promises.Need.{Given}
 use Rattle.tables.proofs.Marks.{given-question}
 use Rattle.judging.specs.declared.Outcome.{Outcome}
 use Rattle.judging.specs.declared.plans.Decision.{Decision}
-use Rattle.judging.specs.Asked.{Asked, Served}
-use Rattle.judging.specs.Truth.{Supplied}
-use Rattle.judging.specs.Decided.{condition, best, led-plan, plan-at, Posed, Decided}
-use Rattle.judging.specs.Announced.{root, root-verdict, told, shown-choices, Announces, Weighs}
+use Rattle.judging.specs.promises.Asked.{Asked, Served}
+use Rattle.judging.specs.promises.Truth.{Supplied}
+use Rattle.judging.specs.promises.Decided.{condition, best, led-plan, plan-at, Posed, Decided}
+use Rattle.judging.specs.promises.Announced.{root, root-verdict, told, shown-choices, Announces, Weighs}
 use Rattle.judging.proofs.Deciding.{shows, denies, plan-here, given-model, given-states, led-yes, led-no, equal-yes, equal-no, few-plans, led-met}
 
 -- ---- telling

@@ -13,13 +13,15 @@ use lib.IntN.{pos}
 use lib.ListN.{getD, length, length-map, List·getD-map}
 use borrow.Author.Tests.{eq-eqb, ne-eqb, leb-true, ltb-true, ltb-false}
 use Rattle.logic.specs.Lists.{every}
-use Rattle.logic.specs.Checked.{refusal, guard}
+use Rattle.logic.specs.Checked.{guard}
+use Rattle.logic.specs.promises.Refusal.{refusal}
 use Rattle.logic.specs.Model.{Model}
-use Rattle.logic.specs.Quantity.{naturals, reversed, Relation, less, equal, greater}
+use Rattle.logic.specs.Quantity.{naturals, Relation, less, equal, greater}
+use Rattle.logic.specs.promises.Orders.{reversed}
 use Rattle.logic.specs.Plan.{Plan, plans, paths, choices}
 use Rattle.logic.specs.Formula.{Formula, plan, Node, sat, W, meets, depth, relation, nonnegative}
-use Rattle.logic.specs.Total.{total, value-of}
-use Rattle.logic.specs.Extension.{first-plan}
+use Rattle.logic.specs.promises.Total.{total, value-of}
+use Rattle.logic.specs.promises.Extension.{first-plan}
 use Rattle.logic.specs.Verdict.{plan-goal, goal, shown, Verdict, announced, verdict, yes, no, yes-plan, is-equal}
 use Rattle.logic.specs.Accepted.{Accepted}
 use Rattle.logic.specs.Limits.{plan-total, every-plan, limits}
@@ -41,15 +43,15 @@ use Rattle.models.proofs.Laws.{at-least}
 use Rattle.questions.specs.Layout.{node-count, node-of, formulas-of}
 use Rattle.questions.proofs.Laws.{by-operator}
 use Rattle.questions.proofs.Accepted as questions
-use Rattle.limits.specs.Totals.{fits}
-use Rattle.limits.specs.Totals as totals
+use Rattle.limits.specs.promises.Totals.{fits}
+use Rattle.limits.specs.promises.Totals as totals
 use Rattle.limits.proofs.Nodes.{nodes-all, done}
-use Rattle.evaluation.specs.Reached.{formula}
-use Rattle.bounds.specs.Bounded.{Bounded, meets-at}
-use Rattle.tables.specs.Need.{Given}
+use Rattle.evaluation.specs.promises.Reached.{formula}
+use Rattle.bounds.specs.promises.Bounded.{Bounded, meets-at}
+use Rattle.tables.specs.promises.Need.{Given}
 use Rattle.tables.proofs.Marks.{given-question}
-use Rattle.judging.specs.Asked.{Asked}
-use Rattle.judging.specs.Decided.{led-weight, led-plan, plan-at, First, Led}
+use Rattle.judging.specs.promises.Asked.{Asked}
+use Rattle.judging.specs.promises.Decided.{led-weight, led-plan, plan-at, First, Led}
 use Rattle.judging.specs.declared.plans.Decision.{Decision}
 
 -- ---- verdicts by their parts

@@ -10,17 +10,17 @@ use lib.Dec.{eqb}
 use lib.ListN.{getD}
 use Rattle.logic.specs.Model.{Model, Step}
 use Rattle.logic.specs.Formula.{Formula, both, depth, sat}
-use Rattle.logic.specs.Total.{one-if, value-of}
+use Rattle.logic.specs.promises.Total.{one-if, value-of}
 use Rattle.logic.proofs.Depth.{sat-short}
 use Rattle.blocks.specs.Bytes.{Bytes}
 use Rattle.models.specs.Layout.{state-count, action-count, prop-count, model-of}
 use Rattle.questions.specs.Layout.{node-of, formulas-of}
-use Rattle.questions.specs.Tables.{table}
+use Rattle.questions.specs.promises.Tables.{table}
 use Rattle.questions.proofs.Accepted as questions
-use Rattle.evaluation.specs.Reached.{formula, Reached, itself, under-not, and-left, and-right, under-next}
+use Rattle.evaluation.specs.promises.Reached.{formula, Reached, itself, under-not, and-left, and-right, under-next}
 use Rattle.evaluation.proofs.Knowing.{depth-in}
-use Rattle.judging.specs.Truth.{Told}
-use Rattle.judging.specs.Conditions.{Stands, Same, Peels}
+use Rattle.judging.specs.promises.Truth.{Told}
+use Rattle.judging.specs.promises.Conditions.{Stands, Same, Peels}
 use Rattle.judging.specs.declared.conditions.Peeled.{Peeled}
 
 -- ---- what is reached

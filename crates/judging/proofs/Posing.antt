@@ -11,12 +11,12 @@ use lib.IntN.{ℤ}
 use lib.ListN.{getD, length, length-map}
 use lib.Pow.{pow-add}
 use borrow.Author.Tests.{le-ltb, eqb-true, eqb-false}
-use Rattle.logic.specs.Checked.{refusal}
+use Rattle.logic.specs.promises.Refusal.{refusal}
 use Rattle.logic.specs.Formula.{depth, sat, nonnegative}
 use Rattle.logic.specs.Quantity.{naturals}
 use Rattle.logic.specs.Plan.{plans, choices}
 use Rattle.logic.specs.Limits.{plan-total}
-use Rattle.logic.specs.Total.{total, value-of}
+use Rattle.logic.specs.promises.Total.{total, value-of}
 use Rattle.logic.proofs.Dictionary.{plan-count}
 use Rattle.blocks.specs.Bytes.{Bytes}
 use Rattle.models.specs.Layout.{state-count, action-count, prop-count, denominator-of, model-of}
@@ -24,25 +24,25 @@ use Rattle.models.specs.Grounds.{read-model}
 use Rattle.models.proofs.Passed.{passed-all, passed-sized}
 use Rattle.models.proofs.Held.{denominator-held}
 use Rattle.questions.specs.Layout.{node-count, node-of, formulas-of}
-use Rattle.questions.specs.Tables.{table}
+use Rattle.questions.specs.promises.Tables.{table}
 use Rattle.questions.proofs.Accepted as questions
-use Rattle.evaluation.specs.Reached.{formula, Cone, root-of, Ready}
-use Rattle.lanes.specs.Lanes.{Rewards, Sums}
-use Rattle.bounds.specs.Bounded.{Bounded, meets-at, Exactly}
+use Rattle.evaluation.specs.promises.Reached.{formula, Cone, root-of, Ready}
+use Rattle.lanes.specs.promises.Lanes.{Rewards, Sums}
+use Rattle.bounds.specs.promises.Bounded.{Bounded, meets-at, Exactly}
 use Rattle.bounds.proofs.Meeting.{small}
 use Rattle.bounds.proofs.Powers.{power-le}
 use Rattle.search.specs.declared.Found.{Found}
-use Rattle.equal.specs.Totals.{totals}
-use Rattle.equal.specs.Listing as listing
-use Rattle.tables.specs.Need.{Given}
+use Rattle.equal.specs.promises.Totals.{totals}
+use Rattle.equal.specs.promises.Listing as listing
+use Rattle.tables.specs.promises.Need.{Given}
 use Rattle.tables.proofs.Marks.{given-question}
 use Rattle.evaluation.proofs.Knowing.{depth-in}
-use Rattle.judging.specs.Asked.{Asked, Equipped}
-use Rattle.judging.specs.Truth.{Told}
+use Rattle.judging.specs.promises.Asked.{Asked, Equipped}
+use Rattle.judging.specs.promises.Truth.{Told}
 use Rattle.judging.specs.declared.plans.Decision.{Decision}
 use Rattle.judging.specs.declared.conditions.Peeled.{Peeled}
-use Rattle.judging.specs.Decided.{condition, best, Posed, Lengthened, Led, First, Placed}
-use Rattle.judging.specs.Conditions.{Stands, Same, Peels, best-total, Searched}
+use Rattle.judging.specs.promises.Decided.{condition, best, Posed, Lengthened, Led, First, Placed}
+use Rattle.judging.specs.promises.Conditions.{Stands, Same, Peels, best-total, Searched}
 use Rattle.judging.proofs.Deciding.{Planned, plan-bounded, plan-here, all-totals, first-led, never-led, led-decides, equal-truth}
 use Rattle.judging.proofs.Remembering.{same-best, never-best, best-small}
 use Rattle.judging.proofs.Remembering as remembering

@@ -8,28 +8,29 @@ use mathlib.Core.List.{List, [], _∷_}
 use lib.ListN.{getD, length, set, replicate, length-set, length-replicate, getD-replicate, List·getD-eq-default}
 use lib.Seq.{getD-set-same, getD-set-other}
 use Rattle.logic.specs.Model.{Step}
-use Rattle.logic.specs.Quantity.{sum, weights, order}
+use Rattle.logic.specs.Quantity.{sum}
+use Rattle.logic.specs.promises.Orders.{weights, order}
 use Rattle.logic.specs.Plan.{paths, weight, choices}
 use Rattle.logic.specs.Formula.{depth}
-use Rattle.logic.specs.Total.{total, one-if, value-of}
-use Rattle.logic.specs.Recursion.{greatest, best-plan}
+use Rattle.logic.specs.promises.Total.{total, one-if, value-of}
+use Rattle.logic.specs.promises.Recursion.{greatest, best-plan}
 use Rattle.logic.proofs.Recursion.{best-plan-total}
 use Rattle.blocks.specs.Bytes.{Bytes}
 use Rattle.models.specs.Layout.{state-count, denominator-of, model-of}
 use Rattle.models.proofs.Held.{denominator-held}
 use Rattle.questions.specs.Layout.{node-count, formulas-of}
-use Rattle.questions.specs.Tables.{table}
-use Rattle.evaluation.specs.Reached.{formula, Reached, Cone, root-of, Ready}
+use Rattle.questions.specs.promises.Tables.{table}
+use Rattle.evaluation.specs.promises.Reached.{formula, Reached, Cone, root-of, Ready}
 use Rattle.evaluation.proofs.Knowing.{depth-in}
 use Rattle.evaluation.proofs.Values.{one-if-small}
-use Rattle.tables.specs.Need.{Given}
+use Rattle.tables.specs.promises.Need.{Given}
 use Rattle.tables.proofs.Marks.{given-readable, given-question}
 use Rattle.search.specs.declared.Found.{Found}
-use Rattle.search.specs.Greatest.{Finds}
+use Rattle.search.specs.promises.Greatest.{Finds}
 use Rattle.search.proofs.Orders.{additive}
 use Rattle.search.proofs.Bounds.{greatest-small, value-small}
-use Rattle.judging.specs.Decided.{best}
-use Rattle.judging.specs.Conditions.{Stands, Same, best-total, Searched, memo-place, Remembers}
+use Rattle.judging.specs.promises.Decided.{best}
+use Rattle.judging.specs.promises.Conditions.{Stands, Same, best-total, Searched, memo-place, Remembers}
 use Rattle.judging.proofs.Deciding.{given-model, given-states}
 
 pub same-best : {m q truth : Bytes} {c s i : ℕ} (least : Bool) → Same m q truth c s i → best-total m q i s least ≡ best-total m q c s least

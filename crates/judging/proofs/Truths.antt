@@ -12,7 +12,7 @@ use lib.ListN.{getD, length, set}
 use lib.Seq.{getD-set-same, getD-set-other}
 use Rattle.logic.specs.Model.{prop-in}
 use Rattle.logic.specs.Formula.{Formula, sat, depth}
-use Rattle.logic.specs.Total.{one-if, value-of}
+use Rattle.logic.specs.promises.Total.{one-if, value-of}
 use Rattle.blocks.specs.Bytes.{Bytes}
 use Rattle.models.specs.Layout.{state-count, action-count, prop-count, state-mask, model-of}
 use Rattle.models.proofs.Laws.{sizes}
@@ -21,10 +21,10 @@ use Rattle.models.proofs.Held.{mask-held}
 use Rattle.questions.specs.Layout.{start-of, node-count, node-of}
 use Rattle.questions.proofs.Laws.{by-operator}
 use Rattle.questions.proofs.Accepted as questions
-use Rattle.evaluation.specs.Reached.{formula, Reached, itself, under-not, and-left, and-right, under-next}
+use Rattle.evaluation.specs.promises.Reached.{formula, Reached, itself, under-not, and-left, and-right, under-next}
 use Rattle.evaluation.proofs.Meaning.{flipped, joined}
-use Rattle.tables.specs.Need.{Given, Marked, Needs}
-use Rattle.judging.specs.Truth.{Told, Supplied, Right}
+use Rattle.tables.specs.promises.Need.{Given, Marked, Needs}
+use Rattle.judging.specs.promises.Truth.{Told, Supplied, Right}
 use Rattle.tables.proofs.Marks.{given-readable, given-question, first-inside, reached-marked}
 
 pub prop-held : (m : Bytes) (s i : ℕ) → s < state-count m → eqb (state-mask m s / 2 ^ i % 2) 1 ≡ prop-in (model-of m) s i

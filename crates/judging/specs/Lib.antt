@@ -1,5 +1,1 @@
-pub mod Asked
-pub mod Truth
-pub mod Decided
-pub mod Conditions
-pub mod Announced
+pub mod promises

@@ -14,7 +14,7 @@ use borrow.Author.Count.{below-more}
 use Rattle.blocks.specs.Bytes.{Bytes}
 use Rattle.models.specs.Layout.{state-count, action-count, outcome-of}
 use Rattle.evaluation.proofs.Integers.{widened, mag-add, difference-fits}
-use Rattle.lanes.specs.Lanes.{Rewarded, Rewards}
+use Rattle.lanes.specs.promises.Lanes.{Rewarded, Rewards}
 
 mag-sub : (x y : ℤ) → mag (x -ℤ y) ≤ mag x + mag y + 2
 mag-sub x (pos zero) = omega (arith, mag-add x (pos 0))

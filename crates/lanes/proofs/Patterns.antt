@@ -7,14 +7,14 @@ use mathlib.Core.List.{List}
 use lib.ListN.{length, getD, set}
 use lib.Seq.{getD-set-same, getD-set-other}
 use borrow.Author.Count.{below-more}
-use Rattle.logic.specs.Checked.{refusal}
+use Rattle.logic.specs.promises.Refusal.{refusal}
 use Rattle.blocks.specs.Bytes.{Bytes}
 use Rattle.blocks.specs.Block.{sum-below}
 use Rattle.models.specs.Grounds.{read-model}
 use Rattle.models.specs.Layout.{state-count, action-count, outcome-of, entries}
 use Rattle.models.proofs.Laws.{entries-small}
 use Rattle.models.proofs.Passed.{passed-all, passed-sized}
-use Rattle.lanes.specs.Lanes.{lane, weighed, Summed, Sums}
+use Rattle.lanes.specs.promises.Lanes.{lane, weighed, Summed, Sums}
 use Rattle.lanes.proofs.Words.{lane-shr}
 
 -- The four lowest lanes of a word are those of its remainder by 16.

@@ -8,7 +8,7 @@ use mathlib.Core.Logic.{⊎-elim}
 use lib.Dec.{eqb}
 use lib.ListN.{length}
 use borrow.Author.Tests.{eqb-true}
-use Rattle.logic.specs.Checked.{refusal}
+use Rattle.logic.specs.promises.Refusal.{refusal}
 use Rattle.logic.specs.Lists.{every}
 use Rattle.logic.proofs.Tests.{and-right, every-at}
 use Rattle.blocks.specs.Bytes.{Bytes, byte, zeros}

@@ -9,16 +9,16 @@ use mathlib.Core.Logic.{_⊎_, inl, inr, ⊎-elim}
 use lib.Bits.{bitXor, xor-shr, xor-mod}
 use lib.Dec.{eqb}
 use lib.Pow.{pow-pos, pow-mono, shr-shr}
-use Rattle.logic.specs.Checked.{refusal}
-use Rattle.logic.specs.Total.{one-if}
+use Rattle.logic.specs.promises.Refusal.{refusal}
+use Rattle.logic.specs.promises.Total.{one-if}
 use Rattle.blocks.specs.Bytes.{Bytes}
 use Rattle.models.specs.Grounds.{read-model}
 use Rattle.models.specs.Layout.{action-count, entries}
-use Rattle.models.specs.Used.{Sized}
+use Rattle.models.specs.promises.Used.{Sized}
 use Rattle.models.proofs.Laws.{entries-past-actions, entries-small}
 use Rattle.models.proofs.Passed.{passed-all, passed-sized}
 use Rattle.evaluation.proofs.Values.{one-if-small}
-use Rattle.lanes.specs.Lanes.{lane, Laned}
+use Rattle.lanes.specs.promises.Lanes.{lane, Laned}
 
 -- ---- lanes by halving
 

@@ -12,10 +12,10 @@ use lib.Seq.{getD-set-same, getD-set-other}
 use Rattle.logic.specs.Formula.{Node, depth}
 use Rattle.blocks.specs.Bytes.{Bytes}
 use Rattle.questions.specs.Layout.{node-count, node-of, formulas-of}
-use Rattle.questions.specs.Tables.{table}
-use Rattle.evaluation.specs.Reached.{formula, reads-left, Earlier, Cone, root-of}
+use Rattle.questions.specs.promises.Tables.{table}
+use Rattle.evaluation.specs.promises.Reached.{formula, reads-left, Earlier, Cone, root-of}
 use Rattle.evaluation.proofs.Knowing.{depth-in}
-use Rattle.last.specs.Late.{Passed-on, Late, Turns-on, Grown, Placed}
+use Rattle.last.specs.promises.Late.{Passed-on, Late, Turns-on, Grown, Placed}
 
 pub deep-in : (q : Bytes) (depths : List ℕ) → depths ≡ table depth (formulas-of q) → (j d : ℕ) → j < 40 → d ≡ getD depths j 0 → (d ≡ 0 → ⊥)
     → depth (formula q j) ≡ 0 → ⊥

@@ -12,22 +12,22 @@ use lib.ListN.{length, getD, set, take, drop, drop-of-length-le}
 use lib.Seq.{take-all, take-length, getD-set-same, getD-set-other, getD-append-seam}
 use Rattle.logic.specs.Formula.{Node, depth, sat, relation}
 use Rattle.logic.specs.Quantity.{integers, related}
-use Rattle.logic.specs.Total.{one-if, value-of}
+use Rattle.logic.specs.promises.Total.{one-if, value-of}
 use Rattle.blocks.specs.Bytes.{Bytes, byte}
 use Rattle.models.specs.Layout.{state-count, outcome-of, entries, model-of}
 use Rattle.models.proofs.Passed.{passed-all, passed-sized}
 use Rattle.questions.specs.Layout.{node-count, node-of}
-use Rattle.evaluation.specs.Path.{steps-of, state-after, Trail}
-use Rattle.evaluation.specs.Reached.{formula, Reached, itself, under-not, and-left, and-right, reads-left, Earlier, root-of}
-use Rattle.evaluation.specs.Learnt.{known, gained}
-use Rattle.evaluation.specs.Known.{Known, Gained, Offered}
+use Rattle.evaluation.specs.promises.Path.{steps-of, state-after, Trail}
+use Rattle.evaluation.specs.promises.Reached.{formula, Reached, itself, under-not, and-left, and-right, reads-left, Earlier, root-of}
+use Rattle.evaluation.specs.promises.Learnt.{known, gained}
+use Rattle.evaluation.specs.promises.Known.{Known, Gained, Offered}
 use Rattle.evaluation.proofs.Trails.{steps-length, steps-append}
 use Rattle.evaluation.proofs.Meaning.{not-level, not-means, and-level, and-means, do-level, do-means, next-level, next-needed, next-means, gain-means, by-path}
 use Rattle.evaluation.proofs.Knowing.{depth-is, cone-node, known-longer}
 use Rattle.evaluation.proofs.Stepping as stepping
-use Rattle.lanes.specs.Lanes.{lane, Lanes, Laned}
-use Rattle.last.specs.Late.{Passed-on}
-use Rattle.last.specs.Masks.{Before-last, Worded, Masked, Ended}
+use Rattle.lanes.specs.promises.Lanes.{lane, Lanes, Laned}
+use Rattle.last.specs.promises.Late.{Passed-on}
+use Rattle.last.specs.promises.Masks.{Before-last, Worded, Masked, Ended}
 
 -- A value is 1 where it is not 0.
 a-bit : (t : Bool) → one-if (not (eqb (one-if t) 0)) ≡ one-if t

@@ -1,2 +1,1 @@
-pub mod Late
-pub mod Masks
+pub mod promises

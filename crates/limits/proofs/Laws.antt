@@ -21,10 +21,10 @@ use Rattle.logic.proofs.Sums.{naturals-additive, sum-append, sum-ext}
 use Rattle.logic.proofs.Tests.{count-more, tabulate-more, keep-append}
 use Rattle.blocks.specs.Bytes.{Bytes}
 use Rattle.models.specs.Layout.{state-count, outcome-of, entries, model-of}
-use Rattle.models.specs.Readable.{Readable}
+use Rattle.models.specs.promises.Readable.{Readable}
 use Rattle.models.proofs.Held.{states-held, tabulate-member}
 use Rattle.models.proofs.Rows.{outcomes-are, enabled-are}
-use Rattle.limits.specs.Totals.{total, none, joined, gather, step-total, limit, cap, Totals}
+use Rattle.limits.specs.promises.Totals.{total, none, joined, gather, step-total, limit, cap, Totals}
 
 -- ---- the same up to a cap
 

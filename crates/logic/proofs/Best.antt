@@ -8,8 +8,9 @@ use mathlib.Core.List.{List, [], _∷_, _++_, map, flatMap, List·Memᴰ, List·
 use lib.Dec.{T, leb, leb→le, le→leb, nleb→lt, not-T, T-not}
 use native.Mathlib.Nat.{le-refl, le-trans, le-of-lt, not-le-of-lt, add-le-add, add-lt-add-of-lt-of-le, add-lt-add-of-le-of-lt, mul-le-mul-left, mul-lt-mul-of-pos-left}
 use Rattle.logic.specs.Lists.{product}
-use Rattle.logic.specs.Quantity.{Quantity, naturals, reversed}
-use Rattle.logic.specs.Recursion.{first-best}
+use Rattle.logic.specs.Quantity.{Quantity, naturals}
+use Rattle.logic.specs.promises.Orders.{reversed}
+use Rattle.logic.specs.promises.Recursion.{first-best}
 use Rattle.logic.proofs.Members.{map-member, flatMap-member}
 use Rattle.logic.proofs.Sums.{sum-pairs}
 

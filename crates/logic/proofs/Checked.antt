@@ -3,7 +3,8 @@ use Prim.Native.Nat.{ℕ, suc}
 use native.Mathlib.Omega.{arith}
 use mathlib.Core.Path.{_≡_, refl}
 use mathlib.Core.Bool.{Bool, true, false}
-use Rattle.logic.specs.Checked.{Checked, ok, refused, _>>=_, _>>_, guard, refusal}
+use Rattle.logic.specs.Checked.{Checked, ok, refused, _>>=_, _>>_, guard}
+use Rattle.logic.specs.promises.Refusal.{refusal}
 
 module _ {A : Type 0} where
   pub not-ok : {k : ℕ} {a : A} → refused k ≡ ok a → ⊥

@@ -8,7 +8,8 @@ use mathlib.Core.List.{List, [], _∷_, List·Memᴰ, List·Memᴰ·head, List·
 use lib.ListN.{length}
 use Rattle.logic.specs.Model.{Model, Step, enabled, outcomes}
 use Rattle.logic.specs.Quantity.{naturals}
-use Rattle.logic.specs.Limits.{Path-from, stop, move, all-paths, path-total}
+use Rattle.logic.specs.Limits.{path-total}
+use Rattle.logic.specs.promises.Paths.{Path-from, stop, move, all-paths}
 use Rattle.logic.specs.Order.{Rising}
 use Rattle.logic.specs.Accepted.{Accepted, Executable}
 use Rattle.logic.proofs.Members.{flatMap-member, in-flatMap}

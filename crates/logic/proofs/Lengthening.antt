@@ -12,11 +12,12 @@ use lib.ListN.{length, getD, take}
 use Rattle.logic.specs.Lists.{join}
 use Rattle.logic.specs.Model.{Model, Step, enabled, outcomes}
 use Rattle.logic.specs.Plan.{Plan}
-use Rattle.logic.specs.Quantity.{naturals, sum, weights, order}
-use Rattle.logic.specs.Total.{one-if, value-of}
+use Rattle.logic.specs.Quantity.{naturals, sum}
+use Rattle.logic.specs.promises.Orders.{weights, order}
+use Rattle.logic.specs.promises.Total.{one-if, value-of}
 use Rattle.logic.specs.Formula.{Formula, depth}
-use Rattle.logic.specs.Recursion.{first-best, best-choice, greatest, best-plan}
-use Rattle.logic.specs.Extension.{first-choice, first-plan, extended}
+use Rattle.logic.specs.promises.Recursion.{first-best, best-choice, greatest, best-plan}
+use Rattle.logic.specs.promises.Extension.{first-choice, first-plan, extended}
 use Rattle.logic.specs.Accepted.{Accepted, Executable}
 use Rattle.logic.proofs.Tests.{T→true, true→T, same-test}
 use Rattle.logic.proofs.Depth.{sat-short}

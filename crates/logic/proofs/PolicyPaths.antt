@@ -8,7 +8,8 @@ use mathlib.Core.List.{List, [], _∷_, _++_, List·Memᴰ, List·Memᴰ·head, 
 use lib.ListN.{length, length-append}
 use Rattle.logic.specs.Model.{Model, Step, enabled, outcomes}
 use Rattle.logic.specs.Order.{Rising}
-use Rattle.logic.specs.Policy.{last, Policy, Follows, stop, move, policy-paths}
+use Rattle.logic.specs.Policy.{last, Policy, policy-paths}
+use Rattle.logic.specs.promises.Follows.{Follows, stop, move}
 use Rattle.logic.specs.Accepted.{Accepted, Executable}
 use Rattle.logic.proofs.Rising.{rising-one}
 use Rattle.logic.proofs.Steps.{Differ, first-member, in-first, first-once}

@@ -7,10 +7,11 @@ use mathlib.Core.Option.{none, some}
 use lib.ListN.{length, getD}
 use Rattle.logic.specs.Model.{Model}
 use Rattle.logic.specs.Plan.{Plan, plans, paths}
-use Rattle.logic.specs.Quantity.{naturals, reversed, less, equal, greater, related}
-use Rattle.logic.specs.Total.{total, value-of}
+use Rattle.logic.specs.Quantity.{naturals, less, equal, greater, related}
+use Rattle.logic.specs.promises.Orders.{reversed}
+use Rattle.logic.specs.promises.Total.{total, value-of}
 use Rattle.logic.specs.Formula.{Formula, W, meets}
-use Rattle.logic.specs.Recursion.{best-plan}
+use Rattle.logic.specs.promises.Recursion.{best-plan}
 use Rattle.logic.specs.Verdict.{leads, plan-goal, shown}
 use Rattle.logic.specs.Accepted.{Accepted}
 use Rattle.logic.proofs.Tests.{find-at, find-nowhere}

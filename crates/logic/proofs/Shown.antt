@@ -10,11 +10,12 @@ use lib.Dec.{not-T, T-not}
 use Rattle.logic.specs.Lists.{all, find}
 use Rattle.logic.specs.Model.{Model, Step}
 use Rattle.logic.specs.Plan.{Plan, plans}
-use Rattle.logic.specs.Quantity.{Quantity, naturals, reversed, Relation, less, equal, greater, related}
+use Rattle.logic.specs.Quantity.{Quantity, naturals, Relation, less, equal, greater, related}
+use Rattle.logic.specs.promises.Orders.{reversed}
 use Rattle.logic.specs.Checked.{ok}
 use Rattle.logic.specs.Formula.{meets, W, sat, Formula, never, prop, neg, both, does, next, gain, plan}
 use Rattle.logic.specs.Verdict.{leads, Goal, plan-goal, goal, shown}
-use Rattle.logic.specs.Recursion.{first-best}
+use Rattle.logic.specs.promises.Recursion.{first-best}
 use Rattle.logic.proofs.Tests.{T→true, true→T, and-left, and-right, not-true, all-true, all-at, find-sound, find-there, find-none, any-some, any-there}
 use Rattle.logic.proofs.Best.{Ordered, naturals-ordered, reversed-ordered, Le, Lt, Best, here, later, first-best-is, best-le, best-member}
 use Rattle.logic.proofs.Checked.{not-ok, ok-same}

@@ -16,20 +16,10 @@ abbrev pub _>>_ : {A B : Type 0} → Checked A → Checked B → Checked B
 ok a >> c = c
 refused k >> c = refused k
 
--- What is held, or refusal k.
-abbrev pub held : {A : Type 0} → ℕ → Option A → Checked A
-held k none = refused k
-held k (some a) = ok a
-
 -- Refusal k unless the test passes.
 abbrev pub guard : ℕ → Bool → Checked (Unit {0})
 guard k true = ok tt
 guard k false = refused k
-
--- The number of a refusal; 0 for a value.
-abbrev pub refusal : {A : Type 0} → Checked A → ℕ
-refusal (ok a) = 0
-refusal (refused k) = k
 
 -- What was read, if it was not refused.
 unfoldable pub got : {A : Type 0} → Checked A → Option A

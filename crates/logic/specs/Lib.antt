@@ -11,7 +11,5 @@ pub mod Verdict
 pub mod Limits
 pub mod Choices
 pub mod TwoShelf
-pub mod Total
-pub mod Recursion
 pub mod Accepted
-pub mod Extension
+pub mod promises

@@ -2,29 +2,18 @@
 -- state". That they count paths and plans is proved (`Counting`, `Dictionary`).
 use Prim.Native.Nat.{ℕ, zero, suc, _*_}
 use mathlib.Core.Bool.{Bool, true, not, _||_}
-use mathlib.Core.List.{List, [], _∷_, map, flatMap, List·Memᴰ}
+use mathlib.Core.List.{List, [], _∷_}
 use lib.Dec.{leb}
 use lib.ListN.{length}
 use Rattle.logic.specs.Lists.{all, every}
 use Rattle.logic.specs.Checked.{Checked}
 use Rattle.logic.specs.Grounds.{Ground, _unless_, decided}
-use Rattle.logic.specs.Model.{Model, Step, enabled, outcomes}
+use Rattle.logic.specs.Model.{Model, enabled, outcomes}
 use Rattle.logic.specs.Quantity.{naturals, sum, Relation}
 use Rattle.logic.specs.Formula.{Formula, on-plan}
 use Rattle.logic.specs.Verdict.{is-equal}
 
--- The steps r are a path from s: each is an outcome of an enabled choice in the state reached. Definition 10 of source document 000,
--- without its first state.
-pub data Path-from (m : Model) : ℕ → List Step → Type 0 where
-  stop : {s : ℕ} → Path-from m s []
-  move : {s a : ℕ} {o : Step} {r : List Step}
-      → List·Memᴰ a (enabled m s) → List·Memᴰ o (outcomes m s a) → Path-from m (o .target) r → Path-from m s (o ∷ r)
-
--- The n-step paths under all enabled choices, and their number. That they are just these, each once, is proved (`Counting`).
-unfoldable pub all-paths : Model → ℕ → ℕ → List (List Step)
-all-paths m zero s = [] ∷ []
-all-paths m (suc n) s = flatMap (λ a. flatMap (λ o. map (λ r. o ∷ r) (all-paths m n (o .target))) (outcomes m s a)) (enabled m s)
-
+-- The number of n-step paths under all enabled choices.
 unfoldable pub path-total : Model → ℕ → ℕ → ℕ
 path-total m zero s = 1
 path-total m (suc n) s = sum naturals (λ a. sum naturals (λ o. path-total m n (o .target)) (outcomes m s a)) (enabled m s)

@@ -19,13 +19,7 @@ pub record Policy (m : Model) (n s : ℕ) : Type 0 where
   pub act : List ℕ → ℕ
   pub executable : (h : List ℕ) → length h < n → ((t : ℕ) → List·Memᴰ t h → t < length (m .states)) → List·Memᴰ (act (s ∷ h)) (enabled m (last s h))
 
--- The steps r go on from the history h, which ends in s, by the policy: each action is the policy's for the states so far.
-pub data Follows (m : Model) (act : List ℕ → ℕ) : List ℕ → ℕ → List Step → Type 0 where
-  stop : {h : List ℕ} {s : ℕ} → Follows m act h s []
-  move : {h : List ℕ} {s : ℕ} {o : Step} {r : List Step}
-      → List·Memᴰ o (outcomes m s (act h)) → Follows m act (h ++ (o .target ∷ [])) (o .target) r → Follows m act h s (o ∷ r)
-
--- Those of n steps, listed: Paths of Definition 2, without the sequences of chance 0. That they are just these, each once, is proved
+-- The paths of n steps by a policy, listed: Paths of Definition 2, without the sequences of chance 0. That they are just these, each once, is proved
 -- (`PolicyPaths`); that plans and policies have the same paths, in `Policies`.
 unfoldable pub policy-paths : Model → (List ℕ → ℕ) → ℕ → List ℕ → ℕ → List (List Step)
 policy-paths m act zero h s = [] ∷ []

@@ -20,10 +20,6 @@ naturals = record { Value = ℕ; none = 0; plus = _+_; times = _*_; at-most = le
 abbrev pub integers : Quantity
 integers = record { Value = ℤ; none = pos 0; plus = _+ℤ_; times = λ k v. pos k *ℤ v; at-most = leZ }
 
--- The same numbers in the opposite order: a least value is a greatest one of these.
-abbrev pub reversed : Quantity → Quantity
-reversed Q = record { Value = Q .Value; none = Q .none; plus = Q .plus; times = Q .times; at-most = λ a b. Q .at-most b a }
-
 unfoldable pub sum : (Q : Quantity) {A : Type 0} → (A → Q .Value) → List A → Q .Value
 sum Q f [] = Q .none
 sum Q f (x ∷ xs) = Q .plus (f x) (sum Q f xs)
@@ -36,12 +32,3 @@ unfoldable pub related : (Q : Quantity) → Relation → Q .Value → Q .Value �
 related Q less a b = not (Q .at-most b a)
 related Q equal a b = Q .at-most a b && Q .at-most b a
 related Q greater a b = not (Q .at-most a b)
-
--- Weights under an order of their own.
-abbrev pub weights : (ℕ → ℕ → Bool) → Quantity
-weights le = record { Value = ℕ; none = 0; plus = _+_; times = _*_; at-most = le }
-
--- The order in which the greatest weight leads, or with `least` true the least one.
-abbrev pub order : (least : Bool) → ℕ → ℕ → Bool
-order true a b = leb b a
-order false a b = leb a b

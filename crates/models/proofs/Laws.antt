@@ -21,7 +21,7 @@ use Rattle.blocks.specs.Bytes.{Bytes, within}
 use Rattle.blocks.specs.Block.{block-count, whole-blocks}
 use Rattle.models.specs.Layout.{state-count, action-count, prop-count, denominator-of, state-mask, pre-of, post-count, cell-at, entries}
 use Rattle.models.specs.Grounds.{sizes-right, mask-in-range, literals-in-range, action-in-range, fields-right, cell-in-range, cell-consistent}
-use Rattle.models.specs.Used.{Sized}
+use Rattle.models.specs.promises.Used.{Sized}
 
 module _ (f : ℕ → Bool) (i : ℕ) {r t : Bool} where
   pub every-more : r ≡ every i f → t ≡ f i → (r && t) ≡ every (i + 1) f

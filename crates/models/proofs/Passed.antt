@@ -3,7 +3,8 @@ use Prim.Native.Nat.{ℕ, _<_, _≤_}
 use mathlib.Core.Path.{_≡_, refl}
 use mathlib.Core.Bool.{true, _&&_}
 use Rattle.logic.specs.Lists.{every, some-below}
-use Rattle.logic.specs.Checked.{ok, refusal}
+use Rattle.logic.specs.Checked.{ok}
+use Rattle.logic.specs.promises.Refusal.{refusal}
 use Rattle.logic.specs.Model.{true-of}
 use Rattle.logic.proofs.Checked.{guard-passed}
 use Rattle.logic.proofs.Tests.{and-both, every-at}
@@ -11,7 +12,7 @@ use Rattle.blocks.specs.Bytes.{Bytes, within}
 use Rattle.blocks.specs.Block.{whole-blocks, sums-right}
 use Rattle.models.specs.Layout.{state-count, action-count, pre-of, state-mask, post-count, outcome-of, entries, model-of}
 use Rattle.models.specs.Grounds.{kinds-right, sizes-right, mask-in-range, literals-in-range, action-in-range, outcome-in-range, cell-in-range, fields-right, head-spare, rows-spare, cells-spare, posts-contradict, cell-consistent, consistent, no-dead-ends, read-model}
-use Rattle.models.specs.Used.{Sized}
+use Rattle.models.specs.promises.Used.{Sized}
 use Rattle.models.proofs.Laws.{sized, at-least}
 
 pub record Passed (b : Bytes) : Type 0 where

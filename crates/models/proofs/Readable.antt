@@ -8,13 +8,13 @@ use lib.Dec.{ltb}
 use lib.IntN.{negsuc}
 use lib.Signed.{leZ}
 use borrow.Author.Tests.{ltb-true}
-use Rattle.logic.specs.Checked.{refusal}
+use Rattle.logic.specs.promises.Refusal.{refusal}
 use Rattle.logic.specs.Model.{Step}
 use Rattle.logic.proofs.Tests.{and-left}
 use Rattle.blocks.specs.Bytes.{Bytes, within}
 use Rattle.models.specs.Layout.{state-count, action-count, outcome-of, entries}
 use Rattle.models.specs.Grounds.{outcome-in-range, read-model}
-use Rattle.models.specs.Readable.{Readable}
+use Rattle.models.specs.promises.Readable.{Readable}
 use Rattle.models.proofs.Laws.{entries-past-states, entries-past-actions}
 use Rattle.models.proofs.Passed.{Passed, passed-all, passed-sized, some-post, outcome-passed}
 

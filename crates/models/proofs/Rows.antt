@@ -15,7 +15,7 @@ use Rattle.logic.specs.Model.{Model, Step, true-of, mask, enabled, outcomes, no
 use Rattle.logic.proofs.Tests.{length-tabulate, getD-tabulate, counted-range, count-more, keep-append, keep-same}
 use Rattle.blocks.specs.Bytes.{Bytes}
 use Rattle.models.specs.Layout.{state-count, action-count, state-mask, pre-of, post-count, outcome-of, entries, model-of}
-use Rattle.models.specs.Readable.{Readable}
+use Rattle.models.specs.promises.Readable.{Readable}
 use Rattle.models.proofs.Laws.{entries-past-states, entries-past-actions, entries-inside}
 
 -- Beyond the actions nothing is kept.

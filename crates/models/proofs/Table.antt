@@ -9,8 +9,8 @@ use lib.ListN.{getD}
 use borrow.Author.Tests.{lt-ltb, le-ltb}
 use Rattle.blocks.specs.Bytes.{Bytes}
 use Rattle.models.specs.Layout.{state-count, entries}
-use Rattle.models.specs.Readable.{Readable}
-use Rattle.models.specs.Used.{Used, count-in}
+use Rattle.models.specs.promises.Readable.{Readable}
+use Rattle.models.specs.promises.Used.{Used, count-in}
 use Rattle.models.proofs.Laws.{entries-past-actions}
 
 pub used-at : (m : Bytes) {used : List ℕ} → Used m used → (s a : ℕ) → s < 32 → a < 8 → getD used (8 * s + a) 0 ≡ entries m s a

@@ -1,4 +1,3 @@
 pub mod Layout
 pub mod Grounds
-pub mod Used
-pub mod Readable
+pub mod promises

@@ -9,7 +9,7 @@ ghost use Rattle.blocks.specs.Block.{sum-below};
 ghost use Rattle.models.specs.Layout.{literals, state-count, action-count, state-mask, pre-of, post-of, outcome-of, entries};
 ghost use Rattle.models.specs.Grounds.{posts-contradict, cell-consistent, no-dead-ends};
 ghost use Rattle.models.specs.Grounds as grounds;
-ghost use Rattle.models.specs.Used.{Used};
+ghost use Rattle.models.specs.promises.Used.{Used};
 use crate::holds;
 use crate::post_count;
 use crate::state_mask;

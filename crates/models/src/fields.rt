@@ -6,7 +6,7 @@ ghost use lib.Dec.{ltb};
 ghost use Rattle.logic.specs.Lists.{every};
 ghost use Rattle.models.specs.Layout.{literals, state-count, prop-count, action-count, state-mask, post-of, outcome-of, entries};
 ghost use Rattle.models.specs.Grounds.{mask-in-range, literals-in-range, action-in-range, outcome-in-range, cell-in-range, sizes-right, fields-right};
-ghost use Rattle.models.specs.Used.{Used};
+ghost use Rattle.models.specs.promises.Used.{Used};
 use crate::post_count;
 use crate::reward;
 use crate::state_mask;

@@ -3,12 +3,12 @@ ghost use mathlib.Core.Path.{_≡_};
 ghost use Prim.Native.Nat.{_+_, _*_, _<_, _≤_};
 ghost use mathlib.Core.Bool.{true};
 ghost use Rattle.logic.specs.Model.{true-of};
-ghost use Rattle.logic.specs.Checked.{refusal};
+ghost use Rattle.logic.specs.promises.Refusal.{refusal};
 ghost use Rattle.blocks.specs.Block.{whole-blocks};
 ghost use Rattle.models.specs.Layout.{literals, state-mask, post-count, cell-at, outcome-of};
 ghost use Rattle.models.specs.Layout as layout;
 ghost use Rattle.models.specs.Grounds.{kinds-right, sizes-right, read-model};
-ghost use Rattle.models.specs.Used.{Used, count-in};
+ghost use Rattle.models.specs.promises.Used.{Used, count-in};
 
 mod consistent;
 mod fields;

@@ -6,7 +6,7 @@ ghost use Rattle.logic.specs.Lists.{every};
 ghost use lib.ListN.{length};
 ghost use Rattle.models.specs.Layout.{action-count, cell-at, entries, post-count};
 ghost use Rattle.models.specs.Grounds.{action-spare, head-spare, row-spare, rows-spare, cell-spare, cells-spare};
-ghost use Rattle.models.specs.Used.{Used, Sized};
+ghost use Rattle.models.specs.promises.Used.{Used, Sized};
 use crate::outcome_at;
 use crate::post_count;
 use crate::widened;

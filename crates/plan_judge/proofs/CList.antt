@@ -23,8 +23,8 @@ use Rattle.calls.specs.CCall.{told, c-call}
 use Rattle.calls.specs.promises.Chains.{do-put, do-judge, do-write, answered, by-chain}
 use Rattle.calls.proofs.Histories.{settled, next}
 use Rattle.calls.proofs.Lists.{empty, with-model, with-question, after-none, after-more, reply-is}
-use Rattle.plan_judge.specs.CChain.{Told, told-of, told-on, c-chain, c-number, c-buffer}
-use Rattle.plan_judge.specs.CSteps.{told-write}
+use Rattle.plan_judge.specs.promises.CChain.{Told, told-of, told-on, c-chain, c-number, c-buffer}
+use Rattle.plan_judge.specs.promises.CSteps.{told-write}
 use Rattle.plan_judge.proofs.CSteps.{shown-written}
 
 module _ (found : Bytes) where

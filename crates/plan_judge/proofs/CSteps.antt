@@ -9,7 +9,8 @@ use mathlib.Core.Option.{Option, none, some}
 use lib.Dec.{leb}
 use lib.IntN.{ℤ}
 use lib.ListN.{length, drop}
-use Rattle.logic.specs.Checked.{Checked, ok, refused, _>>=_, _>>_, held, guard}
+use Rattle.logic.specs.Checked.{Checked, ok, refused, _>>=_, _>>_, guard}
+use Rattle.logic.specs.promises.Refusal.{held}
 use Rattle.logic.specs.Model.{Model}
 use Rattle.logic.specs.Plan.{Plan}
 use Rattle.logic.specs.Formula.{Formula, nonnegative, sat}
@@ -36,9 +37,9 @@ use Rattle.plan_judge.specs.declared.Judging.{Judging}
 use Rattle.plan_judge.specs.declared.Written.{Written}
 use Rattle.plan_judge.specs.declared.Written.the-variants.{Bytes as Filled}
 use Rattle.plan_judge.specs.View.{view}
-use Rattle.plan_judge.specs.Values.{taking, holding, loaded-by, asking, put-by, verdict-code, settling, judging, judged-by, writing, written-by, filling, filled-by}
-use Rattle.plan_judge.specs.CChain.{Told, told-of, told-on, c-chain, Tells}
-use Rattle.plan_judge.specs.CSteps.{told-put, told-judge, told-write}
+use Rattle.plan_judge.specs.promises.Values.{taking, holding, loaded-by, asking, put-by, verdict-code, settling, judging, judged-by, writing, written-by, filling, filled-by}
+use Rattle.plan_judge.specs.promises.CChain.{Told, told-of, told-on, c-chain, Tells}
+use Rattle.plan_judge.specs.promises.CSteps.{told-put, told-judge, told-write}
 use Rattle.plan_judge.proofs.Kept.{view-holding, view-asking, view-settling}
 use Rattle.plan_judge.proofs.Listed.{few}
 

@@ -9,7 +9,8 @@ use lib.IntN.{ℤ, pos}
 use lib.ListN.{take, drop}
 use lib.Seq.{take-append-seam}
 use borrow.Author.Tests.{le-leb, leb-true}
-use Rattle.logic.specs.Checked.{Checked, ok, refused, refusal, _>>=_, _>>_, guard}
+use Rattle.logic.specs.Checked.{Checked, ok, refused, _>>=_, _>>_, guard}
+use Rattle.logic.specs.promises.Refusal.{refusal}
 use Rattle.logic.specs.Model.{Model}
 use Rattle.logic.specs.Plan.{Plan}
 use Rattle.logic.specs.Formula.{W}
@@ -22,19 +23,19 @@ use Rattle.questions.specs.Layout.{Question, start-of, node-count, node-of, que
 use Rattle.questions.proofs.Accepted.{accepted}
 use Rattle.sheets.specs.Layout.{Sheet, weight-of, sheet-of}
 use Rattle.sheets.specs.Grounds.{read-sheet}
-use Rattle.sheets.specs.Reader.{Blocks, Gathered}
+use Rattle.sheets.specs.promises.Reader.{Blocks, Gathered}
 use Rattle.sheets.proofs.Laws.{sheet-passed}
 use Rattle.calls.specs.Calls.{Report, same, reported}
 use Rattle.calls.specs.promises.Chains.{check-on, do-check}
-use Rattle.bounds.specs.Bounded.{Bounded, meets-at}
+use Rattle.bounds.specs.promises.Bounded.{Bounded, meets-at}
 use Rattle.weighing.proofs.Plans.{plan-there, weight-most}
-use Rattle.judging.specs.Asked.{Served}
-use Rattle.judging.specs.Announced.{Weighs}
+use Rattle.judging.specs.promises.Asked.{Served}
+use Rattle.judging.specs.promises.Announced.{Weighs}
 use Rattle.plan_judge.specs.declared.Desk.{Desk}
 use Rattle.plan_judge.specs.declared.Checking.the-variants.{Accepted, Refused}
 use Rattle.plan_judge.specs.View.{view}
-use Rattle.plan_judge.specs.Values.{checking, checked-by}
-use Rattle.plan_judge.specs.State.{held-goal, PlanRoot, plan-on}
+use Rattle.plan_judge.specs.promises.Values.{checking, checked-by}
+use Rattle.plan_judge.specs.promises.State.{held-goal, PlanRoot, plan-on}
 use Rattle.plan_judge.proofs.Returns.{said-bytes}
 use Rattle.plan_judge.proofs.Grounds.{bind-refused, bind-passed, then-refused, limits-passed, both-asked, both-held, both-passed, goal-refused, root-node, condition, asked-goal, goal-is}
 

@@ -15,7 +15,7 @@ use Rattle.calls.specs.promises.Chains.{do-put, do-judge, answered, by-chain}
 use Rattle.calls.proofs.Described.{yields-is, refuse-listed}
 use Rattle.plan_judge.specs.declared.Desk.{Desk}
 use Rattle.plan_judge.specs.View.{view}
-use Rattle.plan_judge.specs.Values.{taking, holding, loaded-by, asking, put-by, judging, judged-by}
+use Rattle.plan_judge.specs.promises.Values.{taking, holding, loaded-by, asking, put-by, judging, judged-by}
 use Rattle.plan_judge.specs.promises.Session.{step}
 use Rattle.plan_judge.proofs.Kept.{replies}
 use Rattle.plan_judge.proofs.Claims.Ran.{Answered}

@@ -13,7 +13,7 @@ use Rattle.plan_judge.specs.declared.Judging.{Judging}
 use Rattle.plan_judge.specs.declared.Written.{Written}
 use Rattle.plan_judge.specs.declared.Checking.{Checking}
 use Rattle.plan_judge.specs.View.{view}
-use Rattle.plan_judge.specs.Values.{nothing, loaded-by, put-by, judged-by, written-by, filled-by, checked-by}
+use Rattle.plan_judge.specs.promises.Values.{nothing, loaded-by, put-by, judged-by, written-by, filled-by, checked-by}
 use Rattle.plan_judge.specs.Said.{said-taken, said-judgement, said-written, said-checking}
 use Rattle.plan_judge.specs.promises.Session.{asked, step, desk-after}
 use Rattle.calls.specs.Replies.{replies-after, replies-to}

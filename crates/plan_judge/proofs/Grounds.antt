@@ -8,7 +8,8 @@ use mathlib.Core.Option.{Option, none, some}
 use lib.Dec.{eqb, leb}
 use lib.ListN.{getD}
 use borrow.Author.Tests.{eqb-true, eqb-false}
-use Rattle.logic.specs.Checked.{Checked, ok, refused, refusal, _>>=_, _>>_, held, guard, got}
+use Rattle.logic.specs.Checked.{Checked, ok, refused, _>>=_, _>>_, guard, got}
+use Rattle.logic.specs.promises.Refusal.{refusal, held}
 use Rattle.logic.specs.Model.{Model}
 use Rattle.logic.specs.Formula.{Formula, Node, never, relation, nonnegative}
 use Rattle.logic.specs.Limits.{path-total, plan-total, every-plan, limits}
@@ -23,8 +24,9 @@ use Rattle.questions.proofs.Laws.{by-operator}
 use Rattle.limits.proofs.Nodes.{done}
 use Rattle.calls.specs.Calls.{Held}
 use Rattle.plan_judge.specs.declared.Desk.{Desk}
-use Rattle.plan_judge.specs.View.{held-size, question-in, view}
-use Rattle.plan_judge.specs.State.{held-both, held-goal, PlanRoot}
+use Rattle.plan_judge.specs.View.{question-in, view}
+use Rattle.plan_judge.specs.promises.State.{held-size}
+use Rattle.plan_judge.specs.promises.State.{held-both, held-goal, PlanRoot}
 use Rattle.plan_judge.proofs.Returns.{said-bytes, model-none, model-passed, model-some, put-question, question-is, said-question}
 
 pub bind-refused : {A B : Type 0} (c : Checked A) (f : A → Checked B) (k : ℕ) → k ≡ refusal c → (k ≡ 0 → ⊥) → k ≡ refusal (c >>= f)

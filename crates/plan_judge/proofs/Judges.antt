@@ -5,7 +5,8 @@ use mathlib.Core.Path.{_≡_, refl, sym, ap, ap₂, _∙_}
 use mathlib.Core.Bool.{true}
 use mathlib.Core.List.{_++_}
 use lib.ListN.{length, drop, replicate}
-use Rattle.logic.specs.Checked.{Checked, ok, refused, refusal, _>>_}
+use Rattle.logic.specs.Checked.{Checked, ok, refused, _>>_}
+use Rattle.logic.specs.promises.Refusal.{refusal}
 use Rattle.logic.specs.Model.{Model}
 use Rattle.logic.specs.Verdict as logic
 use Rattle.logic.specs.Limits.{limits}
@@ -13,16 +14,16 @@ use Rattle.blocks.specs.Bytes.{Bytes}
 use Rattle.models.specs.Layout.{model-of}
 use Rattle.questions.specs.Layout.{Question, question-of}
 use Rattle.blocks.specs.Splice.{splice}
-use Rattle.judging.specs.Asked.{Served}
-use Rattle.judging.specs.Announced.{root-verdict, told, shown-choices}
+use Rattle.judging.specs.promises.Asked.{Served}
+use Rattle.judging.specs.promises.Announced.{root-verdict, told, shown-choices}
 use Rattle.calls.specs.promises.Chains.{do-judge}
 use Rattle.plan_judge.specs.declared.Desk.{Desk}
 use Rattle.plan_judge.specs.declared.Verdict.{Verdict}
 use Rattle.plan_judge.specs.declared.Judgement.the-variants.{Judged, Refused}
 use Rattle.plan_judge.specs.declared.Judging.{Judging}
 use Rattle.plan_judge.specs.View.{view}
-use Rattle.plan_judge.specs.Values.{verdict-code, choices-code, settling, judging, judged-by}
-use Rattle.plan_judge.specs.State.{held-both, verdict-from}
+use Rattle.plan_judge.specs.promises.Values.{verdict-code, choices-code, settling, judging, judged-by}
+use Rattle.plan_judge.specs.promises.State.{held-both, verdict-from}
 use Rattle.plan_judge.proofs.Returns.{said-bytes, padded-copy}
 use Rattle.plan_judge.proofs.Grounds.{Both, limits-passed, both, both-held, both-refused, both-passed}
 

@@ -8,7 +8,8 @@ use mathlib.Core.Option.{Option, none, some}
 use lib.IntN.{pos}
 use lib.ListN.{length, drop, replicate}
 use lib.Seq.{take-at}
-use Rattle.logic.specs.Checked.{Checked, ok, refused, _>>=_, _>>_, held, got}
+use Rattle.logic.specs.Checked.{Checked, ok, refused, _>>=_, _>>_, got}
+use Rattle.logic.specs.promises.Refusal.{held}
 use Rattle.logic.specs.Model.{Model}
 use Rattle.logic.specs.Plan.{Plan, plans, choices}
 use Rattle.logic.specs.Formula.{Formula, never, prop, neg, both, does, next as then, gain, plan, nonnegative, sat}
@@ -35,7 +36,7 @@ use Rattle.calls.proofs.Described.{yields-is}
 use Rattle.calls.proofs.Demand3.{held-some, then-ok}
 use Rattle.plan_judge.specs.declared.Desk.{Desk}
 use Rattle.plan_judge.specs.View.{model-bytes, question-in, choices-in, verdict-in, verdict-on, view}
-use Rattle.plan_judge.specs.Values.{padded, nothing, taking, holding, loaded-by, asking, put-by, verdict-code, choices-code, settling, judging, judged-by, writing, written-by, filling, filled-by, checking, checked-by}
+use Rattle.plan_judge.specs.promises.Values.{padded, nothing, taking, holding, loaded-by, asking, put-by, verdict-code, choices-code, settling, judging, judged-by, writing, written-by, filling, filled-by, checking, checked-by}
 use Rattle.plan_judge.specs.Said.{said-taken, said-verdict, said-judgement, said-written, said-checking}
 use Rattle.plan_judge.specs.promises.Session.{asked, step, desk-after, session}
 

@@ -6,8 +6,8 @@ use Rattle.logic.specs.Verdict.{Verdict, no, yes, yes-plan}
 use lib.ListN.{length}
 use Rattle.plan_judge.specs.declared.Desk.{Desk}
 use Rattle.plan_judge.specs.View.{view}
-use Rattle.plan_judge.specs.State.{shown-size}
-use Rattle.plan_judge.specs.CChain.{c-chain, c-number, c-buffer}
+use Rattle.plan_judge.specs.promises.State.{shown-size}
+use Rattle.plan_judge.specs.promises.CChain.{c-chain, c-number, c-buffer}
 use Rattle.plan_judge.proofs.EveryList.{slice}
 use Rattle.plan_judge.proofs.CList.{c-list}
 use Rattle.plan_judge.proofs.Claims.Offered.{C-call-told, choices-shown, Shown-choices-told}

@@ -10,7 +10,8 @@ use lib.Dec.{eqb, leb}
 use lib.ListN.{length, take, drop, replicate, length-take}
 use lib.Seq.{take-all, getD-take}
 use borrow.Author.Tests.{eq-eqb, ne-eqb, eqb-true, leb-true, leb-false}
-use Rattle.logic.specs.Checked.{Checked, ok, refused, refusal, _>>=_, held, got}
+use Rattle.logic.specs.Checked.{Checked, ok, refused, _>>=_, got}
+use Rattle.logic.specs.promises.Refusal.{refusal, held}
 use Rattle.logic.specs.Model.{Model}
 use Rattle.logic.proofs.Tests.{length-tabulate}
 use Rattle.blocks.specs.Bytes.{Bytes, byte}
@@ -26,8 +27,9 @@ use Rattle.calls.specs.promises.Chains.{do-put}
 use Rattle.plan_judge.specs.declared.Desk.{Desk}
 use Rattle.plan_judge.specs.declared.Taken.the-variants.{Done, Refused}
 use Rattle.plan_judge.specs.declared.Verdict.{Verdict}
-use Rattle.plan_judge.specs.View.{model-bytes, held-size, view}
-use Rattle.plan_judge.specs.Values.{padded, unjudged, taking, holding, loaded-by, asking, put-by}
+use Rattle.plan_judge.specs.View.{model-bytes, view}
+use Rattle.plan_judge.specs.promises.State.{held-size}
+use Rattle.plan_judge.specs.promises.Values.{padded, unjudged, taking, holding, loaded-by, asking, put-by}
 use Rattle.plan_judge.proofs.Kept.{whole-length, model-length, question-length}
 
 -- ---- refusals and values

@@ -10,8 +10,8 @@ use Rattle.logic.specs.Plan.{Plan, choices}
 use Rattle.logic.specs.Choices.{read-plan}
 use Rattle.logic.proofs.Reading.{read-sound}
 use Rattle.sheets.specs.declared.plans.End.the-variants.{At, Refused}
-use Rattle.sheets.specs.Ends.{end-of}
-use Rattle.plan_judge.specs.State.{plan-size}
+use Rattle.sheets.specs.promises.Ends.{end-of}
+use Rattle.plan_judge.specs.promises.State.{plan-size}
 
 module _ (m : Model) (n s : ℕ) (cs : List ℕ) where
   pub size-at : (p : ℕ) → At p ≡ end-of (length cs) (read-plan m n s cs) → p ≡ plan-size n (read-plan m n s cs)

@@ -11,7 +11,8 @@ use lib.IntN.{pos}
 use lib.ListN.{length, take, drop, length-append}
 use lib.Seq.{take-append-seam, length-take-le}
 use borrow.Author.Tests.{le-leb, lt-leb}
-use Rattle.logic.specs.Checked.{Checked, ok, refused, refusal, _>>=_, _>>_, held, guard}
+use Rattle.logic.specs.Checked.{Checked, ok, refused, _>>=_, _>>_, guard}
+use Rattle.logic.specs.promises.Refusal.{refusal, held}
 use Rattle.logic.specs.Model.{Model}
 use Rattle.logic.specs.Plan.{Plan, choices}
 use Rattle.logic.specs.Formula.{nonnegative}
@@ -25,7 +26,7 @@ use Rattle.models.specs.Layout.{model-of}
 use Rattle.questions.specs.Layout.{Question, start-of, node-count, node-of, question-of}
 use Rattle.questions.proofs.Accepted.{accepted}
 use Rattle.sheets.specs.declared.plans.End.the-variants.{At}
-use Rattle.sheets.specs.Ends.{end-of, all-read}
+use Rattle.sheets.specs.promises.Ends.{end-of, all-read}
 use Rattle.sheets.specs.Layout.{Sheet, sheet-bytes, blocks-for}
 use Rattle.sheets.proofs.ReadsBack.{sheet-length}
 use Rattle.calls.specs.promises.Chains.{sheet-shown, do-write}
@@ -35,8 +36,8 @@ use Rattle.plan_judge.specs.declared.Verdict.{Verdict}
 use Rattle.plan_judge.specs.declared.Verdict.the-variants.{No, Yes, YesPlan}
 use Rattle.plan_judge.specs.declared.Written.the-variants.{Bytes as Filled, Refused}
 use Rattle.plan_judge.specs.View.{choices-in, verdict-in, verdict-on, view}
-use Rattle.plan_judge.specs.Values.{writing, written-by, filling, filled-by}
-use Rattle.plan_judge.specs.State.{held-both, held-goal, PlanRoot, plan-size, size-in, shown-size, shown-weight}
+use Rattle.plan_judge.specs.promises.Values.{writing, written-by, filling, filled-by}
+use Rattle.plan_judge.specs.promises.State.{held-both, held-goal, PlanRoot, plan-size, size-in, shown-size, shown-weight}
 use Rattle.plan_judge.proofs.Returns.{said-bytes}
 use Rattle.plan_judge.proofs.Grounds.{root-goal, both-of, both-asked, plan-asked, goal-refused, root-node, goal-passed}
 

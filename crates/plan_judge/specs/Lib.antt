@@ -1,7 +1,3 @@
 pub mod View
 pub mod Said
-pub mod Values
-pub mod State
-pub mod CChain
-pub mod CSteps
 pub mod promises

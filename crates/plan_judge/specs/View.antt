@@ -5,10 +5,9 @@ use Prim.Native.Nat.{ℕ, _*_}
 use mathlib.Core.Bool.{Bool, cond}
 use mathlib.Core.List.{List}
 use mathlib.Core.Option.{Option, none, some}
-use lib.Dec.{eqb}
 use lib.IntN.{pos}
-use lib.ListN.{length, take}
-use Rattle.logic.specs.Checked.{Checked, ok, refused, refusal, _>>=_, got}
+use lib.ListN.{take}
+use Rattle.logic.specs.Checked.{Checked, ok, refused, _>>=_, got}
 use Rattle.logic.specs.Model.{Model}
 use Rattle.logic.specs.Plan.{choices}
 use Rattle.logic.specs.Verdict.{goal}
@@ -25,10 +24,6 @@ use Rattle.plan_judge.specs.declared.Verdict.the-variants.{No, Yes, YesP
 -- The bytes that a desk has for a model.
 unfoldable pub model-bytes : Desk → Bytes
 model-bytes d = take (512 * d .blocks) (d .model)
-
--- How many of them are held.
-unfoldable pub held-size : Bytes → ℕ → ℕ
-held-size model blocks = cond (eqb (refusal (read-model (take (512 * blocks) model))) 0) (length (take (512 * blocks) model)) 0
 
 -- The question in a block, if one was asked, for the model that is held.
 unfoldable pub question-in : Bool → Bytes → Option Model → Option Question

@@ -2,8 +2,8 @@
 // stops at the first refusal. Each function makes one call and hands the desk on.
 ghost use lib.ListN.{length};
 ghost use Rattle.plan_judge.specs.View.{view};
-ghost use Rattle.plan_judge.specs.CChain.{c-chain, Tells};
-ghost use Rattle.plan_judge.specs.CSteps.{told-put, told-judge, told-write};
+ghost use Rattle.plan_judge.specs.promises.CChain.{c-chain, Tells};
+ghost use Rattle.plan_judge.specs.promises.CSteps.{told-put, told-judge, told-write};
 use crate::Desk;
 use crate::Judgement;
 use crate::Taken;

@@ -6,7 +6,8 @@ use mathlib.Core.Bool.{cond}
 use mathlib.Core.List.{List, [], _∷_}
 use mathlib.Core.Option.{none, some}
 use Rattle.logic.specs.Lists.{any}
-use Rattle.logic.specs.Checked.{Checked, ok, refused, refusal, _>>=_, _>>_, held, got}
+use Rattle.logic.specs.Checked.{Checked, ok, refused, _>>=_, _>>_, got}
+use Rattle.logic.specs.promises.Refusal.{refusal, held}
 use Rattle.logic.specs.Model.{Model}
 use Rattle.logic.specs.Limits.{limits}
 use Rattle.logic.specs.Verdict as logic
@@ -28,10 +29,10 @@ use Rattle.plan_judge.specs.declared.Judgement.the-variants.{Judged}
 use Rattle.plan_judge.specs.declared.Judgement.{Judgement}
 use Rattle.plan_judge.specs.declared.Judging.{Judging}
 use Rattle.plan_judge.specs.View.{view}
-use Rattle.plan_judge.specs.Values.{nothing, taking, holding, loaded-by, asking, put-by, verdict-code, choices-code, judging, judged-by}
+use Rattle.plan_judge.specs.promises.Values.{nothing, taking, holding, loaded-by, asking, put-by, verdict-code, choices-code, judging, judged-by}
 use Rattle.plan_judge.specs.promises.Session.{step, desk-after}
 use Rattle.plan_judge.proofs.Kept.{desk-holds}
-use Rattle.printing.specs.Printed.{judging-line, asking-line, loading-line, Loaded, Asked}
+use Rattle.printing.specs.promises.Printed.{judging-line, asking-line, loading-line, Loaded, Asked}
 
 -- What an answer of load or put says of what was read.
 module _ {A : Type 0} (d e : Desk) (c : Checked A) where

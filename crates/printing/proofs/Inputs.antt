@@ -12,7 +12,7 @@ use Rattle.logic.specs.Checked.{guard, _>>_}
 use Rattle.blocks.specs.Bytes.{Bytes, within}
 use Rattle.lines.specs.Line.{refused-line}
 use Rattle.lines.specs.promises.Chain.{judged-line, line-of, answer-line}
-use Rattle.printing.specs.Printed.{loading-line}
+use Rattle.printing.specs.promises.Printed.{loading-line}
 
 module _ (b : Bytes) where
   -- The line by the tests of the length.

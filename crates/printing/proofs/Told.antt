@@ -20,9 +20,9 @@ use Rattle.plan_judge.specs.declared.Verdict.{Verdict}
 use Rattle.plan_judge.specs.declared.Judgement.the-variants.{Judged}
 use Rattle.plan_judge.specs.declared.Judging.{Judging}
 use Rattle.plan_judge.specs.View.{view}
-use Rattle.plan_judge.specs.Values.{judged-by, verdict-code}
-use Rattle.plan_judge.specs.State.{shown-size}
-use Rattle.printing.specs.Printed.{plan-root, judging-line, shown-line, shown-steps, Shown, Asked}
+use Rattle.plan_judge.specs.promises.Values.{judged-by, verdict-code}
+use Rattle.plan_judge.specs.promises.State.{shown-size}
+use Rattle.printing.specs.promises.Printed.{plan-root, judging-line, shown-line, shown-steps, Shown, Asked}
 use Rattle.printing.proofs.Verdicts.{root-is, few-steps, few-choices, line-is}
 use Rattle.printing.proofs.Desks.{asked-verdict, Told, judge-told}
 

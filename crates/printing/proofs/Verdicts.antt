@@ -20,10 +20,10 @@ use Rattle.blocks.specs.Bytes.{Bytes}
 use Rattle.questions.specs.Layout.{node-of, node-count, question-of}
 use Rattle.questions.proofs.Accepted.{Accepted}
 use Rattle.lines.specs.Line.{plain-line, no-plans-line, yes-plan-line, is-plan, verdict-line}
-use Rattle.plan_judge.specs.Values.{padded, verdict-code, choices-code}
-use Rattle.plan_judge.specs.State.{shown-size}
+use Rattle.plan_judge.specs.promises.Values.{padded, verdict-code, choices-code}
+use Rattle.plan_judge.specs.promises.State.{shown-size}
 use Rattle.plan_judge.proofs.Grounds.{other-goal, root-goal}
-use Rattle.printing.specs.Printed.{plan-root, shown-line, shown-steps}
+use Rattle.printing.specs.promises.Printed.{plan-root, shown-line, shown-steps}
 
 -- ---- the root
 

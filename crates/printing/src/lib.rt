@@ -8,7 +8,7 @@ ghost use Rattle.questions.specs.Layout.{node-count, question-of};
 ghost use Rattle.lines.specs.Text.{Put};
 ghost use Rattle.lines.specs.Line.{no-plans-line, plain-line};
 ghost use Rattle.lines.specs.promises.Chain.{line-of, answer-line};
-ghost use Rattle.printing.specs.Printed.{plan-root, judging-line, asking-line, loading-line, shown-line, Shown, Loaded, Asked};
+ghost use Rattle.printing.specs.promises.Printed.{plan-root, judging-line, asking-line, loading-line, shown-line, Shown, Loaded, Asked};
 use plan_judge::Desk;
 use plan_judge::Judgement;
 use plan_judge::Taken;

@@ -10,14 +10,15 @@ use lib.ListN.{length, getD, take}
 use lib.Signed.{mag, leZ}
 use borrow.Author.Tests.{ltb-true, leb-true, eqb-true, not-true}
 use Rattle.logic.specs.Lists.{all, every}
-use Rattle.logic.specs.Checked.{ok, refusal}
+use Rattle.logic.specs.Checked.{ok}
+use Rattle.logic.specs.promises.Refusal.{refusal}
 use Rattle.logic.specs.Formula.{never, prop, neg, both, does, next, gain, plan, Node, depth, is-path, shallow, relation, nonnegative}
 use Rattle.logic.proofs.Tests.{and-left, and-right, every-at}
 use Rattle.blocks.specs.Bytes.{Bytes, within}
 use Rattle.blocks.specs.Block.{whole-blocks, sums-right, headed}
 use Rattle.questions.specs.Layout.{start-of, node-count, node-of, formulas-of, question-of}
 use Rattle.questions.specs.Grounds.{compares, gain-bound, plan-bound, plan-in-range, node-in-range, spare-zero, formed, read-question}
-use Rattle.questions.specs.Tables.{formulas-before}
+use Rattle.questions.specs.promises.Tables.{formulas-before}
 use Rattle.questions.proofs.Laws.{passed, within-least, within-most, one-block, by-operator, all-before, before-take, before-at, formula-here}
 use Rattle.questions.proofs.Rows.{row-1, row-2, row-3, row-4, row-5, row-6, row-7, row-8, all-shallow}
 

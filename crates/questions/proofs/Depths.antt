@@ -8,7 +8,7 @@ use lib.ListN.{getD, List·getD-eq-default}
 use Rattle.logic.specs.Formula.{never, depth}
 use Rattle.blocks.specs.Bytes.{Bytes, byte}
 use Rattle.questions.specs.Layout.{node-of}
-use Rattle.questions.specs.Tables.{formulas-before}
+use Rattle.questions.specs.promises.Tables.{formulas-before}
 use Rattle.questions.proofs.Laws.{before-length, before-at, before-other}
 use Rattle.questions.proofs.Rows.{depth-row}
 

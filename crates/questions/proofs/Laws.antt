@@ -13,14 +13,15 @@ use lib.ListN.{length, getD, take, set, length-append, length-set, length-take, 
 use lib.Seq.{getD-at, getD-take, take-all, take-append-le, ext-getD, getD-set-same, getD-set-other}
 use borrow.Author.Tests.{leb-true, eqb-true}
 use Rattle.logic.specs.Lists.{all, every, count-from, tabulate}
-use Rattle.logic.specs.Checked.{Checked, refusal, guard, _>>_}
+use Rattle.logic.specs.Checked.{Checked, guard, _>>_}
+use Rattle.logic.specs.promises.Refusal.{refusal}
 use Rattle.logic.specs.Formula.{Formula, never, Node, formula-of, formulas}
 use Rattle.logic.proofs.Tests.{length-tabulate, getD-tabulate, all-tabulate, and-left, and-right, tabulate-more}
 use Rattle.blocks.specs.Bytes.{Bytes, byte, zeros, within}
 use Rattle.blocks.specs.Block.{whole-blocks, block-count}
 use Rattle.questions.specs.Layout.{node-at, node-of, node-count, formulas-of}
 use Rattle.questions.specs.Grounds.{node-in-range, node-spare}
-use Rattle.questions.specs.Tables.{formulas-before, table}
+use Rattle.questions.specs.promises.Tables.{formulas-before, table}
 
 -- ---- guards
 

@@ -1,3 +1,3 @@
 pub mod Layout
 pub mod Grounds
-pub mod Tables
+pub mod promises

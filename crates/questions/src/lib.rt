@@ -5,14 +5,14 @@ ghost use Prim.Native.Nat.{_+_, _≤_, _<_, max, min};
 ghost use lib.Dec.{eqb, ltb};
 ghost use lib.ListN.{length, getD, take};
 ghost use Rattle.logic.specs.Lists.{all, every};
-ghost use Rattle.logic.specs.Checked.{refusal};
+ghost use Rattle.logic.specs.promises.Refusal.{refusal};
 ghost use Rattle.logic.specs.Formula.{depth, is-path, shallow, never, formula-of};
 ghost use Rattle.blocks.specs.Bytes as spec-bytes;
 ghost use Rattle.questions.specs.Layout.{start-of, node-of, formulas-of, question-of};
 ghost use Rattle.questions.specs.Layout as spec-layout;
 ghost use Rattle.questions.specs.Grounds.{gain-bound, plan-bound, plan-in-range, node-in-range, node-spare, spare-zero, read-question};
 ghost use Rattle.questions.specs.Grounds as spec;
-ghost use Rattle.questions.specs.Tables.{formulas-before, table};
+ghost use Rattle.questions.specs.promises.Tables.{formulas-before, table};
 
 // The start state.
 pub fn start(b: &[u8]) -> u8

@@ -11,7 +11,7 @@ use lib.Dec.{ltb}
 use lib.ListN.{getD}
 use borrow.Author.Tests.{lt-ltb, le-ltb}
 use Rattle.logic.specs.Lists.{keep, count-from, tabulate}
-use Rattle.logic.specs.Checked.{refusal}
+use Rattle.logic.specs.promises.Refusal.{refusal}
 use Rattle.logic.specs.Model.{Step, enabled, outcomes}
 use Rattle.logic.specs.Quantity.{naturals, sum}
 use Rattle.logic.specs.Limits.{multiply, plan-total}
@@ -19,14 +19,14 @@ use Rattle.logic.proofs.Tests.{in-keep, counted-in}
 use Rattle.blocks.specs.Bytes.{Bytes}
 use Rattle.models.specs.Layout.{state-count, outcome-of, entries, model-of}
 use Rattle.models.specs.Grounds.{read-model}
-use Rattle.models.specs.Readable.{Readable}
+use Rattle.models.specs.promises.Readable.{Readable}
 use Rattle.models.proofs.Passed.{passed-all}
 use Rattle.models.proofs.Held.{states-held, accepted}
 use Rattle.models.proofs.Readable.{readable}
 use Rattle.models.proofs.Rows.{outcomes-are, enabled-are}
-use Rattle.limits.specs.Totals.{Totals, total, limit}
+use Rattle.limits.specs.promises.Totals.{Totals, total, limit}
 use Rattle.limits.proofs.Laws.{outcome-inside}
-use Rattle.ranking.specs.Places.{block-of, below, ways, Found}
+use Rattle.ranking.specs.promises.Places.{block-of, below, ways, Found}
 use Rattle.ranking.proofs.Places.{positive}
 
 -- ---- products

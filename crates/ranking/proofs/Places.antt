@@ -19,7 +19,7 @@ use Rattle.logic.specs.Limits.{multiply, plan-total}
 use Rattle.logic.proofs.Sums.{naturals-additive, sum-ext, sum-constant, length-flatMap}
 use Rattle.logic.proofs.Dictionary.{plan-count}
 use Rattle.logic.proofs.Members.{block}
-use Rattle.ranking.specs.Places.{block-of, parts-at, below, ways, plan-at}
+use Rattle.ranking.specs.promises.Places.{block-of, parts-at, below, ways, plan-at}
 
 pub positive : (x y : ℕ) {k : ℕ} → k < x * y → 0 < y
 positive x zero h = omega (arith, mul-zero x)

@@ -8,21 +8,21 @@ use mathlib.Core.Path.{_≡_, refl, sym, ap, ap₂, subst, _∙_}
 use mathlib.Core.Bool.{true}
 use mathlib.Core.List.{List, [], _∷_, _++_, flatMap}
 use lib.ListN.{length, getD, set, length-append}
-use Rattle.logic.specs.Checked.{refusal}
+use Rattle.logic.specs.promises.Refusal.{refusal}
 use Rattle.logic.specs.Model.{Model, Step, outcomes}
 use Rattle.logic.specs.Plan.{choices}
 use Rattle.logic.specs.Limits.{plan-total}
-use Rattle.logic.specs.Extension.{first-plan}
+use Rattle.logic.specs.promises.Extension.{first-plan}
 use Rattle.blocks.specs.Bytes.{Bytes}
 use Rattle.blocks.specs.Splice.{splice}
 use Rattle.blocks.proofs.Splice.{splice-none, splice-one, splice-behind}
 use Rattle.models.specs.Layout.{outcome-of, entries, model-of}
 use Rattle.models.specs.Grounds.{read-model}
-use Rattle.models.specs.Readable.{Readable}
+use Rattle.models.specs.promises.Readable.{Readable}
 use Rattle.models.proofs.Rows.{entries-few}
-use Rattle.limits.specs.Totals.{Totals}
-use Rattle.extension.specs.Choices.{room}
-use Rattle.ranking.specs.Places.{listed, parts-at, below, ways, plan-at, Found, Wrote}
+use Rattle.limits.specs.promises.Totals.{Totals}
+use Rattle.extension.specs.promises.Choices.{room}
+use Rattle.ranking.specs.promises.Places.{listed, parts-at, below, ways, plan-at, Found, Wrote}
 use Rattle.ranking.proofs.Places.{plan-at-is}
 use Rattle.ranking.proofs.Laws.{factors, left, left-all, left-step, left-end, ways-left, ways-all, Turn, turn}
 

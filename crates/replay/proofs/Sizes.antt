@@ -3,10 +3,10 @@ use Prim.Native.Nat.{ℕ, zero, suc, _≤_}
 use native.Mathlib.Omega.{arith}
 use mathlib.Core.Path.{_≡_, refl}
 use lib.ListN.{length}
-use Rattle.logic.specs.Checked.{refusal}
+use Rattle.logic.specs.promises.Refusal.{refusal}
 use Rattle.plan_judge.specs.declared.Desk.{Desk}
 use Rattle.plan_judge.specs.View.{view}
-use Rattle.plan_judge.specs.State.{held-goal, shown-size}
+use Rattle.plan_judge.specs.promises.State.{held-goal, shown-size}
 use Rattle.plan_judge.proofs.Writes.{shown-by, not-shown}
 
 pub shown-few : (d : Desk) → shown-size ((view d) .verdict) ≤ length (d .choices)

@@ -7,13 +7,14 @@ use mathlib.Core.Path.{_≡_, ap, subst}
 use mathlib.Core.Bool.{Bool, true, _&&_}
 use mathlib.Core.List.{List, [], _∷_, flatMap}
 use lib.ListN.{length, length-append}
-use Rattle.logic.specs.Checked.{refusal}
+use Rattle.logic.specs.promises.Refusal.{refusal}
 use Rattle.logic.specs.Model.{Model, Step, enabled, outcomes}
-use Rattle.logic.specs.Quantity.{naturals, sum, weights, order}
+use Rattle.logic.specs.Quantity.{naturals, sum}
+use Rattle.logic.specs.promises.Orders.{weights, order}
 use Rattle.logic.specs.Plan.{paths, weight, choices}
-use Rattle.logic.specs.Recursion.{greatest}
+use Rattle.logic.specs.promises.Recursion.{greatest}
 use Rattle.logic.specs.Accepted.{Accepted}
-use Rattle.logic.specs.Total.{total}
+use Rattle.logic.specs.promises.Total.{total}
 use Rattle.logic.proofs.Tests.{and-both, length-tabulate}
 use Rattle.logic.proofs.PathWeights.{total-ones}
 use Rattle.logic.proofs.Recursion.{greatest-is-maximum}
@@ -26,8 +27,8 @@ use Rattle.models.proofs.Held.{states-held, denominator-held, accepted}
 use Rattle.models.proofs.Readable.{readable}
 use Rattle.models.proofs.Rows.{outcomes-are, entries-few}
 use Rattle.bounds.proofs.Powers.{power-le}
-use Rattle.extension.specs.Choices.{room}
-use Rattle.search.specs.Greatest.{best-choices, below}
+use Rattle.extension.specs.promises.Choices.{room}
+use Rattle.search.specs.promises.Greatest.{best-choices, below}
 use Rattle.search.proofs.Orders.{ordered, additive}
 use Rattle.search.proofs.Steps.{best-of, plan-from, choices-step}
 

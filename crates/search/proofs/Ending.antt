@@ -6,20 +6,20 @@ use mathlib.Core.Bool.{Bool, true, false, not, cond, false≢true}
 use mathlib.Core.List.{List, [], _∷_, flatMap}
 use lib.ListN.{length, set}
 use Rattle.logic.specs.Lists.{keep, is-empty, count-from, tabulate}
-use Rattle.logic.specs.Checked.{refusal}
+use Rattle.logic.specs.promises.Refusal.{refusal}
 use Rattle.logic.specs.Model.{Model, Step, outcomes}
 use Rattle.logic.specs.Plan.{choices}
 use Rattle.logic.specs.Quantity.{sum}
-use Rattle.logic.specs.Recursion.{greatest}
+use Rattle.logic.specs.promises.Recursion.{greatest}
 use Rattle.logic.proofs.Tests.{tabulate-more}
 use Rattle.blocks.specs.Block.{sum-below}
 use Rattle.blocks.specs.Bytes.{Bytes}
 use Rattle.models.specs.Layout.{state-count, action-count, outcome-of, entries, model-of}
 use Rattle.models.specs.Grounds.{read-model}
 use Rattle.models.proofs.Rows.{outcomes-are}
-use Rattle.lanes.specs.Lanes.{lane, Laned}
-use Rattle.search.specs.Greatest.{best-choices, worth, below}
-use Rattle.search.specs.Buffers.{Wrote, wins, Ends}
+use Rattle.lanes.specs.promises.Lanes.{lane, Laned}
+use Rattle.search.specs.promises.Greatest.{best-choices, worth, below}
+use Rattle.search.specs.promises.Buffers.{Wrote, wins, Ends}
 use Rattle.search.proofs.Stack.{wrote-choice}
 use Rattle.search.proofs.Steps.{worth-of, best-of}
 use Rattle.search.proofs.Trying.{enabled-below, enabled-skip, enabled-one, enabled-some, more-some, beaten-some, best-more, picked-best}

@@ -10,10 +10,10 @@ use mathlib.Core.List.{List, _∷_}
 use lib.Dec.{eqb}
 use borrow.Author.Tests.{le-leb}
 use Rattle.logic.specs.Lists.{tabulate, every}
-use Rattle.logic.specs.Checked.{refusal}
+use Rattle.logic.specs.promises.Refusal.{refusal}
 use Rattle.logic.specs.Model.{Model, Step, true-of, outcomes}
-use Rattle.logic.specs.Quantity.{weights, order}
-use Rattle.logic.specs.Recursion.{greatest}
+use Rattle.logic.specs.promises.Orders.{weights, order}
+use Rattle.logic.specs.promises.Recursion.{greatest}
 use Rattle.logic.proofs.Tests.{T→true, true→T, and-both, eqb-eq, ne-eqb, tabulate-more}
 use Rattle.blocks.specs.Bytes.{Bytes}
 use Rattle.blocks.specs.Block.{sum-below}
@@ -25,8 +25,8 @@ use Rattle.models.proofs.Readable.{readable}
 use Rattle.models.proofs.Rows.{outcomes-are, entries-few}
 use Rattle.bounds.proofs.Powers.{power-le}
 use Rattle.evaluation.proofs.Trails.{fair}
-use Rattle.search.specs.Greatest.{worth, best-left}
-use Rattle.search.specs.Buffers.{wins}
+use Rattle.search.specs.promises.Greatest.{worth, best-left}
+use Rattle.search.specs.promises.Buffers.{wins}
 use Rattle.search.proofs.Orders.{ordered}
 use Rattle.search.proofs.Bounds.{greatest-small, denominator-most}
 use Rattle.search.proofs.Walking.{worth-more}

@@ -8,22 +8,22 @@ use mathlib.Core.List.{List, [], _∷_}
 use lib.IntN.{ℤ}
 use lib.ListN.{length, getD, take}
 use lib.Seq.{length-take-le}
-use Rattle.logic.specs.Quantity.{weights, order}
+use Rattle.logic.specs.promises.Orders.{weights, order}
 use Rattle.logic.specs.Plan.{choices}
-use Rattle.logic.specs.Recursion.{greatest}
+use Rattle.logic.specs.promises.Recursion.{greatest}
 use Rattle.blocks.specs.Bytes.{Bytes}
 use Rattle.models.specs.Layout.{state-count, action-count, outcome-of, entries, model-of}
 use Rattle.models.proofs.Passed.{passed-all, passed-sized}
 use Rattle.models.proofs.Laws.{entries-small}
 use Rattle.models.proofs.Table.{used-at}
-use Rattle.evaluation.specs.Reached.{root-of, on-path}
-use Rattle.evaluation.specs.Learnt.{known}
-use Rattle.evaluation.specs.Known.{Offered, Stepped, Back}
+use Rattle.evaluation.specs.promises.Reached.{root-of, on-path}
+use Rattle.evaluation.specs.promises.Learnt.{known}
+use Rattle.evaluation.specs.promises.Known.{Offered, Stepped, Back}
 use Rattle.evaluation.proofs.Returning.{roomy-same, back-same, knows-back, state-back, step-back}
 use Rattle.evaluation.proofs.Stepping.{state-reached, leaf-value, state-stepped, on-path-stepped}
-use Rattle.extension.specs.Choices.{room}
-use Rattle.search.specs.Greatest.{best-choices}
-use Rattle.search.specs.Buffers.{Wrote, Setting, Picked}
+use Rattle.extension.specs.promises.Choices.{room}
+use Rattle.search.specs.promises.Greatest.{best-choices}
+use Rattle.search.specs.promises.Buffers.{Wrote, Setting, Picked}
 use Rattle.search.specs.declared.Best.{Best}
 use Rattle.search.proofs.Stack.{wrote-none}
 use Rattle.search.proofs.Trying.{sizes-in}

@@ -7,7 +7,7 @@ use mathlib.Core.Path.{_≡_, refl, sym, ap, ap₂, _∙_}
 use mathlib.Core.List.{List, [], _∷_, _++_, append-nil, append-assoc}
 use lib.ListN.{length, getD, take, drop, set, length-append, length-take, length-drop, length-set}
 use lib.Seq.{length-take-le, take-take, take-at, drop-at, take-add, take-suc, take-suc-set, drop-drop, drop-set-lt, getD-drop}
-use Rattle.search.specs.Buffers.{Wrote}
+use Rattle.search.specs.promises.Buffers.{Wrote}
 
 pub wrote-none : (at : ℕ) (l : List ℕ) → Wrote [] at l l at
 wrote-none at l = record { wrote = sym (append-nil (take at l)); next = omega arith }

@@ -4,10 +4,10 @@ use mathlib.Core.Path.{_≡_, refl, sym, ap, _∙_}
 use mathlib.Core.Bool.{Bool}
 use mathlib.Core.List.{List, [], _∷_, _++_, map, flatMap, append-assoc}
 use Rattle.logic.specs.Model.{Model, Step, enabled, outcomes}
-use Rattle.logic.specs.Quantity.{weights, order}
+use Rattle.logic.specs.promises.Orders.{weights, order}
 use Rattle.logic.specs.Plan.{choices}
-use Rattle.logic.specs.Recursion.{best-choice, greatest, best-plan}
-use Rattle.search.specs.Greatest.{best-choices, worth, below}
+use Rattle.logic.specs.promises.Recursion.{best-choice, greatest, best-plan}
+use Rattle.search.specs.promises.Greatest.{best-choices, worth, below}
 
 flat-map : {A B C : Type 0} (g : B → List C) (h : A → B) (l : List A) → flatMap g (map h l) ≡ flatMap (λ x. g (h x)) l
 unfolding flatMap

@@ -10,18 +10,18 @@ use lib.Dec.{ltb}
 use lib.ListN.{length, set}
 use borrow.Author.Tests.{lt-ltb, le-ltb}
 use Rattle.logic.specs.Lists.{keep, is-empty, count-from}
-use Rattle.logic.specs.Checked.{refusal}
+use Rattle.logic.specs.promises.Refusal.{refusal}
 use Rattle.logic.specs.Model.{Model, Step, enabled}
-use Rattle.logic.specs.Quantity.{weights, order}
-use Rattle.logic.specs.Recursion.{first-best, best-choice}
+use Rattle.logic.specs.promises.Orders.{weights, order}
+use Rattle.logic.specs.promises.Recursion.{first-best, best-choice}
 use Rattle.logic.proofs.Tests.{keep-append, count-more}
 use Rattle.blocks.specs.Bytes.{Bytes}
 use Rattle.models.specs.Layout.{state-count, action-count, entries, model-of}
 use Rattle.models.specs.Grounds.{read-model}
 use Rattle.models.proofs.Passed.{passed-all, passed-sized}
 use Rattle.models.proofs.Held.{states-held, enabled-entries, accepted}
-use Rattle.extension.specs.Choices.{room}
-use Rattle.search.specs.Buffers.{Wrote, Keeps, wins, Picked, Candidate, walked, lost}
+use Rattle.extension.specs.promises.Choices.{room}
+use Rattle.search.specs.promises.Buffers.{Wrote, Keeps, wins, Picked, Candidate, walked, lost}
 use Rattle.search.specs.declared.Best.{Best}
 use Rattle.search.specs.declared.Walked.{Walked}
 use Rattle.search.proofs.Orders.{ordered, better, first-best-more}

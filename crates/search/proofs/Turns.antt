@@ -7,28 +7,28 @@ use mathlib.Core.Bool.{Bool, true, false, not}
 use mathlib.Core.List.{List, []}
 use lib.IntN.{ℤ, pos}
 use lib.ListN.{length, getD, take, set, length-set}
-use Rattle.logic.specs.Checked.{refusal}
+use Rattle.logic.specs.promises.Refusal.{refusal}
 use Rattle.logic.specs.Formula.{depth}
 use Rattle.logic.specs.Model.{Step}
 use Rattle.blocks.specs.Bytes.{Bytes}
 use Rattle.models.specs.Layout.{state-count, action-count, prop-count, denominator-of, outcome-of, entries, model-of}
 use Rattle.models.specs.Grounds.{read-model}
-use Rattle.models.specs.Used.{Used}
+use Rattle.models.specs.promises.Used.{Used}
 use Rattle.questions.specs.Layout.{node-count, formulas-of}
-use Rattle.questions.specs.Tables.{table}
+use Rattle.questions.specs.promises.Tables.{table}
 use Rattle.questions.proofs.Accepted.{accepted}
-use Rattle.extension.specs.Choices.{room}
+use Rattle.extension.specs.promises.Choices.{room}
 use Rattle.extension.proofs.Laws.{room-step, room-most}
-use Rattle.evaluation.specs.Path.{steps-of, state-after}
-use Rattle.evaluation.specs.Reached.{formula, root-of, on-path, Cone, Ready}
-use Rattle.evaluation.specs.Learnt.{learnt}
-use Rattle.evaluation.specs.Known.{Knows, Roomy, Offered, Stepped, Back}
+use Rattle.evaluation.specs.promises.Path.{steps-of, state-after}
+use Rattle.evaluation.specs.promises.Reached.{formula, root-of, on-path, Cone, Ready}
+use Rattle.evaluation.specs.promises.Learnt.{learnt}
+use Rattle.evaluation.specs.promises.Known.{Knows, Roomy, Offered, Stepped, Back}
 use Rattle.evaluation.proofs.Values.{one-if-small}
 use Rattle.evaluation.proofs.Stepping.{begun}
-use Rattle.lanes.specs.Lanes.{Rewards, Sums}
-use Rattle.last.specs.Late.{Late}
-use Rattle.search.specs.Greatest.{best-choices, best-left, Finds}
-use Rattle.search.specs.Buffers.{Setting, wins, Keeps, Picked, Candidate, walked, lost}
+use Rattle.lanes.specs.promises.Lanes.{Rewards, Sums}
+use Rattle.last.specs.promises.Late.{Late}
+use Rattle.search.specs.promises.Greatest.{best-choices, best-left, Finds}
+use Rattle.search.specs.promises.Buffers.{Setting, wins, Keeps, Picked, Candidate, walked, lost}
 use Rattle.search.specs.declared.Best.{Best}
 use Rattle.search.specs.declared.Walked.{Walked}
 use Rattle.search.proofs.Bounds.{choices-few}

@@ -8,10 +8,11 @@ use mathlib.Core.Bool.{Bool}
 use mathlib.Core.List.{List, [], _∷_, _++_, flatMap, append-nil}
 use lib.ListN.{length}
 use Rattle.logic.specs.Lists.{count-from, tabulate}
-use Rattle.logic.specs.Checked.{refusal}
+use Rattle.logic.specs.promises.Refusal.{refusal}
 use Rattle.logic.specs.Model.{Model, Step, outcomes}
-use Rattle.logic.specs.Quantity.{sum, weights, order}
-use Rattle.logic.specs.Recursion.{greatest}
+use Rattle.logic.specs.Quantity.{sum}
+use Rattle.logic.specs.promises.Orders.{weights, order}
+use Rattle.logic.specs.promises.Recursion.{greatest}
 use Rattle.logic.proofs.Tests.{tabulate-more, length-tabulate}
 use Rattle.logic.proofs.Sums.{sum-append}
 use Rattle.blocks.specs.Bytes.{Bytes}
@@ -19,10 +20,10 @@ use Rattle.models.specs.Layout.{state-count, outcome-of, entries, model-of}
 use Rattle.models.specs.Grounds.{read-model}
 use Rattle.models.proofs.Rows.{outcomes-are, entries-few}
 use Rattle.models.proofs.Readable.{readable}
-use Rattle.extension.specs.Choices.{room}
+use Rattle.extension.specs.promises.Choices.{room}
 use Rattle.evaluation.proofs.Trails.{fair}
-use Rattle.search.specs.Greatest.{best-choices, worth, below}
-use Rattle.search.specs.Buffers.{Wrote}
+use Rattle.search.specs.promises.Greatest.{best-choices, worth, below}
+use Rattle.search.specs.promises.Buffers.{Wrote}
 use Rattle.search.proofs.Orders.{additive}
 use Rattle.search.proofs.Steps.{flat-append}
 use Rattle.search.proofs.Stack.{wrote-none, wrote-both}

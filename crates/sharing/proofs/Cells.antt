@@ -14,8 +14,8 @@ use Rattle.blocks.specs.Bytes.{Bytes, byte, u16, u32, zeros}
 use Rattle.blocks.specs.Block.{sum-below, word-sum}
 use Rattle.questions.specs.Layout.{node-at, node-of}
 use Rattle.questions.proofs.Laws.{by-operator, every-same}
-use Rattle.sharing.specs.Shared.{has-left}
-use Rattle.sharing.specs.Replaced.{left-for, right-for, repointed, replaced, Sealed}
+use Rattle.sharing.specs.promises.Shared.{has-left}
+use Rattle.sharing.specs.promises.Replaced.{left-for, right-for, repointed, replaced, Sealed}
 
 -- ---- the new cells
 

@@ -9,7 +9,8 @@ use lib.Dec.{leb}
 use lib.IntN.{pos}
 use lib.ListN.{length}
 use Rattle.logic.specs.Lists.{all, every, keep}
-use Rattle.logic.specs.Checked.{Checked, ok, refused, refusal}
+use Rattle.logic.specs.Checked.{Checked, ok, refused}
+use Rattle.logic.specs.promises.Refusal.{refusal}
 use Rattle.logic.specs.Grounds.{_unless_, decided}
 use Rattle.logic.specs.Model.{Model}
 use Rattle.logic.specs.Quantity.{Relation, naturals, sum}
@@ -21,7 +22,7 @@ use Rattle.blocks.specs.Bytes.{Bytes}
 use Rattle.questions.specs.Layout.{start-of, node-count, formulas-of, question-of}
 use Rattle.questions.proofs.Laws.{all-every, every-same, all-before, before-length}
 use Rattle.questions.proofs.Accepted.{accepted}
-use Rattle.sharing.specs.Shared.{formula, Asked, asked, Alike, Shared}
+use Rattle.sharing.specs.promises.Shared.{formula, Asked, asked, Alike, Shared}
 
 -- ---- by what is asked of plans
 

@@ -14,7 +14,7 @@ use Rattle.logic.specs.Model.{Model, Step}
 use Rattle.logic.specs.Quantity.{Relation, naturals, sum}
 use Rattle.logic.specs.Plan.{plans, paths, weight}
 use Rattle.logic.specs.Formula.{Formula, never, prop, neg, both, does, next, plan, sat, depth, is-path, shallow, meets, Node, formula-of}
-use Rattle.sharing.specs.Shared.{Same, asked, Alike, has-left}
+use Rattle.sharing.specs.promises.Shared.{Same, asked, Alike, has-left}
 
 -- ---- one meaning
 

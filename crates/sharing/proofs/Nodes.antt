@@ -12,19 +12,19 @@ use lib.ListN.{length, getD, set}
 use lib.Seq.{getD-set-same, getD-set-other}
 use borrow.Author.Tests.{ltb-true, lt-ltb, eq-eqb}
 use Rattle.logic.specs.Lists.{every}
-use Rattle.logic.specs.Checked.{refusal}
+use Rattle.logic.specs.promises.Refusal.{refusal}
 use Rattle.logic.specs.Formula.{never, both, Node, formula-of, is-path, shallow}
 use Rattle.logic.proofs.Tests.{and-left, and-right, every-at, every-intro}
 use Rattle.blocks.specs.Bytes.{Bytes, byte, i32, signed, zeros, within}
 use Rattle.blocks.specs.Block.{whole-blocks, block-count, word-sum, sums-right, headed}
 use Rattle.questions.specs.Layout.{start-of, node-count, node-at, node-of, question-of}
 use Rattle.questions.specs.Grounds.{compares, plan-bound, plan-in-range, node-in-range, spare-by, node-spare, spare-zero, formed, read-question}
-use Rattle.questions.specs.Tables.{formulas-before}
+use Rattle.questions.specs.promises.Tables.{formulas-before}
 use Rattle.questions.proofs.Laws.{passed, by-operator, every-same, before-at, formula-at, formula-here}
 use Rattle.questions.proofs.Rows.{row-4, all-shallow}
 use Rattle.questions.proofs.Accepted.{accepted}
-use Rattle.sharing.specs.Shared.{formula, Same, Alike, Shared, has-left, Doubled}
-use Rattle.sharing.specs.Replaced.{Ordered, Replaces, Replacements, left-for, right-for, replaced, Sealed}
+use Rattle.sharing.specs.promises.Shared.{formula, Same, Alike, Shared, has-left, Doubled}
+use Rattle.sharing.specs.promises.Replaced.{Ordered, Replaces, Replacements, left-for, right-for, replaced, Sealed}
 use Rattle.sharing.proofs.Meanings.{same-refl, same-then, same-both, node, alike-node}
 use Rattle.sharing.proofs.Cells.{Cells, cells, head-same, rest-same, cell-same, zeros-same, u32-same}
 

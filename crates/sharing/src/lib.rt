@@ -3,11 +3,11 @@
 ghost use mathlib.Core.Path.{_≡_};
 ghost use Prim.Native.Nat.{ℕ, _<_};
 ghost use lib.ListN.{length};
-ghost use Rattle.logic.specs.Checked.{refusal};
+ghost use Rattle.logic.specs.promises.Refusal.{refusal};
 ghost use Rattle.questions.specs.Layout as layout;
 ghost use Rattle.questions.specs.Grounds.{read-question};
-ghost use Rattle.sharing.specs.Shared.{Shared};
-ghost use Rattle.sharing.specs.Replaced.{Ordered, Replaces, Replacements, left-for, right-for, repointed, Sealed};
+ghost use Rattle.sharing.specs.promises.Shared.{Shared};
+ghost use Rattle.sharing.specs.promises.Replaced.{Ordered, Replaces, Replacements, left-for, right-for, repointed, Sealed};
 use blocks::byte;
 use questions::left;
 use questions::node_count;

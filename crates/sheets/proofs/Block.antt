@@ -8,7 +8,7 @@ use lib.Seq.{take-at, drop-at, length-take-le}
 use borrow.Rule.Slice.PartMut.{midOf, putMid}
 use Rattle.blocks.specs.Bytes.{little-endian}
 use Rattle.sheets.specs.Layout.{with-word-sum, sheet-block}
-use Rattle.sheets.specs.Writer.{started, unsealed}
+use Rattle.sheets.specs.promises.Writer.{started, unsealed}
 use Rattle.sheets.proofs.Parts.{mid-is, put-front}
 use Rattle.sheets.proofs.Pieces.{pieces, pieces-length}
 

@@ -12,7 +12,8 @@ use lib.ListN.{length, drop, getD, length-append, length-drop, drop-of-length-le
 use lib.Seq.{drop-cons, drop-drop, drop-at}
 use borrow.Author.Tests.{lt-ltb, ltb-true, ltb-false}
 use Rattle.logic.specs.Lists.{any, is-empty, keep, count-from, tabulate}
-use Rattle.logic.specs.Checked.{Checked, ok, refused, _>>=_, _>>_, guard, refusal}
+use Rattle.logic.specs.Checked.{Checked, ok, refused, _>>=_, _>>_, guard}
+use Rattle.logic.specs.promises.Refusal.{refusal}
 use Rattle.logic.specs.Model.{Model, Step, enabled, outcomes}
 use Rattle.logic.specs.Plan.{Plan, choices}
 use Rattle.logic.specs.Choices.{read-each, read-plan, plan-of}
@@ -26,7 +27,7 @@ use Rattle.models.proofs.Passed.{passed-all, outcome-passed}
 use Rattle.models.proofs.Held.{outcomes-held, enabled-entries}
 use Rattle.sheets.specs.declared.plans.End.{End}
 use Rattle.sheets.specs.declared.plans.End.the-variants.{At, Refused}
-use Rattle.sheets.specs.Ends.{end-of}
+use Rattle.sheets.specs.promises.Ends.{end-of}
 
 -- ---- the model
 

@@ -11,7 +11,8 @@ use lib.Seq.{length-take-le}
 use borrow.Rule.Slice.PartMut.{midOf, putMid}
 use borrow.Author.Tests.{eqb-true, ltb-false}
 use Rattle.logic.specs.Lists.{every}
-use Rattle.logic.specs.Checked.{ok, refusal}
+use Rattle.logic.specs.Checked.{ok}
+use Rattle.logic.specs.promises.Refusal.{refusal}
 use Rattle.logic.proofs.Checked.{guard-passed}
 use Rattle.logic.proofs.Tests.{and-left, every-at, every-intro}
 use Rattle.blocks.specs.Bytes.{within}
@@ -19,7 +20,7 @@ use Rattle.blocks.specs.Block.{block-count, whole-blocks, sums-right, headed}
 use Rattle.models.proofs.Laws.{blocks-within, at-least, at-most}
 use Rattle.sheets.specs.Layout.{count-of, choices-of, sheet-of}
 use Rattle.sheets.specs.Grounds.{head-right, count-right, weight-right, spare-right, read-sheet}
-use Rattle.sheets.specs.Reader.{passes, Blocks}
+use Rattle.sheets.specs.promises.Reader.{passes, Blocks}
 use Rattle.sheets.proofs.Parts.{put-front}
 use Rattle.sheets.proofs.Pieces.{pieces, pieces-more}
 

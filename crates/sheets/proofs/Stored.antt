@@ -10,7 +10,7 @@ use lib.ListN.{length, take, drop, set, getD, replicate, length-append, length-t
 use lib.Seq.{paste, paste-zero, paste-suc, take-at, drop-at, drop-drop, drop-append-le, take-append-le, take-append-seam, getD-drop}
 use Rattle.blocks.specs.Bytes.{Bytes}
 use Rattle.sheets.specs.Layout.{with-word-sum, sheet-block, blocks-for, sheet-bytes}
-use Rattle.sheets.specs.Writer.{unsealed, chunk-size, begun, sealed, place, stored}
+use Rattle.sheets.specs.promises.Writer.{unsealed, chunk-size, begun, sealed, place, stored}
 use Rattle.sheets.proofs.Parts.{drop-replicate}
 use Rattle.sheets.proofs.Pieces.{pieces, pieces-none, pieces-more, pieces-same, pieces-length, next-piece}
 use Rattle.sheets.proofs.Block.{fields, fields-length, fields-first, unsealed-length, last-word, sealed-block}

@@ -8,7 +8,8 @@ use mathlib.Core.List.{List}
 use lib.Dec.{ltb}
 use lib.ListN.{length, drop, getD, set}
 use borrow.Author.Tests.{ltb-true, ltb-false}
-use Rattle.logic.specs.Checked.{Checked, refusal}
+use Rattle.logic.specs.Checked.{Checked}
+use Rattle.logic.specs.promises.Refusal.{refusal}
 use Rattle.logic.specs.Model.{outcomes}
 use Rattle.logic.specs.Plan.{Plan}
 use Rattle.logic.specs.Choices.{read-each, read-plan}
@@ -17,8 +18,8 @@ use Rattle.models.specs.Layout.{state-count, action-count, outcome-of, entries,
 use Rattle.models.specs.Grounds.{read-model}
 use Rattle.sheets.specs.declared.plans.End.{End}
 use Rattle.sheets.specs.declared.plans.End.the-variants.{At, Refused}
-use Rattle.sheets.specs.Ends.{end-of}
-use Rattle.sheets.specs.Writer.{place, stored, Ahead, Stored}
+use Rattle.sheets.specs.promises.Ends.{end-of}
+use Rattle.sheets.specs.promises.Writer.{place, stored, Ahead, Stored}
 use Rattle.sheets.proofs.Ends.{some-entries, end-zero, end-missing, choice-refused, choice-taken, outcome-refused, outcome-read, outcomes-read}
 use Rattle.sheets.proofs.Stored.{stored-length, stored-none, stored-one, stored-on}
 

@@ -1,5 +1,3 @@
 pub mod Layout
 pub mod Grounds
-pub mod Reader
-pub mod Writer
-pub mod Ends
+pub mod promises

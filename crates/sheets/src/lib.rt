@@ -3,11 +3,11 @@ ghost use mathlib.Core.Path.{_≡_};
 ghost use Prim.Native.Nat.{_+_, _*_, _≤_, _<_};
 ghost use lib.ListN.{length};
 ghost use Rattle.logic.specs.Lists.{every};
-ghost use Rattle.logic.specs.Checked.{refusal};
+ghost use Rattle.logic.specs.promises.Refusal.{refusal};
 ghost use Rattle.blocks.specs.Block.{block-count};
 ghost use Rattle.sheets.specs.Layout.{weight-of, count-of, sheet-of};
 ghost use Rattle.sheets.specs.Grounds.{head-right, count-right, weight-right, spare-right, read-sheet};
-ghost use Rattle.sheets.specs.Reader.{passes, Blocks, Gathered};
+ghost use Rattle.sheets.specs.promises.Reader.{passes, Blocks, Gathered};
 
 pub mod plans;
 pub mod writer;

@@ -2,12 +2,12 @@
 ghost use mathlib.Core.Path.{_≡_};
 ghost use Prim.Native.Nat.{_<_, _≤_};
 ghost use lib.ListN.{length, drop};
-ghost use Rattle.logic.specs.Checked.{refusal};
+ghost use Rattle.logic.specs.promises.Refusal.{refusal};
 ghost use Rattle.logic.specs.Model.{outcomes};
 ghost use Rattle.logic.specs.Choices.{read-each, read-plan, plan-of};
 ghost use Rattle.models.specs.Layout.{state-count, action-count, model-of};
 ghost use Rattle.models.specs.Grounds.{read-model};
-ghost use Rattle.sheets.specs.Ends.{end-of};
+ghost use Rattle.sheets.specs.promises.Ends.{end-of};
 
 // Where the choices of a plan end, or the number of a refusal.
 pub enum End {

@@ -4,15 +4,15 @@ ghost use mathlib.Core.Path.{_≡_};
 ghost use Prim.Native.Nat.{ℕ, _+_, _*_, _-_, _/_, _≤_, _<_};
 ghost use mathlib.Core.List.{[], _++_};
 ghost use lib.ListN.{length, take, drop, set, replicate};
-ghost use Rattle.logic.specs.Checked.{refusal};
+ghost use Rattle.logic.specs.promises.Refusal.{refusal};
 ghost use Rattle.logic.specs.Model.{outcomes};
 ghost use Rattle.logic.specs.Choices.{read-each, read-plan};
 ghost use Rattle.blocks.specs.Bytes.{little-endian};
 ghost use Rattle.models.specs.Layout.{state-count, action-count, model-of};
 ghost use Rattle.models.specs.Grounds.{read-model};
 ghost use Rattle.sheets.specs.Layout.{with-word-sum, blocks-for, sheet-bytes};
-ghost use Rattle.sheets.specs.Ends.{all-read};
-ghost use Rattle.sheets.specs.Writer.{started, unsealed, chunk-size, begun, sealed, place, Ahead, Stored};
+ghost use Rattle.sheets.specs.promises.Ends.{all-read};
+ghost use Rattle.sheets.specs.promises.Writer.{started, unsealed, chunk-size, begun, sealed, place, Ahead, Stored};
 
 // The first bytes of dst become src.
 pub fn copy(dst: &mut [u8], src: &[u8])

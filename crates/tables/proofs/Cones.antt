@@ -13,9 +13,9 @@ use Rattle.logic.specs.Formula.{Node, depth}
 use Rattle.blocks.specs.Bytes.{Bytes}
 use Rattle.questions.specs.Layout.{node-count, node-of}
 use Rattle.questions.proofs.Laws.{by-operator}
-use Rattle.evaluation.specs.Reached.{formula, reads-left, Earlier, Cone, root-of}
-use Rattle.tables.specs.Need.{Given, Grown}
-use Rattle.tables.specs.Chosen.{Ordered, Entered, Chosen, Listed}
+use Rattle.evaluation.specs.promises.Reached.{formula, reads-left, Earlier, Cone, root-of}
+use Rattle.tables.specs.promises.Need.{Given, Grown}
+use Rattle.tables.specs.promises.Chosen.{Ordered, Entered, Chosen, Listed}
 use Rattle.tables.proofs.Marks.{grown-mark, grown-then, blank, one-size, one-there, one-only, given-question}
 
 pub reads-cases : (op : ℕ) → reads-left op ≡ true → ((op ≡ 3) ⊎ (op ≡ 6)) ⊎ (op ≡ 4)

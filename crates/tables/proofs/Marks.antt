@@ -12,16 +12,16 @@ use lib.Seq.{getD-set-same, getD-set-other}
 use Rattle.logic.specs.Formula.{Node}
 use Rattle.blocks.specs.Bytes.{Bytes}
 use Rattle.models.specs.Layout.{state-count, action-count, prop-count, outcome-of, entries}
-use Rattle.models.specs.Readable.{Readable}
-use Rattle.models.specs.Used.{Used}
+use Rattle.models.specs.promises.Readable.{Readable}
+use Rattle.models.specs.promises.Used.{Used}
 use Rattle.models.proofs.Readable.{readable}
 use Rattle.models.proofs.Laws.{entries-past-actions}
 use Rattle.models.proofs.Rows.{entries-few}
 use Rattle.models.proofs.Table.{used-at}
 use Rattle.questions.specs.Layout.{start-of, node-count, node-of}
 use Rattle.questions.proofs.Accepted as questions
-use Rattle.evaluation.specs.Reached.{Reached, itself, under-not, and-left, and-right, under-next}
-use Rattle.tables.specs.Need.{Given, Marked, Passed-on, Grown, Needs}
+use Rattle.evaluation.specs.promises.Reached.{Reached, itself, under-not, and-left, and-right, under-next}
+use Rattle.tables.specs.promises.Need.{Given, Marked, Passed-on, Grown, Needs}
 
 -- ---- marks added
 

@@ -1,2 +1,1 @@
-pub mod Need
-pub mod Chosen
+pub mod promises

@@ -6,7 +6,7 @@ use mathlib.Core.Path.{_≡_, sym, ap, _∙_}
 use mathlib.Core.List.{List, [], _∷_, _++_}
 use lib.ListN.{getD, drop}
 use Rattle.logic.specs.Lists.{tabulate, count-from}
-use Rattle.logic.specs.Checked.{refusal}
+use Rattle.logic.specs.promises.Refusal.{refusal}
 use Rattle.logic.specs.Model.{Step, outcomes}
 use Rattle.logic.proofs.Tests.{tabulate-more}
 use Rattle.blocks.specs.Bytes.{Bytes}
@@ -15,7 +15,7 @@ use Rattle.models.specs.Grounds.{read-model}
 use Rattle.models.proofs.Readable.{readable}
 use Rattle.models.proofs.Rows.{outcomes-are, entries-few}
 use Rattle.evaluation.proofs.Trails.{fair}
-use Rattle.weighing.specs.Sums.{Run, each, weigh}
+use Rattle.weighing.specs.promises.Sums.{Run, each, weigh}
 
 -- One outcome more, at the end.
 pub each-more : (f : Step → List ℕ → Run) (l : List Step) (o : Step) (cs : List ℕ)

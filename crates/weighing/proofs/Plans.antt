@@ -9,13 +9,14 @@ use mathlib.Core.List.{List, [], _∷_, List·Memᴰ}
 use lib.Dec.{eqb}
 use lib.ListN.{length}
 use Rattle.logic.specs.Lists.{any, is-empty}
-use Rattle.logic.specs.Checked.{Checked, ok, refused, _>>=_, _>>_, guard, refusal}
+use Rattle.logic.specs.Checked.{Checked, ok, refused, _>>=_, _>>_, guard}
+use Rattle.logic.specs.promises.Refusal.{refusal}
 use Rattle.logic.specs.Model.{Model, Step, enabled, outcomes}
 use Rattle.logic.specs.Quantity.{naturals, sum}
 use Rattle.logic.specs.Plan.{Plan, plans, paths, weight}
 use Rattle.logic.specs.Choices.{read-each, read-plan, plan-of}
 use Rattle.logic.specs.Formula.{Formula, W}
-use Rattle.logic.specs.Total.{total, value-of}
+use Rattle.logic.specs.promises.Total.{total, value-of}
 use Rattle.logic.specs.Accepted.{Accepted}
 use Rattle.logic.proofs.Checked.{not-ok, ok-same, bind-ok, guard-ok}
 use Rattle.logic.proofs.Sums.{naturals-additive, sum-pairs, total-zero, total-step}
@@ -27,7 +28,7 @@ use Rattle.models.specs.Grounds.{read-model}
 use Rattle.models.proofs.Passed.{passed-all}
 use Rattle.models.proofs.Held.{accepted, states-held, denominator-held}
 use Rattle.evaluation.proofs.Values.{one-if-small}
-use Rattle.weighing.specs.Sums.{Run, each, weigh}
+use Rattle.weighing.specs.promises.Sums.{Run, each, weigh}
 
 -- ---- a plan read
 

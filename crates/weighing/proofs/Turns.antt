@@ -18,20 +18,20 @@ use Rattle.logic.specs.Formula.{depth, W}
 use Rattle.logic.proofs.Tests.{tabulate-more}
 use Rattle.blocks.specs.Bytes.{Bytes}
 use Rattle.models.specs.Layout.{state-count, outcome-of, entries, model-of}
-use Rattle.models.specs.Used.{Used, count-in}
+use Rattle.models.specs.promises.Used.{Used, count-in}
 use Rattle.models.proofs.Readable.{readable}
 use Rattle.models.proofs.Rows.{outcomes-are, entries-few}
 use Rattle.models.proofs.Table.{count-entries}
-use Rattle.evaluation.specs.Path.{steps-of, state-after}
-use Rattle.evaluation.specs.Reached.{formula, root-of, on-path, Ready}
-use Rattle.evaluation.specs.Learnt.{known, learnt}
-use Rattle.evaluation.specs.Known.{Knows, Roomy, Offered, Stepped}
+use Rattle.evaluation.specs.promises.Path.{steps-of, state-after}
+use Rattle.evaluation.specs.promises.Reached.{formula, root-of, on-path, Ready}
+use Rattle.evaluation.specs.promises.Learnt.{known, learnt}
+use Rattle.evaluation.specs.promises.Known.{Knows, Roomy, Offered, Stepped}
 use Rattle.evaluation.proofs.Trails.{fair}
 use Rattle.evaluation.proofs.Returning.{roomy-same, back-none, back-same, knows-back, state-back, step-back}
 use Rattle.evaluation.proofs.Stepping.{state-reached, leaf-value, begun, state-stepped, on-path-stepped}
 use Rattle.evaluation.proofs.Values.{one-if-small, learnt-length}
-use Rattle.weighing.specs.Sums.{Run, each, weigh}
-use Rattle.weighing.specs.Places.{Here, Ran}
+use Rattle.weighing.specs.promises.Sums.{Run, each, weigh}
+use Rattle.weighing.specs.promises.Places.{Here, Ran}
 use Rattle.weighing.proofs.Plans.{plan-weighed}
 use Rattle.weighing.proofs.Fits.{each-more, outcomes-small, weigh-small, power-small}
 

@@ -1,2 +1,1 @@
-pub mod Sums
-pub mod Places
+pub mod promises

@@ -3,7 +3,8 @@ use Prim.Native.Nat.{ℕ}
 use mathlib.Core.List.{[], _++_}
 use lib.Dec.{leb}
 use lib.ListN.{length, drop}
-use Rattle.logic.specs.Checked.{Checked, ok, refused, _>>=_, _>>_, held, guard}
+use Rattle.logic.specs.Checked.{Checked, ok, refused, _>>=_, _>>_, guard}
+use Rattle.logic.specs.promises.Refusal.{held}
 use Rattle.logic.specs.Model.{Model}
 use Rattle.logic.specs.Verdict.{goal, Verdict, no, yes, yes-plan, verdict}
 use Rattle.logic.specs.Limits.{limits}

@@ -6,8 +6,8 @@ use lib.ListN.{length, take, replicate}
 use borrow.Author.Needs.{needs}
 use Rattle.logic.specs.Limits.{plan-total}
 use Rattle.models.specs.Layout.{model-of}
-use Rattle.evaluation.specs.Reached.{on-path}
-use Rattle.evaluation.specs.Known.{Roomy}
+use Rattle.evaluation.specs.promises.Reached.{on-path}
+use Rattle.evaluation.specs.promises.Known.{Roomy}
 use Rattle.evaluation.proofs.Stepping.{begun}
 use Rattle.equal.proofs.Rooms.{room-whole}
 use Rattle.equal.proofs.Totals.{totals-length}

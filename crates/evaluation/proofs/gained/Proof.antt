@@ -1,7 +1,7 @@
 use mir.Syntax.{w64}
 use mir.ValLaws.{toZ-ofZ}
 use lib.IntN.{_-ℤ_}
-use Rattle.evaluation.specs.Learnt.{gained}
+use Rattle.evaluation.specs.promises.Learnt.{gained}
 use mathlib.Core.Path.{refl, _∙_}
 use Rattle.evaluation.proofs.Integers.{wider, widened, difference-fits}
 use borrow.Author.Needs.{needs}

@@ -4,7 +4,7 @@ use lib.Seq.{take-all}
 use Rattle.evaluation.proofs.Values.{learnt-more}
 use Prim.Native.Nat.{_≤_, _-_}
 use lib.ListN.{length, take}
-use Rattle.evaluation.specs.Learnt.{learnt}
+use Rattle.evaluation.specs.promises.Learnt.{learnt}
 use borrow.Author.Needs.{needs}
 use mathlib.Core.Path.{_≡_, refl, ap, _∙_}
 use Rattle.evaluation.proofs.learn.Statement.{statement}

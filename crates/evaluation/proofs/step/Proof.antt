@@ -7,7 +7,7 @@ use lib.IntN.{ℤ, pos, _+ℤ_}
 use lib.ListN.{length, getD, set, take}
 use lib.Seq.{length-take-le}
 use lib.Signed.{mag}
-use Rattle.evaluation.specs.Reached.{Ready}
+use Rattle.evaluation.specs.promises.Reached.{Ready}
 use Rattle.evaluation.proofs.Integers.{fits32, wider16, widened16, sum16, mag-add}
 use Rattle.evaluation.proofs.Trails.{gain-small}
 use Rattle.evaluation.proofs.Stepping.{outcome-small, sizes-small, stepped}

@@ -2,9 +2,9 @@ use mathlib.Core.Path.{_≡_, sym, ap, ap₂, _∙_}
 use Prim.Native.Nat.{ℕ, _+_, _/_}
 use lib.Bits.{bitAnd}
 use lib.Dec.{eqb}
-use Rattle.logic.specs.Total.{one-if}
+use Rattle.logic.specs.promises.Total.{one-if}
 use Rattle.questions.specs.Layout.{node-of}
-use Rattle.evaluation.specs.Learnt.{value-by, known}
+use Rattle.evaluation.specs.promises.Learnt.{value-by, known}
 use Rattle.evaluation.proofs.Values.{other-value}
 use borrow.Author.Needs.{needs}
 use Rattle.evaluation.proofs.value_by.Statement.{statement}

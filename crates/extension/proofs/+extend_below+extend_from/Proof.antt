@@ -13,7 +13,7 @@ use Rattle.models.proofs.Rows.{entries-few}
 use Rattle.models.proofs.Table.{count-entries}
 use Rattle.models.proofs.target.Reads as target-reads
 use Rattle.models.proofs.used_outcomes.Reads as used-outcomes-reads
-use Rattle.extension.specs.Choices.{choice-at, room, Ran}
+use Rattle.extension.specs.promises.Choices.{choice-at, room, Ran}
 use Rattle.extension.proofs.Laws.{runs, runs-none, runs-more, runs-all, room-more, room-step, target-inside, first-enabled, extend-none, extend-choice, min-one}
 use Rattle.extension.proofs.extend_below.Reads as extend-below
 use Rattle.extension.proofs.extend_below.Kinds as extend-below-kinds

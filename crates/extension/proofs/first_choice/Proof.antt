@@ -8,8 +8,8 @@ use lib.Dec.{ltb}
 use borrow.Author.Tests.{lt-ltb, le-ltb}
 use borrow.Author.Needs.{needs}
 use Rattle.logic.specs.Lists.{keep, count-from}
-use Rattle.models.specs.Used.{count-in}
-use Rattle.extension.specs.Choices.{first-in}
+use Rattle.models.specs.promises.Used.{count-in}
+use Rattle.extension.specs.promises.Choices.{first-in}
 use Rattle.extension.proofs.Laws.{first-kept, none-kept}
 use Rattle.extension.proofs.first_choice.Statement.{statement}
 use Rattle.extension.proofs.first_choice.Tie as tie

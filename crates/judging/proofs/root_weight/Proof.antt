@@ -7,9 +7,9 @@ use lib.ListN.{take}
 use lib.Seq.{length-take-le}
 use Rattle.logic.specs.Formula.{depth}
 use Rattle.questions.specs.Layout.{node-count, node-of}
-use Rattle.evaluation.specs.Reached.{formula, Ready}
+use Rattle.evaluation.specs.promises.Reached.{formula, Ready}
 use Rattle.tables.proofs.Cones.{given-ordered}
-use Rattle.judging.specs.Announced.{root}
+use Rattle.judging.specs.promises.Announced.{root}
 use Rattle.judging.proofs.Posing.{planned, before, ready}
 use Rattle.judging.proofs.Announcing.{root-weighs}
 use borrow.Author.Needs.{needs}

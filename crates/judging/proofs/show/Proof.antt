@@ -6,7 +6,7 @@ use Rattle.logic.specs.Plan.{choices}
 use Rattle.logic.specs.Limits.{plan-total}
 use Rattle.models.specs.Layout.{model-of}
 use Rattle.tables.proofs.Marks.{given-readable}
-use Rattle.judging.specs.Decided.{plan-at}
+use Rattle.judging.specs.promises.Decided.{plan-at}
 use Rattle.judging.proofs.Deciding.{plan-here}
 use Rattle.judging.proofs.Posing.{asked-equal, asked-other, depth-there}
 use Rattle.judging.proofs.Announcing.{announces-plan, equal-few, equal-inside, equal-verdict, place-few, led-verdict, led-choices}

@@ -4,7 +4,7 @@ use mathlib.Core.Path.{_≡_, sym, ap, _∙_}
 use mathlib.Core.Logic.{⊎-elim}
 use native.Mathlib.Omega.{arith}
 use lib.Bits.{bitAnd, and-mask}
-use Rattle.lanes.specs.Lanes.{lane}
+use Rattle.lanes.specs.promises.Lanes.{lane}
 use Rattle.lanes.proofs.Words.{lane-zero, lane-bit}
 use Rattle.lanes.proofs.part.Statement.{statement}
 use Rattle.lanes.proofs.part.Tie as tie

@@ -1,7 +1,7 @@
 use native.Mathlib.Omega.{arith}
 use mathlib.Core.Path.{refl}
 use borrow.Author.Needs.{needs}
-use Rattle.logic.specs.Total.{one-if}
+use Rattle.logic.specs.promises.Total.{one-if}
 use Rattle.lanes.proofs.pushed.Statement.{statement}
 use Rattle.lanes.proofs.pushed.Tie as tie
 

@@ -4,7 +4,7 @@ use native.Mathlib.Omega.{arith}
 use mathlib.Core.Path.{_≡_, _∙_}
 use lib.ListN.{length, length-set}
 use Rattle.evaluation.proofs.Integers.{wider16, widened16}
-use Rattle.lanes.specs.Lanes.{Rewarded}
+use Rattle.lanes.specs.promises.Lanes.{Rewarded}
 use Rattle.lanes.proofs.Gains.{rewarded-more}
 use Rattle.lanes.proofs.reward_row.Statement.{statement}
 use Rattle.lanes.proofs.reward_row.Tie as tie

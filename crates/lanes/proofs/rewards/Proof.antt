@@ -3,7 +3,7 @@ use Prim.Native.Nat.{_*_, _-_, _≤_}
 use native.Mathlib.Omega.{arith}
 use mathlib.Core.Path.{_≡_, refl}
 use lib.ListN.{length}
-use Rattle.lanes.specs.Lanes.{Rewarded}
+use Rattle.lanes.specs.promises.Lanes.{Rewarded}
 use Rattle.lanes.proofs.rewards.Statement.{statement}
 use Rattle.lanes.proofs.rewards.Tie as tie
 

@@ -1,5 +1,5 @@
 use borrow.Author.Tests.{ne-eqb}
-use Rattle.logic.specs.Total.{one-if}
+use Rattle.logic.specs.promises.Total.{one-if}
 use Rattle.lanes.proofs.Words.{lane-none, lane-ones}
 use Rattle.lanes.proofs.spread.Statement.{statement}
 use Rattle.lanes.proofs.spread.Tie as tie

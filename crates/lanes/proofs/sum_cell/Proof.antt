@@ -3,7 +3,7 @@ use Prim.Native.Nat.{_+_, _*_, _-_, _≤_}
 use native.Mathlib.Omega.{arith}
 use mathlib.Core.Path.{_≡_, _∙_}
 use lib.ListN.{length, length-set}
-use Rattle.lanes.specs.Lanes.{lane, weighed, Summed}
+use Rattle.lanes.specs.promises.Lanes.{lane, weighed, Summed}
 use Rattle.lanes.proofs.Spare.{used-only}
 use Rattle.lanes.proofs.Patterns.{summed-more}
 use Rattle.lanes.proofs.sum_cell.Statement.{statement}

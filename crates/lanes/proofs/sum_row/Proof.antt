@@ -3,7 +3,7 @@ use Prim.Native.Nat.{_+_, _*_, _-_, _≤_}
 use native.Mathlib.Omega.{arith}
 use mathlib.Core.Path.{_≡_}
 use lib.ListN.{length}
-use Rattle.lanes.specs.Lanes.{Summed}
+use Rattle.lanes.specs.promises.Lanes.{Summed}
 use Rattle.lanes.proofs.sum_row.Statement.{statement}
 use Rattle.lanes.proofs.sum_row.Tie as tie
 

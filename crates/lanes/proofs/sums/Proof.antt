@@ -3,7 +3,7 @@ use Prim.Native.Nat.{_*_, _-_, _≤_}
 use native.Mathlib.Omega.{arith}
 use mathlib.Core.Path.{_≡_, refl}
 use lib.ListN.{length}
-use Rattle.lanes.specs.Lanes.{Summed}
+use Rattle.lanes.specs.promises.Lanes.{Summed}
 use Rattle.lanes.proofs.sums.Statement.{statement}
 use Rattle.lanes.proofs.sums.Tie as tie
 

@@ -8,7 +8,7 @@ use borrow.Author.Needs.{needs}
 use Rattle.logic.specs.Lists.{tabulate}
 use Rattle.models.specs.Layout.{entries, outcome-of}
 use Rattle.models.proofs.Rows.{entries-few}
-use Rattle.limits.specs.Totals.{gather, cap}
+use Rattle.limits.specs.promises.Totals.{gather, cap}
 use Rattle.models.proofs.Table.{used-at}
 use Rattle.limits.proofs.Laws.{not-enabled, gather-start, gather-next, choice-end, small-of, limit-most}
 use Rattle.limits.proofs.choice_total.Statement.{statement}

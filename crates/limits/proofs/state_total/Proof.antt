@@ -10,7 +10,7 @@ use Rattle.logic.specs.Lists.{keep, count-from}
 use Rattle.logic.specs.Quantity.{naturals, sum}
 use Rattle.logic.specs.Model.{outcomes}
 use Rattle.models.specs.Layout.{entries, model-of}
-use Rattle.limits.specs.Totals.{gather, cap}
+use Rattle.limits.specs.promises.Totals.{gather, cap}
 use Rattle.limits.proofs.Laws.{state-end, small-of, sum-start, sum-next}
 use Rattle.limits.proofs.state_total.Statement.{statement}
 use Rattle.limits.proofs.state_total.Tie as tie

@@ -3,13 +3,13 @@ use Prim.Native.Nat.{_≤_}
 use mathlib.Core.Path.{_≡_, sym, ap, subst, _∙_}
 use lib.ListN.{length, take}
 use lib.Seq.{length-take-le}
-use Rattle.logic.specs.Checked.{refusal}
+use Rattle.logic.specs.promises.Refusal.{refusal}
 use Rattle.models.specs.Layout.{model-of}
 use Rattle.questions.specs.Layout.{question-of}
 use Rattle.plan_judge.specs.View.{view}
-use Rattle.plan_judge.specs.Values.{checking}
+use Rattle.plan_judge.specs.promises.Values.{checking}
 use Rattle.calls.specs.promises.Chains.{check-on}
-use Rattle.plan_judge.specs.State.{held-goal, PlanRoot}
+use Rattle.plan_judge.specs.promises.State.{held-goal, PlanRoot}
 use Rattle.plan_judge.proofs.Returns.{said-bytes, cut-inside, cut-said}
 use Rattle.plan_judge.proofs.Grounds.{plan-asked}
 use Rattle.plan_judge.proofs.Checks.{check-state, check-past}

@@ -1,11 +1,11 @@
 -- The limits, then the sheet's grounds, then the weight of the plan on it, which is put to the root's bound.
 use mathlib.Core.Path.{_≡_, sym, ap, _∙_}
-use Rattle.logic.specs.Checked.{refusal}
+use Rattle.logic.specs.promises.Refusal.{refusal}
 use Rattle.logic.specs.Limits.{limits}
 use Rattle.models.specs.Layout.{model-of}
 use Rattle.questions.specs.Layout.{start-of, question-of}
-use Rattle.bounds.specs.Bounded.{meets-at}
-use Rattle.plan_judge.specs.State.{PlanRoot, plan-on}
+use Rattle.bounds.specs.promises.Bounded.{meets-at}
+use Rattle.plan_judge.specs.promises.State.{PlanRoot, plan-on}
 use Rattle.plan_judge.proofs.Grounds.{root-node}
 use Rattle.plan_judge.proofs.Checks.{on-sheet, check-limited, root-bounded, sheet-served, check-sheet, weight-fits, check-weight, check-met}
 use borrow.Author.Needs.{needs}

@@ -1,7 +1,7 @@
 -- The struct written is the definition's.
 use mathlib.Core.Path.{refl}
 use borrow.Author.Needs.{needs}
-use Rattle.plan_judge.specs.Values.{nothing}
+use Rattle.plan_judge.specs.promises.Values.{nothing}
 use Rattle.plan_judge.proofs.empty.Statement.{statement}
 use Rattle.plan_judge.proofs.empty.Tie as tie
 

@@ -4,12 +4,12 @@ use native.Mathlib.Omega.{arith}
 use mathlib.Core.Path.{ap, ap₂, _∙_}
 use lib.ListN.{take, length-take}
 use borrow.Author.Needs.{needs}
-use Rattle.logic.specs.Checked.{refusal}
+use Rattle.logic.specs.promises.Refusal.{refusal}
 use Rattle.logic.specs.Choices.{read-plan}
 use Rattle.models.specs.Layout.{state-count, model-of}
 use Rattle.models.specs.Grounds.{read-model}
 use Rattle.questions.proofs.Accepted.{accepted}
-use Rattle.plan_judge.specs.State.{plan-size}
+use Rattle.plan_judge.specs.promises.State.{plan-size}
 use Rattle.plan_judge.proofs.Returns.{said-cut}
 use Rattle.plan_judge.proofs.Writes.{size-choices}
 use Rattle.plan_judge.proofs.first_size.Statement.{statement}

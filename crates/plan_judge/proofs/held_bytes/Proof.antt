@@ -1,7 +1,7 @@
 use native.Mathlib.Omega.{arith}
 use mathlib.Core.Path.{sym, ap, _∙_}
 use lib.ListN.{length-take}
-use Rattle.logic.specs.Checked.{refusal}
+use Rattle.logic.specs.promises.Refusal.{refusal}
 use Rattle.models.specs.Grounds.{read-model}
 use Rattle.plan_judge.proofs.Returns.{said-cut, held-refused, held-whole}
 use borrow.Author.Needs.{needs}

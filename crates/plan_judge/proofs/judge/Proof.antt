@@ -4,13 +4,13 @@ use native.Mathlib.Omega.{arith}
 use mathlib.Core.Path.{_≡_, sym, ap, subst, _∙_}
 use lib.ListN.{length, take}
 use lib.Seq.{length-take-le}
-use Rattle.logic.specs.Checked.{refusal}
+use Rattle.logic.specs.promises.Refusal.{refusal}
 use Rattle.calls.specs.promises.Chains.{do-judge}
-use Rattle.judging.specs.Asked.{Served}
-use Rattle.judging.specs.Announced.{root-verdict}
+use Rattle.judging.specs.promises.Asked.{Served}
+use Rattle.judging.specs.promises.Announced.{root-verdict}
 use Rattle.plan_judge.specs.View.{view}
-use Rattle.plan_judge.specs.Values.{verdict-code, choices-code}
-use Rattle.plan_judge.specs.State.{verdict-from}
+use Rattle.plan_judge.specs.promises.Values.{verdict-code, choices-code}
+use Rattle.plan_judge.specs.promises.State.{verdict-from}
 use Rattle.plan_judge.proofs.Returns.{said-bytes, cut-inside, cut-said}
 use Rattle.plan_judge.proofs.Judges.{verdict-told, choices-told, judge-refused, served, judge-done}
 use borrow.Author.Needs.{needs}

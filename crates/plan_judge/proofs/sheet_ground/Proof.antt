@@ -5,11 +5,11 @@ use mathlib.Core.Path.{sym, ap₂, _∙_}
 use lib.ListN.{length}
 use lib.Seq.{length-take-le}
 use borrow.Author.Needs.{needs}
-use Rattle.logic.specs.Checked.{refusal}
+use Rattle.logic.specs.promises.Refusal.{refusal}
 use Rattle.models.specs.Layout.{model-of}
 use Rattle.questions.proofs.Accepted.{accepted}
 use Rattle.sheets.proofs.Laws.{sheet-passed}
-use Rattle.plan_judge.specs.State.{plan-on}
+use Rattle.plan_judge.specs.promises.State.{plan-on}
 use Rattle.plan_judge.proofs.Checks.{sheet-refused, gathered}
 use Rattle.plan_judge.proofs.sheet_ground.Statement.{statement}
 use Rattle.plan_judge.proofs.sheet_ground.Tie as tie

@@ -4,7 +4,7 @@ use mathlib.Core.Path.{sym, subst}
 use lib.ListN.{length}
 use lib.Seq.{length-take-le}
 use Rattle.sheets.specs.Layout.{sheet-of}
-use Rattle.judging.specs.Announced.{Weighs}
+use Rattle.judging.specs.promises.Announced.{Weighs}
 use Rattle.plan_judge.proofs.Checks.{gathered-are}
 use borrow.Author.Needs.{needs}
 use Rattle.plan_judge.proofs.sheet_weight.Statement.{statement}

@@ -4,7 +4,7 @@ use mathlib.Core.Bool.{true, false}
 use borrow.Author.Needs.{needs}
 use borrow.Author.Tests.{not-true, not-false}
 use Rattle.plan_judge.specs.View.{verdict-in}
-use Rattle.plan_judge.specs.State.{shown-size}
+use Rattle.plan_judge.specs.promises.State.{shown-size}
 use Rattle.plan_judge.proofs.Grounds.{plan-asked}
 use Rattle.plan_judge.proofs.Writes.{verdict-is, shown-found}
 use Rattle.plan_judge.proofs.shown_size.Statement.{statement}

@@ -1,6 +1,6 @@
 -- The record's weight, or 0 where there is no record.
 use borrow.Author.Needs.{needs}
-use Rattle.plan_judge.specs.State.{shown-weight}
+use Rattle.plan_judge.specs.promises.State.{shown-weight}
 use Rattle.plan_judge.proofs.shown_weight.Statement.{statement}
 use Rattle.plan_judge.proofs.shown_weight.Tie as tie
 

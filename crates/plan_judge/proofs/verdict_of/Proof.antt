@@ -1,7 +1,7 @@
 -- By the outcome's two answers.
 use mathlib.Core.Path.{refl}
 use borrow.Author.Tests.{not-true, not-false}
-use Rattle.plan_judge.specs.State.{verdict-from}
+use Rattle.plan_judge.specs.promises.State.{verdict-from}
 use Rattle.plan_judge.proofs.verdict_of.Statement.{statement}
 use Rattle.plan_judge.proofs.verdict_of.Tie as tie
 

@@ -6,16 +6,16 @@ use mathlib.Core.List.{_++_}
 use lib.ListN.{length, take, drop}
 use lib.Seq.{length-take-le}
 use borrow.Author.Needs.{needs}
-use Rattle.logic.specs.Checked.{refusal}
+use Rattle.logic.specs.promises.Refusal.{refusal}
 use Rattle.logic.specs.Choices.{read-plan}
 use Rattle.models.specs.Layout.{state-count, model-of}
 use Rattle.models.specs.Grounds.{read-model}
 use Rattle.questions.specs.Layout.{start-of, node-count, node-of}
 use Rattle.questions.proofs.Accepted.{accepted}
-use Rattle.sheets.specs.Ends.{end-of}
+use Rattle.sheets.specs.promises.Ends.{end-of}
 use Rattle.sheets.specs.Layout.{blocks-for, sheet-bytes}
 use Rattle.plan_judge.specs.View.{view}
-use Rattle.plan_judge.specs.State.{held-goal}
+use Rattle.plan_judge.specs.promises.State.{held-goal}
 use Rattle.plan_judge.proofs.Returns.{said-bytes, cut-inside, cut-said}
 use Rattle.plan_judge.proofs.Grounds.{plan-asked}
 use Rattle.plan_judge.proofs.Writes.{choices-read, found-shown, write-state, write-none, count-few, write-short, write-done}

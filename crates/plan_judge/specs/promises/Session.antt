@@ -7,7 +7,7 @@ use Rattle.calls.specs.Replies.{Session}
 use Rattle.plan_judge.specs.declared.Desk.{Desk}
 use Rattle.plan_judge.specs.View.{view}
 use Rattle.plan_judge.specs.Said.{said-taken, said-judgement, said-written, said-checking}
-use Rattle.plan_judge.specs.Values.{nothing, loaded-by, put-by, judged-by, written-by, filled-by, checked-by}
+use Rattle.plan_judge.specs.promises.Values.{nothing, loaded-by, put-by, judged-by, written-by, filled-by, checked-by}
 
 pub record Outcome : Type 0 where
   pub reply : Reply

@@ -1,7 +1,7 @@
 -- A refusal of put, or what is left to do on the desk that it gives back.
 use mathlib.Core.Path.{sym, ap}
 use Rattle.lines.specs.promises.Chain.{line-of}
-use Rattle.printing.specs.Printed.{Asked}
+use Rattle.printing.specs.promises.Printed.{Asked}
 use Rattle.printing.proofs.Desks.{put-refused, put-done, asking-is}
 use Rattle.printing.proofs.Told.{put-as}
 use borrow.Author.Needs.{needs}

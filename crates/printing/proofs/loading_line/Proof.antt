@@ -1,7 +1,7 @@
 -- A refusal of load, or what is left to do on the desk that it gives back.
 use mathlib.Core.Path.{sym, ap}
 use Rattle.lines.specs.promises.Chain.{line-of}
-use Rattle.printing.specs.Printed.{Loaded}
+use Rattle.printing.specs.promises.Printed.{Loaded}
 use Rattle.printing.proofs.Desks.{load-refused, load-done, loading-is}
 use Rattle.printing.proofs.Told.{put-as}
 use borrow.Author.Needs.{needs}

@@ -2,7 +2,7 @@
 use mathlib.Core.Path.{sym, subst}
 use Prim.Native.Nat.{_≤_}
 use Rattle.lines.specs.Line.{yes-plan-line}
-use Rattle.printing.specs.Printed.{shown-line, shown-steps}
+use Rattle.printing.specs.promises.Printed.{shown-line, shown-steps}
 use borrow.Author.Needs.{needs}
 use Rattle.printing.proofs.verdict_line.Statement.{statement}
 use Rattle.printing.proofs.verdict_line.Tie as tie

@@ -6,7 +6,7 @@ use mathlib.Core.Path.{_≡_, refl, sym, ap, ap₂, _∙_}
 use lib.ListN.{getD}
 use Rattle.logic.specs.Formula.{never, depth}
 use Rattle.questions.specs.Layout.{node-of}
-use Rattle.questions.specs.Tables.{formulas-before}
+use Rattle.questions.specs.promises.Tables.{formulas-before}
 use Rattle.questions.proofs.Laws.{child-value}
 use Rattle.questions.proofs.Rows.{row-3, row-4, row-5, row-6, row-7, other-row}
 use Rattle.questions.proofs.Depths.{depth-bound}

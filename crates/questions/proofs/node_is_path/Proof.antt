@@ -5,7 +5,7 @@ use mathlib.Core.Bool.{_||_}
 use lib.ListN.{getD}
 use Rattle.logic.specs.Formula.{never, is-path}
 use Rattle.questions.specs.Layout.{node-of}
-use Rattle.questions.specs.Tables.{formulas-before}
+use Rattle.questions.specs.promises.Tables.{formulas-before}
 use Rattle.questions.proofs.Laws.{child-value, either-first}
 use Rattle.questions.proofs.Rows.{row-3, row-4, row-5, row-6, row-7, other-row}
 use borrow.Author.Needs.{needs}

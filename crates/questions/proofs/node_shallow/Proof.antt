@@ -5,7 +5,7 @@ use lib.Dec.{leb}
 use lib.ListN.{getD}
 use Rattle.logic.specs.Formula.{never, depth, shallow}
 use Rattle.questions.specs.Layout.{node-of, node-count}
-use Rattle.questions.specs.Tables.{formulas-before, table}
+use Rattle.questions.specs.promises.Tables.{formulas-before, table}
 use Rattle.questions.proofs.Laws.{child-value, all-before, formula-here}
 use Rattle.questions.proofs.Rows.{row-8, other-shallow}
 use borrow.Author.Needs.{needs}

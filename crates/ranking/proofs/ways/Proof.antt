@@ -10,7 +10,7 @@ use Rattle.models.proofs.Readable.{readable}
 use Rattle.models.proofs.Rows.{entries-few}
 use Rattle.models.proofs.Table.{count-entries}
 use Rattle.limits.proofs.Laws.{not-enabled, is-enabled}
-use Rattle.ranking.specs.Places.{ways}
+use Rattle.ranking.specs.promises.Places.{ways}
 use Rattle.ranking.proofs.Laws.{ways-left, ways-most, count-start, count-here, count-turn, count-end}
 use Rattle.ranking.proofs.ways.Statement.{statement}
 use Rattle.ranking.proofs.ways.Tie as tie

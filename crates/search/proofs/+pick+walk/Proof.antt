@@ -6,7 +6,7 @@ use mathlib.Core.Logic.{⊎-elim}
 use borrow.Author.Needs.{needs}
 use lib.ListN.{take, length-set}
 use Rattle.models.specs.Layout.{action-count, denominator-of, entries}
-use Rattle.evaluation.specs.Reached.{on-path}
+use Rattle.evaluation.specs.promises.Reached.{on-path}
 use Rattle.search.proofs.Walking.{Walking, walking-none}
 use Rattle.search.proofs.Losing.{weighed, weighed-none}
 use Rattle.search.proofs.Paths.{sizes-here, few-here, count-here, picked-leaf, Kept, back-none, kept-none}

@@ -1,7 +1,7 @@
 -- `exceeds`: each order is the negation of the other, turned round.
 use mathlib.Core.Path.{sym, ap, _∙_}
 use mathlib.Core.Bool.{not}
-use Rattle.logic.specs.Quantity.{order}
+use Rattle.logic.specs.promises.Orders.{order}
 use Rattle.search.proofs.Orders.{less-not}
 use Rattle.search.proofs.exceeds.Statement.{statement}
 use Rattle.search.proofs.exceeds.Tie as tie

@@ -4,8 +4,8 @@ use native.Mathlib.Omega.{arith}
 use mathlib.Core.Path.{_≡_, sym, ap, ap₂, _∙_}
 use mathlib.Core.Bool.{not, cond}
 use Rattle.models.specs.Layout.{denominator-of}
-use Rattle.search.specs.Greatest.{best-left}
-use Rattle.search.specs.Buffers.{wins}
+use Rattle.search.specs.promises.Greatest.{best-left}
+use Rattle.search.specs.promises.Buffers.{wins}
 use borrow.Author.Needs.{needs}
 use Rattle.search.proofs.hopeless.Statement.{statement}
 use Rattle.search.proofs.hopeless.Tie as tie

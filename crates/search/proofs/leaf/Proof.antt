@@ -1,7 +1,7 @@
 -- `leaf`: the value known of the cone's root.
 use mathlib.Core.Path.{refl, ap, _∙_}
 use borrow.Author.Needs.{needs}
-use Rattle.evaluation.specs.Learnt.{known}
+use Rattle.evaluation.specs.promises.Learnt.{known}
 use Rattle.search.proofs.leaf.Statement.{statement}
 use Rattle.search.proofs.leaf.Tie as tie
 

@@ -1,6 +1,6 @@
 -- `pick_last`: the lanes have the values of the last step.
 use borrow.Author.Needs.{needs}
-use Rattle.extension.specs.Choices.{room}
+use Rattle.extension.specs.promises.Choices.{room}
 use Rattle.search.proofs.Paths.{state-here}
 use Rattle.search.proofs.pick_last.Statement.{statement}
 use Rattle.search.proofs.pick_last.Tie as tie

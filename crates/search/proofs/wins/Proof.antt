@@ -2,8 +2,8 @@
 use mathlib.Core.Path.{sym, ap, _∙_}
 use mathlib.Core.Bool.{not, _||_}
 use borrow.Author.Needs.{needs}
-use Rattle.logic.specs.Quantity.{order}
-use Rattle.search.specs.Buffers.{wins}
+use Rattle.logic.specs.promises.Orders.{order}
+use Rattle.search.specs.promises.Buffers.{wins}
 use Rattle.search.proofs.wins.Statement.{statement}
 use Rattle.search.proofs.wins.Tie as tie
 

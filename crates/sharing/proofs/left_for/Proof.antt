@@ -5,7 +5,7 @@ use mathlib.Core.Path.{_≡_, sym, ap, _∙_}
 use mathlib.Core.Logic.{_⊎_, inl, inr, ⊎-elim}
 use mathlib.Core.Bool.{true, false}
 use lib.ListN.{getD}
-use Rattle.sharing.specs.Shared.{has-left}
+use Rattle.sharing.specs.promises.Shared.{has-left}
 use Rattle.sharing.proofs.Cells.{with-left, without-left, left-replaced, left-kept}
 use borrow.Author.Needs.{needs}
 use Rattle.sharing.proofs.left_for.Statement.{statement}

@@ -3,7 +3,7 @@ use native.Mathlib.Omega.{arith}
 use mathlib.Core.Path.{_≡_, sym, ap, subst, _∙_}
 use lib.ListN.{getD}
 use Rattle.questions.specs.Layout.{node-of}
-use Rattle.sharing.specs.Replaced.{Replaces}
+use Rattle.sharing.specs.promises.Replaced.{Replaces}
 use Rattle.sharing.proofs.Nodes.{half-replaces, self-replaces}
 use borrow.Author.Needs.{needs}
 use Rattle.sharing.proofs.replacement.Statement.{statement}

@@ -7,7 +7,7 @@ use mathlib.Core.Path.{_≡_, refl, sym, subst, _∙_}
 use lib.ListN.{length, set, length-set}
 use borrow.Author.Needs.{needs}
 use Rattle.questions.specs.Layout.{node-count}
-use Rattle.sharing.specs.Replaced.{Replacements}
+use Rattle.sharing.specs.promises.Replaced.{Replacements}
 use Rattle.sharing.proofs.Nodes.{replacements-more}
 use Rattle.sharing.proofs.replacements.Statement.{statement}
 use Rattle.sharing.proofs.replacements.Tie as tie

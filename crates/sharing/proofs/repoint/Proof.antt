@@ -3,7 +3,7 @@ use Prim.Native.Nat.{_+_, _*_}
 use native.Mathlib.Omega.{arith}
 use mathlib.Core.Path.{ap₂}
 use lib.ListN.{set, length-set}
-use Rattle.sharing.specs.Replaced.{repointed}
+use Rattle.sharing.specs.promises.Replaced.{repointed}
 use borrow.Author.Needs.{needs}
 use Rattle.sharing.proofs.repoint.Statement.{statement}
 use Rattle.sharing.proofs.repoint.Tie as tie

@@ -6,7 +6,7 @@ use mathlib.Core.Path.{_≡_, sym, ap, _∙_}
 use lib.ListN.{length}
 use borrow.Author.Needs.{needs}
 use Rattle.questions.specs.Layout.{node-count}
-use Rattle.sharing.specs.Replaced.{repointed, replaced}
+use Rattle.sharing.specs.promises.Replaced.{repointed, replaced}
 use Rattle.sharing.proofs.Cells.{repointed-length}
 use Rattle.sharing.proofs.Nodes.{shared-question}
 use Rattle.sharing.proofs.shared.Statement.{statement}

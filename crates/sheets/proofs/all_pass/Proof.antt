@@ -8,7 +8,7 @@ use Rattle.logic.proofs.Tests.{every-at}
 use Rattle.blocks.specs.Block.{block-count}
 use Rattle.models.proofs.Laws.{every-more}
 use Rattle.sheets.specs.Grounds.{count-right}
-use Rattle.sheets.specs.Reader.{passes}
+use Rattle.sheets.specs.promises.Reader.{passes}
 use Rattle.sheets.proofs.Laws.{whole-says, count-says}
 use Rattle.sheets.proofs.all_pass.Statement.{statement}
 use Rattle.sheets.proofs.all_pass.Tie as tie

@@ -4,7 +4,7 @@ use mathlib.Core.Path.{_≡_, sym, refl, ap, ap₂, _∙_}
 use mathlib.Core.Bool.{_&&_}
 use borrow.Author.Tests.{ne-eqb}
 use borrow.Author.Needs.{needs}
-use Rattle.sheets.specs.Reader.{passes}
+use Rattle.sheets.specs.promises.Reader.{passes}
 use Rattle.sheets.proofs.block_passes.Statement.{statement}
 use Rattle.sheets.proofs.block_passes.Tie as tie
 

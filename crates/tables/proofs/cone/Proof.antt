@@ -3,7 +3,7 @@ use Prim.Native.Nat.{ℕ, _-_, _≤_}
 use native.Mathlib.Omega.{arith}
 use mathlib.Core.Path.{_≡_, sym, subst, _∙_}
 use lib.ListN.{length}
-use Rattle.tables.specs.Chosen.{Listed}
+use Rattle.tables.specs.promises.Chosen.{Listed}
 use Rattle.tables.proofs.Cones.{listed-none, listed-cone}
 use Rattle.tables.proofs.cone.Statement.{statement}
 use Rattle.tables.proofs.cone.Tie as tie

@@ -3,7 +3,7 @@ use native.Mathlib.Omega.{arith}
 use mathlib.Core.Path.{sym, subst, _∙_}
 use Prim.Native.Nat.{_+_}
 use borrow.Author.Needs.{needs}
-use Rattle.tables.specs.Chosen.{Listed}
+use Rattle.tables.specs.promises.Chosen.{Listed}
 use Rattle.tables.proofs.Cones.{listed-more, listed-skip}
 use Rattle.tables.proofs.list_node.Statement.{statement}
 use Rattle.tables.proofs.list_node.Tie as tie

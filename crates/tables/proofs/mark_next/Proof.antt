@@ -5,7 +5,7 @@ use mathlib.Core.Path.{_≡_, sym, _∙_}
 use lib.ListN.{length}
 use borrow.Author.Count.{below-more}
 use Rattle.models.specs.Layout.{state-count, entries, outcome-of}
-use Rattle.tables.specs.Need.{Marked, Grown}
+use Rattle.tables.specs.promises.Need.{Marked, Grown}
 use Rattle.tables.proofs.Marks.{grown-none, grown-then, by-outcome}
 use Rattle.tables.proofs.mark_next.Statement.{statement}
 use Rattle.tables.proofs.mark_next.Tie as tie

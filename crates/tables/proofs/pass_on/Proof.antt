@@ -7,7 +7,7 @@ use mathlib.Core.List.{List}
 use lib.ListN.{set}
 use borrow.Author.Needs.{needs}
 use Rattle.models.specs.Layout.{state-count, entries, outcome-of}
-use Rattle.tables.specs.Need.{Marked, Grown}
+use Rattle.tables.specs.promises.Need.{Marked, Grown}
 use Rattle.tables.proofs.Marks.{Pair-done, grown-none, given-readable, given-question, left-marked, both-marked, next-marked, none-marked}
 use Rattle.tables.proofs.pass_on.Statement.{statement}
 use Rattle.tables.proofs.pass_on.Tie as tie

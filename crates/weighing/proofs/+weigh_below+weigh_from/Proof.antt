@@ -7,7 +7,7 @@ use lib.IntN.{ℤ}
 use lib.ListN.{length, take, drop}
 use borrow.Author.Needs.{needs}
 use Rattle.models.specs.Layout.{entries}
-use Rattle.weighing.specs.Places.{Ran}
+use Rattle.weighing.specs.promises.Places.{Ran}
 use Rattle.evaluation.proofs.Returning.{roomy-same}
 use Rattle.weighing.proofs.Turns.{runs, length-on, state-few, count-here, weigh-done, weigh-choice, runs-none, runs-all, offered, known-here, here-next, runs-fit, runs-more, here-again}
 use Prim.Native.Nat.{ℕ, _+_, _-_, _≤_, _<_}

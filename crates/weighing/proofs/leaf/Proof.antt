@@ -1,6 +1,6 @@
 -- `leaf`: the root is the last node of the cone, and its value stands at the first place.
 use mathlib.Core.Path.{ap, _∙_}
-use Rattle.evaluation.specs.Learnt.{known}
+use Rattle.evaluation.specs.promises.Learnt.{known}
 use borrow.Author.Needs.{needs}
 use Rattle.weighing.proofs.leaf.Statement.{statement}
 use Rattle.weighing.proofs.leaf.Tie as tie

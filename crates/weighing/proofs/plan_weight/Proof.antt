@@ -4,7 +4,7 @@ use native.Mathlib.Omega.{arith}
 use mathlib.Core.Path.{refl}
 use lib.IntN.{pos}
 use lib.ListN.{length, replicate, length-replicate}
-use Rattle.evaluation.specs.Known.{Roomy}
+use Rattle.evaluation.specs.promises.Known.{Roomy}
 use Rattle.weighing.proofs.Turns.{here-begun, all-weighed}
 use borrow.Author.Needs.{needs}
 use Rattle.weighing.proofs.plan_weight.Statement.{statement}

@@ -18,9 +18,9 @@ use Rattle.models.proofs.used_outcomes.Reads as used-outcomes-reads
 use Rattle.models.proofs.weight.Reads as weight-reads
 use Rattle.limits.proofs.plans_counted.Reads as plans-counted-reads
 use Rattle.evaluation.proofs.step.Reads as step-reads
-use Rattle.equal.specs.Room.{Room}
-use Rattle.equal.specs.Totals.{combined, weighed}
-use Rattle.evaluation.specs.Reached.{on-path}
+use Rattle.equal.specs.promises.Room.{Room}
+use Rattle.equal.specs.promises.Totals.{combined, weighed}
+use Rattle.evaluation.specs.promises.Reached.{on-path}
 use Rattle.equal.proofs.Taking.{placed, count-right, span-outcome, Spanned, ways, outcomes-few, first-room, first-shifts, first-before, first-spanned, span-end, span-grows, span-wider, grown-joins, grown-written}
 use Rattle.equal.proofs.Writing.{action-small, uses-right, state-small, reached, offered, below-here, below-written, decides, decided-written, rebased}
 use Rattle.equal.proofs.Passing.{action-few, Listed, listed-none, passed-over, action-room, action-here, action-listed, listed-all}

@@ -6,7 +6,7 @@ use mathlib.Core.Path.{_≡_, ap, subst, _∙_}
 use mathlib.Core.Logic.{⊎-elim}
 use lib.ListN.{getD}
 use borrow.Author.Needs.{needs}
-use Rattle.equal.specs.Listing.{Longest}
+use Rattle.equal.specs.promises.Listing.{Longest}
 use Rattle.equal.proofs.Longest.{size, longer, no-longer}
 use Rattle.equal.proofs.lists.longest.Statement.{statement}
 use Rattle.equal.proofs.lists.longest.Tie as tie

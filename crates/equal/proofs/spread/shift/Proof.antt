@@ -4,7 +4,7 @@ use native.Mathlib.Omega.{arith}
 use mathlib.Core.Path.{_≡_, sym, ap, _∙_}
 use lib.ListN.{length}
 use Rattle.blocks.proofs.Splice.{splice-none}
-use Rattle.equal.specs.Totals.{part}
+use Rattle.equal.specs.promises.Totals.{part}
 use Rattle.equal.proofs.Turns.{shifted, shift-whole, shift-turn}
 use Rattle.equal.proofs.spread.shift.Statement.{statement}
 use Rattle.equal.proofs.spread.shift.Tie as tie

@@ -9,7 +9,7 @@ use Rattle.logic.specs.Formula.{depth}
 use Rattle.logic.specs.Limits.{plan-total}
 use Rattle.models.specs.Layout.{model-of}
 use Rattle.questions.specs.Layout.{node-of}
-use Rattle.evaluation.specs.Reached.{formula}
+use Rattle.evaluation.specs.promises.Reached.{formula}
 use Rattle.equal.proofs.Serving.{counts-right}
 use Rattle.tables.proofs.Marks.{given-readable}
 use Rattle.tables.proofs.Cones.{given-ordered}

@@ -7,7 +7,7 @@ use lib.Dec.{eqb}
 use lib.ListN.{getD}
 use borrow.Author.Needs.{needs}
 use Rattle.logic.specs.Model.{prop-in}
-use Rattle.logic.specs.Total.{one-if}
+use Rattle.logic.specs.promises.Total.{one-if}
 use Rattle.models.specs.Layout.{model-of}
 use Rattle.tables.proofs.Marks.{given-question}
 use Rattle.judging.proofs.Truths.{props-few, truth-prop, truth-not, truth-and, truth-none}

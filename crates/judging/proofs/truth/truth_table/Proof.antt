@@ -5,8 +5,8 @@ use mathlib.Core.Path.{_≡_, refl, sym, subst, _∙_}
 use lib.ListN.{length, length-set, length-replicate}
 use borrow.Author.Needs.{needs}
 use Rattle.questions.specs.Layout.{node-count}
-use Rattle.judging.specs.Truth.{Right}
-use Rattle.judging.specs.Conditions.{Remembers}
+use Rattle.judging.specs.promises.Truth.{Right}
+use Rattle.judging.specs.promises.Conditions.{Remembers}
 use Rattle.tables.proofs.Marks.{given-question}
 use Rattle.judging.proofs.Posing.{equipped}
 use Rattle.judging.proofs.Truths.{right-none, right-more}

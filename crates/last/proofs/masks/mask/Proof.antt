@@ -6,7 +6,7 @@ use mathlib.Core.Path.{_≡_, refl, sym, ap, subst, _∙_}
 use lib.ListN.{length, getD, take, length-set}
 use borrow.Author.Needs.{needs}
 use Rattle.evaluation.proofs.Knowing.{cone-node}
-use Rattle.last.specs.Masks.{Masked, Ended}
+use Rattle.last.specs.promises.Masks.{Masked, Ended}
 use Rattle.last.proofs.Masking.{masked-none, masked-more, masked-skip, ended}
 use Rattle.last.proofs.masks.mask.Statement.{statement}
 use Rattle.last.proofs.masks.mask.Tie as tie

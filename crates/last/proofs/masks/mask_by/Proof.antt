@@ -11,14 +11,14 @@ use mir.Syntax.{w32}
 use mir.Val.{toZ, ofZ}
 use Rattle.logic.specs.Formula.{Node, depth, relation}
 use Rattle.logic.specs.Quantity.{integers, related}
-use Rattle.logic.specs.Total.{one-if}
+use Rattle.logic.specs.promises.Total.{one-if}
 use Rattle.models.specs.Layout.{outcome-of}
 use Rattle.questions.specs.Layout.{node-of}
 use Rattle.evaluation.proofs.Integers.{fits32}
-use Rattle.evaluation.specs.Learnt.{known}
-use Rattle.evaluation.specs.Reached.{formula}
-use Rattle.lanes.specs.Lanes.{lane, Lanes, Laned}
-use Rattle.last.specs.Masks.{Worded}
+use Rattle.evaluation.specs.promises.Learnt.{known}
+use Rattle.evaluation.specs.promises.Reached.{formula}
+use Rattle.lanes.specs.promises.Lanes.{lane, Lanes, Laned}
+use Rattle.last.specs.promises.Masks.{Worded}
 use Rattle.last.proofs.Masking.{state-here, few-states, not-word, Part, and-word, do-word, next-word, gain-word, no-word}
 use borrow.Author.Needs.{needs}
 use Rattle.last.proofs.masks.mask_by.Statement.{statement}

@@ -3,7 +3,7 @@ use native.Mathlib.Nat.{pos-of-ne-zero}
 use mathlib.Core.Path.{_≡_, refl, sym, _∙_}
 use lib.ListN.{getD}
 use Rattle.logic.specs.Formula.{depth}
-use Rattle.evaluation.specs.Reached.{formula}
+use Rattle.evaluation.specs.promises.Reached.{formula}
 use Rattle.evaluation.proofs.Knowing.{depth-is, cone-node}
 use Rattle.last.proofs.Masking.{few-states, state-word, deep-word}
 use borrow.Author.Needs.{needs}

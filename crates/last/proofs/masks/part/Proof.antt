@@ -1,8 +1,8 @@
 use mathlib.Core.Path.{sym, subst, _∙_}
 use mathlib.Core.Bool.{not}
 use lib.Dec.{eqb}
-use Rattle.logic.specs.Total.{one-if}
-use Rattle.lanes.specs.Lanes.{Lanes}
+use Rattle.logic.specs.promises.Total.{one-if}
+use Rattle.lanes.specs.promises.Lanes.{Lanes}
 use borrow.Author.Needs.{needs}
 use Rattle.last.proofs.masks.part.Statement.{statement}
 use Rattle.last.proofs.masks.part.Tie as tie

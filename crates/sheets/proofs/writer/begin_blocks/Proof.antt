@@ -9,7 +9,7 @@ use borrow.Author.Needs.{needs}
 use borrow.Rule.Slice.PartMut.{same-len-mid}
 use Rattle.logic.specs.Lists.{count-from}
 use Rattle.sheets.specs.Layout.{blocks-for}
-use Rattle.sheets.specs.Writer.{unsealed, chunk-size, begun}
+use Rattle.sheets.specs.promises.Writer.{unsealed, chunk-size, begun}
 use Rattle.sheets.proofs.Pieces.{pieces, pieces-length, piece-put}
 use Rattle.sheets.proofs.Block.{unsealed-length}
 use Rattle.sheets.proofs.writer.begin_blocks.Statement.{statement}

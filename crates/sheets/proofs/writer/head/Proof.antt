@@ -3,7 +3,7 @@ use native.Mathlib.Omega.{arith}
 use mathlib.Core.Path.{_≡_, ap, _∙_}
 use lib.ListN.{set, replicate, length-set}
 use borrow.Author.Needs.{needs}
-use Rattle.sheets.specs.Writer.{started}
+use Rattle.sheets.specs.promises.Writer.{started}
 use Rattle.sheets.proofs.writer.head.Statement.{statement}
 use Rattle.sheets.proofs.writer.head.Tie as tie
 

@@ -9,7 +9,7 @@ use borrow.Author.Needs.{needs}
 use borrow.Rule.Slice.PartMut.{same-len-mid}
 use Rattle.logic.specs.Lists.{count-from}
 use Rattle.sheets.specs.Layout.{with-word-sum}
-use Rattle.sheets.specs.Writer.{sealed}
+use Rattle.sheets.specs.promises.Writer.{sealed}
 use Rattle.sheets.proofs.Pieces.{pieces, piece-put}
 use Rattle.sheets.proofs.Block.{sealed-length, block-lent}
 use Rattle.sheets.proofs.writer.seal_blocks.Statement.{statement}

@@ -5,7 +5,7 @@ use mathlib.Core.Path.{ap, _∙_}
 use lib.ListN.{length-take, length-drop}
 use borrow.Rule.Slice.PartMut.{putMid, set-mid-at}
 use borrow.Author.Needs.{needs}
-use Rattle.sheets.specs.Writer.{place}
+use Rattle.sheets.specs.promises.Writer.{place}
 use Rattle.sheets.proofs.writer.store_choice.Statement.{statement}
 use Rattle.sheets.proofs.writer.store_choice.Tie as tie
 

@@ -1,0 +1,5 @@
+-- What the layers above and below promise each other; nobody has to believe it.
+pub mod Listing
+pub mod Room
+pub mod Spread
+pub mod Totals

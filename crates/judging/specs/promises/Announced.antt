@@ -1,0 +1,44 @@
+-- The verdict on a question's root in its start state, and how it is told: in an outcome, with the choices of a shown plan beside it.
+use Prim.Native.Nat.{ℕ, _-_}
+use mathlib.Core.Path.{_≡_}
+use mathlib.Core.Bool.{true, false}
+use mathlib.Core.List.{List, []}
+use Rattle.logic.specs.Checked.{ok}
+use Rattle.logic.specs.Plan.{Plan}
+use Rattle.logic.specs.Choices.{plan-of}
+use Rattle.logic.specs.Formula.{W, nonnegative}
+use Rattle.logic.specs.Verdict.{Verdict, no, yes, yes-plan, verdict}
+use Rattle.blocks.specs.Bytes.{Bytes}
+use Rattle.models.specs.Layout.{model-of}
+use Rattle.questions.specs.Layout.{start-of, node-count, node-of}
+use Rattle.evaluation.specs.promises.Reached.{formula}
+use Rattle.blocks.specs.Splice.{splice}
+use Rattle.judging.specs.promises.Decided.{condition}
+use Rattle.judging.specs.declared.Outcome.{Outcome}
+
+-- The root is the last node.
+abbrev pub root : Bytes → ℕ
+root q = node-count q - 1
+
+abbrev pub root-verdict : (m q : Bytes) → Verdict
+root-verdict m q = verdict (model-of m) (start-of q) (formula q (root q))
+
+unfoldable pub told : Verdict → Outcome
+told (no x) = record { yes = false; plan = false; weight = 0; steps = 0; count = x .count }
+told yes = record { yes = true; plan = false; weight = 0; steps = 0; count = 0 }
+told (yes-plan x) = record { yes = true; plan = true; weight = nonnegative (x .total); steps = x .steps; count = x .count }
+
+unfoldable pub shown-choices : Verdict → List ℕ
+shown-choices (no x) = []
+shown-choices yes = []
+shown-choices (yes-plan x) = x .choices
+
+-- The outcome tells the verdict, and the choices are written over those before, from the beginning.
+abbrev pub Announces : Verdict → Outcome → (before after : List ℕ) → Type 0
+Announces v r before after = (r ≡ told v) × (after ≡ splice before 0 (shown-choices v))
+
+-- The number is the total of the plan with these choices, if they are those of a plan, for the condition of the root, which is a "plan".
+abbrev pub Weighs : (m q choices : Bytes) → ℕ → Type 0
+Weighs m q choices r =
+    (π : Plan ((node-of q (root q)) .n)) → plan-of (model-of m) ((node-of q (root q)) .n) (start-of q) choices ≡ ok π
+    → r ≡ W (model-of m) (condition q (root q)) ((node-of q (root q)) .n) (start-of q) π

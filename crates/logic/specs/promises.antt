@@ -1,0 +1,8 @@
+-- What the layers above and below promise each other; nobody has to believe it.
+pub mod Extension
+pub mod Recursion
+pub mod Total
+pub mod Orders
+pub mod Paths
+pub mod Follows
+pub mod Refusal

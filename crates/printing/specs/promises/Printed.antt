@@ -1,0 +1,69 @@
+-- The line to print by what is left to do after each call, and of a verdict as judge returns it.
+use Prim.Native.Nat.{ℕ, _^_, _-_, _≤_}
+use mathlib.Core.Path.{_≡_}
+use mathlib.Core.Bool.{Bool, true, false, cond}
+use mathlib.Core.List.{List, [], _∷_}
+use lib.Dec.{eqb}
+use lib.ListN.{length}
+use Rattle.logic.specs.Checked.{Checked, ok, _>>=_, _>>_}
+use Rattle.logic.specs.promises.Refusal.{refusal}
+use Rattle.logic.specs.Model.{Model}
+use Rattle.logic.specs.Verdict as logic
+use Rattle.logic.specs.Limits.{limits}
+use Rattle.blocks.specs.Bytes.{Bytes}
+use Rattle.models.specs.Layout.{denominator-of, model-of}
+use Rattle.models.specs.Grounds.{read-model}
+use Rattle.questions.specs.Layout.{Question, node-of, node-count}
+use Rattle.calls.specs.Calls.{load, put, question-for}
+use Rattle.lines.specs.Line.{plain-line, no-plans-line, yes-plan-line, verdict-line}
+use Rattle.plan_judge.specs.declared.Desk.{Desk}
+use Rattle.plan_judge.specs.declared.Verdict.{Verdict}
+use Rattle.plan_judge.specs.declared.Verdict.the-variants.{No, Yes, YesPlan}
+use Rattle.plan_judge.specs.promises.Values.{nothing}
+use Rattle.plan_judge.specs.promises.Session.{desk-after}
+
+-- ---- what is left to do
+
+abbrev pub judging-line : Model → Question → Checked (List ℕ)
+judging-line m q = limits m (q .nodes) >> ok (verdict-line m (q .root) (logic.verdict m (q .start) (q .root)))
+
+abbrev pub asking-line : Model → Bytes → Checked (List ℕ)
+asking-line m b = question-for m b >>= judging-line m
+
+abbrev pub loading-line : (model question : Bytes) → Checked (List ℕ)
+loading-line b c = read-model b >>= (λ m. asking-line m c)
+
+-- ---- the desk after load, and after put
+
+pub record Loaded (d : Desk) (m : Bytes) : Type 0 where
+  pub desk : d ≡ desk-after nothing (load m ∷ [])
+  pub model : refusal (read-model m) ≡ 0
+
+pub record Asked (d : Desk) (m q : Bytes) : Type 0 where
+  pub desk : d ≡ desk-after nothing (load m ∷ put q ∷ [])
+  pub model : refusal (read-model m) ≡ 0
+  pub question : refusal (question-for (model-of m) q) ≡ 0
+
+-- ---- a verdict as judge returns it, with its choices beside it
+
+-- Whether the last node is a "plan".
+abbrev pub plan-root : Bytes → Bool
+plan-root q = eqb (node-of q (node-count q - 1) .operator) 8
+
+-- Its line, with the denominator D.
+unfoldable pub shown-line : (D : ℕ) → Bool → Verdict → List ℕ → List ℕ
+shown-line D is-plan (No x) cs = cond is-plan (no-plans-line (x .count)) (plain-line false)
+shown-line D is-plan Yes cs = plain-line true
+shown-line D is-plan (YesPlan x) cs = yes-plan-line (x .weight) (D ^ x .steps) (x .count) cs
+
+-- The steps of the plan record; 0 where there is none.
+unfoldable pub shown-steps : Verdict → ℕ
+shown-steps (No x) = 0
+shown-steps Yes = 0
+shown-steps (YesPlan x) = x .steps
+
+pub record Shown (m q : Bytes) (v : Verdict) (cs : List ℕ) : Type 0 where
+  pub small : denominator-of m ≤ 100
+  pub some-node : 1 ≤ node-count q
+  pub few-steps : shown-steps v ≤ 6
+  pub few-choices : length cs ≤ 1365
