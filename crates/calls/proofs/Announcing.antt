@@ -1,11 +1,11 @@
 -- The verdict on a plan question in document 01's words. `shown` finds the first plan of the list that meets the bound and leads; the list
 -- has all plans in dictionary order, so that those before the one found are just the plans that come before it in that order.
-use Prim.Native.Nat.{ℕ, suc, _+_, _<_}
+use Prim.Native.Nat.{ℕ, suc, _+_}
 use native.Mathlib.Omega.{arith}
 use mathlib.Core.Path.{_≡_, refl, sym, ap, ap₂, subst, _∙_}
-use mathlib.Core.Logic.{_↔_, ⊎-elim}
+use mathlib.Core.Logic.{⊎-elim}
 use mathlib.Core.Bool.{Bool, true, false, cond, _&&_, false≢true}
-use mathlib.Core.List.{List, [], _∷_, _++_, List·Memᴰ, List·Memᴰ·head, List·Memᴰ·tail, List·Memᴰ·not-nil, List·Memᴰ·cases-cons, List·Memᴰ·append-cases, Memᴰ·append-left, Memᴰ·append-right}
+use mathlib.Core.List.{List, [], _∷_, _++_, List·Memᴰ, List·Memᴰ·head, List·Memᴰ·not-nil, List·Memᴰ·cases-cons, List·Memᴰ·append-cases, Memᴰ·append-left, Memᴰ·append-right}
 use mathlib.Core.Option.{Option, none, some}
 use lib.ListN.{length}
 use Rattle.logic.specs.Lists.{find}
@@ -18,7 +18,7 @@ use Rattle.logic.specs.Verdict.{Goal, goal, shown, denial, plan-record, announc
 use Rattle.logic.proofs.Tests.{and-both, not-true, none≢some, some-same}
 use Rattle.logic.proofs.Dictionary.{plans-are, plans-rising, before-differs}
 use Rattle.logic.proofs.Shown.{goal-led, shown-there}
-use Rattle.calls.specs.Demand2.{In-order, Candidate, Shows, Denies, Announces}
+use Rattle.calls.specs.Demand2.{In-order, Shows, Denies, Announces}
 
 -- ---- lists
 

@@ -2,13 +2,12 @@
 -- applies (`Described`); the verdict says yes exactly where the formula is true, for a "plan" root since there is a shown plan just where it
 -- is true, and announces the plan and the count of document 01's words (`Announcing`).
 use Prim.Native.Nat.{ℕ}
-use mathlib.Core.Path.{_≡_, refl, sym, ap, subst, _∙_}
+use mathlib.Core.Path.{_≡_, refl, sym, ap, _∙_}
 use mathlib.Core.Logic.{_↔_}
 use mathlib.Core.Bool.{Bool, true, false}
 use mathlib.Core.Option.{Option, none, some}
 use mathlib.Core.List.{List, []}
-use Rattle.logic.specs.Checked.{Checked, ok, refused, _>>=_, _>>_}
-use Rattle.logic.specs.promises.Refusal.{held}
+use Rattle.logic.specs.Checked.{ok, refused, _>>_}
 use Rattle.logic.specs.Grounds.{first}
 use Rattle.logic.specs.Model.{Model}
 use Rattle.logic.specs.Plan.{Plan}
@@ -20,7 +19,7 @@ use Rattle.logic.proofs.Shown.{sat-shown}
 use Rattle.logic.proofs.Policies.{sat-policy}
 use Rattle.logic.proofs.Dictionary.{plans-are, plans-rising}
 use Rattle.questions.specs.Layout.{Question}
-use Rattle.calls.specs.Calls.{Call, judge, Held, Answer, judged, Reply, says, yields}
+use Rattle.calls.specs.Calls.{Call, judge, Held, judged, Reply, says, yields}
 use Rattle.calls.specs.History.{after}
 use Rattle.calls.specs.Replies.{Session}
 use Rattle.calls.specs.Demand2.{says-yes, Demand-2, Demand-2-always}

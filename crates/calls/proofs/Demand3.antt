@@ -6,10 +6,10 @@ use native.Mathlib.Omega.{arith}
 use native.Mathlib.Nat.{le-antisymm, le-refl}
 use mathlib.Core.Path.{_≡_, refl, sym, ap, ap₂, subst, _∙_}
 use mathlib.Core.Logic.{_↔_, _⊎_, inl, inr, ⊎-elim}
-use mathlib.Core.Bool.{Bool, true, false, _&&_, false≢true}
+use mathlib.Core.Bool.{Bool, true, false, false≢true}
 use mathlib.Core.Option.{Option, none, some}
-use mathlib.Core.List.{List, [], _++_, List·Memᴰ}
-use lib.Dec.{T, eqb, leb, le→leb, leb→le}
+use mathlib.Core.List.{[], _++_, List·Memᴰ}
+use lib.Dec.{T, leb, le→leb, leb→le}
 use lib.IntN.{ℤ, pos, negsuc}
 use lib.ListN.{length, take, drop, length-append, length-drop}
 use lib.Seq.{take-at, drop-at}
@@ -32,12 +32,10 @@ use Rattle.questions.specs.Layout.{Question}
 use Rattle.sheets.specs.Layout.{Sheet, sheet-of}
 use Rattle.sheets.specs.Grounds.{sheet-grounds, read-sheet}
 use Rattle.calls.specs.Calls.{Call, judge, query, write, check, Held, Report, Answer, judged, written, accepted, refuse, Reply, says, written-bytes, same, reported, yields}
-use Rattle.calls.specs.History.{after}
-use Rattle.calls.specs.Replies.{Session}
-use Rattle.calls.specs.Demand3.{All-bytes, Plan-question, Asked-plan, total, meets-bound, Claims, Accepts, Differs, Meeting-sheet, Says-yes, Writes-shown, Demand-3, Demand-3-always}
+use Rattle.calls.specs.Demand3.{All-bytes, Plan-question, total, meets-bound, Claims, Accepts, Differs, Meeting-sheet, Says-yes, Writes-shown, Demand-3}
 use Rattle.calls.specs.promises.Chains.{sheet-shown, do-write, check-on, do-check, answered, by-chain}
 use Rattle.calls.proofs.Histories.{Sound, sound}
-use Rattle.calls.proofs.Refusals.{refused-same, first-passes, decided-none, decided-first, plan-only}
+use Rattle.calls.proofs.Refusals.{first-passes, decided-none, decided-first, plan-only}
 use Rattle.calls.proofs.Described.{yields-is}
 use Rattle.calls.proofs.Demand2.{judge-yields}
 

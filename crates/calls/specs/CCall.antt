@@ -5,7 +5,7 @@ use Prim.Native.Nat.{ℕ, _+_}
 use mathlib.Core.List.{List, [], _∷_}
 use Rattle.logic.specs.Verdict.{Verdict, no, yes, yes-plan}
 use Rattle.blocks.specs.Bytes.{Bytes}
-use Rattle.calls.specs.Calls.{Call, load, put, judge, query, write, Answer, done, judged, written, accepted, refuse, Reply}
+use Rattle.calls.specs.Calls.{load, put, judge, query, write, Answer, done, judged, written, accepted, refuse, Reply}
 use Rattle.calls.specs.Replies.{replies-to}
 
 pub record Told : Type 0 where

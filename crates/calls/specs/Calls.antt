@@ -2,14 +2,14 @@
 -- of the state". The desk is document 01's word for the judge's state.
 use Prim.Native.Nat.{ℕ}
 use mathlib.Core.Bool.{Bool, _&&_}
-use mathlib.Core.List.{List, [], _∷_, _++_}
+use mathlib.Core.List.{[], _∷_, _++_}
 use mathlib.Core.Option.{Option, none, some}
 use lib.Dec.{leb}
 use lib.IntN.{ℤ}
 use lib.ListN.{length, drop}
 use lib.Signed.{leZ}
 use Rattle.logic.specs.Checked.{Checked, ok, refused, got}
-use Rattle.logic.specs.Grounds.{Ground, _unless_}
+use Rattle.logic.specs.Grounds.{_unless_}
 use Rattle.logic.specs.Model.{Model}
 use Rattle.logic.specs.Plan.{Plan}
 use Rattle.logic.specs.Formula.{nonnegative}

@@ -13,7 +13,6 @@ use lib.IntN.{pos}
 use lib.ListN.{getD, length, length-map, List·getD-map}
 use borrow.Author.Tests.{eq-eqb, ne-eqb, leb-true, ltb-true, ltb-false}
 use Rattle.logic.specs.Lists.{every}
-use Rattle.logic.specs.Checked.{guard}
 use Rattle.logic.specs.promises.Refusal.{refusal}
 use Rattle.logic.specs.Model.{Model}
 use Rattle.logic.specs.Quantity.{naturals, Relation, less, equal, greater}

@@ -1,7 +1,7 @@
 -- The line that is printed is the chain that the contract of `printing::answer` cites: after each call that is done the desk holds what the
 -- next one asks for, and a refusal is printed at once.
 use Prim.Native.Nat.{ℕ, _-_}
-use mathlib.Core.Path.{_≡_, refl, ap, ap₂, _∙_}
+use mathlib.Core.Path.{_≡_, refl, ap₂, _∙_}
 use mathlib.Core.Bool.{Bool, true, false, cond}
 use mathlib.Core.List.{List, [], _∷_}
 use lib.ListN.{length, take, drop}

@@ -1,9 +1,9 @@
 -- Where an action's postconditions contradict and each is true in the target of its own outcome, in a target no other is true, and each is
 -- true in one target only: two that are both true somewhere do not contradict (`not-both`), so they stand in the same place.
-use mathlib.Core.Path.{_≡_, refl, sym, ap, subst, _∙_}
-use mathlib.Core.Logic.{_⊎_, inl, inr, ⊎-elim}
+use mathlib.Core.Path.{_≡_, refl, sym, subst, _∙_}
+use mathlib.Core.Logic.{⊎-elim}
 use mathlib.Core.Bool.{true}
-use mathlib.Core.List.{List, [], _∷_, List·Memᴰ, List·Memᴰ·head, List·Memᴰ·tail, List·Memᴰ·not-nil, List·Memᴰ·cases-cons}
+use mathlib.Core.List.{List, _∷_, List·Memᴰ, List·Memᴰ·head, List·Memᴰ·tail, List·Memᴰ·not-nil, List·Memᴰ·cases-cons}
 use Rattle.logic.specs.Model.{Literals, Model, Step, true-of, contradict, mask}
 use Rattle.logic.specs.Plan.{Match, ends, pair}
 use Rattle.logic.specs.Order.{Rising, nothing, first}

@@ -1,14 +1,12 @@
 -- The chain that the C call's contract cites is what the list load, put, judge, write on an empty desk tells: after each call of the list
 -- that is done, the desk holds what the next one asks for, and a refusal is told on.
-use Prim.Native.Nat.{ℕ, _+_}
-use native.Mathlib.Omega.{arith}
-use mathlib.Core.Path.{_≡_, refl, sym, ap, ap₂, _∙_}
+use Prim.Native.Nat.{_+_}
+use mathlib.Core.Path.{_≡_, refl, ap, ap₂, _∙_}
 use mathlib.Core.Bool.{true}
 use mathlib.Core.List.{List, [], _∷_, _++_}
-use mathlib.Core.Option.{none, some}
+use mathlib.Core.Option.{some}
 use lib.ListN.{length, drop}
-use lib.IntN.{ℤ}
-use Rattle.logic.specs.Checked.{Checked, ok, refused, _>>=_, _>>_}
+use Rattle.logic.specs.Checked.{Checked, ok, refused, _>>=_}
 use Rattle.logic.specs.Model.{Model}
 use Rattle.logic.specs.Verdict.{verdict}
 use Rattle.logic.specs.Verdict as logic
@@ -16,12 +14,12 @@ use Rattle.logic.specs.Limits.{limits}
 use Rattle.blocks.specs.Bytes.{Bytes}
 use Rattle.models.specs.Grounds.{read-model}
 use Rattle.questions.specs.Layout.{Question}
-use Rattle.calls.specs.Calls.{Call, load, put, judge, query, write, Held, done, judged, written, refuse, Reply, says, question-for}
+use Rattle.calls.specs.Calls.{Call, load, put, judge, query, write, judged, written, Reply, says, question-for}
 use Rattle.calls.specs.Replies.{replies-after}
 use Rattle.calls.specs.CCall as list
 use Rattle.calls.specs.CCall.{told, c-call}
 use Rattle.calls.specs.promises.Chains.{do-put, do-judge, do-write, answered, by-chain}
-use Rattle.calls.proofs.Histories.{settled, next}
+use Rattle.calls.proofs.Histories.{next}
 use Rattle.calls.proofs.Lists.{empty, with-model, with-question, after-none, after-more, reply-is}
 use Rattle.plan_judge.specs.promises.CChain.{Told, told-of, told-on, c-chain, c-number, c-buffer}
 use Rattle.plan_judge.specs.promises.CSteps.{told-write}

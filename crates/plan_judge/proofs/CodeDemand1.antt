@@ -7,10 +7,9 @@ use mathlib.Core.List.{[]}
 use Rattle.logic.specs.Checked.{Checked, ok, refused}
 use Rattle.logic.specs.Model.{Model}
 use Rattle.logic.specs.Verdict as logic
-use Rattle.blocks.specs.Bytes.{Bytes}
 use Rattle.models.specs.Grounds.{read-model}
 use Rattle.questions.specs.Layout.{Question}
-use Rattle.calls.specs.Calls.{Call, load, put, judge, query, Held, Answer, done, judged, refuse, Reply, says, yields}
+use Rattle.calls.specs.Calls.{Call, load, put, judge, query, done, judged, refuse, Reply, says, yields}
 use Rattle.calls.specs.promises.Chains.{do-put, do-judge, answered, by-chain}
 use Rattle.calls.proofs.Described.{yields-is, refuse-listed}
 use Rattle.plan_judge.specs.declared.Desk.{Desk}
@@ -19,7 +18,7 @@ use Rattle.plan_judge.specs.promises.Values.{taking, holding, loaded-by,
 use Rattle.plan_judge.specs.promises.Session.{step}
 use Rattle.plan_judge.proofs.Kept.{replies}
 use Rattle.plan_judge.proofs.Claims.Ran.{Answered}
-use Rattle.plan_judge.proofs.Claims.Demand1.{Asks-nothing, Refused, Demand-1}
+use Rattle.plan_judge.proofs.Claims.Demand1.{Asks-nothing, Demand-1}
 use Rattle.plan_judge.proofs.EveryList.{stepped, answer-there}
 
 -- ---- a refused call gives the desk back as it got it

@@ -8,7 +8,7 @@ use mathlib.Core.Option.{Option, none, some}
 use lib.IntN.{pos}
 use lib.ListN.{length, drop, replicate}
 use lib.Seq.{take-at}
-use Rattle.logic.specs.Checked.{Checked, ok, refused, _>>=_, _>>_, got}
+use Rattle.logic.specs.Checked.{Checked, ok, refused, _>>=_, got}
 use Rattle.logic.specs.promises.Refusal.{held}
 use Rattle.logic.specs.Model.{Model}
 use Rattle.logic.specs.Plan.{Plan, plans, choices}

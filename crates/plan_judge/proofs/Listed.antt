@@ -1,10 +1,10 @@
 -- The number of a refusal is at most 25, since it is one that document 01 lists for the call.
 use Prim.Native.Nat.{ℕ, _≤_}
 use mathlib.Core.Path.{_≡_, refl, sym, ap, subst, _∙_}
-use mathlib.Core.Bool.{Bool, true}
+use mathlib.Core.Bool.{true}
 use lib.Dec.{eqb, leb}
 use borrow.Author.Tests.{leb-true}
-use Rattle.logic.specs.Lists.{all, any}
+use Rattle.logic.specs.Lists.{all}
 use Rattle.logic.proofs.Tests.{all-at, any-some, eqb-eq}
 use Rattle.calls.specs.Calls.{Call, load, put, judge, query, write, check, Held, refuse}
 use Rattle.calls.specs.Demand1.{listed}

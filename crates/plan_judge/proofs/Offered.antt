@@ -1,10 +1,9 @@
 -- What is offered beside the five calls is what is claimed of it (`Claims.Offered`): the contracts' own values, and of the C call that its
 -- chain is the list of calls (`CList`).
-use mathlib.Core.Path.{_≡_, refl, sym, ap, ap₂, _∙_}
+use mathlib.Core.Path.{_≡_, refl, sym, ap₂, _∙_}
 use mathlib.Core.Option.{Option, none, some}
 use Rattle.logic.specs.Verdict.{Verdict, no, yes, yes-plan}
 use lib.ListN.{length}
-use Rattle.plan_judge.specs.declared.Desk.{Desk}
 use Rattle.plan_judge.specs.View.{view}
 use Rattle.plan_judge.specs.promises.State.{shown-size}
 use Rattle.plan_judge.specs.promises.CChain.{c-chain, c-number, c-buffer}

@@ -12,7 +12,7 @@ use Rattle.logic.specs.Choices.{plan-of}
 use Rattle.blocks.specs.Bytes.{Bytes}
 use Rattle.models.specs.Grounds.{read-model}
 use Rattle.questions.specs.Layout.{Question}
-use Rattle.sheets.specs.Layout.{Sheet, sheet-bytes}
+use Rattle.sheets.specs.Layout.{Sheet}
 use Rattle.sheets.specs.Grounds.{read-sheet}
 use Rattle.calls.specs.Calls.{Call, load, put, judge, query, write, check, Held, Report, done, judged, written, accepted, refuse, Reply, says, question-for, written-bytes, same, reported}
 
