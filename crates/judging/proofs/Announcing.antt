@@ -8,7 +8,6 @@ use mathlib.Core.Path.{_≡_, refl, sym, ap, ap₂, subst, _∙_}
 use mathlib.Core.Bool.{Bool, true, false, cond, _||_, false≢true}
 use mathlib.Core.List.{List, _++_}
 use lib.Dec.{eqb}
-use lib.IntN.{pos}
 use lib.ListN.{drop, take-append-drop}
 use borrow.Author.Tests.{ltb-true, ltb-false}
 use Rattle.logic.specs.Formula.{Formula, never, prop, neg, both, does, next, gain, plan, depth, is-path, nonnegative, W}

@@ -4,10 +4,9 @@ use Prim.Native.Nat.{ℕ, _+_, _≤_}
 use native.Mathlib.Omega.{arith}
 use mathlib.Core.Path.{_≡_, refl, sym, ap, ap₂, subst, _∙_}
 use mathlib.Core.Bool.{Bool, true, false}
-use mathlib.Core.List.{List, [], _++_}
+use mathlib.Core.List.{[], _++_}
 use mathlib.Core.Option.{Option, none, some}
 use lib.Dec.{leb}
-use lib.IntN.{ℤ}
 use lib.ListN.{length, drop}
 use Rattle.logic.specs.Checked.{Checked, ok, refused, _>>=_, _>>_, held, guard}
 use Rattle.logic.specs.Model.{Model}
