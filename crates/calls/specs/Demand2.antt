@@ -99,7 +99,7 @@ pub record Demand-2 (h : Held) (reply : Call → Reply) : Type 0 where
   -- "refusal only on the listed grounds and on every one of them": with k exactly when k is the first of the call's grounds, in document
   -- 01's order, that applies
   pub refused-by-first : (c : Call) (k : ℕ) → ((reply c) .answer ≡ refuse k) ↔ (first (grounds (described h c)) ≡ some k)
-  -- "the published definitions": the model that is held is one of Definition 1, which says of load what it accepts
+  -- "the published definitions": a model that is held, so any that load accepts, is one of Definition 1
   pub model-right : (m : Model) → h .model ≡ some m → Accepted m
   -- where neither 20 nor 21, 24 nor 25 applies
   pub verdict-right : (m : Model) (q : Question) → h .model ≡ some m → h .question ≡ some q → first (limit-grounds m (q .nodes)) ≡ none
