@@ -5,7 +5,8 @@
 use crate::blocks::Sheet;
 use crate::desk::{next_call, Answer, Call, Desk};
 use crate::ground::Ground;
-use crate::logic::{plain, Model, Node, Path, Plan, PlanNode, Question};
+use crate::logic::plain::{self, Meaning};
+use crate::logic::{Model, Path, Plan, PlanNode, Question};
 use crate::logic::{Relation, Totals, Verdict};
 use std::collections::BTreeMap;
 use std::ops::Div;
@@ -52,50 +53,26 @@ struct FloatJudge<'a> {
     arithmetic: Arithmetic,
 }
 
+impl Meaning for FloatJudge<'_> {
+    fn model(&self) -> &Model {
+        self.model
+    }
+
+    fn question(&self) -> &Question {
+        self.question
+    }
+
+    fn met(&self, node: &PlanNode, plan: &Plan, state: u8) -> bool {
+        let (p, q) = (u64::from(node.bound.p), u64::from(node.bound.q));
+        let (left, right) = self.sides(node, plan, state, (p, q));
+        node.relation.relates(left, right)
+    }
+}
+
 impl FloatJudge<'_> {
     fn yes(&self) -> bool {
         let place = Path::standing(self.question.start);
         self.holds(self.question.root(), &place, 0)
-    }
-
-    fn holds(&self, node: usize, path: &Path, place: usize) -> bool {
-        let Some(node) = self.question.nodes.get(node) else {
-            return false;
-        };
-        let state = path.states.get(place).copied().unwrap_or(u8::MAX);
-        let child = |number: u8, place: usize| self.holds(usize::from(number), path, place);
-        match *node {
-            Node::False => false,
-            Node::Proposition(number) => self.model.holds(state, number),
-            Node::Not(number) => !child(number, place),
-            Node::And(left, right) => child(left, place) && child(right, place),
-            Node::Do(action) => path.actions.get(place) == Some(&action),
-            Node::Next(number) => child(number, place + 1),
-            Node::Gain {
-                steps,
-                relation,
-                bound,
-            } => relation.relates(path.gain(place, usize::from(steps)), bound),
-            Node::Plan(plan) => self.some_plan(&plan, state),
-        }
-    }
-
-    fn some_plan(&self, node: &PlanNode, state: u8) -> bool {
-        let mut plan = Plan::first(self.model, state, node.steps());
-        loop {
-            if self.met(node, &plan, state) {
-                return true;
-            }
-            if !plan.advance(self.model) {
-                return false;
-            }
-        }
-    }
-
-    fn met(&self, node: &PlanNode, plan: &Plan, start: u8) -> bool {
-        let (p, q) = (u64::from(node.bound.p), u64::from(node.bound.q));
-        let (left, right) = self.sides(node, plan, start, (p, q));
-        node.relation.relates(left, right)
     }
 
     /// Whether a claimed weight passes for the plan's.
@@ -138,13 +115,6 @@ impl FloatJudge<'_> {
                 (total, double(p, q))
             }
         }
-    }
-
-    fn weight(&self, node: &PlanNode, plan: &Plan) -> u64 {
-        let condition = usize::from(node.condition);
-        let paths = plan.paths(self.model).into_iter();
-        let meeting = paths.filter(|path| self.holds(condition, path, 0));
-        meeting.map(|path| path.weight).sum()
     }
 
     /// The chance of a plan's condition: over the outcomes of its first

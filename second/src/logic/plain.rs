@@ -60,22 +60,25 @@ fn plan_paths(model: &Model, steps: usize, totals: &Totals) -> u128 {
     pairs.max().unwrap_or(0)
 }
 
-struct Reader<'a> {
-    model: &'a Model,
-    question: &'a Question,
-}
+/// Definition 4, with the comparison of a plan's total with its bound left
+/// open: `floats` has judges that differ in that alone.
+pub trait Meaning {
+    fn model(&self) -> &Model;
+    fn question(&self) -> &Question;
 
-impl Reader<'_> {
-    /// Whether a node is true on a path from a place on (Definition 4).
+    /// Whether a plan from this state meets the node's bound.
+    fn met(&self, node: &PlanNode, plan: &Plan, state: u8) -> bool;
+
+    /// Whether a node is true on a path from a place on.
     fn holds(&self, node: usize, path: &Path, place: usize) -> bool {
-        let Some(node) = self.question.nodes.get(node) else {
+        let Some(node) = self.question().nodes.get(node) else {
             return false;
         };
         let state = path.states.get(place).copied().unwrap_or(u8::MAX);
         let child = |number: u8, place: usize| self.holds(usize::from(number), path, place);
         match *node {
             Node::False => false,
-            Node::Proposition(number) => self.model.holds(state, number),
+            Node::Proposition(number) => self.model().holds(state, number),
             Node::Not(number) => !child(number, place),
             Node::And(left, right) => child(left, place) && child(right, place),
             Node::Do(action) => path.actions.get(place) == Some(&action),
@@ -91,25 +94,47 @@ impl Reader<'_> {
 
     /// Whether some plan from the state meets the node's bound.
     fn some_plan(&self, node: &PlanNode, state: u8) -> bool {
-        let whole = self.model.whole(node.steps());
-        let mut plan = Plan::first(self.model, state, node.steps());
+        let mut plan = Plan::first(self.model(), state, node.steps());
         loop {
-            if node.met_by(self.weight(node, &plan), whole) {
+            if self.met(node, &plan, state) {
                 return true;
             }
-            if !plan.advance(self.model) {
+            if !plan.advance(self.model()) {
                 return false;
             }
         }
     }
 
+    /// The summed weights of those of the plan's paths on which the node's
+    /// condition is true.
     fn weight(&self, node: &PlanNode, plan: &Plan) -> u64 {
-        let paths = plan.paths(self.model).into_iter();
+        let paths = plan.paths(self.model()).into_iter();
         let condition = usize::from(node.condition);
         let meeting = paths.filter(|path| self.holds(condition, path, 0));
         meeting.map(|path| path.weight).sum()
     }
+}
 
+struct Reader<'a> {
+    model: &'a Model,
+    question: &'a Question,
+}
+
+impl Meaning for Reader<'_> {
+    fn model(&self) -> &Model {
+        self.model
+    }
+
+    fn question(&self) -> &Question {
+        self.question
+    }
+
+    fn met(&self, node: &PlanNode, plan: &Plan, _state: u8) -> bool {
+        node.met_by(self.weight(node, plan), self.model.whole(node.steps()))
+    }
+}
+
+impl Reader<'_> {
     /// The verdict on a plan root: all plans are tried, the best first one is
     /// shown.
     fn judge_plan(&self, node: &PlanNode) -> Judged {
