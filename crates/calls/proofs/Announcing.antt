@@ -88,15 +88,16 @@ module _ {A : Type 0} where
 
 -- ---- the verdict on a plan question
 
+-- The list of plans has every plan, in dictionary order.
+pub all-plans : (m : Model) (n s : ℕ) → In-order n (Is-plan m n s) (plans m n s)
+all-plans m n s = record { those = λ π. plans-are m n s π; rising = plans-rising m n s }
+
 module _ (m : Model) (s : ℕ) (g : Goal) where
   abbrev n : ℕ
   n = g .steps
 
   abbrev ahead : Plan n → Plan n → Type 0
   ahead π ρ = Before (choices n π) (choices n ρ)
-
-  all-plans : In-order n (Is-plan m n s) (plans m n s)
-  all-plans = record { those = λ π. plans-are m n s π; rising = plans-rising m n s }
 
   module _ (x : ℕ × Plan n) (e : shown m s g ≡ some x) where
     parted : Split (λ π. g .met π && g .lead π) 1 (plans m n s) x
@@ -150,7 +151,7 @@ module _ (m : Model) (s : ℕ) (g : Goal) where
         record {
           none-meets = λ π i. not-true (g .met π) (λ t. none≢some (sym e ∙ shown-there m s g (goal-led m s φ g a) π (plans-are m n s π .1 i) t .1));
           plans = plans m n s;
-          all-plans = all-plans;
+          all-plans = all-plans m n s;
           counts = refl;
         }
 

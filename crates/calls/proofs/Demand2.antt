@@ -17,7 +17,6 @@ use Rattle.logic.specs.Limits.{limit-grounds, limits}
 use Rattle.logic.proofs.Tests.{not-true, none≢some}
 use Rattle.logic.proofs.Shown.{sat-shown}
 use Rattle.logic.proofs.Policies.{sat-policy}
-use Rattle.logic.proofs.Dictionary.{plans-are, plans-rising}
 use Rattle.questions.specs.Layout.{Question}
 use Rattle.calls.specs.Calls.{Call, judge, Held, judged, Reply, says, yields}
 use Rattle.calls.specs.History.{after}
@@ -28,7 +27,7 @@ use Rattle.calls.proofs.Histories.{Sound, sound}
 use Rattle.calls.proofs.Held.{model-accepted}
 use Rattle.calls.proofs.Refusals.{decided-none}
 use Rattle.calls.proofs.Described.{yields-is, refuse-first}
-use Rattle.calls.proofs.Announcing.{verdict-announces}
+use Rattle.calls.proofs.Announcing.{all-plans, verdict-announces}
 
 -- ---- the verdict says yes exactly where the formula is true
 
@@ -85,7 +84,7 @@ demand-2 h s reply yielding =
             answers = ap (λ r. r .answer) (yielding judge) ∙ judge-yields h m q e f l;
             as-true = says-true m (q .start) (q .root);
             published = λ t i n φ r p d steps. sat-policy (model-accepted s m e) n t i φ r p d steps;
-            all-plans = λ n t. record { those = λ π. plans-are m n t π; rising = plans-rising m n t };
+            all-plans = all-plans m;
             on-plans = λ g a. verdict-announces m (q .start) g (q .root) a;
             on-others = λ k a. ap (verdict-by m (q .start) (sat m (q .root) (q .start) [])) a;
           };
