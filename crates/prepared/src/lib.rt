@@ -1,0 +1,157 @@
+// A model prepared for those who go through its choices: one array of numbers, made once, in which the choices of a state stand in order.
+ghost use mathlib.Core.Path.{_≡_};
+ghost use Prim.Native.Nat.{_<_};
+ghost use Rattle.logic.specs.Model.{prop-in};
+ghost use Rattle.logic.specs.promises.Extension.{first-choice};
+ghost use Rattle.blocks.specs.Bytes as bytes;
+ghost use Rattle.models.specs.Layout.{state-count, prop-count, denominator-of, state-mask};
+ghost use Rattle.prepared.specs.promises.Rows.{choices-in, choice-in, outcomes-in, step-in, sum-in, model-in, Prepared, Row-of};
+
+fn widened(x: u16) -> usize
+    ensures { λ r. ⌜ (r ≡ x) × (r < 65536) ⌝ }
+{
+    x as usize
+}
+
+// ---- the head
+
+pub fn states(m: &[u16; 8704]) -> usize
+    ensures { λ r. ⌜ r ≡ state-count (now (m .entry)) ⌝ }
+{
+    widened(m[2])
+}
+
+pub fn denominator(m: &[u16; 8704]) -> usize
+    ensures { λ r. ⌜ r ≡ denominator-of (now (m .entry)) ⌝ }
+{
+    widened(m[5])
+}
+
+// Two bytes of the head as a number.
+fn pair(m: &[u16; 8704], k: usize) -> u32
+    requires { ⌜ Prepared (now m) × (k < 510) ⌝ }
+    ensures { λ r. ⌜ (r ≡ bytes.u16 (now (m .entry)) k) × (r < 65536) ⌝ }
+{
+    m[k] as u32 + 256 * m[k + 1] as u32
+}
+
+// The mask of a state.
+fn mask(m: &[u16; 8704], s: usize) -> u32
+    requires { ⌜ Prepared (now m) × (s < 32) ⌝ }
+    ensures { λ r. ⌜ r ≡ state-mask (now (m .entry)) s ⌝ }
+{
+    pair(m, 8 + 4 * s) + 65536 * pair(m, 10 + 4 * s)
+}
+
+// Whether proposition i is true in s.
+pub fn holds(m: &[u16; 8704], s: usize, i: u8) -> bool
+    requires { ⌜ Prepared (now m) × (s < state-count (now m)) × (i < 32) ⌝ }
+    ensures { λ r. ⌜ r ≡ prop-in (model-in (now (m .entry))) s i ⌝ }
+{
+    (mask(m, s) >> i as u32) % 2 == 1
+}
+
+// ---- the rows
+
+// How many choices a state has.
+pub fn choices(m: &[u16; 8704], s: usize) -> usize
+    requires { ⌜ s < 32 ⌝ }
+    ensures { λ r. ⌜ r ≡ choices-in (now (m .entry)) s ⌝ }
+{
+    widened(m[512 + 256 * s + 16])
+}
+
+// The byte of choice i: its action.
+pub fn choice(m: &[u16; 8704], s: usize, i: usize) -> u8
+    requires { ⌜ Prepared (now m) × (s < state-count (now m)) × (i < choices-in (now m) s) ⌝ }
+    ensures { λ r. ⌜ r ≡ choice-in (now (m .entry)) s i ⌝ }
+{
+    m[512 + 256 * s + i] as u8
+}
+
+// How many outcomes it has.
+pub fn outcomes(m: &[u16; 8704], s: usize, i: usize) -> usize
+    requires { ⌜ (s < 32) × (i < 8) ⌝ }
+    ensures { λ r. ⌜ r ≡ outcomes-in (now (m .entry)) s i ⌝ }
+{
+    widened(m[512 + 256 * s + 8 + i])
+}
+
+pub fn target(m: &[u16; 8704], s: usize, i: usize, o: usize) -> usize
+    requires { ⌜ (s < 32) × (i < 8) × (o < 4) ⌝ }
+    ensures { λ r. ⌜ r ≡ (step-in (now (m .entry)) s i o) .target ⌝ }
+{
+    widened(m[512 + 256 * s + 32 + 4 * i + o])
+}
+
+pub fn weight(m: &[u16; 8704], s: usize, i: usize, o: usize) -> u64
+    requires { ⌜ (s < 32) × (i < 8) × (o < 4) ⌝ }
+    ensures { λ r. ⌜ (r ≡ (step-in (now (m .entry)) s i o) .weight) × (r < 65536) ⌝ }
+{
+    long(m[512 + 256 * s + 64 + 4 * i + o])
+}
+
+fn long(x: u16) -> u64
+    ensures { λ r. ⌜ (r ≡ x) × (r < 65536) ⌝ }
+{
+    x as u64
+}
+
+// A reward of its two bytes.
+fn signed(x: u16) -> i32
+    ensures { λ r. ⌜ r ≡ bytes.signed 15 x ⌝ }
+{
+    if x < 32768 {
+        return x as i32;
+    }
+    x as i32 - 65536
+}
+
+pub fn reward(m: &[u16; 8704], s: usize, i: usize, o: usize) -> i32
+    requires { ⌜ (s < 32) × (i < 8) × (o < 4) ⌝ }
+    ensures { λ r. ⌜ r ≡ (step-in (now (m .entry)) s i o) .reward ⌝ }
+{
+    signed(m[512 + 256 * s + 96 + 4 * i + o])
+}
+
+// The summed weights of the outcomes of choice i whose bits in the pattern y are 1.
+pub fn sum(m: &[u16; 8704], s: usize, i: usize, y: usize) -> u64
+    requires { ⌜ (s < 32) × (i < 8) × (y < 16) ⌝ }
+    ensures { λ r. ⌜ (r ≡ sum-in (now (m .entry)) s i y) × (r < 65536) ⌝ }
+{
+    long(m[512 + 256 * s + 128 + 16 * i + y])
+}
+
+// ---- a choice by its byte
+
+// The choice that stands first.
+pub fn first_choice(m: &[u16; 8704], s: usize) -> u8
+    requires { ⌜ Prepared (now m) × (s < state-count (now m)) ⌝ }
+    ensures { λ r. ⌜ r ≡ first-choice (model-in (now (m .entry))) s ⌝ }
+{
+    choice(m, s, 0)
+}
+
+// Where the outcomes of a choice stand, and how many they are.
+pub struct Row {
+    pub at: usize,
+    pub count: usize,
+}
+
+pub fn row_of(m: &[u16; 8704], s: usize, a: u8) -> Row
+    requires { ⌜ Prepared (now m) × (s < state-count (now m)) ⌝ }
+    ensures { λ r. ⌜ Row-of (now (m .entry)) s a (r .at) (r .count) ⌝ }
+{
+    let n = choices(m, s);
+    let mut i: usize = 0;
+    while i < n {
+        if choice(m, s, i) == a {
+            return Row {
+                at: i,
+                count: outcomes(m, s, i),
+            };
+        }
+        i += 1;
+    }
+    Row { at: 0, count: 0 }
+}
