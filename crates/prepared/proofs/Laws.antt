@@ -1,20 +1,20 @@
 -- What the law of a prepared model comes to, for those who read it: the model's sizes, and the choices and outcomes of a state by their places.
-use Prim.Native.Nat.{ℕ, zero, suc, _+_, _*_, _/_, _%_, _^_, _<_, _≤_}
+use Prim.Native.Nat.{ℕ, zero, suc, _/_, _%_, _^_, _<_}
 use native.Mathlib.Omega.{arith}
 use mathlib.Core.Path.{_≡_, refl, sym, ap, subst, _∙_}
-use mathlib.Core.List.{List, [], _∷_, List·Memᴰ}
+use mathlib.Core.List.{List, [], List·Memᴰ}
 use lib.Dec.{eqb}
-use lib.ListN.{getD, length}
-use Rattle.logic.specs.Lists.{count-from, tabulate}
-use Rattle.logic.specs.Model.{Model, Step, mask, prop-in, enabled, outcomes}
-use Rattle.logic.specs.Accepted.{Accepted, Executable}
+use lib.ListN.{length}
+use Rattle.logic.specs.Lists.{tabulate}
+use Rattle.logic.specs.Model.{mask, prop-in, enabled, outcomes}
+use Rattle.logic.specs.Accepted.{Executable}
 use Rattle.logic.specs.Quantity.{naturals, sum}
 use Rattle.logic.proofs.Tests.{length-tabulate, counted-in}
 use Rattle.logic.proofs.Members.{in-map}
 use Rattle.blocks.specs.Block.{sum-below}
 use Rattle.models.specs.Layout.{state-count, action-count, prop-count, denominator-of, state-mask, model-of}
 use Rattle.models.proofs.Held.{states-held, denominator-held, tabulate-member, sum-tabulate, mask-held}
-use Rattle.prepared.specs.promises.Rows.{choices-in, choice-in, outcomes-in, step-in, row-in, Offers, model-in, Prepared}
+use Rattle.prepared.specs.promises.Rows.{choices-in, choice-in, outcomes-in, step-in, model-in, Prepared}
 
 -- ---- the head
 

@@ -1,11 +1,19 @@
 // A model prepared for those who go through its choices: one array of numbers, made once, in which the choices of a state stand in order.
 ghost use mathlib.Core.Path.{_≡_};
-ghost use Prim.Native.Nat.{_<_};
+ghost use Prim.Native.Nat.{ℕ, _<_, _≤_};
+ghost use lib.ListN.{length, getD};
+ghost use Rattle.logic.specs.promises.Refusal.{refusal};
+ghost use Rattle.models.specs.Grounds.{read-model};
 ghost use Rattle.logic.specs.Model.{prop-in};
 ghost use Rattle.logic.specs.promises.Extension.{first-choice};
 ghost use Rattle.blocks.specs.Bytes as bytes;
 ghost use Rattle.models.specs.Layout.{state-count, prop-count, denominator-of, state-mask};
-ghost use Rattle.prepared.specs.promises.Rows.{choices-in, choice-in, outcomes-in, step-in, sum-in, model-in, Prepared, Row-of};
+ghost use Rattle.prepared.specs.promises.Rows.{choices-in, choice-in, outcomes-in, step-in, sum-in, model-in, Prepared, Prepares, Row-of};
+
+mod rows;
+
+use crate::rows::fill;
+use blocks::wide;
 
 fn widened(x: u16) -> usize
     ensures { λ r. ⌜ (r ≡ x) × (r < 65536) ⌝ }
@@ -154,4 +162,43 @@ pub fn row_of(m: &[u16; 8704], s: usize, a: u8) -> Row
         i += 1;
     }
     Row { at: 0, count: 0 }
+}
+
+// ---- how it is made
+
+fn short(x: u8) -> u16
+    ensures { λ r. ⌜ (r ≡ x) × (r < 256) ⌝ }
+{
+    x as u16
+}
+
+// The head block, and room for the rows.
+fn head(b: &[u8]) -> [u16; 8704]
+    requires { ⌜ 512 ≤ length (now b) ⌝ }
+    ensures { λ r. ⌜ (length r ≡ 8704) × ((k : ℕ) → k < 512 → (getD r k 0 ≡ getD (now (b .entry)) k 0) × (getD r k 0 < 256)) ⌝ }
+{
+    let mut m = [0u16; 8704];
+    let mut k: usize = 0;
+    while k < 512 {
+        m[k] = short(b[k]);
+        k += 1;
+    }
+    m
+}
+
+// Prepares the model of accepted blocks: the one maker of what every search, count and weighing reads.
+pub fn prepare(b: &[u8]) -> [u16; 8704]
+    requires { ⌜ refusal (read-model (now b)) ≡ 0 ⌝ }
+    ensures { λ r. ⌜ Prepares (now (b .entry)) r ⌝ }
+{
+    let mut m = head(b);
+    let states = wide(b, 2);
+    let mut s: usize = 0;
+    while s < states {
+        let from = 512 + 256 * s;
+        let end = from + 256;
+        fill(b, &mut m[from..end], s);
+        s += 1;
+    }
+    m
 }

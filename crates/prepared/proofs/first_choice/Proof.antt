@@ -1,21 +1,14 @@
-use Prim.Native.Nat.{_+_, _*_, _-_, _≤_, _<_, _/_, _%_, _^_}
-use native.Mathlib.Omega.{arith}
-use mathlib.Core.Path.{_≡_, refl, sym, ap, ap₂, _∙_}
+use mathlib.Core.Path.{sym, ap, _∙_}
 use lib.ListN.{getD}
 use Rattle.logic.specs.promises.Extension.{first-choice}
 use Rattle.logic.proofs.Tests.{getD-tabulate}
 use Rattle.prepared.proofs.Laws.{some-choice}
 use Rattle.prepared.proofs.first_choice.Statement.{statement}
 use Rattle.prepared.proofs.first_choice.Tie as tie
-use Rattle.prepared.proofs.first_choice.Reads as reads
-use Rattle.prepared.proofs.first_choice.Lts as lts
-use Rattle.prepared.proofs.choice.Reads as choice-reads
 
--- src/lib.rt:132:5
 choice-requires : tie.Need-choice-requires
 choice-requires c κs = (c .pre .0, c .pre .1, some-choice (c .pre .0) _ (c .pre .1))
 
--- src/lib.rt:128:1
 returns : tie.Need-returns
 unfolding first-choice
 returns c = let S = c .before in c .choice .ensures ∙ sym (ap (λ l. getD l 0 0) (S .pre .0 .choices _ (S .pre .1)) ∙ getD-tabulate _ _ 0 (some-choice (S .pre .0) _ (S .pre .1)))

@@ -1,48 +1,36 @@
-use Prim.Native.Nat.{_+_, _*_, _-_, _≤_, _<_, _/_, _%_, _^_}
+use Prim.Native.Nat.{_+_, _*_}
 use native.Mathlib.Omega.{arith}
-use mathlib.Core.Path.{_≡_, refl, sym, ap, ap₂, _∙_}
+use mathlib.Core.Path.{_≡_, ap, ap₂, _∙_}
 use Rattle.blocks.specs.Bytes.{u16, u32}
 use Rattle.models.specs.Layout.{state-mask}
 use borrow.Author.Needs.{needs}
 use Rattle.prepared.proofs.mask.Statement.{statement}
 use Rattle.prepared.proofs.mask.Tie as tie
-use Rattle.prepared.proofs.mask.Reads as reads
-use Rattle.prepared.proofs.mask.Lts as lts
-use Rattle.prepared.proofs.pair.Reads as pair-reads
 
--- src/lib.rt:43:17
 mul-pair : tie.Need-mul-pair
 mul-pair c = search needs
 
--- src/lib.rt:43:13
 add-pair : tie.Need-add-pair
 add-pair c = search needs
 
--- src/lib.rt:43:5
 pair-requires : tie.Need-pair-requires
 pair-requires c κs = search needs
 
--- src/lib.rt:43:47
 mul-pair-2 : tie.Need-mul-pair-2
 mul-pair-2 c = search needs
 
--- src/lib.rt:43:42
 add-pair-2 : tie.Need-add-pair-2
 add-pair-2 c = search needs
 
--- src/lib.rt:43:34
 pair-requires-2 : tie.Need-pair-requires-2
 pair-requires-2 c κs = search needs
 
--- src/lib.rt:43:26
 mul-result : tie.Need-mul-result
 mul-result c = search needs
 
--- src/lib.rt:43:5
 add-result : tie.Need-add-result
 add-result c = search needs
 
--- src/lib.rt:39:1
 returns : tie.Need-returns
 unfolding state-mask u32
 returns c = let S = c .before .before in let e : 10 + 4 * S .args .s ≡ 8 + 4 * S .args .s + 2 = omega arith in ap₂ (λ x y. x + 65536 * y) (c .before .pair .ensures .0) (c .pair2 .ensures .0 ∙ ap (u16 (S .args .m .now)) e)

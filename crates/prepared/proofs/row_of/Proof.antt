@@ -1,6 +1,6 @@
-use Prim.Native.Nat.{ℕ, _+_, _*_, _-_, _≤_, _<_, _/_, _%_, _^_}
+use Prim.Native.Nat.{ℕ, _-_, _≤_, _<_}
 use native.Mathlib.Omega.{arith}
-use mathlib.Core.Path.{_≡_, refl, sym, ap, ap₂, _∙_}
+use mathlib.Core.Path.{_≡_, sym, ap, _∙_}
 use borrow.Author.Needs.{needs}
 use borrow.Author.Count.{below-more}
 use Rattle.logic.specs.Lists.{count-from, tabulate}
@@ -9,11 +9,6 @@ use Rattle.prepared.specs.promises.Rows.{choices-in, choice-in, step-in,
 use Rattle.prepared.proofs.Laws.{none-else}
 use Rattle.prepared.proofs.row_of.Statement.{statement}
 use Rattle.prepared.proofs.row_of.Tie as tie
-use Rattle.prepared.proofs.row_of.Reads as reads
-use Rattle.prepared.proofs.row_of.Lts as lts
-use Rattle.prepared.proofs.choice.Reads as choice-reads
-use Rattle.prepared.proofs.choices.Reads as choices-reads
-use Rattle.prepared.proofs.outcomes.Reads as outcomes-reads
 
 abbrev Inv-loop : tie.InvT-loop
 Inv-loop m s a n i₀ i = (n ≡ choices-in m s) × (i ≤ n) × ((j : ℕ) → j < i → choice-in m s j ≡ a → ⊥)
@@ -21,23 +16,18 @@ Inv-loop m s a n i₀ i = (n ≡ choices-in m s) × (i ≤ n) × ((j : ℕ) → 
 abbrev μ-loop : tie.MeasureT-loop
 μ-loop m s a n i₀ i = n - i
 
--- src/lib.rt:145:9
 choices-requires : tie.Need-choices-requires Inv-loop μ-loop
 choices-requires c κs = omega (arith, c .pre .0 .states)
 
--- src/lib.rt:147:5
 loop-holds : tie.Need-loop-holds Inv-loop μ-loop
 loop-holds c = (c .choices .ensures, omega arith, λ j h. absurd (omega arith))
 
--- src/lib.rt:148:12
 choice-requires : tie.Need-choice-requires Inv-loop μ-loop
 choice-requires c κs = let S = c .before .before .before in (S .pre .0, S .pre .1, omega arith)
 
--- src/lib.rt:151:24
 outcomes-requires : tie.Need-outcomes-requires Inv-loop μ-loop
 outcomes-requires c κs = let S = c .before .before .before .before .before in (omega (arith, S .pre .0 .states), omega (arith, S .pre .0 .few-choices (S .args .s) (S .pre .1)))
 
--- src/lib.rt:149:13
 returns : tie.Need-returns Inv-loop μ-loop
 returns c = let S = c .before .before .before .before .before .before in
     let L = c .before .before .before .before .loop in
@@ -52,21 +42,17 @@ returns c = let S = c .before .before .before .before .before .before in
       row = ap (outcomes (model-in m) (S .args .s)) (sym e) ∙ S .pre .0 .rows (S .args .s) (L .i) (S .pre .1) h ∙ ap (λ n. tabulate n (step-in m (S .args .s) (L .i))) (sym (c .outcomes .ensures));
     }
 
--- src/lib.rt:154:9
 add-i : tie.Need-add-i Inv-loop μ-loop
 add-i c = search needs
 
--- src/lib.rt:147:5
 loop-less : tie.Need-loop-less Inv-loop μ-loop
 loop-less c = search needs
 
--- src/lib.rt:147:5
 loop-again : tie.Need-loop-again Inv-loop μ-loop
 loop-again c = let S = c .before .before .before .before .before in
     let L = c .before .before .before .loop in
     (L .inv .0, omega arith, below-more (λ j. choice-in (S .args .m .now) (S .args .s) j ≡ S .args .a → ⊥) (L .i) (L .inv .2) (λ e. c .if1 .left (c .before .choice .ensures ∙ e)))
 
--- src/lib.rt:141:1
 returns-2 : tie.Need-returns-2 Inv-loop μ-loop
 unfolding tabulate count-from
 returns-2 c = let S = c .before .before .before in
