@@ -6,17 +6,15 @@ use native.Mathlib.Decide.{decLt, ℕ-discrete}
 use native.Mathlib.Nat.{le-trans, mul-le-mul, mul-div-cancel-left, mul-mod-right, div-add-mod}
 use mathlib.Core.Logic.{_⊎_, inl, inr}
 use mathlib.Core.Path.{_≡_, refl, sym, ap, ap₂, _∙_}
-use mathlib.Core.Bool.{Bool, true, false, not, _&&_}
+use mathlib.Core.Bool.{Bool, false, not, _&&_}
 use lib.Dec.{eqb, ltb, leb}
 use borrow.Author.Tests.{lt-ltb, le-ltb, le-leb, lt-leb, eq-eqb, ne-eqb, eqb-true, eqb-false}
 use Rattle.logic.specs.Quantity.{naturals, related, equal}
 use Rattle.logic.specs.Formula.{meets, relation, nonnegative}
-use Rattle.logic.proofs.Tests.{and-left, and-right, same-test}
-use Rattle.blocks.specs.Bytes.{Bytes, within}
+use Rattle.logic.proofs.Tests.{same-test}
+use Rattle.blocks.specs.Bytes.{Bytes}
 use Rattle.models.specs.Layout.{state-count, action-count, prop-count, denominator-of, model-of}
-use Rattle.models.specs.Grounds.{sizes-right}
-use Rattle.models.proofs.Laws.{at-most}
-use Rattle.models.proofs.Passed.{passed-all}
+use Rattle.prepared.specs.promises.Rows.{model-in}
 use Rattle.questions.specs.Layout.{node-of}
 use Rattle.questions.proofs.Accepted.{PlanRange, accepted}
 use Rattle.bounds.specs.promises.Bounded.{Bounded, meets-as, meets-at, Exactly}
@@ -62,14 +60,9 @@ module _ (q x w : ℕ) (h : 0 < q) where
 
 -- ---- a "plan" node
 
-pub denominator-small : (m : Bytes) → sizes-right m ≡ true → denominator-of m ≤ 100
-unfolding sizes-right
-denominator-small m e =
-    at-most 1 100 (denominator-of m) (and-right (within 1 32 (state-count m) && within 1 8 (action-count m) && within 1 32 (prop-count m)) _ (and-left _ _ e))
-
 module _ (m q : Bytes) (j : ℕ) (b : Bounded m q j) where
   pub small : denominator-of m ≤ 100
-  small = denominator-small m (passed-all m (b .model-accepted) .sizes)
+  small = b .prepared .parts
 
   pub range : PlanRange j (node-of q j)
   range = accepted (state-count m) (action-count m) (prop-count m) q (b .question-accepted) .in-range j (b .node) .of-plan (b .is-plan)
@@ -84,12 +77,12 @@ module _ (m q : Bytes) (j : ℕ) (b : Bounded m q j) where
   -- The two products, each by its own name.
   pub meets-by : (w k l x : ℕ) {r : Bool} → r ≡ related naturals (relation k) (l * w) x → k ≡ (node-of q j) .right → l ≡ (node-of q j) .q
       → x ≡ denominator-of m ^ ((node-of q j) .n) * nonnegative ((node-of q j) .p) → r ≡ meets-at m q j w
-  unfolding meets model-of
+  unfolding meets model-in model-of
   meets-by w k l x e f g h = e ∙ rw (f, g, h) refl
 
   pub met : (w x : ℕ) → x ≡ denominator-of m ^ ((node-of q j) .n) * nonnegative ((node-of q j) .p)
       → meets-as equal m q j w ≡ eqb ((node-of q j) .q * w) x
-  unfolding meets model-of related
+  unfolding meets model-in model-of related
   met w x e = rw e (sym (equal-is ((node-of q j) .q * w) (denominator-of m ^ ((node-of q j) .n) * nonnegative ((node-of q j) .p))))
 
   pub exactly : (x k : ℕ) → x ≡ denominator-of m ^ ((node-of q j) .n) * nonnegative ((node-of q j) .p) → k ≡ (node-of q j) .q → Exactly m q j (eqb (x % k) 0) (x / k)

@@ -7,7 +7,7 @@ ghost use Rattle.logic.specs.Quantity as quantity;
 ghost use Rattle.models.specs.Layout.{denominator-of};
 ghost use Rattle.questions.specs.Layout.{node-of};
 ghost use Rattle.bounds.specs.promises.Bounded.{Bounded, Exactly, meets-at};
-use blocks::wide;
+use prepared::denominator;
 
 // The denominator to the number of steps.
 pub fn power(d: usize, k: u8) -> u64
@@ -35,15 +35,15 @@ fn related(kind: u8, a: u64, b: u64) -> bool
 }
 
 // The denominator to the steps of node j, a "plan", times its p.
-fn bound(m: &[u8], q: &[u8], j: u8) -> u64
+fn bound(m: &[u16; 8704], q: &[u8], j: u8) -> u64
     requires { ⌜ Bounded (now m) (now q) j ⌝ }
     ensures { λ r. ⌜ r ≡ denominator-of (now (m .entry)) ^ (node-of (now (q .entry)) j .n) * nonnegative (node-of (now (q .entry)) j .p) ⌝ }
 {
-    power(wide(m, 5), questions::steps(q, j)) * questions::p(q, j) as u64
+    power(denominator(m), questions::steps(q, j)) * questions::p(q, j) as u64
 }
 
 // Whether a total meets the bound of node j, a "plan".
-pub fn meets(m: &[u8], q: &[u8], j: u8, w: u64) -> bool
+pub fn meets(m: &[u16; 8704], q: &[u8], j: u8, w: u64) -> bool
     requires { ⌜ Bounded (now m) (now q) j ⌝ }
     requires { ⌜ w ≤ denominator-of (now m) ^ (node-of (now q) j .n) ⌝ }
     ensures { λ r. ⌜ r ≡ meets-at (now (m .entry)) (now (q .entry)) j w ⌝ }
@@ -62,7 +62,7 @@ pub struct Exact {
 }
 
 // What a total of node j, a "plan", would have to be to be equal to the bound.
-pub fn exact_total(m: &[u8], q: &[u8], j: u8) -> Exact
+pub fn exact_total(m: &[u16; 8704], q: &[u8], j: u8) -> Exact
     requires { ⌜ Bounded (now m) (now q) j ⌝ }
     ensures { λ r. ⌜ Exactly (now (m .entry)) (now (q .entry)) j (r .whole) (r .total) ⌝ }
 {

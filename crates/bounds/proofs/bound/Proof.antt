@@ -15,7 +15,7 @@ use Rattle.bounds.proofs.bound.Statement.{statement}
 use Rattle.bounds.proofs.bound.Tie as tie
 
 abbrev start : tie.After-p → tie.Start
-start c = c .before .before .before .before .before .before
+start c = c .before .before .before .before .before
 
 p-is : (c : tie.After-p) → toZ w32 (ofZ w32 (c .p .result)) ≡ pos (nonnegative ((node-of (start c .args .q .now) (start c .args .j)) .p))
 p-is c = let S = start c in
@@ -26,19 +26,19 @@ product-is : (c : tie.After-p) → c .before .power .result * natAbs (toZ w32 (o
     ≡ denominator-of (start c .args .m .now) ^ ((node-of (start c .args .q .now) (start c .args .j)) .n) * nonnegative ((node-of (start c .args .q .now) (start c .args .j)) .p)
 product-is c =
     ap₂ (λ x z. x * natAbs z)
-    (c .before .power .ensures ∙ ap₂ _^_ (c .before .before .before .wide .ensures .0) (c .before .before .steps .ensures))
+    (c .before .power .ensures ∙ ap₂ _^_ (c .before .before .before .denominator .ensures) (c .before .before .steps .ensures))
     (p-is c)
 
-wide-requires : tie.Need-wide-requires
-wide-requires c κs = search needs
+denominator-requires : tie.Need-denominator-requires
+denominator-requires c κs = search needs
 
 steps-requires : tie.Need-steps-requires
 steps-requires c κs = search needs
 
 power-requires : tie.Need-power-requires
-power-requires c κs = let S = c .before .before .before .before in
+power-requires c κs = let S = c .before .before .before in
     let b = S .pre in
-    (omega (arith, c .before .wide .ensures .0, small (S .args .m .now) (S .args .q .now) (S .args .j) b), omega (arith, c .steps .ensures, range (S .args .m .now) (S .args .q .now) (S .args .j) b .compares .few-steps))
+    (omega (arith, c .before .denominator .ensures, small (S .args .m .now) (S .args .q .now) (S .args .j) b), omega (arith, c .steps .ensures, range (S .args .m .now) (S .args .q .now) (S .args .j) b .compares .few-steps))
 
 p-requires : tie.Need-p-requires
 p-requires c κs = search needs
@@ -61,7 +61,7 @@ pub bound-spec : {M : Type 1} → statement M
 bound-spec =
     tie.close
     (tie.spec
-    wide-requires
+    denominator-requires
     steps-requires
     power-requires
     p-requires

@@ -15,15 +15,15 @@ cast-parts : tie.Need-cast-parts
 cast-parts c = search needs
 
 rem-t7 : tie.Need-rem-t7
-rem-t7 c = let S = c .before .before .before .before in
+rem-t7 c = let S = c .before .before .before in
     omega (arith, c .q .ensures, range (S .args .m .now) (S .args .q .now) (S .args .j) (S .pre) .some-part)
 
 div-t9 : tie.Need-div-t9
-div-t9 c = let S = c .before .before .before .before in
+div-t9 c = let S = c .before .before .before in
     omega (arith, c .q .ensures, range (S .args .m .now) (S .args .q .now) (S .args .j) (S .pre) .some-part)
 
 returns : tie.Need-returns
-returns c = let S = c .before .before .before .before in
+returns c = let S = c .before .before .before in
     exactly (S .args .m .now) (S .args .q .now) (S .args .j) (S .pre) (c .before .bound .result) (c .q .result) (c .before .bound .ensures) (c .q .ensures)
 
 pub exact-total-spec : {M : Type 1} → statement M

@@ -16,7 +16,7 @@ cast-related : tie.Need-cast-related
 cast-related c = search needs
 
 mul-related : tie.Need-mul-related
-mul-related c = let S = c .before .before .before .before in
+mul-related c = let S = c .before .before .before in
     let r = range (S .args .m .now) (S .args .q .now) (S .args .j) (S .pre .0) in
     record { fits = omega (arith, mul-comm (S .args .w) (c .q .result), product-fits (S .args .m .now) (S .args .q .now) (S .args .j) (S .pre .0) (S .args .w) (c .q .result) (S .pre .1) (omega (arith, c .q .ensures, r .few-parts))) }
 
@@ -27,7 +27,7 @@ related-requires : tie.Need-related-requires
 related-requires c κs = search needs
 
 returns : tie.Need-returns
-returns c = let S = c .before .before .before .before .before .before in
+returns c = let S = c .before .before .before .before .before in
     meets-by (S .args .m .now) (S .args .q .now) (S .args .j) (S .pre .0) (S .args .w) (c .before .before .before .right .result) (c .before .before .q .result) (c .before .bound .result)
     (c .related .ensures) (c .before .before .before .right .ensures) (c .before .before .q .ensures) (c .before .bound .ensures)
 

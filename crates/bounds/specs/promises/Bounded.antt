@@ -7,21 +7,21 @@ use Rattle.logic.specs.promises.Refusal.{refusal}
 use Rattle.logic.specs.Quantity.{naturals, Relation, equal}
 use Rattle.logic.specs.Formula.{meets, relation, nonnegative}
 use Rattle.blocks.specs.Bytes.{Bytes}
-use Rattle.models.specs.Layout.{state-count, action-count, prop-count, model-of}
-use Rattle.models.specs.Grounds.{read-model}
+use Rattle.models.specs.Layout.{state-count, action-count, prop-count}
+use Rattle.prepared.specs.promises.Rows.{model-in, Prepared}
 use Rattle.questions.specs.Layout.{node-count, node-of}
 use Rattle.questions.specs.Grounds.{read-question}
 
--- Node j of an accepted question is a "plan".
+-- Node j of a question accepted for the prepared model m is a "plan".
 pub record Bounded (m q : Bytes) (j : ℕ) : Type 0 where
-  pub model-accepted : refusal (read-model m) ≡ 0
+  pub prepared : Prepared m
   pub question-accepted : refusal (read-question (state-count m) (action-count m) (prop-count m) q) ≡ 0
   pub node : j < node-count q
   pub is-plan : (node-of q j) .operator ≡ 8
 
 -- Whether a total meets the bound of node j, were this its relation.
 abbrev pub meets-as : Relation → (m q : Bytes) (j w : ℕ) → Bool
-meets-as r m q j w = meets naturals (model-of m) ((node-of q j) .n) r (nonnegative ((node-of q j) .p)) ((node-of q j) .q) w
+meets-as r m q j w = meets naturals (model-in m) ((node-of q j) .n) r (nonnegative ((node-of q j) .p)) ((node-of q j) .q) w
 
 -- Whether a total meets the bound of node j.
 abbrev pub meets-at : (m q : Bytes) (j w : ℕ) → Bool
