@@ -3,7 +3,8 @@ use Prim.Native.Nat.{ℕ}
 use mathlib.Core.Path.{_≡_, sym, subst, _∙_}
 use mathlib.Core.List.{List}
 use Rattle.blocks.specs.Bytes.{Bytes}
-use Rattle.models.specs.Layout.{state-count, action-count, prop-count, model-of}
+use Rattle.models.specs.Layout.{state-count, action-count, prop-count}
+use Rattle.prepared.specs.promises.Rows.{model-in}
 use Rattle.questions.specs.Layout.{question-of}
 use Rattle.sharing.specs.promises.Shared.{Shared}
 use Rattle.sharing.specs.promises.Replaced.{Ordered}
@@ -19,11 +20,11 @@ served-ordered {m} {q} h = ordered (state-count m) (action-count m) (prop-count 
 module _ (m : Bytes) {q q′ : Bytes} (h : Shared (state-count m) (action-count m) (prop-count m) q q′) where
   pub served-alike : Served m q → Served m q′
   served-alike s =
-      record { model-accepted = s .model-accepted; question-accepted = h .accepted; within = sym (same-limits h (model-of m)) ∙ s .within }
+      record { model-accepted = s .model-accepted; question-accepted = h .accepted; within = sym (same-limits h (model-in m)) ∙ s .within }
 
   verdict-alike : root-verdict m q′ ≡ root-verdict m q
   unfolding question-of
-  verdict-alike = sym (same-verdict h (model-of m))
+  verdict-alike = sym (same-verdict h (model-in m))
 
   pub announces-alike : (r : Outcome) (before after : List ℕ) → Announces (root-verdict m q′) r before after → Announces (root-verdict m q) r before after
   announces-alike r before after a = subst (λ v. Announces v r before after) verdict-alike a

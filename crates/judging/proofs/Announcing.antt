@@ -26,7 +26,8 @@ use Rattle.logic.proofs.Dictionary.{plans-are}
 use Rattle.blocks.specs.Bytes.{Bytes}
 use Rattle.blocks.specs.Splice.{splice}
 use Rattle.blocks.proofs.Splice.{splice-none}
-use Rattle.models.specs.Layout.{state-count, model-of}
+use Rattle.models.specs.Layout.{state-count}
+use Rattle.prepared.specs.promises.Rows.{model-in}
 use Rattle.models.specs.promises.Used.{Used}
 use Rattle.questions.specs.Layout.{start-of, node-count, node-of, formulas-of, question-of}
 use Rattle.questions.specs.promises.Tables.{table}
@@ -96,34 +97,34 @@ state-depth (plan n φ b p q) e = refl
 module _ {m q : Bytes} {used counts depths : List ℕ} (asked : Asked m q used counts depths) (j s : ℕ) (h : j < node-count q)
     (o : (node-of q j) .operator ≡ 8) (inside : s < state-count m) {scratch : List ℕ} {r : Decision} (x : Decided m q j s scratch r) where
   -- "equal"
-  pub equal-few : (node-of q j) .right ≡ 2 → (plan-total (model-of m) ((node-of q j) .n) s ≤ 65536) × (r .place ≤ 65536)
+  pub equal-few : (node-of q j) .right ≡ 2 → (plan-total (model-in m) ((node-of q j) .n) s ≤ 65536) × (r .place ≤ 65536)
   equal-few e = let f = few-plans asked j s h o e inside in let w = x .placed e .within in (f, omega arith)
 
-  pub equal-inside : (node-of q j) .right ≡ 2 → r .met ≡ true → r .place < plan-total (model-of m) ((node-of q j) .n) s
-  equal-inside e t = ltb-true (r .place) (plan-total (model-of m) ((node-of q j) .n) s) (sym (x .placed e .bounds) ∙ t)
+  pub equal-inside : (node-of q j) .right ≡ 2 → r .met ≡ true → r .place < plan-total (model-in m) ((node-of q j) .n) s
+  equal-inside e t = ltb-true (r .place) (plan-total (model-in m) ((node-of q j) .n) s) (sym (x .placed e .bounds) ∙ t)
 
   pub equal-verdict : (node-of q j) .right ≡ 2 → r .met ≡ true
-      → verdict (model-of m) s (formula q j)
-      ≡ shows (r .weight) ((node-of q j) .n) (1 + r .place) (choices ((node-of q j) .n) (plan-at (model-of m) ((node-of q j) .n) s (r .place)))
+      → verdict (model-in m) s (formula q j)
+      ≡ shows (r .weight) ((node-of q j) .n) (1 + r .place) (choices ((node-of q j) .n) (plan-at (model-in m) ((node-of q j) .n) s (r .place)))
   equal-verdict e t = equal-yes (asked .given) j s h o e (x .placed e .first) (equal-inside e t)
 
   pub led-verdict : ((node-of q j) .right ≡ 2 → ⊥) → r .met ≡ true
-      → verdict (model-of m) s (formula q j)
+      → verdict (model-in m) s (formula q j)
       ≡ shows (r .weight) ((node-of q j) .n) 0
-      (choices ((node-of q j) .n) (led-plan (model-of m) (condition q j) (depth (condition q j)) ((node-of q j) .n) s (eqb ((node-of q j) .right) 1)))
+      (choices ((node-of q j) .n) (led-plan (model-in m) (condition q j) (depth (condition q j)) ((node-of q j) .n) s (eqb ((node-of q j) .right) 1)))
   led-verdict e t =
       let p = x .led e in
-      let cs : List ℕ = choices ((node-of q j) .n) (led-plan (model-of m) (condition q j) (depth (condition q j)) ((node-of q j) .n) s (eqb ((node-of q j) .right) 1)) in
+      let cs : List ℕ = choices ((node-of q j) .n) (led-plan (model-in m) (condition q j) (depth (condition q j)) ((node-of q j) .n) s (eqb ((node-of q j) .right) 1)) in
       led-yes (asked .given) j s h o e inside (sym (led-met (asked .given) j s h o e inside p) ∙ t)
       ∙ ap (λ w. shows w ((node-of q j) .n) 0 cs) (sym (p .weighs))
 
-  pub no-verdict : r .met ≡ false → verdict (model-of m) s (formula q j) ≡ denies (r .place)
+  pub no-verdict : r .met ≡ false → verdict (model-in m) s (formula q j) ≡ denies (r .place)
   no-verdict t = go (ℕ-discrete ((node-of q j) .right) 2)
     where
-      go : Dec ((node-of q j) .right ≡ 2) → verdict (model-of m) s (formula q j) ≡ denies (r .place)
+      go : Dec ((node-of q j) .right ≡ 2) → verdict (model-in m) s (formula q j) ≡ denies (r .place)
       go (yes e) =
           let p = x .placed e in
-          let l = ltb-false (r .place) (plan-total (model-of m) ((node-of q j) .n) s) (sym (p .bounds) ∙ t) in
+          let l = ltb-false (r .place) (plan-total (model-in m) ((node-of q j) .n) s) (sym (p .bounds) ∙ t) in
           equal-no (asked .given) j s h o e (p .first) l ∙ ap denies (le-antisymm l (p .within))
       go (no e) =
           let p = x .led e in
@@ -138,29 +139,29 @@ module _ {m q : Bytes} {used counts depths : List ℕ} (asked : Asked m q used c
 
   -- ---- the choices of the plan found, extended
 
-  best-is-plan : (least : Bool) → Is-plan (model-of m) (depth (condition q j)) s (best (model-of m) (condition q j) (depth (condition q j)) s least)
+  best-is-plan : (least : Bool) → Is-plan (model-in m) (depth (condition q j)) s (best (model-in m) (condition q j) (depth (condition q j)) s least)
   best-is-plan least =
       let d : ℕ = depth (condition q j) in
-      plans-are (model-of m) d s (best (model-of m) (condition q j) d s least) .0
-      (best-member (weights (order least)) (ordered least) (λ p. total (weights (order least)) (model-of m) d s p (value-of (model-of m) (condition q j) s))
-      (best-plan-first (weights (order least)) (additive (order least)) (ordered least) (model-of m) (given-model (asked .given)) d s
-      (value-of (model-of m) (condition q j) s) (subst (λ k. s < k) (sym (given-states (asked .given))) inside)))
+      plans-are (model-in m) d s (best (model-in m) (condition q j) d s least) .0
+      (best-member (weights (order least)) (ordered least) (λ p. total (weights (order least)) (model-in m) d s p (value-of (model-in m) (condition q j) s))
+      (best-plan-first (weights (order least)) (additive (order least)) (ordered least) (model-in m) (given-model (asked .given)) d s
+      (value-of (model-in m) (condition q j) s) (subst (λ k. s < k) (sym (given-states (asked .given))) inside)))
 
   pub led-choices : {d n : ℕ} → ((node-of q j) .right ≡ 2 → ⊥) → d ≡ depth (condition q j) → n ≡ (node-of q j) .n
-      → extend (model-of m) d n s scratch .0
-      ≡ choices ((node-of q j) .n) (led-plan (model-of m) (condition q j) (depth (condition q j)) ((node-of q j) .n) s (eqb ((node-of q j) .right) 1))
+      → extend (model-in m) d n s scratch .0
+      ≡ choices ((node-of q j) .n) (led-plan (model-in m) (condition q j) (depth (condition q j)) ((node-of q j) .n) s (eqb ((node-of q j) .right) 1))
   led-choices e f g =
       let p = x .led e in
       let d : ℕ = depth (condition q j) in
       let n : ℕ = (node-of q j) .n in
-      let b = best (model-of m) (condition q j) d s (eqb ((node-of q j) .right) 1) in
-      ap₂ (λ d n. extend (model-of m) d n s scratch .0) f g
-      ∙ ap (λ l. extend (model-of m) d n s l .0) (sym (take-append-drop (r .count) scratch) ∙ ap (λ l. l ++ drop (r .count) scratch) (p .chosen))
-      ∙ ap (λ z. z .0) (extend-choices (model-of m) d n s b (drop (r .count) scratch) (plan-here (asked .given) j h o .deep) (best-is-plan (eqb ((node-of q j) .right) 1)))
+      let b = best (model-in m) (condition q j) d s (eqb ((node-of q j) .right) 1) in
+      ap₂ (λ d n. extend (model-in m) d n s scratch .0) f g
+      ∙ ap (λ l. extend (model-in m) d n s l .0) (sym (take-append-drop (r .count) scratch) ∙ ap (λ l. l ++ drop (r .count) scratch) (p .chosen))
+      ∙ ap (λ z. z .0) (extend-choices (model-in m) d n s b (drop (r .count) scratch) (plan-here (asked .given) j h o .deep) (best-is-plan (eqb ((node-of q j) .right) 1)))
 
 -- ---- the root
 
-pub asked-at : {m q : Bytes} {used counts depths : List ℕ} → Served m q → Used m used → Totals true (model-of m) counts → depths ≡ table depth (formulas-of q)
+pub asked-at : {m q : Bytes} {used counts depths : List ℕ} → Served m q → Used m used → Totals true (model-in m) counts → depths ≡ table depth (formulas-of q)
     → Asked m q used counts depths
 asked-at x u c d =
     record {
@@ -191,13 +192,13 @@ module _ {m q : Bytes} {used : List ℕ} (given : Given m q used) where
   root-posed x o = record { node = root-node; is-plan = o; state = given-question given .starts; told = x .under-plan o }
 
 pub root-announces : (m q : Bytes) {j s : ℕ} {x : Outcome} (before after : List ℕ) → j ≡ root q → s ≡ start-of q
-    → Announces (verdict (model-of m) s (formula q j)) x before after → Announces (root-verdict m q) x before after
+    → Announces (verdict (model-in m) s (formula q j)) x before after → Announces (root-verdict m q) x before after
 root-announces m q {x = x} before after e f =
-    subst (λ v. Announces v x before after) (ap₂ (λ s j. verdict (model-of m) s (formula q j)) f e)
+    subst (λ v. Announces v x before after) (ap₂ (λ s j. verdict (model-in m) s (formula q j)) f e)
 
 pub root-weighs : (m q cs l : Bytes) (r n s : ℕ) → n ≡ (node-of q (root q)) .n → s ≡ start-of q → root-of l ≡ (node-of q (root q)) .left
-    → ((π : Plan n) → plan-of (model-of m) n s cs ≡ ok π → r ≡ W (model-of m) (formula q (root-of l)) n s π) → Weighs m q cs r
+    → ((π : Plan n) → plan-of (model-in m) n s cs ≡ ok π → r ≡ W (model-in m) (formula q (root-of l)) n s π) → Weighs m q cs r
 root-weighs m q cs l r n s e f g h =
-    subst (λ n. (π : Plan n) → plan-of (model-of m) n (start-of q) cs ≡ ok π → r ≡ W (model-of m) (condition q (root q)) n (start-of q) π) e
-    (subst (λ s. (π : Plan n) → plan-of (model-of m) n s cs ≡ ok π → r ≡ W (model-of m) (condition q (root q)) n s π) f
-    (subst (λ c. (π : Plan n) → plan-of (model-of m) n s cs ≡ ok π → r ≡ W (model-of m) (formula q c) n s π) g h))
+    subst (λ n. (π : Plan n) → plan-of (model-in m) n (start-of q) cs ≡ ok π → r ≡ W (model-in m) (condition q (root q)) n (start-of q) π) e
+    (subst (λ s. (π : Plan n) → plan-of (model-in m) n s cs ≡ ok π → r ≡ W (model-in m) (condition q (root q)) n s π) f
+    (subst (λ c. (π : Plan n) → plan-of (model-in m) n s cs ≡ ok π → r ≡ W (model-in m) (formula q c) n s π) g h))

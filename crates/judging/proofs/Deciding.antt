@@ -34,7 +34,8 @@ use Rattle.logic.proofs.Search.{most, fewest, greater-shown, greater-none, less
 use Rattle.logic.proofs.Shown.{sat-shown}
 use Rattle.logic.proofs.Dictionary.{plan-count}
 use Rattle.blocks.specs.Bytes.{Bytes, within}
-use Rattle.models.specs.Layout.{state-count, action-count, prop-count, denominator-of, model-of}
+use Rattle.models.specs.Layout.{state-count, action-count, prop-count, denominator-of}
+use Rattle.prepared.specs.promises.Rows.{model-in}
 use Rattle.models.specs.Grounds.{sizes-right}
 use Rattle.models.proofs.Passed.{passed-all}
 use Rattle.models.proofs.Held as held
@@ -242,13 +243,13 @@ module _ {m q : Bytes} {used : List ℕ} (given : Given m q used) where
 
   -- ---- the model
 
-  pub given-model : Accepted (model-of m)
+  pub given-model : Accepted (model-in m)
   given-model = held.accepted m (passed-all m (given .model-accepted))
 
-  pub given-states : length (model-of m .states) ≡ state-count m
+  pub given-states : length (model-in m .states) ≡ state-count m
   given-states = held.states-held m
 
-  pub given-weight : 0 < model-of m .denominator
+  pub given-weight : 0 < model-in m .denominator
   unfolding sizes-right
   given-weight =
       let e = passed-all m (given .model-accepted) .sizes in
@@ -264,7 +265,7 @@ module _ {m q : Bytes} {used : List ℕ} (given : Given m q used) where
     child = formula q (node .left)
 
     abbrev M : Model
-    M = model-of m
+    M = model-in m
 
     -- The node is "less" or "greater": the search as deep as its child looks decides.
     module _ (e : node .right ≡ 2 → ⊥) (inside : s < state-count m) where
@@ -334,10 +335,10 @@ module _ {m q : Bytes} {used : List ℕ} (given : Given m q used) where
 
   -- A root that is no "plan" is yes or no.
   pub other-verdict : (j s : ℕ) → j < node-count q → ((node-of q j) .operator ≡ 8 → ⊥)
-      → verdict (model-of m) s (formula q j) ≡ cond (sat (model-of m) (formula q j) s []) yes (denies 0)
+      → verdict (model-in m) s (formula q j) ≡ cond (sat (model-in m) (formula q j) s []) yes (denies 0)
   unfolding verdict goal
   other-verdict j s h n =
-      by-operator (λ op. (node-of q j) .operator ≡ op → verdict (model-of m) s (formula q j) ≡ cond (sat (model-of m) (formula q j) s []) yes (denies 0))
+      by-operator (λ op. (node-of q j) .operator ≡ op → verdict (model-in m) s (formula q j) ≡ cond (sat (model-in m) (formula q j) s []) yes (denies 0))
       (λ o. absurd (omega (arith, asks .in-range j h .operator-from)))
       (λ o. rw (questions.at-never (state-count m) (action-count m) (prop-count m) q asks j h o) refl)
       (λ o. rw (questions.at-prop (state-count m) (action-count m) (prop-count m) q asks j h o) refl)
@@ -354,32 +355,32 @@ module _ {m q : Bytes} {used : List ℕ} (given : Given m q used) where
 
 module _ {m q : Bytes} {used counts depths : List ℕ} (asked : Asked m q used counts depths) (j s : ℕ) (h : j < node-count q)
     (o : (node-of q j) .operator ≡ 8) (e : (node-of q j) .right ≡ 2) (inside : s < state-count m) where
-  inside-model : s < length (model-of m .states)
+  inside-model : s < length (model-in m .states)
   inside-model = subst (λ k. s < k) (sym (given-states (asked .given))) inside
 
-  within-limits : every-plan (fits true (model-of m)) (model-of m) (formulas-of q) ≡ true
+  within-limits : every-plan (fits true (model-in m)) (model-in m) (formulas-of q) ≡ true
   unfolding limits fits
   within-limits =
-      let a = guard-passed 23 (every-plan (fits false (model-of m)) (model-of m) (formulas-of q)) (done (every-plan (fits true (model-of m)) (model-of m) (formulas-of q))) (asked .within) in
-      guarded (every-plan (fits true (model-of m)) (model-of m) (formulas-of q)) (a .1)
+      let a = guard-passed 23 (every-plan (fits false (model-in m)) (model-in m) (formulas-of q)) (done (every-plan (fits true (model-in m)) (model-in m) (formulas-of q))) (asked .within) in
+      guarded (every-plan (fits true (model-in m)) (model-in m) (formulas-of q)) (a .1)
     where
       guarded : (t : Bool) → refusal (done t) ≡ 0 → t ≡ true
       guarded true f = refl
       guarded false f = absurd (omega arith)
 
   -- An "equal" node has few plans in every state, and the table has their number.
-  pub few-plans : plan-total (model-of m) ((node-of q j) .n) s ≤ 65536
+  pub few-plans : plan-total (model-in m) ((node-of q j) .n) s ≤ 65536
   unfolding fits is-equal relation
   few-plans =
       let x : Node = node-of q j in
-      let here : Bool = every (length (model-of m .states)) (fits true (model-of m) (x .n) (relation (x .right))) in
-      let a = every-at _ (node-count q) (sym (nodes-all (fits true (model-of m)) (model-of m) q) ∙ within-limits) h in
+      let here : Bool = every (length (model-in m .states)) (fits true (model-in m) (x .n) (relation (x .right))) in
+      let a = every-at _ (node-count q) (sym (nodes-all (fits true (model-in m)) (model-in m) q) ∙ within-limits) h in
       let b : here ≡ true = ap (λ t. not t || here) (sym (eq-eqb (x .operator) 8 o)) ∙ a in
-      let c = every-at (fits true (model-of m) (x .n) (relation (x .right))) (length (model-of m .states)) b inside-model in
-      leb-true (plan-total (model-of m) (x .n) s) 65536 (ap (λ k. not (is-equal (relation k)) || leb (plan-total (model-of m) (x .n) s) 65536) (sym e) ∙ c)
+      let c = every-at (fits true (model-in m) (x .n) (relation (x .right))) (length (model-in m .states)) b inside-model in
+      leb-true (plan-total (model-in m) (x .n) s) 65536 (ap (λ k. not (is-equal (relation k)) || leb (plan-total (model-in m) (x .n) s) 65536) (sym e) ∙ c)
 
-  pub counted-plans : getD counts (32 * (node-of q j) .n + s) 0 ≡ plan-total (model-of m) ((node-of q j) .n) s
+  pub counted-plans : getD counts (32 * (node-of q j) .n + s) 0 ≡ plan-total (model-in m) ((node-of q j) .n) s
   unfolding totals.total totals.limit
   counted-plans =
       asked .counted .at ((node-of q j) .n) s (plan-here (asked .given) j h o .few) inside-model
-      ∙ min-eq-right {n = plan-total (model-of m) ((node-of q j) .n) s} {m = 65537} (omega (arith, few-plans))
+      ∙ min-eq-right {n = plan-total (model-in m) ((node-of q j) .n) s} {m = 65537} (omega (arith, few-plans))

@@ -13,7 +13,8 @@ use Rattle.logic.specs.Formula.{Formula, both, depth, sat}
 use Rattle.logic.specs.promises.Total.{one-if, value-of}
 use Rattle.logic.proofs.Depth.{sat-short}
 use Rattle.blocks.specs.Bytes.{Bytes}
-use Rattle.models.specs.Layout.{state-count, action-count, prop-count, model-of}
+use Rattle.models.specs.Layout.{state-count, action-count, prop-count}
+use Rattle.prepared.specs.promises.Rows.{model-in}
 use Rattle.questions.specs.Layout.{node-of, formulas-of}
 use Rattle.questions.specs.promises.Tables.{table}
 use Rattle.questions.proofs.Accepted as questions
@@ -96,21 +97,21 @@ module _ {m q truth : Bytes} {c s : ℕ} (h : Stands m q truth c s) (o : (node-o
 
   -- The truth of a child on a path; what the table says of one that is a state formula, it is on every path.
   abbrev on : ℕ → List Step → Bool
-  on i r = sat (model-of m) (formula q i) s r
+  on i r = sat (model-in m) (formula q i) s r
 
   read : {t : Bool} (i : ℕ) → Told m q truth i s → depth (formula q i) ≡ 0 → eqb (getD truth (32 * i + s) 0) 0 ≡ t → (r : List Step) → eqb (one-if (on i r)) 0 ≡ t
-  read i x d e r = sym (ap (λ v. eqb v 0) (x .right i s itself d ∙ ap one-if (sym (flat (model-of m) (formula q i) s r d)))) ∙ e
+  read i x d e r = sym (ap (λ v. eqb v 0) (x .right i s itself d ∙ ap one-if (sym (flat (model-in m) (formula q i) s r d)))) ∙ e
 
-  value-joins : (r : List Step) → value-of (model-of m) (formula q c) s r ≡ one-if (on left r && on right r)
+  value-joins : (r : List Step) → value-of (model-in m) (formula q c) s r ≡ one-if (on left r && on right r)
   unfolding sat
-  value-joins r = ap (λ φ. value-of (model-of m) φ s r) joins
+  value-joins r = ap (λ φ. value-of (model-in m) φ s r) joins
 
   depth-joins : (a b : ℕ) → depth (formula q left) ≡ a → depth (formula q right) ≡ b → depth (formula q c) ≡ max a b
   unfolding depth
   depth-joins a b d e = ap depth joins ∙ ap₂ max d e
 
   module _ (d : depth (formula q left) ≡ 0) where
-    left-never : eqb (getD truth (32 * left + s) 0) 0 ≡ true → (r : List Step) → value-of (model-of m) (formula q c) s r ≡ 0
+    left-never : eqb (getD truth (32 * left + s) 0) 0 ≡ true → (r : List Step) → value-of (model-in m) (formula q c) s r ≡ 0
     left-never e r = value-joins r ∙ left-none (on left r) (on right r) (read left (stands-left .told) d e r)
 
     left-same : eqb (getD truth (32 * left + s) 0) 0 ≡ false → Same m q truth c s right
@@ -122,7 +123,7 @@ module _ {m q truth : Bytes} {c s : ℕ} (h : Stands m q truth c s) (o : (node-o
         }
 
   module _ (d : depth (formula q right) ≡ 0) where
-    right-never : eqb (getD truth (32 * right + s) 0) 0 ≡ true → (r : List Step) → value-of (model-of m) (formula q c) s r ≡ 0
+    right-never : eqb (getD truth (32 * right + s) 0) 0 ≡ true → (r : List Step) → value-of (model-in m) (formula q c) s r ≡ 0
     right-never e r = value-joins r ∙ right-none (on left r) (on right r) (read right (stands-right .told) d e r)
 
     right-same : eqb (getD truth (32 * right + s) 0) 0 ≡ false → Same m q truth c s left
@@ -142,7 +143,7 @@ peels-none = record { never = λ m h e. absurd (false≢true e); left = λ m h e
 module _ {q truth : Bytes} {depths : List ℕ} (deep : depths ≡ table depth (formulas-of q)) {c s : ℕ} (o : (node-of q c) .operator ≡ 4) where
   -- By the tables of depths and of truth: i is the child that is read, j the other.
   peels-by : (i j : ℕ) → ((m : Bytes) → Stands m q truth c s → i < 40)
-      → ((m : Bytes) → Stands m q truth c s → depth (formula q i) ≡ 0 → eqb (getD truth (32 * i + s) 0) 0 ≡ true → (p : List Step) → value-of (model-of m) (formula q c) s p ≡ 0)
+      → ((m : Bytes) → Stands m q truth c s → depth (formula q i) ≡ 0 → eqb (getD truth (32 * i + s) 0) 0 ≡ true → (p : List Step) → value-of (model-in m) (formula q c) s p ≡ 0)
       → ((m : Bytes) → Stands m q truth c s → depth (formula q i) ≡ 0 → eqb (getD truth (32 * i + s) 0) 0 ≡ false → Same m q truth c s j)
       → {a b x y z : ℕ} → a ≡ i → b ≡ j → z ≡ getD depths a 0 → z ≡ 0 → y ≡ 32 * a + s → x ≡ getD truth y 0 → Peels q truth c s (record { dead = eqb x 0; node = b })
   peels-by i j few never same {x = x} ea eb ez e0 ey ex =

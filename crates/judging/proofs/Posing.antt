@@ -19,7 +19,8 @@ use Rattle.logic.specs.Limits.{plan-total}
 use Rattle.logic.specs.promises.Total.{total, value-of}
 use Rattle.logic.proofs.Dictionary.{plan-count}
 use Rattle.blocks.specs.Bytes.{Bytes}
-use Rattle.models.specs.Layout.{state-count, action-count, prop-count, denominator-of, model-of}
+use Rattle.models.specs.Layout.{state-count, action-count, prop-count, denominator-of}
+use Rattle.prepared.specs.promises.Rows.{model-in}
 use Rattle.models.specs.Grounds.{read-model}
 use Rattle.models.proofs.Passed.{passed-all, passed-sized}
 use Rattle.models.proofs.Held.{denominator-held}
@@ -136,26 +137,26 @@ module _ {m q : Bytes} {used truth : List ℕ} {j s : ℕ} (given : Given m q us
         → Led m q j s after (record { met = t; weight = w; place = 0; count = r .count })
     found-led f l e =
         record {
-          weighs = l .weighs ∙ ap (λ v. model-of m .denominator ^ ((node-of q j) .n - depth (condition q j)) * v) (f .value ∙ total-there);
+          weighs = l .weighs ∙ ap (λ v. model-in m .denominator ^ ((node-of q j) .n - depth (condition q j)) * v) (f .value ∙ total-there);
           bounds = e;
           unplaced = refl;
-          chosen = f .chosen ∙ ap₂ (λ c least. choices (depth (formula q c)) (best (model-of m) (formula q c) (depth (formula q c)) s least)) top same;
+          chosen = f .chosen ∙ ap₂ (λ c least. choices (depth (formula q c)) (best (model-in m) (formula q c) (depth (formula q c)) s least)) top same;
         }
 
   -- What is left of the condition decides.
   module _ (e : (node-of q j) .right ≡ 2 → ⊥) {c : ℕ} (top : c ≡ (node-of q j) .left) where
     truth-there : {v w : ℕ} → v ≡ best-total m q ((node-of q j) .left) s (eqb ((node-of q j) .right) 1)
-        → w ≡ model-of m .denominator ^ ((node-of q j) .n - depth (condition q j)) * v → meets-at m q j w ≡ sat (model-of m) (formula q j) s []
+        → w ≡ model-in m .denominator ^ ((node-of q j) .n - depth (condition q j)) * v → meets-at m q j w ≡ sat (model-in m) (formula q j) s []
     truth-there f g =
         led-decides given j s (posed .node) (posed .is-plan) e (posed .state)
-        (g ∙ ap (λ v. model-of m .denominator ^ ((node-of q j) .n - depth (condition q j)) * v) f)
+        (g ∙ ap (λ v. model-in m .denominator ^ ((node-of q j) .n - depth (condition q j)) * v) f)
 
-    pub dead-truth : {r : Peeled} {t : Bool} → Peels q truth c s r → r .dead ≡ true → t ≡ meets-at m q j 0 → t ≡ sat (model-of m) (formula q j) s []
+    pub dead-truth : {r : Peeled} {t : Bool} → Peels q truth c s r → r .dead ≡ true → t ≡ meets-at m q j 0 → t ≡ sat (model-in m) (formula q j) s []
     dead-truth p d f =
         f ∙ truth-there
         (sym (ap (λ c. best-total m q c s (eqb ((node-of q j) .right) 1)) (sym top)
         ∙ never-best m q c s (eqb ((node-of q j) .right) 1) (p .never m (stands-there top) d)))
-        (sym (mul-zero (model-of m .denominator ^ ((node-of q j) .n - depth (condition q j)))))
+        (sym (mul-zero (model-in m .denominator ^ ((node-of q j) .n - depth (condition q j)))))
 
     module _ {r : Peeled} (p : Peels q truth c s r) (d : r .dead ≡ false) where
       left-there : Same m q truth c s (r .node)
@@ -174,35 +175,35 @@ module _ {m q : Bytes} {used truth : List ℕ} {j s : ℕ} (given : Given m q us
         pub left-small : v ≤ denominator-of m ^ depth (condition q j)
         left-small = subst (λ v. v ≤ denominator-of m ^ depth (condition q j)) (sym left-total) (best-there (eqb ((node-of q j) .right) 1))
 
-        pub left-truth : {w : ℕ} {t : Bool} → Lengthened m q j v w → t ≡ meets-at m q j w → t ≡ sat (model-of m) (formula q j) s []
+        pub left-truth : {w : ℕ} {t : Bool} → Lengthened m q j v w → t ≡ meets-at m q j w → t ≡ sat (model-in m) (formula q j) s []
         left-truth l g = g ∙ truth-there left-total (l .weighs)
 
   -- ---- what a search for a total found
 
-  module _ {whole : Bool} {x all : ℕ} (exact : Exactly m q j whole x) (count : all ≡ plan-total (model-of m) ((node-of q j) .n) s) where
+  module _ {whole : Bool} {x all : ℕ} (exact : Exactly m q j whole x) (count : all ≡ plan-total (model-in m) ((node-of q j) .n) s) where
     -- No total meets the bound.
     pub placed-never : whole ≡ false → Placed m q j s (record { met = false; weight = x; place = all; count = 0 })
     placed-never e =
         record {
-          first = subst (λ r. First (model-of m) (condition q j) ((node-of q j) .n) s (nonnegative ((node-of q j) .p)) ((node-of q j) .q) x r) (sym count)
-              (never-led (model-of m) (condition q j) ((node-of q j) .n) s (nonnegative ((node-of q j) .p)) ((node-of q j) .q) (exact .none e) x);
+          first = subst (λ r. First (model-in m) (condition q j) ((node-of q j) .n) s (nonnegative ((node-of q j) .p)) ((node-of q j) .q) x r) (sym count)
+              (never-led (model-in m) (condition q j) ((node-of q j) .n) s (nonnegative ((node-of q j) .p)) ((node-of q j) .q) (exact .none e) x);
           within = le-of-eq count;
           bounds = sym (le-ltb _ _ (le-of-eq (sym count)));
         }
 
     pub placed-at : (l : List ℕ) {k r : ℕ} → whole ≡ true → k ≡ (node-of q j) .n → root-of l ≡ (node-of q j) .left
-        → listing.First (totals (model-of m) k s (value-of (model-of m) (formula q (root-of l)) s)) x r
+        → listing.First (totals (model-in m) k s (value-of (model-in m) (formula q (root-of l)) s)) x r
         → Placed m q j s (record { met = ltb r all; weight = x; place = r; count = 0 })
     unfolding totals
     placed-at l {k} {r} e steps top f =
-        let g : listing.First (all-totals (model-of m) (condition q j) ((node-of q j) .n) s) x r =
-        subst (λ i. listing.First (all-totals (model-of m) (condition q j) i s) x r) steps
-        (subst (λ c. listing.First (all-totals (model-of m) (formula q c) k s) x r) top f) in
-        let z : length (all-totals (model-of m) (condition q j) ((node-of q j) .n) s) ≡ plan-total (model-of m) ((node-of q j) .n) s =
-        length-map (plans (model-of m) ((node-of q j) .n) s) (λ π. total naturals (model-of m) ((node-of q j) .n) s π (value-of (model-of m) (condition q j) s))
-        ∙ plan-count (model-of m) ((node-of q j) .n) s in
+        let g : listing.First (all-totals (model-in m) (condition q j) ((node-of q j) .n) s) x r =
+        subst (λ i. listing.First (all-totals (model-in m) (condition q j) i s) x r) steps
+        (subst (λ c. listing.First (all-totals (model-in m) (formula q c) k s) x r) top f) in
+        let z : length (all-totals (model-in m) (condition q j) ((node-of q j) .n) s) ≡ plan-total (model-in m) ((node-of q j) .n) s =
+        length-map (plans (model-in m) ((node-of q j) .n) s) (λ π. total naturals (model-in m) ((node-of q j) .n) s π (value-of (model-in m) (condition q j) s))
+        ∙ plan-count (model-in m) ((node-of q j) .n) s in
         record {
-          first = first-led (model-of m) (condition q j) ((node-of q j) .n) s (nonnegative ((node-of q j) .p)) ((node-of q j) .q) x (exact .one e) r
+          first = first-led (model-in m) (condition q j) ((node-of q j) .n) s (nonnegative ((node-of q j) .p)) ((node-of q j) .q) x (exact .one e) r
               (g .none-before) (λ h. g .there (subst (λ i. r < i) (sym z) h));
           within = subst (λ i. r ≤ i) z (g .few);
           bounds = ap (ltb r) count;
@@ -210,7 +211,7 @@ module _ {m q : Bytes} {used truth : List ℕ} {j s : ℕ} (given : Given m q us
 
   -- ---- the truth of the node
 
-  pub placed-truth : {r : Decision} → (node-of q j) .right ≡ 2 → Placed m q j s r → r .met ≡ sat (model-of m) (formula q j) s []
+  pub placed-truth : {r : Decision} → (node-of q j) .right ≡ 2 → Placed m q j s r → r .met ≡ sat (model-in m) (formula q j) s []
   placed-truth e p = p .bounds ∙ sym (equal-truth given j s (posed .node) (posed .is-plan) e (p .first))
 
 -- ---- what searches work with

@@ -16,7 +16,8 @@ use Rattle.logic.specs.promises.Total.{total, one-if, value-of}
 use Rattle.logic.specs.promises.Recursion.{greatest, best-plan}
 use Rattle.logic.proofs.Recursion.{best-plan-total}
 use Rattle.blocks.specs.Bytes.{Bytes}
-use Rattle.models.specs.Layout.{state-count, denominator-of, model-of}
+use Rattle.models.specs.Layout.{state-count, denominator-of}
+use Rattle.prepared.specs.promises.Rows.{model-in}
 use Rattle.models.proofs.Held.{denominator-held}
 use Rattle.questions.specs.Layout.{node-count, formulas-of}
 use Rattle.questions.specs.promises.Tables.{table}
@@ -34,7 +35,7 @@ use Rattle.judging.specs.promises.Conditions.{Stands, Same, best-total, 
 use Rattle.judging.proofs.Deciding.{given-model, given-states}
 
 pub same-best : {m q truth : Bytes} {c s i : ℕ} (least : Bool) → Same m q truth c s i → best-total m q i s least ≡ best-total m q c s least
-same-best {m} {s = s} least x = ap₂ (λ d f. greatest (weights (order least)) (model-of m) d s f) (x .looks) (fun-ext (x .values))
+same-best {m} {s = s} least x = ap₂ (λ d f. greatest (weights (order least)) (model-in m) d s f) (x .looks) (fun-ext (x .values))
 
 sum-none : {A : Type 0} (le : ℕ → ℕ → Bool) (f : A → ℕ) (l : List A) → sum (weights le) (λ a. f a * 0) l ≡ 0
 unfolding sum
@@ -42,14 +43,14 @@ sum-none le f [] = refl
 sum-none le f (a ∷ l) = omega (arith, sum-none le f l)
 
 -- Of the value 0 on every path the best total is 0.
-pub never-best : (m q : Bytes) (c s : ℕ) (least : Bool) → ((r : List Step) → value-of (model-of m) (formula q c) s r ≡ 0) → best-total m q c s least ≡ 0
+pub never-best : (m q : Bytes) (c s : ℕ) (least : Bool) → ((r : List Step) → value-of (model-in m) (formula q c) s r ≡ 0) → best-total m q c s least ≡ 0
 unfolding total
 never-best m q c s least h =
     let Q = weights (order least) in
     let d = depth (formula q c) in
-    ap (greatest Q (model-of m) d s) (fun-ext h)
-    ∙ sym (best-plan-total Q (additive (order least)) (model-of m) d s (λ r. 0))
-    ∙ sum-none (order least) weight (paths (model-of m) d s (best-plan Q (model-of m) d s (λ r. 0)))
+    ap (greatest Q (model-in m) d s) (fun-ext h)
+    ∙ sym (best-plan-total Q (additive (order least)) (model-in m) d s (λ r. 0))
+    ∙ sum-none (order least) weight (paths (model-in m) d s (best-plan Q (model-in m) d s (λ r. 0)))
 
 one-if-same : (a b : Bool) → one-if a ≡ one-if b → a ≡ b
 unfolding one-if
@@ -79,20 +80,20 @@ module _ {m q : Bytes} {used truth : List ℕ} {c s : ℕ} (given : Given m q us
       → Searched m q c s least after r
   finds {least} {d = d} e top f =
       record {
-        value = f .value ∙ ap₂ (λ i k. greatest (weights (order least)) (model-of m) k s (value-of (model-of m) (formula q i) s)) top e;
-        chosen = f .chosen ∙ ap₂ (λ i k. choices k (best (model-of m) (formula q i) k s least)) top e;
+        value = f .value ∙ ap₂ (λ i k. greatest (weights (order least)) (model-in m) k s (value-of (model-in m) (formula q i) s)) top e;
+        chosen = f .chosen ∙ ap₂ (λ i k. choices k (best (model-in m) (formula q i) k s least)) top e;
       }
 
 module _ {m q : Bytes} {used truth : List ℕ} {c s : ℕ} (given : Given m q used) (h : Stands m q truth c s) (least : Bool) where
   pub best-small : best-total m q c s least ≤ denominator-of m ^ depth (formula q c)
   best-small =
       subst (λ D. best-total m q c s least ≤ D ^ depth (formula q c)) (denominator-held m)
-      (greatest-small least (model-of m) (given-model given) (depth (formula q c)) s (value-of (model-of m) (formula q c) s)
+      (greatest-small least (model-in m) (given-model given) (depth (formula q c)) s (value-of (model-in m) (formula q c) s)
       (subst (λ k. s < k) (sym (given-states given)) (h .state)) (λ r. one-if-small _))
 
   pub best-fits : depth (formula q c) ≤ 6 → best-total m q c s least ≤ 100 ^ 6
   best-fits l =
-      value-small m (given .model-accepted) least (depth (formula q c)) 6 s (value-of (model-of m) (formula q c) s) (h .state) l (λ r. one-if-small _)
+      value-small m (given .model-accepted) least (depth (formula q c)) 6 s (value-of (model-in m) (formula q c) s) (h .state) l (λ r. one-if-small _)
 
   -- ---- what is remembered
 

@@ -14,7 +14,8 @@ use Rattle.logic.specs.Model.{prop-in}
 use Rattle.logic.specs.Formula.{Formula, sat, depth}
 use Rattle.logic.specs.promises.Total.{one-if, value-of}
 use Rattle.blocks.specs.Bytes.{Bytes}
-use Rattle.models.specs.Layout.{state-count, action-count, prop-count, state-mask, model-of}
+use Rattle.models.specs.Layout.{state-count, action-count, prop-count, state-mask}
+use Rattle.prepared.specs.promises.Rows.{model-in}
 use Rattle.models.proofs.Laws.{sizes}
 use Rattle.models.proofs.Passed.{passed-all}
 use Rattle.models.proofs.Held.{mask-held}
@@ -27,7 +28,7 @@ use Rattle.tables.specs.promises.Need.{Given, Marked, Needs}
 use Rattle.judging.specs.promises.Truth.{Told, Supplied, Right}
 use Rattle.tables.proofs.Marks.{given-readable, given-question, first-inside, reached-marked}
 
-pub prop-held : (m : Bytes) (s i : ℕ) → s < state-count m → eqb (state-mask m s / 2 ^ i % 2) 1 ≡ prop-in (model-of m) s i
+pub prop-held : (m : Bytes) (s i : ℕ) → s < state-count m → eqb (state-mask m s / 2 ^ i % 2) 1 ≡ prop-in (model-in m) s i
 unfolding prop-in
 prop-held m s i h = ap (λ v. eqb (v / 2 ^ i % 2) 1) (sym (mask-held m s h))
 
@@ -57,12 +58,12 @@ module _ {m q : Bytes} {used : List ℕ} (given : Given m q used) where
     right = (node-of q j) .right
 
     abbrev value : ℕ → ℕ
-    value i = value-of (model-of m) (formula q i) s []
+    value i = value-of (model-in m) (formula q i) s []
 
-    of-formula : {φ : Formula} → formula q j ≡ φ → value-of (model-of m) φ s [] ≡ value j
-    of-formula f = ap (λ φ. value-of (model-of m) φ s []) (sym f)
+    of-formula : {φ : Formula} → formula q j ≡ φ → value-of (model-in m) φ s [] ≡ value j
+    of-formula f = ap (λ φ. value-of (model-in m) φ s []) (sym f)
 
-    pub truth-prop : (node-of q j) .operator ≡ 2 → one-if (prop-in (model-of m) s left) ≡ value j
+    pub truth-prop : (node-of q j) .operator ≡ 2 → one-if (prop-in (model-in m) s left) ≡ value j
     unfolding sat
     truth-prop o = of-formula (questions.at-prop S A N q asked j h o)
 
@@ -72,7 +73,7 @@ module _ {m q : Bytes} {used : List ℕ} (given : Given m q used) where
       truth-not o t =
           let f = questions.at-neg S A N q asked j h o in
           ap (λ x. one-if (eqb x 0)) (t .right left s itself (sym (ap depth f) ∙ d))
-          ∙ flipped (sat (model-of m) (formula q left) s [])
+          ∙ flipped (sat (model-in m) (formula q left) s [])
           ∙ of-formula f
 
       pub truth-and : (node-of q j) .operator ≡ 4 → Told m q truth left s → Told m q truth right s
@@ -83,7 +84,7 @@ module _ {m q : Bytes} {used : List ℕ} (given : Given m q used) where
           let a : depth (formula q left) ≡ 0 = omega (arith, ap depth f, le-max-left (depth (formula q left)) (depth (formula q right))) in
           let b : depth (formula q right) ≡ 0 = omega (arith, ap depth f, le-max-right (depth (formula q left)) (depth (formula q right))) in
           ap₂ bitAnd (t .right left s itself a) (u .right right s itself b)
-          ∙ joined (sat (model-of m) (formula q left) s []) (sat (model-of m) (formula q right) s [])
+          ∙ joined (sat (model-in m) (formula q left) s []) (sat (model-in m) (formula q right) s [])
           ∙ of-formula f
 
     -- "false" is false; the other operators make path formulas, which have a depth.
@@ -128,11 +129,11 @@ module _ {m q : Bytes} {used : List ℕ} (given : Given m q used) where
         }
       where
         at-pair : (j t : ℕ) → 32 * j + t < k → t < 32 → Marked need j t → depth (formula q j) ≡ 0
-            → getD truth (32 * j + t) 0 ≡ value-of (model-of m) (formula q j) t []
+            → getD truth (32 * j + t) 0 ≡ value-of (model-in m) (formula q j) t []
         at-pair j t a b e d =
             let x : (32 * j + t) / 32 ≡ j = omega arith in
             let y : (32 * j + t) % 32 ≡ t = omega arith in
-            known .at (32 * j + t) a e (ap (λ i. depth (formula q i)) x ∙ d) ∙ ap₂ (λ i u. value-of (model-of m) (formula q i) u []) x y
+            known .at (32 * j + t) a e (ap (λ i. depth (formula q i)) x ∙ d) ∙ ap₂ (λ i u. value-of (model-in m) (formula q i) u []) x y
 
     -- All that a needed pair turns on is told, where the nodes before it are.
     pub supplied : (x : ℕ) → 32 * (x / 32) ≤ k → x < 32 * node-count q → getD need x 0 ≡ 1 → Supplied m q truth (x / 32) (x % 32)
@@ -163,11 +164,11 @@ pub right-none : (m q need truth : List ℕ) → Right m q need truth 0
 right-none m q need truth = record { at = λ x h. absurd (omega arith) }
 
 pub right-more : {m q need truth : List ℕ} {k : ℕ} (v : ℕ) → Right m q need truth k → k < length truth
-    → (getD need k 0 ≡ 1 → depth (formula q (k / 32)) ≡ 0 → v ≡ value-of (model-of m) (formula q (k / 32)) (k % 32) [])
+    → (getD need k 0 ≡ 1 → depth (formula q (k / 32)) ≡ 0 → v ≡ value-of (model-in m) (formula q (k / 32)) (k % 32) [])
     → Right m q need (set truth k v) (k + 1)
 right-more {m} {q} {need} {truth} {k} v p z f =
     record {
-      at = below-more (λ x. getD need x 0 ≡ 1 → depth (formula q (x / 32)) ≡ 0 → getD (set truth k v) x 0 ≡ value-of (model-of m) (formula q (x / 32)) (x % 32) []) k
+      at = below-more (λ x. getD need x 0 ≡ 1 → depth (formula q (x / 32)) ≡ 0 → getD (set truth k v) x 0 ≡ value-of (model-in m) (formula q (x / 32)) (x % 32) []) k
           (λ x h e d. getD-set-other truth k x v 0 (omega arith) ∙ p .at x h e d)
           (λ e d. getD-set-same truth k v 0 z ∙ f e d);
     }

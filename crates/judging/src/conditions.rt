@@ -1,12 +1,12 @@
 // Conditions in a state: what is left of one when the state formulas that it joins are read there, and its best total, searched once.
 ghost use mathlib.Core.Path.{_≡_};
 ghost use Prim.Native.Nat.{_≤_, _<_};
+ghost use lib.ListN.{length};
 ghost use Rattle.logic.specs.Formula.{depth};
 ghost use Rattle.questions.specs.Layout.{formulas-of};
 ghost use Rattle.questions.specs.promises.Tables.{table};
 ghost use Rattle.evaluation.specs.promises.Reached.{formula};
 ghost use Rattle.tables.specs.promises.Need.{Given};
-ghost use Rattle.judging.specs.promises.Asked.{Equipped};
 ghost use Rattle.judging.specs.promises.Conditions.{Stands, Peels, best-total, Searched, memo-place, Remembers};
 use blocks::byte;
 use evaluation::bit;
@@ -74,39 +74,23 @@ pub fn peel(q: &[u8], depths: &[u32], truth: &[u8], c: u8, s: u8) -> Peeled
 
 // Searches for the plan of greatest weight, or of least, as deep as condition c looks.
 pub fn searched(
-    m: &[u8],
+    m: &[u16; 8704],
     q: &[u8],
-    used: &[u8; 264],
     depths: &[u32],
-    rewards: &[i32; 1024],
-    sums: &[u16; 4096],
     truth: &[u8],
     scratch: &mut [u8],
     c: u8,
     s: u8,
     least: bool,
 ) -> Found
-    requires { ⌜ Given (now m) (now q) (now used) × (now depths ≡ table depth (formulas-of (now q))) × Stands (now m) (now q) (now truth) c s ⌝ }
-    requires { ⌜ (depth (formula (now q) c) ≤ 6) × Equipped (now m) (now rewards) (now sums) (now scratch) ⌝ }
+    requires { ⌜ Given (now m) (now q) × (now depths ≡ table depth (formulas-of (now q))) × Stands (now m) (now q) (now truth) c s ⌝ }
+    requires { ⌜ (depth (formula (now q) c) ≤ 6) × (4095 ≤ length (now scratch)) ⌝ }
     ensures { λ r. ⌜ Searched (now (m .entry)) (now (q .entry)) c s least (now (scratch .exit)) r ⌝ }
 {
     let d = depth_at(depths, c) as u8;
     let mut nodes = [0u8; 40];
     let k = cone(q, depths, c, &mut nodes);
-    find(
-        m,
-        used,
-        q,
-        depths,
-        truth,
-        &nodes[..k],
-        rewards,
-        sums,
-        scratch,
-        s,
-        d,
-        least,
-    )
+    find(m, q, depths, truth, &nodes[..k], scratch, s, d, least)
 }
 
 // Where the best total of c in s is remembered.
@@ -118,12 +102,9 @@ fn memo_at(c: u8, s: u8, least: bool) -> usize
 
 // The best total of condition c in s: remembered, or searched and remembered.
 pub fn best_value(
-    m: &[u8],
+    m: &[u16; 8704],
     q: &[u8],
-    used: &[u8; 264],
     depths: &[u32],
-    rewards: &[i32; 1024],
-    sums: &[u16; 4096],
     truth: &[u8],
     scratch: &mut [u8],
     memo: &mut [u64; 2560],
@@ -131,8 +112,8 @@ pub fn best_value(
     s: u8,
     least: bool,
 ) -> u64
-    requires { ⌜ Given (now m) (now q) (now used) × (now depths ≡ table depth (formulas-of (now q))) × Stands (now m) (now q) (now truth) c s ⌝ }
-    requires { ⌜ (depth (formula (now q) c) ≤ 6) × Equipped (now m) (now rewards) (now sums) (now scratch) × Remembers (now m) (now q) (now memo) ⌝ }
+    requires { ⌜ Given (now m) (now q) × (now depths ≡ table depth (formulas-of (now q))) × Stands (now m) (now q) (now truth) c s ⌝ }
+    requires { ⌜ (depth (formula (now q) c) ≤ 6) × (4095 ≤ length (now scratch)) × Remembers (now m) (now q) (now memo) ⌝ }
     ensures { λ r. ⌜ (r ≡ best-total (now (m .entry)) (now (q .entry)) c s least) × Remembers (now (m .entry)) (now (q .entry)) (now (memo .exit)) ⌝ }
 {
     let k = memo_at(c, s, least);
@@ -140,19 +121,7 @@ pub fn best_value(
     if known != 0 {
         return known - 1;
     }
-    let r = searched(
-        m,
-        q,
-        used,
-        depths,
-        rewards,
-        sums,
-        truth,
-        scratch,
-        c,
-        s,
-        least,
-    );
+    let r = searched(m, q, depths, truth, scratch, c, s, least);
     let value = r.value;
     memo[k] = 1 + value;
     value

@@ -6,12 +6,13 @@ ghost use mathlib.Core.Bool.{true, false};
 ghost use lib.ListN.{length};
 ghost use Rattle.logic.specs.Formula.{depth};
 ghost use Rattle.logic.specs.Verdict.{verdict};
-ghost use Rattle.models.specs.Layout.{state-count, model-of};
+ghost use Rattle.models.specs.Layout.{state-count};
+ghost use Rattle.prepared.specs.promises.Rows.{model-in};
 ghost use Rattle.questions.specs.Layout.{start-of, node-count, node-of, formulas-of};
 ghost use Rattle.questions.specs.promises.Tables.{table};
 ghost use Rattle.evaluation.specs.promises.Reached.{formula};
 ghost use Rattle.tables.specs.promises.Need.{Given};
-ghost use Rattle.judging.specs.promises.Asked.{Asked, Served, Equipped};
+ghost use Rattle.judging.specs.promises.Asked.{Asked, Served};
 ghost use Rattle.judging.specs.promises.Truth.{Supplied};
 ghost use Rattle.judging.specs.promises.Decided.{Posed, Decided};
 ghost use Rattle.judging.specs.promises.Conditions.{Remembers};
@@ -27,10 +28,7 @@ use crate::truth::truth_at;
 use crate::truth::truth_table;
 use evaluation::depth_at;
 use extension::extend;
-use lanes::rewards;
-use lanes::sums;
 use limits::plan_totals;
-use models::used_entries;
 use questions::asks_equal;
 use questions::depth_table;
 use questions::left;
@@ -82,39 +80,24 @@ fn with_plan(weight: u64, steps: u8, count: u32) -> Outcome
 
 // The truth that the root in the start state turns on.
 fn root_truth(
-    m: &[u8],
+    m: &[u16; 8704],
     q: &[u8],
-    used: &[u8; 264],
     counts: &[u64; 224],
     depths: &[u32],
-    rewards: &[i32; 1024],
-    sums: &[u16; 4096],
     scratch: &mut [u8],
     memo: &mut [u64; 2560],
 ) -> [u8; 1280]
-    requires { ⌜ Asked (now m) (now q) (now used) (now counts) (now depths) × Equipped (now m) (now rewards) (now sums) (now scratch) × Remembers (now m) (now q) (now memo) ⌝ }
+    requires { ⌜ Asked (now m) (now q) (now counts) (now depths) × (4095 ≤ length (now scratch)) × Remembers (now m) (now q) (now memo) ⌝ }
     ensures { λ r. ⌜ Supplied (now (m .entry)) (now (q .entry)) r (root (now (q .entry))) (start-of (now (q .entry))) × Remembers (now (m .entry)) (now (q .entry)) (now (memo .exit)) ⌝ }
 {
-    let need = needed(m, q, used);
-    truth_table(
-        m,
-        q,
-        used,
-        counts,
-        depths,
-        rewards,
-        sums,
-        &need,
-        scratch,
-        memo,
-    )
+    let need = needed(m, q);
+    truth_table(m, q, counts, depths, &need, scratch, memo)
 }
 
 // Writes the choices of the plan that a search found for node j in s, and tells of it.
 fn show(
-    m: &[u8],
+    m: &[u16; 8704],
     q: &[u8],
-    used: &[u8; 264],
     counts: &[u64; 224],
     depths: &[u32],
     scratch: &[u8],
@@ -123,39 +106,28 @@ fn show(
     s: u8,
     r: Decision,
 ) -> Outcome
-    requires { ⌜ Asked (now m) (now q) (now used) (now counts) (now depths) × Decided (now m) (now q) j s (now scratch) r × (r .met ≡ true) ⌝ }
+    requires { ⌜ Asked (now m) (now q) (now counts) (now depths) × Decided (now m) (now q) j s (now scratch) r × (r .met ≡ true) ⌝ }
     requires { ⌜ (j < node-count (now q)) × (node-of (now q) j .operator ≡ 8) × (s < state-count (now m)) × (1365 ≤ length (now choices)) ⌝ }
-    ensures { λ x. ⌜ Announces (verdict (model-of (now (m .entry))) s (formula (now (q .entry)) j)) x (now (choices .entry)) (now (choices .exit)) ⌝ }
+    ensures { λ x. ⌜ Announces (verdict (model-in (now (m .entry))) s (formula (now (q .entry)) j)) x (now (choices .entry)) (now (choices .exit)) ⌝ }
 {
     let n = steps(q, j);
     let weight = r.weight;
     let place = r.place;
     if asks_equal(q, j) {
-        nth(m, used, counts, choices, s, n, place as u64);
+        nth(m, counts, choices, s, n, place as u64);
         return with_plan(weight, n, 1 + place as u32);
     }
     let d = depth_at(depths, left(q, j));
-    extend(
-        m,
-        used,
-        scratch,
-        choices,
-        s as usize,
-        d as usize,
-        n as usize,
-    );
+    extend(m, scratch, choices, s as usize, d as usize, n as usize);
     with_plan(weight, n, 0)
 }
 
 // The verdict on node j, a state formula, in s.
 fn at_node(
-    m: &[u8],
+    m: &[u16; 8704],
     q: &[u8],
-    used: &[u8; 264],
     counts: &[u64; 224],
     depths: &[u32],
-    rewards: &[i32; 1024],
-    sums: &[u16; 4096],
     truth: &[u8],
     scratch: &mut [u8],
     memo: &mut [u64; 2560],
@@ -163,76 +135,45 @@ fn at_node(
     j: u8,
     s: u8,
 ) -> Outcome
-    requires { ⌜ Asked (now m) (now q) (now used) (now counts) (now depths) × (j < node-count (now q)) × (s < state-count (now m)) ⌝ }
+    requires { ⌜ Asked (now m) (now q) (now counts) (now depths) × (j < node-count (now q)) × (s < state-count (now m)) ⌝ }
     requires { ⌜ Supplied (now m) (now q) (now truth) j s × (depth (formula (now q) j) ≡ 0) ⌝ }
-    requires { ⌜ Equipped (now m) (now rewards) (now sums) (now scratch) × Remembers (now m) (now q) (now memo) × (1365 ≤ length (now choices)) ⌝ }
-    ensures { λ r. ⌜ Announces (verdict (model-of (now (m .entry))) s (formula (now (q .entry)) j)) r (now (choices .entry)) (now (choices .exit)) ⌝ }
+    requires { ⌜ (4095 ≤ length (now scratch)) × Remembers (now m) (now q) (now memo) × (1365 ≤ length (now choices)) ⌝ }
+    ensures { λ r. ⌜ Announces (verdict (model-in (now (m .entry))) s (formula (now (q .entry)) j)) r (now (choices .entry)) (now (choices .exit)) ⌝ }
 {
     if operator(q, j) != 8 {
-        let x = truth_at(
-            m,
-            q,
-            used,
-            counts,
-            depths,
-            rewards,
-            sums,
-            truth,
-            scratch,
-            memo,
-            j,
-            s,
-        );
+        let x = truth_at(m, q, counts, depths, truth, scratch, memo, j, s);
         return plain(x == 1, 0);
     }
-    let r = decide(
-        m,
-        q,
-        used,
-        counts,
-        depths,
-        rewards,
-        sums,
-        truth,
-        scratch,
-        j,
-        s,
-    );
+    let r = decide(m, q, counts, depths, truth, scratch, j, s);
     let met = r.met;
     let place = r.place;
     if met {
-        return show(m, q, used, counts, depths, scratch, choices, j, s, r);
+        return show(m, q, counts, depths, scratch, choices, j, s, r);
     }
     plain(false, place as u32)
 }
 
 // The verdict on the root in the start state.
 fn at_root(
-    m: &[u8],
+    m: &[u16; 8704],
     q: &[u8],
-    used: &[u8; 264],
     counts: &[u64; 224],
     depths: &[u32],
-    rewards: &[i32; 1024],
-    sums: &[u16; 4096],
     truth: &[u8],
     scratch: &mut [u8],
     memo: &mut [u64; 2560],
     choices: &mut [u8],
 ) -> Outcome
-    requires { ⌜ Asked (now m) (now q) (now used) (now counts) (now depths) × Supplied (now m) (now q) (now truth) (root (now q)) (start-of (now q)) ⌝ }
-    requires { ⌜ Equipped (now m) (now rewards) (now sums) (now scratch) × Remembers (now m) (now q) (now memo) × (1365 ≤ length (now choices)) ⌝ }
+    requires { ⌜ Asked (now m) (now q) (now counts) (now depths) × Supplied (now m) (now q) (now truth) (root (now q)) (start-of (now q)) ⌝ }
+    requires { ⌜ (4095 ≤ length (now scratch)) × Remembers (now m) (now q) (now memo) × (1365 ≤ length (now choices)) ⌝ }
     ensures { λ r. ⌜ Announces (root-verdict (now (m .entry)) (now (q .entry))) r (now (choices .entry)) (now (choices .exit)) ⌝ }
 {
     let j = node_count(q) - 1;
     at_node(
         m,
         q,
-        used,
         counts,
         depths,
-        rewards,
-        sums,
         truth,
         scratch,
         memo,
@@ -243,37 +184,21 @@ fn at_root(
 }
 
 // The verdict on a question, by tables made for it.
-fn judged_as_shared(m: &[u8], q: &[u8], choices: &mut [u8]) -> Outcome
+fn judged_as_shared(m: &[u16; 8704], q: &[u8], choices: &mut [u8]) -> Outcome
     requires { ⌜ Served (now m) (now q) ⌝ }
     requires { ⌜ 1365 ≤ length (now choices) ⌝ }
     ensures { λ r. ⌜ Announces (root-verdict (now (m .entry)) (now (q .entry))) r (now (choices .entry)) (now (choices .exit)) ⌝ }
 {
-    let used = used_entries(m);
-    let counts = plan_totals(m, &used);
+    let counts = plan_totals(m);
     let depths = depth_table(q);
-    let rewards = rewards(m);
-    let sums = sums(m);
     let mut scratch = [0u8; 4095];
     let mut memo = [0u64; 2560];
-    let truth = root_truth(
-        m,
-        q,
-        &used,
-        &counts,
-        &depths,
-        &rewards,
-        &sums,
-        &mut scratch,
-        &mut memo,
-    );
+    let truth = root_truth(m, q, &counts, &depths, &mut scratch, &mut memo);
     at_root(
         m,
         q,
-        &used,
         &counts,
         &depths,
-        &rewards,
-        &sums,
         &truth,
         &mut scratch,
         &mut memo,
@@ -283,7 +208,7 @@ fn judged_as_shared(m: &[u8], q: &[u8], choices: &mut [u8]) -> Outcome
 
 // Judges a question: the verdict, and the choices of a shown plan from the beginning of `choices` on. Every "and" of a node with itself is
 // pointed past first, so that a tower of them costs no more than what stands under it.
-pub fn judged(m: &[u8], q: &[u8], choices: &mut [u8]) -> Outcome
+pub fn judged(m: &[u16; 8704], q: &[u8], choices: &mut [u8]) -> Outcome
     requires { ⌜ Served (now m) (now q) ⌝ }
     requires { ⌜ 1365 ≤ length (now choices) ⌝ }
     ensures { λ r. ⌜ Announces (root-verdict (now (m .entry)) (now (q .entry))) r (now (choices .entry)) (now (choices .exit)) ⌝ }
@@ -293,15 +218,8 @@ pub fn judged(m: &[u8], q: &[u8], choices: &mut [u8]) -> Outcome
 }
 
 // The total of the plan with these choices, by the tables.
-fn root_weight(
-    m: &[u8],
-    q: &[u8],
-    used: &[u8; 264],
-    depths: &[u32],
-    truth: &[u8],
-    choices: &[u8],
-) -> u64
-    requires { ⌜ Given (now m) (now q) (now used) × (now depths ≡ table depth (formulas-of (now q))) ⌝ }
+fn root_weight(m: &[u16; 8704], q: &[u8], depths: &[u32], truth: &[u8], choices: &[u8]) -> u64
+    requires { ⌜ Given (now m) (now q) × (now depths ≡ table depth (formulas-of (now q))) ⌝ }
     requires { ⌜ Posed (now m) (now q) (now truth) (root (now q)) (start-of (now q)) ⌝ }
     ensures { λ r. ⌜ Weighs (now (m .entry)) (now (q .entry)) (now (choices .entry)) r ⌝ }
 {
@@ -310,7 +228,6 @@ fn root_weight(
     let k = cone(q, depths, left(q, j), &mut nodes);
     plan_weight(
         m,
-        used,
         q,
         depths,
         truth,
@@ -322,27 +239,14 @@ fn root_weight(
 }
 
 // The total of the plan with these choices, for the condition of the root, which is a "plan".
-pub fn sheet_weight(m: &[u8], q: &[u8], choices: &[u8]) -> u64
+pub fn sheet_weight(m: &[u16; 8704], q: &[u8], choices: &[u8]) -> u64
     requires { ⌜ Served (now m) (now q) × (node-of (now q) (root (now q)) .operator ≡ 8) ⌝ }
     ensures { λ r. ⌜ Weighs (now (m .entry)) (now (q .entry)) (now (choices .entry)) r ⌝ }
 {
-    let used = used_entries(m);
-    let counts = plan_totals(m, &used);
+    let counts = plan_totals(m);
     let depths = depth_table(q);
-    let rewards = rewards(m);
-    let sums = sums(m);
     let mut scratch = [0u8; 4095];
     let mut memo = [0u64; 2560];
-    let truth = root_truth(
-        m,
-        q,
-        &used,
-        &counts,
-        &depths,
-        &rewards,
-        &sums,
-        &mut scratch,
-        &mut memo,
-    );
-    root_weight(m, q, &used, &depths, &truth, choices)
+    let truth = root_truth(m, q, &counts, &depths, &mut scratch, &mut memo);
+    root_weight(m, q, &depths, &truth, choices)
 }

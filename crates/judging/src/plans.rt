@@ -3,26 +3,28 @@ ghost use mathlib.Core.Path.{_≡_};
 ghost use Prim.Native.Nat.{_^_, _≤_, _<_};
 ghost use mathlib.Core.List.{[]};
 ghost use Rattle.logic.specs.Formula.{depth, sat};
-ghost use Rattle.models.specs.Layout.{state-count, denominator-of, model-of};
+ghost use lib.ListN.{length};
+ghost use Rattle.models.specs.Layout.{state-count, denominator-of};
+ghost use Rattle.prepared.specs.promises.Rows.{model-in};
 ghost use Rattle.questions.specs.Layout.{node-count, node-of, formulas-of};
 ghost use Rattle.questions.specs.promises.Tables.{table};
 ghost use Rattle.evaluation.specs.promises.Reached.{formula};
 ghost use Rattle.tables.specs.promises.Need.{Given};
 ghost use Rattle.bounds.specs.promises.Bounded.{Bounded};
-ghost use Rattle.judging.specs.promises.Asked.{Asked, Equipped};
+ghost use Rattle.judging.specs.promises.Asked.{Asked};
 ghost use Rattle.judging.specs.promises.Truth.{Told};
 ghost use Rattle.judging.specs.promises.Decided.{condition, Posed, Lengthened, Led, Placed, Decided};
 ghost use Rattle.judging.specs.promises.Conditions.{Remembers};
 use crate::conditions::best_value;
 use crate::conditions::peel;
 use crate::conditions::searched;
-use blocks::wide;
 use bounds::exact_total;
 use bounds::meets;
 use bounds::power;
 use equal::first_equal;
 use evaluation::depth_at;
 use limits::plans_counted;
+use prepared::denominator;
 use questions::asks_equal;
 use questions::asks_less;
 use questions::left;
@@ -39,45 +41,30 @@ pub struct Decision {
 }
 
 // A total of the condition of node j, over as many steps as it looks ahead, as one over all steps of the node.
-fn over_all_steps(m: &[u8], q: &[u8], depths: &[u32], j: u8, value: u64) -> u64
+fn over_all_steps(m: &[u16; 8704], q: &[u8], depths: &[u32], j: u8, value: u64) -> u64
     requires { ⌜ Bounded (now m) (now q) j × (now depths ≡ table depth (formulas-of (now q))) ⌝ }
     requires { ⌜ value ≤ denominator-of (now m) ^ depth (condition (now q) j) ⌝ }
     ensures { λ r. ⌜ Lengthened (now (m .entry)) (now (q .entry)) j value r ⌝ }
 {
     let d = depth_at(depths, left(q, j)) as u8;
-    power(wide(m, 5), steps(q, j) - d) * value
+    power(denominator(m), steps(q, j) - d) * value
 }
 
 // "less" and "greater": the plan of least or of greatest weight decides, and a search as deep as the condition looks finds it.
 fn led(
-    m: &[u8],
+    m: &[u16; 8704],
     q: &[u8],
-    used: &[u8; 264],
     depths: &[u32],
-    rewards: &[i32; 1024],
-    sums: &[u16; 4096],
     truth: &[u8],
     scratch: &mut [u8],
     j: u8,
     s: u8,
 ) -> Decision
-    requires { ⌜ Given (now m) (now q) (now used) × (now depths ≡ table depth (formulas-of (now q))) × Posed (now m) (now q) (now truth) j s ⌝ }
-    requires { ⌜ (node-of (now q) j .right ≡ 2 → ⊥) × Equipped (now m) (now rewards) (now sums) (now scratch) ⌝ }
+    requires { ⌜ Given (now m) (now q) × (now depths ≡ table depth (formulas-of (now q))) × Posed (now m) (now q) (now truth) j s ⌝ }
+    requires { ⌜ (node-of (now q) j .right ≡ 2 → ⊥) × (4095 ≤ length (now scratch)) ⌝ }
     ensures { λ r. ⌜ Led (now (m .entry)) (now (q .entry)) j s (now (scratch .exit)) r ⌝ }
 {
-    let r = searched(
-        m,
-        q,
-        used,
-        depths,
-        rewards,
-        sums,
-        truth,
-        scratch,
-        left(q, j),
-        s,
-        asks_less(q, j),
-    );
+    let r = searched(m, q, depths, truth, scratch, left(q, j), s, asks_less(q, j));
     let weight = over_all_steps(m, q, depths, j, r.value);
     Decision {
         met: meets(m, q, j, weight),
@@ -89,21 +76,18 @@ fn led(
 
 // Whether the "plan" node j, "less" or "greater", is true in s: by what is left of its condition there, searched once.
 fn plan_led(
-    m: &[u8],
+    m: &[u16; 8704],
     q: &[u8],
-    used: &[u8; 264],
     depths: &[u32],
-    rewards: &[i32; 1024],
-    sums: &[u16; 4096],
     truth: &[u8],
     scratch: &mut [u8],
     memo: &mut [u64; 2560],
     j: u8,
     s: u8,
 ) -> bool
-    requires { ⌜ Given (now m) (now q) (now used) × (now depths ≡ table depth (formulas-of (now q))) × Posed (now m) (now q) (now truth) j s ⌝ }
-    requires { ⌜ (node-of (now q) j .right ≡ 2 → ⊥) × Equipped (now m) (now rewards) (now sums) (now scratch) × Remembers (now m) (now q) (now memo) ⌝ }
-    ensures { λ r. ⌜ (r ≡ sat (model-of (now (m .entry))) (formula (now (q .entry)) j) s []) × Remembers (now (m .entry)) (now (q .entry)) (now (memo .exit)) ⌝ }
+    requires { ⌜ Given (now m) (now q) × (now depths ≡ table depth (formulas-of (now q))) × Posed (now m) (now q) (now truth) j s ⌝ }
+    requires { ⌜ (node-of (now q) j .right ≡ 2 → ⊥) × (4095 ≤ length (now scratch)) × Remembers (now m) (now q) (now memo) ⌝ }
+    ensures { λ r. ⌜ (r ≡ sat (model-in (now (m .entry))) (formula (now (q .entry)) j) s []) × Remembers (now (m .entry)) (now (q .entry)) (now (memo .exit)) ⌝ }
 {
     let rest = peel(q, depths, truth, left(q, j), s);
     let c = rest.node;
@@ -111,35 +95,21 @@ fn plan_led(
         return meets(m, q, j, 0);
     }
     let least = asks_less(q, j);
-    let x = best_value(
-        m,
-        q,
-        used,
-        depths,
-        rewards,
-        sums,
-        truth,
-        scratch,
-        memo,
-        c,
-        s,
-        least,
-    );
+    let x = best_value(m, q, depths, truth, scratch, memo, c, s, least);
     meets(m, q, j, over_all_steps(m, q, depths, j, x))
 }
 
 // "equal": the first plan decides that has the one total that meets the bound, if there is such a total.
 fn first(
-    m: &[u8],
+    m: &[u16; 8704],
     q: &[u8],
-    used: &[u8; 264],
     counts: &[u64; 224],
     depths: &[u32],
     truth: &[u8],
     j: u8,
     s: u8,
 ) -> Decision
-    requires { ⌜ Asked (now m) (now q) (now used) (now counts) (now depths) × Posed (now m) (now q) (now truth) j s ⌝ }
+    requires { ⌜ Asked (now m) (now q) (now counts) (now depths) × Posed (now m) (now q) (now truth) j s ⌝ }
     requires { ⌜ node-of (now q) j .right ≡ 2 ⌝ }
     ensures { λ r. ⌜ Placed (now (m .entry)) (now (q .entry)) j s r ⌝ }
 {
@@ -159,19 +129,7 @@ fn first(
     let d = depth_at(depths, c) as u8;
     let mut nodes = [0u8; 40];
     let k = cone(q, depths, c, &mut nodes);
-    let place = first_equal(
-        m,
-        q,
-        depths,
-        truth,
-        &nodes[..k],
-        used,
-        counts,
-        s,
-        d,
-        n,
-        total,
-    );
+    let place = first_equal(m, q, depths, truth, &nodes[..k], counts, s, d, n, total);
     Decision {
         met: place < all,
         weight: total,
@@ -182,63 +140,45 @@ fn first(
 
 // Decides the "plan" node j in s.
 pub fn decide(
-    m: &[u8],
+    m: &[u16; 8704],
     q: &[u8],
-    used: &[u8; 264],
     counts: &[u64; 224],
     depths: &[u32],
-    rewards: &[i32; 1024],
-    sums: &[u16; 4096],
     truth: &[u8],
     scratch: &mut [u8],
     j: u8,
     s: u8,
 ) -> Decision
-    requires { ⌜ Asked (now m) (now q) (now used) (now counts) (now depths) × Posed (now m) (now q) (now truth) j s ⌝ }
-    requires { ⌜ Equipped (now m) (now rewards) (now sums) (now scratch) ⌝ }
+    requires { ⌜ Asked (now m) (now q) (now counts) (now depths) × Posed (now m) (now q) (now truth) j s ⌝ }
+    requires { ⌜ (4095 ≤ length (now scratch)) ⌝ }
     ensures { λ r. ⌜ Decided (now (m .entry)) (now (q .entry)) j s (now (scratch .exit)) r ⌝ }
 {
     if asks_equal(q, j) {
-        return first(m, q, used, counts, depths, truth, j, s);
+        return first(m, q, counts, depths, truth, j, s);
     }
-    led(m, q, used, depths, rewards, sums, truth, scratch, j, s)
+    led(m, q, depths, truth, scratch, j, s)
 }
 
 // Whether the "plan" node j is true in s.
 pub fn plan_true(
-    m: &[u8],
+    m: &[u16; 8704],
     q: &[u8],
-    used: &[u8; 264],
     counts: &[u64; 224],
     depths: &[u32],
-    rewards: &[i32; 1024],
-    sums: &[u16; 4096],
     truth: &[u8],
     scratch: &mut [u8],
     memo: &mut [u64; 2560],
     j: u8,
     s: u8,
 ) -> bool
-    requires { ⌜ Asked (now m) (now q) (now used) (now counts) (now depths) × (j < node-count (now q)) × (s < state-count (now m)) ⌝ }
+    requires { ⌜ Asked (now m) (now q) (now counts) (now depths) × (j < node-count (now q)) × (s < state-count (now m)) ⌝ }
     requires { ⌜ (node-of (now q) j .operator ≡ 8) × Told (now m) (now q) (now truth) (node-of (now q) j .left) s ⌝ }
-    requires { ⌜ Equipped (now m) (now rewards) (now sums) (now scratch) × Remembers (now m) (now q) (now memo) ⌝ }
-    ensures { λ r. ⌜ (r ≡ sat (model-of (now (m .entry))) (formula (now (q .entry)) j) s []) × Remembers (now (m .entry)) (now (q .entry)) (now (memo .exit)) ⌝ }
+    requires { ⌜ (4095 ≤ length (now scratch)) × Remembers (now m) (now q) (now memo) ⌝ }
+    ensures { λ r. ⌜ (r ≡ sat (model-in (now (m .entry))) (formula (now (q .entry)) j) s []) × Remembers (now (m .entry)) (now (q .entry)) (now (memo .exit)) ⌝ }
 {
     if asks_equal(q, j) {
-        let r = first(m, q, used, counts, depths, truth, j, s);
+        let r = first(m, q, counts, depths, truth, j, s);
         return r.met;
     }
-    plan_led(
-        m,
-        q,
-        used,
-        depths,
-        rewards,
-        sums,
-        truth,
-        scratch,
-        memo,
-        j,
-        s,
-    )
+    plan_led(m, q, depths, truth, scratch, memo, j, s)
 }

@@ -1,96 +1,69 @@
 // The truth of state formulas, from the first node to the last, where the verdict can turn on it.
 ghost use mathlib.Core.Path.{_≡_};
-ghost use Prim.Native.Nat.{_*_, _-_, _/_, _%_, _<_};
+ghost use Prim.Native.Nat.{_*_, _-_, _/_, _%_, _<_, _≤_};
 ghost use mathlib.Core.List.{[]};
-ghost use lib.ListN.{getD};
+ghost use lib.ListN.{getD, length};
 ghost use Rattle.logic.specs.Formula.{depth};
 ghost use Rattle.logic.specs.promises.Total.{value-of};
-ghost use Rattle.logic.specs.Model.{prop-in};
-ghost use Rattle.models.specs.Layout.{state-count, model-of};
+ghost use Rattle.models.specs.Layout.{state-count};
+ghost use Rattle.prepared.specs.promises.Rows.{model-in};
 ghost use Rattle.questions.specs.Layout as question;
 ghost use Rattle.evaluation.specs.promises.Reached.{formula};
 ghost use Rattle.tables.specs.promises.Need.{Needs};
-ghost use Rattle.judging.specs.promises.Asked.{Asked, Equipped};
+ghost use Rattle.judging.specs.promises.Asked.{Asked};
 ghost use Rattle.judging.specs.promises.Truth.{Supplied, Right};
 ghost use Rattle.judging.specs.promises.Conditions.{Remembers};
 use crate::plans::plan_true;
 use blocks::byte;
 use evaluation::bit;
-use models::state_mask;
+use prepared::holds;
 use questions::left;
 use questions::node_count;
 use questions::operator;
 use questions::right;
 use tables::place;
 
-// Whether proposition i is true in s.
-fn holds(m: &[u8], s: u8, i: u8) -> bool
-    requires { ⌜ (s < state-count (now m)) × (i < 32) ⌝ }
-    ensures { λ r. ⌜ r ≡ prop-in (model-of (now (m .entry))) s i ⌝ }
-{
-    (state_mask(m, s as usize) >> i as u32) % 2 == 1
-}
-
 // The truth of node j in s, from that of its children; of a path formula, nothing is said.
 pub fn truth_at(
-    m: &[u8],
+    m: &[u16; 8704],
     q: &[u8],
-    used: &[u8; 264],
     counts: &[u64; 224],
     depths: &[u32],
-    rewards: &[i32; 1024],
-    sums: &[u16; 4096],
     truth: &[u8],
     scratch: &mut [u8],
     memo: &mut [u64; 2560],
     j: u8,
     s: u8,
 ) -> u8
-    requires { ⌜ Asked (now m) (now q) (now used) (now counts) (now depths) × (j < question.node-count (now q)) × (s < state-count (now m)) ⌝ }
-    requires { ⌜ Supplied (now m) (now q) (now truth) j s × Equipped (now m) (now rewards) (now sums) (now scratch) × Remembers (now m) (now q) (now memo) ⌝ }
-    ensures { λ r. ⌜ (depth (formula (now (q .entry)) j) ≡ 0 → r ≡ value-of (model-of (now (m .entry))) (formula (now (q .entry)) j) s []) × Remembers (now (m .entry)) (now (q .entry)) (now (memo .exit)) ⌝ }
+    requires { ⌜ Asked (now m) (now q) (now counts) (now depths) × (j < question.node-count (now q)) × (s < state-count (now m)) ⌝ }
+    requires { ⌜ Supplied (now m) (now q) (now truth) j s × (4095 ≤ length (now scratch)) × Remembers (now m) (now q) (now memo) ⌝ }
+    ensures { λ r. ⌜ (depth (formula (now (q .entry)) j) ≡ 0 → r ≡ value-of (model-in (now (m .entry))) (formula (now (q .entry)) j) s []) × Remembers (now (m .entry)) (now (q .entry)) (now (memo .exit)) ⌝ }
 {
     let op = operator(q, j);
     match op {
-        2 => bit(holds(m, s, left(q, j))),
+        2 => bit(holds(m, s as usize, left(q, j))),
         3 => bit(byte(truth, place(left(q, j), s)) == 0),
         4 => byte(truth, place(left(q, j), s)) & byte(truth, place(right(q, j), s)),
-        8 => bit(plan_true(
-            m,
-            q,
-            used,
-            counts,
-            depths,
-            rewards,
-            sums,
-            truth,
-            scratch,
-            memo,
-            j,
-            s,
-        )),
+        8 => bit(plan_true(m, q, counts, depths, truth, scratch, memo, j, s)),
         _ => 0,
     }
 }
 
 // The truth at a place of the table, if it is needed.
 fn truth_if(
-    m: &[u8],
+    m: &[u16; 8704],
     q: &[u8],
-    used: &[u8; 264],
     counts: &[u64; 224],
     depths: &[u32],
-    rewards: &[i32; 1024],
-    sums: &[u16; 4096],
     need: &[u8],
     truth: &[u8],
     scratch: &mut [u8],
     memo: &mut [u64; 2560],
     k: usize,
 ) -> u8
-    requires { ⌜ Asked (now m) (now q) (now used) (now counts) (now depths) × (k < 32 * question.node-count (now q)) ⌝ }
-    requires { ⌜ Needs (now m) (now q) (now need) × Right (now m) (now q) (now need) (now truth) k × Equipped (now m) (now rewards) (now sums) (now scratch) × Remembers (now m) (now q) (now memo) ⌝ }
-    ensures { λ r. ⌜ (getD (now (need .entry)) k 0 ≡ 1 → depth (formula (now (q .entry)) (k / 32)) ≡ 0 → r ≡ value-of (model-of (now (m .entry))) (formula (now (q .entry)) (k / 32)) (k % 32) []) × Remembers (now (m .entry)) (now (q .entry)) (now (memo .exit)) ⌝ }
+    requires { ⌜ Asked (now m) (now q) (now counts) (now depths) × (k < 32 * question.node-count (now q)) ⌝ }
+    requires { ⌜ Needs (now m) (now q) (now need) × Right (now m) (now q) (now need) (now truth) k × (4095 ≤ length (now scratch)) × Remembers (now m) (now q) (now memo) ⌝ }
+    ensures { λ r. ⌜ (getD (now (need .entry)) k 0 ≡ 1 → depth (formula (now (q .entry)) (k / 32)) ≡ 0 → r ≡ value-of (model-in (now (m .entry))) (formula (now (q .entry)) (k / 32)) (k % 32) []) × Remembers (now (m .entry)) (now (q .entry)) (now (memo .exit)) ⌝ }
 {
     if byte(need, k) != 1 {
         return 0;
@@ -98,11 +71,8 @@ fn truth_if(
     truth_at(
         m,
         q,
-        used,
         counts,
         depths,
-        rewards,
-        sums,
         truth,
         scratch,
         memo,
@@ -113,38 +83,22 @@ fn truth_if(
 
 // The truth of all nodes before the root, where it is needed.
 pub fn truth_table(
-    m: &[u8],
+    m: &[u16; 8704],
     q: &[u8],
-    used: &[u8; 264],
     counts: &[u64; 224],
     depths: &[u32],
-    rewards: &[i32; 1024],
-    sums: &[u16; 4096],
     need: &[u8],
     scratch: &mut [u8],
     memo: &mut [u64; 2560],
 ) -> [u8; 1280]
-    requires { ⌜ Asked (now m) (now q) (now used) (now counts) (now depths) × Needs (now m) (now q) (now need) × Equipped (now m) (now rewards) (now sums) (now scratch) × Remembers (now m) (now q) (now memo) ⌝ }
+    requires { ⌜ Asked (now m) (now q) (now counts) (now depths) × Needs (now m) (now q) (now need) × (4095 ≤ length (now scratch)) × Remembers (now m) (now q) (now memo) ⌝ }
     ensures { λ r. ⌜ Right (now (m .entry)) (now (q .entry)) (now (need .entry)) r (32 * (question.node-count (now (q .entry)) - 1)) × Remembers (now (m .entry)) (now (q .entry)) (now (memo .exit)) ⌝ }
 {
     let end = place(node_count(q) - 1, 0);
     let mut truth = [0u8; 1280];
     let mut k: usize = 0;
     while k < end {
-        let x = truth_if(
-            m,
-            q,
-            used,
-            counts,
-            depths,
-            rewards,
-            sums,
-            need,
-            &truth,
-            scratch,
-            memo,
-            k,
-        );
+        let x = truth_if(m, q, counts, depths, need, &truth, scratch, memo, k);
         truth[k] = x;
         k += 1;
     }

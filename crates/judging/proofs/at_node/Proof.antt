@@ -3,7 +3,7 @@ use native.Mathlib.Omega.{arith}
 use mathlib.Core.Path.{_≡_, sym, _∙_}
 use mathlib.Core.List.{[]}
 use Rattle.logic.specs.Formula.{sat}
-use Rattle.models.specs.Layout.{model-of}
+use Rattle.prepared.specs.promises.Rows.{model-in}
 use Rattle.questions.specs.Layout.{node-of}
 use Rattle.evaluation.specs.promises.Reached.{formula}
 use Rattle.judging.proofs.Deciding.{other-verdict}
@@ -31,7 +31,7 @@ returns c = let T = c .before .before .before in
     let P = S .pre .0 in
     let N = S .pre .1 in
     let n : (node-of (S .args .q .now) (S .args .j)) .operator ≡ 8 → ⊥ = λ o. T .before .before .before .if1 .taken (T .before .before .before .before .operator .ensures ∙ o) in
-    announces-truth (sat (model-of (S .args .m .now)) (formula (S .args .q .now) (S .args .j)) (S .args .s) []) (S .args .choices .now)
+    announces-truth (sat (model-in (S .args .m .now)) (formula (S .args .q .now) (S .args .j)) (S .args .s) []) (S .args .choices .now)
     (other-verdict (P .0 .given) (S .args .j) (S .args .s) (P .1) n) (T .truth-at .ensures .0 (N .0 .1)) (c .plain .ensures)
 
 decide-requires : tie.Need-decide-requires

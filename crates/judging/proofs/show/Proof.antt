@@ -4,7 +4,7 @@ use native.Mathlib.Omega.{arith}
 use mathlib.Core.Path.{sym, ap, subst}
 use Rattle.logic.specs.Plan.{choices}
 use Rattle.logic.specs.Limits.{plan-total}
-use Rattle.models.specs.Layout.{model-of}
+use Rattle.prepared.specs.promises.Rows.{model-in}
 use Rattle.tables.proofs.Marks.{given-readable}
 use Rattle.judging.specs.promises.Decided.{plan-at}
 use Rattle.judging.proofs.Deciding.{plan-here}
@@ -33,8 +33,8 @@ nth-requires c κs = let R = c .before .before in
       (
         N .2,
         omega (arith, plan-here (P .0 .given) (S .args .j) (N .0) (N .1) .few),
-        subst (λ (i : ℕ). plan-total (model-of (S .args .m .now)) i (S .args .s) ≤ 65536) (sym n) few,
-        subst (λ (i : ℕ). S .args .r .place < plan-total (model-of (S .args .m .now)) i (S .args .s)) (sym n) here,
+        subst (λ (i : ℕ). plan-total (model-in (S .args .m .now)) i (S .args .s) ≤ 65536) (sym n) few,
+        subst (λ (i : ℕ). S .args .r .place < plan-total (model-in (S .args .m .now)) i (S .args .s)) (sym n) here,
         N .3,
       ),
     )
@@ -65,7 +65,7 @@ returns c = let R = c .before .before .before .before .before .before in
     let e = asked-equal (S .args .q .now) (S .args .j) (R .asks-equal .ensures) (c .before .before .before .before .before .if1 .taken) in
     let n = R .before .steps .ensures in
     announces-plan (S .args .choices .now) (equal-verdict (P .0) (S .args .j) (S .args .s) (N .0) (N .1) (N .2) (P .1) e (P .2)) n
-    (ap (λ (i : ℕ). choices i (plan-at (model-of (S .args .m .now)) i (S .args .s) (S .args .r .place))) n) (c .with-plan .ensures) (c .before .before .before .nth .ensures .0)
+    (ap (λ (i : ℕ). choices i (plan-at (model-in (S .args .m .now)) i (S .args .s) (S .args .r .place))) n) (c .with-plan .ensures) (c .before .before .before .nth .ensures .0)
 
 left-requires : tie.Need-left-requires
 left-requires c κs = search needs

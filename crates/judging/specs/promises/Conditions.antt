@@ -12,7 +12,8 @@ use Rattle.logic.specs.Formula.{depth}
 use Rattle.logic.specs.promises.Total.{one-if, value-of}
 use Rattle.logic.specs.promises.Recursion.{greatest}
 use Rattle.blocks.specs.Bytes.{Bytes}
-use Rattle.models.specs.Layout.{state-count, action-count, prop-count, model-of}
+use Rattle.models.specs.Layout.{state-count, action-count, prop-count}
+use Rattle.prepared.specs.promises.Rows.{model-in}
 use Rattle.questions.specs.Layout.{node-count}
 use Rattle.questions.specs.Grounds.{read-question}
 use Rattle.evaluation.specs.promises.Reached.{formula}
@@ -34,23 +35,23 @@ pub record Stands (m q truth : Bytes) (c s : ℕ) : Type 0 where
 pub record Same (m q truth : Bytes) (c s i : ℕ) : Type 0 where
   pub stands : Stands m q truth i s
   pub looks : depth (formula q i) ≡ depth (formula q c)
-  pub values : (r : List Step) → value-of (model-of m) (formula q i) s r ≡ value-of (model-of m) (formula q c) s r
+  pub values : (r : List Step) → value-of (model-in m) (formula q i) s r ≡ value-of (model-in m) (formula q c) s r
 
 -- In every model: c is false on every path from s, or the node left is the same.
 pub record Peels (q truth : Bytes) (c s : ℕ) (r : Peeled) : Type 0 where
-  pub never : (m : Bytes) → Stands m q truth c s → r .dead ≡ true → (p : List Step) → value-of (model-of m) (formula q c) s p ≡ 0
+  pub never : (m : Bytes) → Stands m q truth c s → r .dead ≡ true → (p : List Step) → value-of (model-in m) (formula q c) s p ≡ 0
   pub left : (m : Bytes) → Stands m q truth c s → r .dead ≡ false → Same m q truth c s (r .node)
 
 -- ---- best totals
 
 -- The greatest total of condition c over as many steps as it looks ahead, or the least.
 abbrev pub best-total : (m q : Bytes) (c s : ℕ) → (least : Bool) → ℕ
-best-total m q c s least = greatest (weights (order least)) (model-of m) (depth (formula q c)) s (value-of (model-of m) (formula q c) s)
+best-total m q c s least = greatest (weights (order least)) (model-in m) (depth (formula q c)) s (value-of (model-in m) (formula q c) s)
 
 -- What a search for condition c finds.
 pub record Searched (m q : Bytes) (c s : ℕ) (least : Bool) (after : List ℕ) (r : Found) : Type 0 where
   pub value : r .value ≡ best-total m q c s least
-  pub chosen : take (r .count) after ≡ choices (depth (formula q c)) (best (model-of m) (formula q c) (depth (formula q c)) s least)
+  pub chosen : take (r .count) after ≡ choices (depth (formula q c)) (best (model-in m) (formula q c) (depth (formula q c)) s least)
 
 -- Where the best total of c in s is remembered.
 abbrev pub memo-place : (c s : ℕ) → (least : Bool) → ℕ

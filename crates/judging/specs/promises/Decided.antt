@@ -17,7 +17,8 @@ use Rattle.logic.specs.promises.Extension.{first-plan, extended}
 use Rattle.logic.specs.Verdict.{plan-goal, shown}
 use Rattle.logic.specs.Limits.{plan-total}
 use Rattle.blocks.specs.Bytes.{Bytes}
-use Rattle.models.specs.Layout.{state-count, denominator-of, model-of}
+use Rattle.models.specs.Layout.{state-count, denominator-of}
+use Rattle.prepared.specs.promises.Rows.{model-in}
 use Rattle.questions.specs.Layout.{node-count, node-of}
 use Rattle.evaluation.specs.promises.Reached.{formula}
 use Rattle.bounds.specs.promises.Bounded.{meets-at}
@@ -50,16 +51,16 @@ led-plan M φ d n s least = extended M d n s (best M φ d s least)
 
 -- A total of the condition of node j over as many steps as it looks ahead, and what it is over all steps.
 pub record Lengthened (m q : Bytes) (j : ℕ) (value r : ℕ) : Type 0 where
-  pub weighs : r ≡ model-of m .denominator ^ ((node-of q j) .n - depth (condition q j)) * value
+  pub weighs : r ≡ model-in m .denominator ^ ((node-of q j) .n - depth (condition q j)) * value
   pub small : r ≤ denominator-of m ^ (node-of q j) .n
 
 -- The search as deep as the condition looks: its total over all steps, whether that meets the bound, and the choices of the plan found.
 pub record Led (m q : Bytes) (j s : ℕ) (scratch : List ℕ) (r : Decision) : Type 0 where
-  pub weighs : r .weight ≡ led-weight (model-of m) (condition q j) (depth (condition q j)) ((node-of q j) .n) s (eqb ((node-of q j) .right) 1)
+  pub weighs : r .weight ≡ led-weight (model-in m) (condition q j) (depth (condition q j)) ((node-of q j) .n) s (eqb ((node-of q j) .right) 1)
   pub bounds : r .met ≡ meets-at m q j (r .weight)
   pub unplaced : r .place ≡ 0
   pub chosen : take (r .count) scratch
-      ≡ choices (depth (condition q j)) (best (model-of m) (condition q j) (depth (condition q j)) s (eqb ((node-of q j) .right) 1))
+      ≡ choices (depth (condition q j)) (best (model-in m) (condition q j) (depth (condition q j)) s (eqb ((node-of q j) .right) 1))
 
 -- ---- "equal"
 
@@ -75,9 +76,9 @@ pub record First (M : Model) (φ : Formula) (n s p q : ℕ) (x r : ℕ) : Type 0
 
 -- The search among all plans: the place of the first that meets the bound, or their number.
 pub record Placed (m q : Bytes) (j s : ℕ) (r : Decision) : Type 0 where
-  pub first : First (model-of m) (condition q j) ((node-of q j) .n) s (nonnegative ((node-of q j) .p)) ((node-of q j) .q) (r .weight) (r .place)
-  pub within : r .place ≤ plan-total (model-of m) ((node-of q j) .n) s
-  pub bounds : r .met ≡ ltb (r .place) (plan-total (model-of m) ((node-of q j) .n) s)
+  pub first : First (model-in m) (condition q j) ((node-of q j) .n) s (nonnegative ((node-of q j) .p)) ((node-of q j) .q) (r .weight) (r .place)
+  pub within : r .place ≤ plan-total (model-in m) ((node-of q j) .n) s
+  pub bounds : r .met ≡ ltb (r .place) (plan-total (model-in m) ((node-of q j) .n) s)
 
 -- By the node's relation.
 pub record Decided (m q : Bytes) (j s : ℕ) (scratch : List ℕ) (r : Decision) : Type 0 where

@@ -6,13 +6,13 @@ use lib.ListN.{getD}
 use Rattle.logic.specs.Formula.{depth}
 use Rattle.logic.specs.promises.Total.{value-of}
 use Rattle.blocks.specs.Bytes.{Bytes}
-use Rattle.models.specs.Layout.{model-of}
+use Rattle.prepared.specs.promises.Rows.{model-in}
 use Rattle.questions.specs.Layout.{node-of}
 use Rattle.evaluation.specs.promises.Reached.{formula, Reached}
 
 -- The table is right wherever the truth of node c in s can turn on it.
 pub record Told (m q truth : Bytes) (c s : ℕ) : Type 0 where
-  pub right : (j t : ℕ) → Reached m q c s j t → depth (formula q j) ≡ 0 → getD truth (32 * j + t) 0 ≡ value-of (model-of m) (formula q j) t []
+  pub right : (j t : ℕ) → Reached m q c s j t → depth (formula q j) ≡ 0 → getD truth (32 * j + t) 0 ≡ value-of (model-in m) (formula q j) t []
 
 -- It is right wherever the children of node j, read in s, can turn on it.
 pub record Supplied (m q truth : Bytes) (j s : ℕ) : Type 0 where
@@ -23,4 +23,4 @@ pub record Supplied (m q truth : Bytes) (j s : ℕ) : Type 0 where
 
 -- It is right at the marked places before k.
 pub record Right (m q need truth : Bytes) (k : ℕ) : Type 0 where
-  pub at : (x : ℕ) → x < k → getD need x 0 ≡ 1 → depth (formula q (x / 32)) ≡ 0 → getD truth x 0 ≡ value-of (model-of m) (formula q (x / 32)) (x % 32) []
+  pub at : (x : ℕ) → x < k → getD need x 0 ≡ 1 → depth (formula q (x / 32)) ≡ 0 → getD truth x 0 ≡ value-of (model-in m) (formula q (x / 32)) (x % 32) []

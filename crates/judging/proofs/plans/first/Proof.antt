@@ -7,7 +7,7 @@ use lib.Seq.{length-take-le}
 use borrow.Author.Tests.{not-true, not-false}
 use Rattle.logic.specs.Formula.{depth}
 use Rattle.logic.specs.Limits.{plan-total}
-use Rattle.models.specs.Layout.{model-of}
+use Rattle.prepared.specs.promises.Rows.{model-in}
 use Rattle.questions.specs.Layout.{node-of}
 use Rattle.evaluation.specs.promises.Reached.{formula}
 use Rattle.equal.proofs.Serving.{counts-right}
@@ -21,7 +21,7 @@ use Rattle.judging.proofs.plans.first.Tie as tie
 
 -- The table's number of plans is their number.
 number : (S : tie.Start) {x n : ℕ} → x ≡ getD (S .args .counts .now) (32 * n + S .args .s) 0 → n ≡ (node-of (S .args .q .now) (S .args .j)) .n
-    → x ≡ plan-total (model-of (S .args .m .now)) ((node-of (S .args .q .now) (S .args .j)) .n) (S .args .s)
+    → x ≡ plan-total (model-in (S .args .m .now)) ((node-of (S .args .q .now) (S .args .j)) .n) (S .args .s)
 number S e f = let P = S .pre .0 in
     e ∙ ap (λ (i : ℕ). getD (S .args .counts .now) (32 * i + S .args .s) 0) f
     ∙ counted-plans (P .0) (S .args .j) (S .args .s) (P .1 .node) (P .1 .is-plan) (S .pre .1) (P .1 .state)
@@ -86,7 +86,7 @@ first-equal-requires c κs = let K = c .before .before in
       (
         omega (arith, planned (A .given) P .deep),
         omega (arith, planned (A .given) P .few),
-        subst (λ (i : ℕ). plan-total (model-of (S .args .m .now)) i (S .args .s) ≤ 65536) (sym n) few,
+        subst (λ (i : ℕ). plan-total (model-in (S .args .m .now)) i (S .args .s) ≤ 65536) (sym n) few,
       ),
     )
 

@@ -8,7 +8,7 @@ use lib.ListN.{getD}
 use borrow.Author.Needs.{needs}
 use Rattle.logic.specs.Model.{prop-in}
 use Rattle.logic.specs.promises.Total.{one-if}
-use Rattle.models.specs.Layout.{model-of}
+use Rattle.prepared.specs.promises.Rows.{model-in}
 use Rattle.tables.proofs.Marks.{given-question}
 use Rattle.judging.proofs.Truths.{props-few, truth-prop, truth-not, truth-and, truth-none}
 use Rattle.judging.proofs.truth.truth_at.Statement.{statement}
@@ -76,7 +76,7 @@ bit-requires-3 c κs = search needs
 returns : tie.Need-returns
 returns c = let S = c .before .before .before .before .before .before .before .before .before .before in
     let P = S .pre .0 in (
-      (λ d. c .bit .ensures ∙ ap one-if (c .before .holds .ensures ∙ ap (prop-in (model-of (S .args .m .now)) (S .args .s)) (c .before .before .left .ensures))
+      (λ d. c .bit .ensures ∙ ap one-if (c .before .holds .ensures ∙ ap (prop-in (model-in (S .args .m .now)) (S .args .s)) (c .before .before .left .ensures))
           ∙ truth-prop (P .0 .given) (S .args .j) (S .args .s) (P .1) (sym (c .before .before .before .before .operator .ensures) ∙ c .before .before .before .match .keys1)),
       S .pre .1 .2,
     )
