@@ -1,31 +1,23 @@
 -- What the code counts. What is left of a choice's outcomes multiplies to what is left of its ways, so that each division is exact and each count of
--- the table is below its cap; what is left of the actions holds the rest of the place.
+-- the table is below its cap; what is left of the choices holds the rest of the place.
 use Prim.Native.Nat.{ℕ, zero, suc, _+_, _*_, _-_, _≤_, _<_}
 use native.Mathlib.Omega.{arith}
 use native.Mathlib.Numerals.{add-one}
-use native.Mathlib.Nat.{not-suc-le-zero, one-mul, mul-one, mul-assoc, mul-comm, mul-pos, le-mul-of-pos-right, min-eq-right}
-use mathlib.Core.Path.{_≡_, refl, sym, ap, ap₂, subst, _∙_}
-use mathlib.Core.Bool.{Bool, true, false, cond}
+use native.Mathlib.Nat.{not-suc-le-zero, mul-one, mul-assoc, mul-comm, mul-pos, le-mul-of-pos-right, min-eq-right}
+use mathlib.Core.Path.{_≡_, refl, sym, ap, subst, _∙_}
+use mathlib.Core.Bool.{true, cond}
 use mathlib.Core.List.{List, [], _∷_, map, List·Memᴰ, List·Memᴰ·head, List·Memᴰ·tail}
-use lib.Dec.{ltb}
 use lib.ListN.{getD}
 use borrow.Author.Tests.{lt-ltb, le-ltb}
-use Rattle.logic.specs.Lists.{keep, count-from, tabulate}
-use Rattle.logic.specs.promises.Refusal.{refusal}
+use Rattle.logic.specs.Lists.{count-from, tabulate}
 use Rattle.logic.specs.Model.{Step, enabled, outcomes}
 use Rattle.logic.specs.Quantity.{naturals, sum}
 use Rattle.logic.specs.Limits.{multiply, plan-total}
-use Rattle.logic.proofs.Tests.{in-keep, counted-in}
-use Rattle.blocks.specs.Bytes.{Bytes}
-use Rattle.models.specs.Layout.{state-count, outcome-of, entries, model-of}
-use Rattle.models.specs.Grounds.{read-model}
-use Rattle.models.specs.promises.Readable.{Readable}
-use Rattle.models.proofs.Passed.{passed-all}
-use Rattle.models.proofs.Held.{states-held, accepted}
-use Rattle.models.proofs.Readable.{readable}
-use Rattle.models.proofs.Rows.{outcomes-are, enabled-are}
+use Rattle.models.specs.Layout.{state-count}
+use Rattle.prepared.specs.promises.Rows.{choices-in, choice-in, outcomes-in, step-in, model-in, Prepared}
+use Rattle.prepared.proofs.Laws.{states-are, some-choice, choice-enabled}
+use Rattle.prepared.proofs.Ranges.{outcome-inside}
 use Rattle.limits.specs.promises.Totals.{Totals, total, limit}
-use Rattle.limits.proofs.Laws.{outcome-inside}
 use Rattle.ranking.specs.promises.Places.{block-of, below, ways, Found}
 use Rattle.ranking.proofs.Places.{positive}
 
@@ -48,119 +40,111 @@ unfolding sum
 member-most f (List·Memᴰ·head {x} {xs} e) = rw e (omega arith)
 member-most f (List·Memᴰ·tail {x} {xs} i) = omega (arith, member-most f i)
 
--- ---- an accepted model has plans
+-- ---- a prepared model has plans
 
-module _ (b : Bytes) (e : refusal (read-model b) ≡ 0) where
-  ways-some : (n : ℕ) → ((t : ℕ) → t < state-count b → 0 < plan-total (model-of b) n t) → (s a : ℕ) → 0 < ways (model-of b) n s a
-  ways-some n h s a = multiply-some (below (model-of b) n) (outcomes (model-of b) s a) (λ o i. h (o .target) (outcome-inside b (readable b e) s a o i))
+module _ {m : List ℕ} (w : Prepared m) where
+  ways-some : (n : ℕ) → ((t : ℕ) → t < state-count m → 0 < plan-total (model-in m) n t)
+      → (s : ℕ) → s < state-count m → (i : ℕ) → i < choices-in m s → 0 < ways (model-in m) n s (choice-in m s i)
+  ways-some n f s h i g =
+      multiply-some (below (model-in m) n) (outcomes (model-in m) s (choice-in m s i))
+      (λ o j. f (o .target) (outcome-inside w s h (choice-in m s i) (choice-enabled w s h i g) o j))
 
-  plan-some : (n s : ℕ) → s < state-count b → 0 < plan-total (model-of b) n s
-  unfolding plan-total sum
+  -- Below a choice there are at most as many ways as plans from the state.
+  pub ways-most : (n s : ℕ) → s < state-count m → (i : ℕ) → i < choices-in m s → ways (model-in m) n s (choice-in m s i) ≤ plan-total (model-in m) (n + 1) s
+  unfolding plan-total
+  ways-most n s h i g = rw (add-one n) (member-most (ways (model-in m) n s) (choice-enabled w s h i g))
+
+  plan-some : (n s : ℕ) → s < state-count m → 0 < plan-total (model-in m) n s
+  unfolding plan-total
   plan-some zero s h = omega arith
   plan-some (suc n) s h =
-      let w = accepted b (passed-all b e) .some-choice s (rw (states-held b) h) in
-      rw (w .2) (omega (arith, ways-some n (plan-some n) s (w .0)))
+      let g = some-choice w s h in
+      omega (arith, ways-some n (plan-some n) s h 0 g, member-most (ways (model-in m) n s) (choice-enabled w s h 0 g))
 
-  some-ways : (n s a : ℕ) → 0 < ways (model-of b) n s a
-  some-ways n s a = ways-some n (plan-some n) s a
+-- ---- what is left of a row
 
-  -- Below an enabled action there are at most as many ways as plans from the state.
-  pub ways-most : (n s a : ℕ) → s < state-count b → a < 8 → 0 < entries b s a → ways (model-of b) n s a ≤ plan-total (model-of b) (n + 1) s
-  unfolding plan-total
-  ways-most n s a h g l =
-      rw (add-one n)
-      (member-most (ways (model-of b) n s)
-      (subst (λ l. List·Memᴰ a l) (sym (enabled-are b (readable b e) s h))
-      (in-keep (λ a. ltb 0 (entries b s a)) (counted-in 0 8 {i = a} (omega arith) (omega arith)) (lt-ltb 0 (entries b s a) l))))
+-- The entries from j on, of c entries that g gives.
+module _ {A : Type 0} (g : ℕ → A) (c : ℕ) where
+  abbrev pub left : ℕ → List A
+  left j = map g (count-from j (c - j))
 
--- ---- the outcomes from j on
-
-module _ (b : Bytes) (s a : ℕ) where
-  abbrev pub left : ℕ → List Step
-  left j = map (outcome-of b s a) (count-from j (entries b s a - j))
-
-  pub left-all : left 0 ≡ outcomes (model-of b) s a
+  pub left-all : left 0 ≡ tabulate c g
   unfolding tabulate
-  left-all =
-      let e : entries b s a - 0 ≡ entries b s a = omega arith in
-      ap (λ k. map (outcome-of b s a) (count-from 0 k)) e ∙ sym (outcomes-are b s a)
+  left-all = let e : c - 0 ≡ c = omega arith in ap (λ k. map g (count-from 0 k)) e
 
-  pub left-step : (j : ℕ) → j < entries b s a → left j ≡ outcome-of b s a j ∷ left (j + 1)
+  pub left-step : (j : ℕ) → j < c → left j ≡ g j ∷ left (j + 1)
   unfolding count-from
-  left-step j h =
-      let e : entries b s a - j ≡ suc (entries b s a - suc j) = omega arith in
-      ap (λ k. map (outcome-of b s a) (count-from j k)) e ∙ ap (λ k. outcome-of b s a j ∷ left k) (sym (add-one j))
+  left-step j h = let e : c - j ≡ suc (c - suc j) = omega arith in ap (λ k. map g (count-from j k)) e ∙ ap (λ k. g j ∷ left k) (sym (add-one j))
 
-  pub left-end : (j : ℕ) → j ≡ entries b s a → left j ≡ []
+  pub left-end : (j : ℕ) → j ≡ c → left j ≡ []
   unfolding count-from
-  left-end j h = let e : entries b s a - j ≡ 0 = omega arith in ap (λ k. map (outcome-of b s a) (count-from j k)) e
+  left-end j h = let e : c - j ≡ 0 = omega arith in ap (λ k. map g (count-from j k)) e
 
-  -- The ways below the outcomes from j on.
-  abbrev pub ways-left : (n j : ℕ) → ℕ
-  ways-left n j = multiply (below (model-of b) n) (left j)
+-- The outcomes of choice i from j on, and the ways below them.
+abbrev pub later : List ℕ → (s i j : ℕ) → List Step
+later m s i j = left (step-in m s i) (outcomes-in m s i) j
 
-  pub ways-all : (n : ℕ) → ways-left n 0 ≡ ways (model-of b) n s a
-  ways-all n = ap (multiply (below (model-of b) n)) left-all
-
-  ways-end : (n j : ℕ) → j ≡ entries b s a → ways-left n j ≡ 1
-  unfolding multiply
-  ways-end n j h = ap (multiply (below (model-of b) n)) (left-end j h)
+abbrev pub ways-left : List ℕ → (s i n j : ℕ) → ℕ
+ways-left m s i n j = multiply (below (model-in m) n) (later m s i j)
 
 -- Outcome j leads to t: its count splits off from what is left of the ways, and is the table's.
-pub record Turn (b : Bytes) (counts : List ℕ) (n s a j t : ℕ) : Type 0 where
-  pub target : t ≡ (outcome-of b s a j) .target
-  pub state : t < state-count b
-  pub split : ways-left b s a n j ≡ plan-total (model-of b) n t * ways-left b s a n (j + 1)
-  pub some : 0 < plan-total (model-of b) n t
-  pub few : plan-total (model-of b) n t ≤ 65536
-  pub later : 0 < ways-left b s a n (j + 1)
-  pub counted : getD counts (32 * n + t) 0 ≡ plan-total (model-of b) n t
+pub record Turn (m counts : List ℕ) (n s i j t : ℕ) : Type 0 where
+  pub target : t ≡ (step-in m s i j) .target
+  pub state : t < state-count m
+  pub split : ways-left m s i n j ≡ plan-total (model-in m) n t * ways-left m s i n (j + 1)
+  pub some : 0 < plan-total (model-in m) n t
+  pub few : plan-total (model-in m) n t ≤ 65536
+  pub later : 0 < ways-left m s i n (j + 1)
+  pub counted : getD counts (32 * n + t) 0 ≡ plan-total (model-in m) n t
 
-module _ (b : Bytes) (e : refusal (read-model b) ≡ 0) {counts : List ℕ} (totals : Totals true (model-of b) counts) (n s a : ℕ) (h : n ≤ 6) where
-  exact : (t : ℕ) → t < state-count b → plan-total (model-of b) n t ≤ 65536 → getD counts (32 * n + t) 0 ≡ plan-total (model-of b) n t
-  unfolding total limit
-  exact t k l = totals .at n t h (rw (states-held b) k) ∙ min-eq-right (omega arith)
+module _ {m : List ℕ} (w : Prepared m) (s : ℕ) (h : s < state-count m) (i : ℕ) (g : i < choices-in m s) where
+  pub outcomes-left : later m s i 0 ≡ outcomes (model-in m) s (choice-in m s i)
+  outcomes-left = left-all (step-in m s i) (outcomes-in m s i) ∙ sym (w .rows s i h g)
 
-  pub turn : (j t : ℕ) → t ≡ (outcome-of b s a j) .target → j < entries b s a → 0 < ways-left b s a n j → ways-left b s a n j ≤ 65536
-      → Turn b counts n s a j t
-  unfolding multiply
-  turn j t g l some few =
-      let k : t < state-count b = rw g (readable b e .inside s a l) in
-      let split : ways-left b s a n j ≡ plan-total (model-of b) n t * ways-left b s a n (j + 1) =
-      ap (multiply (below (model-of b) n)) (left-step b s a j l) ∙ ap (λ t. plan-total (model-of b) n t * ways-left b s a n (j + 1)) (sym g) in
-      let w = factors (plan-total (model-of b) n t) (ways-left b s a n (j + 1)) (sym split) some in
-      let m : plan-total (model-of b) n t ≤ 65536 = omega (arith, w .2) in
-      record { target = g; state = k; split = split; some = w .0; few = m; later = w .1; counted = exact t k m }
+  pub ways-all : (n : ℕ) → ways-left m s i n 0 ≡ ways (model-in m) n s (choice-in m s i)
+  ways-all n = ap (multiply (below (model-in m) n)) outcomes-left
 
--- ---- the loop that counts the ways
+  module _ {counts : List ℕ} (totals : Totals true (model-in m) counts) (n : ℕ) (k : n ≤ 6) where
+    exact : (t : ℕ) → t < state-count m → plan-total (model-in m) n t ≤ 65536 → getD counts (32 * n + t) 0 ≡ plan-total (model-in m) n t
+    unfolding total limit
+    exact t l f = totals .at n t k (rw (states-are m) l) ∙ min-eq-right (omega arith)
 
-module _ (b : Bytes) (s a n : ℕ) where
-  pub count-start : 1 * ways-left b s a n 0 ≡ ways (model-of b) n s a
-  count-start = one-mul (ways-left b s a n 0) ∙ ways-all b s a n
+    pub turn : {j t : ℕ} → t ≡ (step-in m s i j) .target → j < outcomes-in m s i → 0 < ways-left m s i n j → ways-left m s i n j ≤ 65536 → Turn m counts n s i j t
+    unfolding multiply
+    turn {j} {t} e l some few =
+        let state : t < state-count m = rw e (w .inside s i j h (g, l)) in
+        let split : ways-left m s i n j ≡ plan-total (model-in m) n t * ways-left m s i n (j + 1) =
+        ap (multiply (below (model-in m) n)) (left-step (step-in m s i) (outcomes-in m s i) j l) ∙ ap (λ t. plan-total (model-in m) n t * ways-left m s i n (j + 1)) (sym e) in
+        let f = factors (plan-total (model-in m) n t) (ways-left m s i n (j + 1)) (sym split) some in
+        let most : plan-total (model-in m) n t ≤ 65536 = omega (arith, f .2) in
+        record { target = e; state = state; split = split; some = f .0; few = most; later = f .1; counted = exact t state most }
 
-  pub count-turn : {counts : List ℕ} {j t : ℕ} (size : ℕ) → Turn b counts n s a j t → size * ways-left b s a n j ≡ ways (model-of b) n s a
-      → (size * getD counts (32 * n + t) 0) * ways-left b s a n (j + 1) ≡ ways (model-of b) n s a
+    -- ---- the loop that counts the ways
+
+    -- Every factor of the ways is in range, so that the count of outcome j is the table's.
+    pub count-here : {j t size : ℕ} → plan-total (model-in m) (n + 1) s ≤ 65536 → size * ways-left m s i n j ≡ ways (model-in m) n s (choice-in m s i)
+        → t ≡ (step-in m s i j) .target → j < outcomes-in m s i → (size ≤ 65536) × Turn m counts n s i j t
+    count-here {j} {t} {size} f p e l =
+        let x = factors size (ways-left m s i n j) p (ways-some w n (plan-some w n) s h i g) in
+        let most = ways-most w n s h i g in
+        (omega (arith, x .2, most), turn e l (x .1) (omega (arith, x .3, most)))
+
+module _ (m : List ℕ) (s i n : ℕ) {x : ℕ} where
+  pub count-turn : {counts : List ℕ} {j t : ℕ} (size : ℕ) → Turn m counts n s i j t → size * ways-left m s i n j ≡ x
+      → (size * getD counts (32 * n + t) 0) * ways-left m s i n (j + 1) ≡ x
   count-turn {j = j} {t} size u h =
-      let z : ℕ = ways-left b s a n (j + 1) in
+      let z : ℕ = ways-left m s i n (j + 1) in
       ap (λ v. (size * v) * z) (u .counted)
-      ∙ mul-assoc size (plan-total (model-of b) n t) z
+      ∙ mul-assoc size (plan-total (model-in m) n t) z
       ∙ ap (λ v. size * v) (sym (u .split))
       ∙ h
 
-  pub count-end : (j size : ℕ) → j ≡ entries b s a → size * ways-left b s a n j ≡ ways (model-of b) n s a → size ≡ ways (model-of b) n s a
-  count-end j size h e = sym (mul-one size) ∙ ap (λ v. size * v) (sym (ways-end b s a n j h)) ∙ e
+  pub count-end : (j size : ℕ) → j ≡ outcomes-in m s i → size * ways-left m s i n j ≡ x → size ≡ x
+  unfolding multiply
+  count-end j size h e =
+      sym (mul-one size) ∙ ap (λ l. size * multiply (below (model-in m) n) l) (sym (left-end (step-in m s i) (outcomes-in m s i) j h)) ∙ e
 
--- Every factor of the ways is in range, so that the count of outcome j is the table's.
-module _ (b : Bytes) (e : refusal (read-model b) ≡ 0) {counts : List ℕ} (totals : Totals true (model-of b) counts) (n s a : ℕ) (h : n ≤ 6) where
-  pub count-here : {j t size : ℕ} → s < state-count b → a < 8 → plan-total (model-of b) (n + 1) s ≤ 65536
-      → size * ways-left b s a n j ≡ ways (model-of b) n s a → t ≡ (outcome-of b s a j) .target → j < entries b s a
-      → (size ≤ 65536) × Turn b counts n s a j t
-  count-here {j} {t} {size} k g f p u l =
-      let w = factors size (ways-left b s a n j) p (some-ways b e n s a) in
-      let most = ways-most b e n s a k g (omega arith) in
-      (omega (arith, w .2, most), turn b e totals n s a h j t u l (w .1) (omega (arith, w .3, most)))
-
--- ---- the loop over the actions
+-- ---- the loop over the choices
 
 module _ (size : ℕ → ℕ) (a k : ℕ) (l : List ℕ) where
   block-first : k < size a → block-of size (a ∷ l) k ≡ (a, k)
@@ -171,72 +155,51 @@ module _ (size : ℕ → ℕ) (a k : ℕ) (l : List ℕ) where
   unfolding block-of
   block-next h = ap (λ t. cond t (a, k) (block-of size l (k - size a))) (le-ltb k (size a) h)
 
-module _ (b : Bytes) (n s : ℕ) where
-  -- The enabled actions from a on, and the sizes of their blocks.
+module _ (m : List ℕ) (n s : ℕ) where
+  -- The choices from a on, and the sizes of their blocks.
   abbrev from : ℕ → List ℕ
-  from a = keep (λ a. ltb 0 (entries b s a)) (count-from a (8 - a))
+  from a = left (choice-in m s) (choices-in m s) a
 
   abbrev sizes : ℕ → ℕ
-  sizes a = ways (model-of b) n s a
+  sizes a = ways (model-in m) n s a
 
-  from-step : (a : ℕ) (t : Bool) → a < 8 → ltb 0 (entries b s a) ≡ t → from a ≡ cond t (a ∷ from (a + 1)) (from (a + 1))
-  unfolding keep count-from
-  from-step a t h q =
-      let e : 8 - a ≡ suc (8 - suc a) = omega arith in
-      ap (λ i. keep (λ a. ltb 0 (entries b s a)) (count-from a i)) e
-      ∙ ap₂ (λ i t. cond t (a ∷ from i) (from i)) (sym (add-one a)) q
-
-  -- Place i is the place `rest` in the blocks of the actions from a on.
+  -- Place i is the place `rest` in the blocks of the choices from a on.
   pub record Rest (i a rest : ℕ) : Type 0 where
-    pub block : block-of sizes (from a) rest ≡ block-of sizes (enabled (model-of b) s) i
+    pub block : block-of sizes (from a) rest ≡ block-of sizes (enabled (model-in m) s) i
     pub inside : rest < sum naturals sizes (from a)
 
-  pub rest-start : Readable b → s < state-count b → (i : ℕ) → i < plan-total (model-of b) (n + 1) s → Rest i 0 i
+  pub rest-start : Prepared m → s < state-count m → (i : ℕ) → i < plan-total (model-in m) (n + 1) s → Rest i 0 i
   unfolding plan-total
-  rest-start r k i h =
-      let e = enabled-are b r s k in
+  rest-start w k i h =
+      let e : enabled (model-in m) s ≡ from 0 = w .choices s k ∙ sym (left-all (choice-in m s) (choices-in m s)) in
       record { block = ap (λ l. block-of sizes l i) (sym e); inside = subst (λ l. i < sum naturals sizes l) e (rw (add-one n) at h) }
 
-  module _ {i a rest v : ℕ} (here : Rest i a rest) (l : a < 8) (e : v ≡ cond (ltb 0 (entries b s a)) (sizes a) 0) where
-    pub rest-found : rest < v → v ≤ 65536 → Found (model-of b) n s i a v rest
-    rest-found h f = go (ltb 0 (entries b s a)) refl
-      where
-        go : (t : Bool) → ltb 0 (entries b s a) ≡ t → Found (model-of b) n s i a v rest
-        go true q =
-            let w : v ≡ sizes a = e ∙ ap (λ t. cond t (sizes a) 0) q in
-            record {
-              block = sym (block-first sizes a rest (from (a + 1)) (omega arith))
-                  ∙ ap (λ l. block-of sizes l rest) (sym (from-step a true l q))
-                  ∙ here .block;
-              sized = w;
-              inside = h;
-              few = f;
-              action = l;
-            }
-        go false q = absurd (let z : v ≡ 0 = e ∙ ap (λ t. cond t (sizes a) 0) q in omega arith)
+  module _ {i a rest v : ℕ} (here : Rest i a rest) (l : a < choices-in m s) (e : v ≡ sizes (choice-in m s a)) where
+    step : from a ≡ choice-in m s a ∷ from (a + 1)
+    step = left-step (choice-in m s) (choices-in m s) a l
+
+    pub rest-found : rest < v → v ≤ 65536 → Found (model-in m) n s i (choice-in m s a) v rest
+    rest-found h f =
+        record {
+          block = sym (block-first sizes (choice-in m s a) rest (from (a + 1)) (omega arith)) ∙ ap (λ l. block-of sizes l rest) (sym step) ∙ here .block;
+          sized = e;
+          inside = h;
+          few = f;
+        }
 
     pub rest-passed : v ≤ rest → Rest i (a + 1) (rest - v)
     unfolding sum
-    rest-passed h = go (ltb 0 (entries b s a)) refl
-      where
-        go : (t : Bool) → ltb 0 (entries b s a) ≡ t → Rest i (a + 1) (rest - v)
-        go true q =
-            let w : v ≡ sizes a = e ∙ ap (λ t. cond t (sizes a) 0) q in
-            let f : from a ≡ a ∷ from (a + 1) = from-step a true l q in
-            let g : rest < sizes a + sum naturals sizes (from (a + 1)) = subst (λ l. rest < sum naturals sizes l) f (here .inside) in
-            record {
-              block = ap (λ v. block-of sizes (from (a + 1)) (rest - v)) w
-                  ∙ sym (block-next sizes a rest (from (a + 1)) (omega arith))
-                  ∙ ap (λ l. block-of sizes l rest) (sym f)
-                  ∙ here .block;
-              inside = omega arith;
-            }
-        go false q =
-            let z : rest - v ≡ rest = omega (arith, e ∙ ap (λ t. cond t (sizes a) 0) q) in
-            let f : from a ≡ from (a + 1) = from-step a false l q in
-            subst (λ x. Rest i (a + 1) x) (sym z)
-            (record { block = ap (λ l. block-of sizes l rest) (sym f) ∙ here .block; inside = subst (λ l. rest < sum naturals sizes l) f (here .inside) })
+    rest-passed h =
+        let g : rest < sizes (choice-in m s a) + sum naturals sizes (from (a + 1)) = subst (λ l. rest < sum naturals sizes l) step (here .inside) in
+        record {
+          block = ap (λ v. block-of sizes (from (a + 1)) (rest - v)) e
+              ∙ sym (block-next sizes (choice-in m s a) rest (from (a + 1)) (omega arith))
+              ∙ ap (λ l. block-of sizes l rest) (sym step)
+              ∙ here .block;
+          inside = omega arith;
+        }
 
-  pub rest-none : {i a rest : ℕ} → Rest i a rest → a ≡ 8 → ⊥
-  unfolding keep count-from sum
-  rest-none {rest = rest} here e = not-suc-le-zero (subst (λ a. rest < sum naturals sizes (from a)) e (here .inside))
+  pub rest-none : {i a rest : ℕ} → Rest i a rest → a ≡ choices-in m s → ⊥
+  unfolding sum
+  rest-none {a = a} {rest} here e =
+      not-suc-le-zero (subst (λ l. rest < sum naturals sizes l) (left-end (choice-in m s) (choices-in m s) a e) (here .inside))

@@ -8,23 +8,19 @@ use mathlib.Core.Path.{_≡_, refl, sym, ap, ap₂, subst, _∙_}
 use mathlib.Core.Bool.{true}
 use mathlib.Core.List.{List, [], _∷_, _++_, flatMap}
 use lib.ListN.{length, getD, set, length-append}
-use Rattle.logic.specs.promises.Refusal.{refusal}
 use Rattle.logic.specs.Model.{Model, Step, outcomes}
 use Rattle.logic.specs.Plan.{choices}
 use Rattle.logic.specs.Limits.{plan-total}
 use Rattle.logic.specs.promises.Extension.{first-plan}
-use Rattle.blocks.specs.Bytes.{Bytes}
 use Rattle.blocks.specs.Splice.{splice}
 use Rattle.blocks.proofs.Splice.{splice-none, splice-one, splice-behind}
-use Rattle.models.specs.Layout.{outcome-of, entries, model-of}
-use Rattle.models.specs.Grounds.{read-model}
-use Rattle.models.specs.promises.Readable.{Readable}
-use Rattle.models.proofs.Rows.{entries-few}
+use Rattle.models.specs.Layout.{state-count}
+use Rattle.prepared.specs.promises.Rows.{choices-in, outcomes-in, step-in, model-in, Prepared}
 use Rattle.limits.specs.promises.Totals.{Totals}
 use Rattle.extension.specs.promises.Choices.{room}
-use Rattle.ranking.specs.promises.Places.{listed, parts-at, below, ways, plan-at, Found, Wrote}
+use Rattle.ranking.specs.promises.Places.{listed, parts-at, below, plan-at, Found, Wrote}
 use Rattle.ranking.proofs.Places.{plan-at-is}
-use Rattle.ranking.proofs.Laws.{factors, left, left-all, left-step, left-end, ways-left, ways-all, Turn, turn}
+use Rattle.ranking.proofs.Laws.{factors, left-step, left-end, later, ways-left, Turn, turn}
 
 -- ---- a choice
 
@@ -51,25 +47,26 @@ module _ (m : Model) where
         size = omega (arith, w .size);
       })
 
-  -- A choice, and what stands below its outcomes.
-  pub from-choice : {n s i a size place at next : ℕ} {old new : List ℕ} → (n ≡ 0 → ⊥) → Found m (n - 1) s i a size place → at < length old
-      → Wrote (chosen (n - 1) (outcomes m s a) place) (4 * room (n - 1)) (set old at a) new (at + 1) next
-      → Wrote (choices n (plan-at m n s i)) (room n) old new at next
-  from-choice {n} {s} {i} {a} {size} {place} {at} {next} {old} {new} z f h w =
-      let e : suc (n - 1) ≡ n = omega arith in
-      subst (λ n. Wrote (choices n (plan-at m n s i)) (room n) old new at next) e (choice-wrote (n - 1) s i a size place at next old new f h w)
+  -- A choice v, and what stands below its outcomes l.
+  pub from-choice : {n s i a v size place at next : ℕ} {old new : List ℕ} {l : List Step} → (n ≡ 0 → ⊥) → Found m (n - 1) s i a size place → v ≡ a → l ≡ outcomes m s a
+      → at < length old → Wrote (chosen (n - 1) l place) (4 * room (n - 1)) (set old at v) new (at + 1) next → Wrote (choices n (plan-at m n s i)) (room n) old new at next
+  from-choice {n} {s} {i} {a} {v} {size} {place} {at} {next} {old} {new} z f e o h w =
+      let k : suc (n - 1) ≡ n = omega arith in
+      subst (λ n. Wrote (choices n (plan-at m n s i)) (room n) old new at next) k
+      (choice-wrote (n - 1) s i a size place at next old new f h
+      (subst (λ y. Wrote (chosen (n - 1) (outcomes m s a) place) (4 * room (n - 1)) (set old at y) new (at + 1) next) e
+      (subst (λ y. Wrote (chosen (n - 1) y place) (4 * room (n - 1)) (set old at v) new (at + 1) next) o w)))
 
 -- ---- the loop over the outcomes
 
-module _ (b : Bytes) (n s a place : ℕ) (old : List ℕ) (at : ℕ) where
+module _ (m : List ℕ) (n s i place : ℕ) (old : List ℕ) (at : ℕ) where
   -- What is to be written below the outcomes from j on, at what is left of the place.
   abbrev to-write : ℕ → ℕ → List ℕ
-  to-write j rest = chosen (model-of b) n (left b s a j) rest
+  to-write j rest = chosen (model-in m) n (later m s i j) rest
 
   -- Outcomes before j are done: with what is still to be written, the buffer is as it is to be.
-  pub record Underway (count j size rest : ℕ) (new : List ℕ) (next : ℕ) : Type 0 where
-    pub entered : count ≡ entries b s a
-    pub sized : size ≡ ways-left b s a n j
+  pub record Underway (j size rest : ℕ) (new : List ℕ) (next : ℕ) : Type 0 where
+    pub sized : size ≡ ways-left m s i n j
     pub inside : rest < size
     pub few : size ≤ 65536
     pub write : splice new next (to-write j rest) ≡ splice old at (to-write 0 place)
@@ -77,71 +74,57 @@ module _ (b : Bytes) (n s a place : ℕ) (old : List ℕ) (at : ℕ) where
     pub near : next ≤ at + j * room n
     pub kept : length new ≡ length old
 
-  pub below-start : (count size : ℕ) → count ≡ entries b s a → size ≡ ways (model-of b) n s a → place < size → size ≤ 65536
-      → Underway count 0 size place old at
-  below-start count size c e h f =
-      record {
-        entered = c;
-        sized = e ∙ sym (ways-all b s a n);
-        inside = h;
-        few = f;
-        write = refl;
-        to = refl;
-        near = omega arith;
-        kept = refl;
-      }
+  pub below-start : (size : ℕ) → size ≡ ways-left m s i n 0 → place < size → size ≤ 65536 → Underway 0 size place old at
+  below-start size e h f = record { sized = e; inside = h; few = f; write = refl; to = refl; near = omega arith; kept = refl }
 
-  pub below-end : {count j size rest next : ℕ} {new : List ℕ} → Readable b → j ≡ count → Underway count j size rest new next
-      → Wrote (chosen (model-of b) n (outcomes (model-of b) s a) place) (4 * room n) old new at next
+  pub below-end : {j size rest next : ℕ} {new : List ℕ} → outcomes-in m s i ≤ 4 → j ≡ outcomes-in m s i → Underway j size rest new next
+      → Wrote (to-write 0 place) (4 * room n) old new at next
   unfolding flatMap parts-at
-  below-end {count} {j} {size} {rest} {next} {new} r e here =
-      let none : to-write j rest ≡ [] = ap (λ l. chosen (model-of b) n l rest) (left-end b s a j (e ∙ here .entered)) in
-      let most : j * room n ≤ 4 * room n = mul-le-mul-right (room n) (omega (arith, here .entered, entries-few b r s a)) in
-      subst (λ l. Wrote (chosen (model-of b) n l place) (4 * room n) old new at next) (left-all b s a)
-      (record {
+  below-end {j} {size} {rest} {next} {new} f e here =
+      let none : to-write j rest ≡ [] = ap (λ l. chosen (model-in m) n l rest) (left-end (step-in m s i) (outcomes-in m s i) j e) in
+      let most : j * room n ≤ 4 * room n = mul-le-mul-right (room n) (omega arith) in
+      record {
         wrote = sym (splice-none new next) ∙ ap (splice new next) (sym none) ∙ here .write;
         to = omega (arith, here .to, ap length none);
         size = omega (arith, here .to, ap length none, here .near, most);
-      })
+      }
 
 -- A turn of the loop, for an outcome that leads to t.
-module _ {b : Bytes} {n s a place : ℕ} {old : List ℕ} {at count j size rest next : ℕ} {new : List ℕ}
-    (here : Underway b n s a place old at count j size rest new next) (l : j < count) where
-  pub below-turn : refusal (read-model b) ≡ 0 → {counts : List ℕ} → Totals true (model-of b) counts → n ≤ 6
-      → {t : ℕ} → t ≡ (outcome-of b s a j) .target → Turn b counts n s a j t
-  below-turn e totals h {t} g =
-      turn b e totals n s a h j t g (omega (arith, here .entered)) (omega (arith, here .sized, here .inside)) (omega (arith, here .sized, here .few))
+module _ {m : List ℕ} {n s i place : ℕ} {old : List ℕ} {at j size rest next : ℕ} {new : List ℕ}
+    (here : Underway m n s i place old at j size rest new next) (l : j < outcomes-in m s i) where
+  pub below-turn : {counts : List ℕ} → Prepared m × Totals true (model-in m) counts → s < state-count m → i < choices-in m s → n ≤ 6
+      → {t : ℕ} → t ≡ (step-in m s i j) .target → Turn m counts n s i j t
+  below-turn p h g k e = turn (p .0) s h i g (p .1) n k e l (omega (arith, here .sized, here .inside)) (omega (arith, here .sized, here .few))
 
-  pub fits : Readable b → at + 4 * room n ≤ length old → next + room n ≤ length new
-  fits r h =
-      let most : suc j * room n ≤ 4 * room n = mul-le-mul-right (room n) (omega (arith, here .entered, entries-few b r s a)) in
+  pub fits : outcomes-in m s i ≤ 4 → at + 4 * room n ≤ length old → next + room n ≤ length new
+  fits f h =
+      let most : suc j * room n ≤ 4 * room n = mul-le-mul-right (room n) (omega arith) in
       omega (arith, here .near, here .kept, suc-mul j (room n), most)
 
-  module _ {counts : List ℕ} {t : ℕ} (u : Turn b counts n s a j t) where
+  module _ {counts : List ℕ} {t : ℕ} (u : Turn m counts n s i j t) where
     -- The division is exact, and both parts of the place are in range.
-    pub divides : {y : ℕ} → y ≡ getD counts (32 * n + t) 0 → size / y ≡ ways-left b s a n (j + 1)
-    divides e = ap₂ (λ x y. x / y) (here .sized ∙ u .split) (e ∙ u .counted) ∙ mul-div-right (ways-left b s a n (j + 1)) (u .some)
+    pub divides : {y : ℕ} → y ≡ getD counts (32 * n + t) 0 → size / y ≡ ways-left m s i n (j + 1)
+    divides e = ap₂ (λ x y. x / y) (here .sized ∙ u .split) (e ∙ u .counted) ∙ mul-div-right (ways-left m s i n (j + 1)) (u .some)
 
-    module _ {v : ℕ} (e : v ≡ ways-left b s a n (j + 1)) where
-      pub quotient : rest / v < plan-total (model-of b) n t
+    module _ {v : ℕ} (e : v ≡ ways-left m s i n (j + 1)) where
+      pub quotient : rest / v < plan-total (model-in m) n t
       quotient = rw e (div-lt-iff-lt-mul (u .later) .1 (rw (here .sized ∙ u .split) at (here .inside)))
 
-      write-step : to-write b n s a place old at j rest
-          ≡ choices n (plan-at (model-of b) n t (rest / v)) ++ to-write b n s a place old at (j + 1) (rest % v)
+      write-step : to-write m n s i place old at j rest
+          ≡ choices n (plan-at (model-in m) n t (rest / v)) ++ to-write m n s i place old at (j + 1) (rest % v)
       unfolding flatMap parts-at
       write-step =
-          ap (λ l. chosen (model-of b) n l rest) (left-step b s a j (rw (here .entered) at l))
-          ∙ ap₂ (λ t v. choices n (plan-at (model-of b) n t (rest / v)) ++ to-write b n s a place old at (j + 1) (rest % v)) (sym (u .target)) (sym e)
+          ap (λ l. chosen (model-in m) n l rest) (left-step (step-in m s i) (outcomes-in m s i) j l)
+          ∙ ap₂ (λ t v. choices n (plan-at (model-in m) n t (rest / v)) ++ to-write m n s i place old at (j + 1) (rest % v)) (sym (u .target)) (sym e)
 
       pub below-more : {next′ : ℕ} {new′ : List ℕ} → next + room n ≤ length new
-          → Wrote (choices n (plan-at (model-of b) n t (rest / v))) (room n) new new′ next next′ → length new′ ≡ length new
-          → Underway b n s a place old at count (j + 1) v (rest % v) new′ next′
+          → Wrote (choices n (plan-at (model-in m) n t (rest / v))) (room n) new new′ next next′ → length new′ ≡ length new
+          → Underway m n s i place old at (j + 1) v (rest % v) new′ next′
       below-more h w k =
-          let x : List ℕ = choices n (plan-at (model-of b) n t (rest / v)) in
-          let y : List ℕ = to-write b n s a place old at (j + 1) (rest % v) in
-          let f = factors (plan-total (model-of b) n t) (ways-left b s a n (j + 1)) (sym (u .split)) (omega (arith, here .sized, here .inside)) in
+          let x : List ℕ = choices n (plan-at (model-in m) n t (rest / v)) in
+          let y : List ℕ = to-write m n s i place old at (j + 1) (rest % v) in
+          let f = factors (plan-total (model-in m) n t) (ways-left m s i n (j + 1)) (sym (u .split)) (omega (arith, here .sized, here .inside)) in
           record {
-            entered = here .entered;
             sized = e;
             inside = mod-lt rest (rw e (u .later));
             few = omega (arith, here .sized, here .few, f .3);

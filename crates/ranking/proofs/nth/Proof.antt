@@ -1,14 +1,14 @@
 -- `nth` meets its contract: it is `nth_from` at the beginning of the buffer, and the plan by division is that of the list.
 use native.Mathlib.Omega.{arith}
 use borrow.Author.Needs.{needs}
-use Rattle.models.specs.Layout.{model-of}
+use Rattle.prepared.specs.promises.Rows.{model-in}
 use Rattle.extension.proofs.Laws.{room-most}
 use Rattle.ranking.proofs.Written.{nth-listed}
 use Rattle.ranking.proofs.nth.Statement.{statement}
 use Rattle.ranking.proofs.nth.Tie as tie
 
 nth-from-requires : tie.Need-nth-from-requires
-nth-from-requires c κs = let S = c .before .before .before in
+nth-from-requires c κs = let S = c .before .before in
     let most = room-most (S .args .n) (S .pre .1 .1) in
     (S .pre .0, (S .pre .1 .0, S .pre .1 .1, S .pre .1 .2, S .pre .1 .3, omega (arith, most)))
 
@@ -16,9 +16,9 @@ same-length : tie.Need-same-length
 same-length c = search needs
 
 returns : tie.Need-returns
-returns c = let S = c .before .before .before .before .before .before in
+returns c = let S = c .before .before .before .before .before in
     let w = c .before .before .nth-from in
-    nth-listed (model-of (S .args .m .now)) (S .args .n) (S .args .s) (S .args .i) (w .result) (S .args .choices .now) (w .last .1 .1 .1 .0)
+    nth-listed (model-in (S .args .m .now)) (S .args .n) (S .args .s) (S .args .i) (w .result) (S .args .choices .now) (w .last .1 .1 .0)
     (S .pre .1 .3) (w .ensures)
 
 pub nth-spec : {M : Type 1} → statement M

@@ -47,7 +47,6 @@ pub record Found (m : Model) (n s k a size place : ℕ) : Type 0 where
   pub sized : size ≡ ways m n s a
   pub inside : place < size
   pub few : size ≤ 65536
-  pub action : a < 8
 
 -- The choices x, at most `most`, are written at `at`, and nothing else.
 pub record Wrote (x : List ℕ) (most : ℕ) (old new : List ℕ) (at next : ℕ) : Type 0 where
