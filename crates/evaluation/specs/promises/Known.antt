@@ -34,8 +34,9 @@ pub record Offered (m : Bytes) (start : ℕ) (trail : List ℕ) (h s i o : ℕ) 
   pub state : state-after m start (take h trail) ≡ s
   pub offers : Offers m s i o
 
--- The step taken: the trail is one number longer, all that it makes known is known, and t is the state reached.
+-- The step taken: the trail, of h numbers before, is one longer, all that it makes known is known, and t is the state reached.
 pub record Stepped (m q : Bytes) (start : ℕ) (cone : List ℕ) (h s i o : ℕ) (trail trail′ : List ℕ) (gains′ : List ℤ) (v′ : List ℕ) (t : ℕ) : Type 0 where
+  pub whole : length (take h trail) ≡ h
   pub longer : take (h + 1) trail′ ≡ take h trail ++ (number-of m s i o ∷ [])
   pub state : t ≡ (step-in m s i o) .target
   pub knows : Knows m q start cone (take (h + 1) trail′) gains′ v′
