@@ -80,12 +80,9 @@ module _ {m q : Bytes} {start : ℕ} {depths truth cone : List ℕ} (ready : Rea
           ∙ append-assoc (steps-of m start T) (step-of m (state-after m start T) b ∷ []) r
           ∙ ap (λ z. steps-of m start T ++ (z ∷ r)) the-step))
 
-    module _ (steps : length trail ≡ 6) where
-      pub T-length : length T ≡ h
-      T-length = length-take-le h trail (omega (arith, offered .steps))
-
+    module _ (whole : length T ≡ h) where
       pub on-length : length (T ++ (b ∷ [])) ≡ h + 1
-      on-length = length-append T (b ∷ []) ∙ omega (arith, T-length)
+      on-length = length-append T (b ∷ []) ∙ omega (arith, whole)
 
       pub followed-on : Trail m start (T ++ (b ∷ []))
       followed-on = trail-longer m (knows .followed) b (subst (λ z. Takes m z b) (sym (offered .state)) takes)
@@ -93,13 +90,13 @@ module _ {m q : Bytes} {start : ℕ} {depths truth cone : List ℕ} (ready : Rea
       pub gained-on : length gains ≡ 7 → (gains′ : List ℤ) → gains′ ≡ set gains (h + 1) (getD gains h (pos 0) +ℤ (step-in m s i o) .reward) → Gained m start (T ++ (b ∷ [])) gains′
       gained-on sums gains′ eg =
           let g : set gains (suc (length T)) (getD gains (length T) (pos 0) +ℤ (step-of m (state-after m start T) b) .reward) ≡ gains′ =
-          ap₂ (λ n z. set gains n z) (ap suc T-length ∙ sym (add-one h)) (ap₂ (λ n z. getD gains n (pos 0) +ℤ z) T-length (ap (λ z. z .reward) the-step)) ∙ sym eg in
-          subst (λ x. Gained m start (T ++ (b ∷ [])) x) g (gained-longer m q start cone T b gains (omega (arith, T-length, offered .steps)) (knows .gained))
+          ap₂ (λ n z. set gains n z) (ap suc whole ∙ sym (add-one h)) (ap₂ (λ n z. getD gains n (pos 0) +ℤ z) whole (ap (λ z. z .reward) the-step)) ∙ sym eg in
+          subst (λ x. Gained m start (T ++ (b ∷ [])) x) g (gained-longer m q start cone T b gains (omega (arith, whole, offered .steps)) (knows .gained))
 
-      pub stepped : length gains ≡ 7 → length v ≡ 280 → (t : ℕ) (trail′ : List ℕ) (gains′ : List ℤ) (v′ : List ℕ) → t ≡ (step-in m s i o) .target
+      pub stepped : length trail ≡ 6 → length gains ≡ 7 → length v ≡ 280 → (t : ℕ) (trail′ : List ℕ) (gains′ : List ℤ) (v′ : List ℕ) → t ≡ (step-in m s i o) .target
           → trail′ ≡ set trail h b → gains′ ≡ set gains (h + 1) (getD gains h (pos 0) +ℤ (step-in m s i o) .reward)
           → v′ ≡ learnt q depths truth trail′ gains′ (h + 1) t cone v → Stepped m q start cone h s i o trail trail′ gains′ v′ t
-      stepped sums places t trail′ gains′ v′ et el eg ev =
+      stepped steps sums places t trail′ gains′ v′ et el eg ev =
           let on = T ++ (b ∷ []) in
           let gained = gained-on sums gains′ eg in
           let longer : take (h + 1) trail′ ≡ on =
@@ -109,7 +106,7 @@ module _ {m q : Bytes} {start : ℕ} {depths truth cone : List ℕ} (ready : Rea
           let e : learnt q depths truth trail′ gains′ (length on) (state-after m start on) cone v ≡ v′ =
           ap₂ (λ n z. learnt q depths truth trail′ gains′ n z cone v) on-length (state-on ∙ sym et) ∙ sym ev in
           let N : Knows m q start cone on gains′ v′ = record { followed = followed-on; gained = gained; values = subst (Known m q start cone on (length cone)) e K } in
-          record { whole = T-length; longer = longer; state = et; knows = subst (λ l. Knows m q start cone l gains′ v′) (sym longer) N }
+          record { whole = whole; longer = longer; state = et; knows = subst (λ l. Knows m q start cone l gains′ v′) (sym longer) N }
 
   -- At the start, before any step.
   pub begun : (trail : List ℕ) (gains : List ℤ) (v v′ : List ℕ) → getD gains 0 (pos 0) ≡ pos 0 → 280 ≤ length v

@@ -24,13 +24,16 @@ sizes S = sizes-small (P S) (S .pre .1 .0) (S .pre .1 .1)
 abbrev reward-of : tie.Start → ℤ
 reward-of S = (step-in (S .args .m .now) (S .args .s) (S .args .i) (S .args .o)) .reward
 
+whole : (S : tie.Start) → length (S .args .trail .now) ≡ 6 → length (take (S .args .h) (S .args .trail .now)) ≡ S .args .h
+whole S e = length-take-le (S .args .h) (S .args .trail .now) (omega (arith, S .pre .1 .0 .steps))
+
 -- The sum of the rewards so far is small, and so it stays.
 sum-fits : (S : tie.Start) → length (S .args .trail .now) ≡ 6 → mag (getD (S .args .gains .now) (S .args .h) (pos 0) +ℤ reward-of S) < 2 ^ 31
 sum-fits S e =
     let K = S .pre .1 .1 in
     let O = S .pre .1 .0 in
     let so-far = getD (S .args .gains .now) (S .args .h) (pos 0) in
-    let n = length-take-le (S .args .h) (S .args .trail .now) (omega (arith, O .steps)) in
+    let n = whole S e in
     let g = gain-small (P S .prepared) (K .followed) (P S .state) (S .args .h) in
     let r = P S .prepared .modest (S .args .s) (S .args .i) (S .args .o) (state-small (P S) O K) (O .offers) in
     omega (arith, mag-add so-far (reward-of S), ap mag (K .gained .right (S .args .h) (omega arith)), O .steps)
@@ -95,7 +98,7 @@ returns c = let S = c .before .before .before .before .before .before .before .b
     let g = c .before .before .before .before .before .before .before .before .gain-at in
     let r = c .before .before .before .before .before .before .before .reward in
     let n = c .before .before .before .before .before .before .before .before .before .before .before .before .before .put-arg .given .0 .1 in
-    stepped (P S) (S .pre .1 .0) (S .pre .1 .1) n (c .before .before .before .before .before .before .before .before .before .gain-at-arg2 .given .0) (c .before .learn-arg5 .given .0 .1) _ _ _ _
+    stepped (P S) (S .pre .1 .0) (S .pre .1 .1) (whole S n) n (c .before .before .before .before .before .before .before .before .before .gain-at-arg2 .given .0) (c .before .learn-arg5 .given .0 .1) _ _ _ _
     (c .before .before .before .before .before .before .target .ensures)
     (c .before .before .before .before .before .before .before .before .before .before .before .put .ensures ∙ ap (λ a. set (S .args .trail .now) (S .args .h) (32 * a + 4 * S .args .i + S .args .o)) (c .before .before .before .before .before .before .before .before .before .before .before .before .choice .ensures))
     (ap (set (S .args .gains .now) (S .args .h + 1)) (sum32 (g .result) (r .result) (g .ok) (r .ok) (rw (g .ensures, r .ensures) (sum-fits S n)) ∙ ap₂ _+ℤ_ (g .ensures) (r .ensures)))
