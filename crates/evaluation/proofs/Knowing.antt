@@ -15,7 +15,8 @@ use Rattle.logic.specs.Quantity.{sum}
 use Rattle.logic.proofs.Depth.{sat-same}
 use Rattle.logic.proofs.Tests.{getD-tabulate}
 use Rattle.blocks.specs.Bytes.{Bytes}
-use Rattle.models.specs.Layout.{state-count, action-count, prop-count, model-of}
+use Rattle.models.specs.Layout.{state-count, action-count, prop-count}
+use Rattle.prepared.specs.promises.Rows.{model-in}
 use Rattle.questions.specs.Layout.{formulas-of}
 use Rattle.questions.specs.promises.Tables.{table}
 use Rattle.questions.proofs.Accepted as questions
@@ -125,8 +126,8 @@ module _ (m q : Bytes) (s : ℕ) (cone t : List ℕ) (b : ℕ) where
 
   -- A node that looks no further than the shorter path has the same value on the longer one.
   same-value : (j k : ℕ) → k + depth (formula q j) ≤ length t
-      → value-of (model-of m) (formula q j) (state-after m s (take k on)) (drop k (steps-of m s on))
-      ≡ value-of (model-of m) (formula q j) (state-after m s (take k t)) (drop k (steps-of m s t))
+      → value-of (model-in m) (formula q j) (state-after m s (take k on)) (drop k (steps-of m s on))
+      ≡ value-of (model-in m) (formula q j) (state-after m s (take k t)) (drop k (steps-of m s t))
   same-value j k h =
       let R = steps-of m s t in
       let X = steps-of m (state-after m s t) (b ∷ []) in
@@ -134,8 +135,8 @@ module _ (m q : Bytes) (s : ℕ) (cone t : List ℕ) (b : ℕ) where
       let d : length (drop k R) ≡ length R - k = length-drop k R in
       let e : drop k (steps-of m s on) ≡ drop k R ++ X = ap (drop k) (steps-append m s t (b ∷ [])) ∙ drop-append-le k R X (omega arith) in
       let f : take (depth (formula q j)) (drop k R ++ X) ≡ take (depth (formula q j)) (drop k R) = take-append-le (depth (formula q j)) (drop k R) X (omega arith) in
-      ap₂ (λ x r. value-of (model-of m) (formula q j) x r) (same-state k (omega arith)) e
-      ∙ ap one-if (sat-same (model-of m) (formula q j) (depth (formula q j)) (state-after m s (take k t)) (drop k R ++ X) (drop k R) (omega arith) f)
+      ap₂ (λ x r. value-of (model-in m) (formula q j) x r) (same-state k (omega arith)) e
+      ∙ ap one-if (sat-same (model-in m) (formula q j) (depth (formula q j)) (state-after m s (take k t)) (drop k R ++ X) (drop k R) (omega arith) f)
 
   pub known-longer : (v : List ℕ) → Known m q s cone t (length cone) v → Known m q s cone on 0 v
   known-longer v K =

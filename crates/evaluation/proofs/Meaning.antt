@@ -17,7 +17,8 @@ use Rattle.logic.specs.Quantity.{integers, sum, related}
 use Rattle.logic.specs.Formula.{Formula, Node, does, next, sat, depth, relation}
 use Rattle.logic.specs.promises.Total.{one-if, value-of}
 use Rattle.blocks.specs.Bytes.{Bytes, byte}
-use Rattle.models.specs.Layout.{state-count, action-count, prop-count, outcome-of, model-of}
+use Rattle.models.specs.Layout.{state-count, action-count, prop-count}
+use Rattle.prepared.specs.promises.Rows.{model-in}
 use Rattle.questions.specs.Layout.{node-count, node-of}
 use Rattle.questions.proofs.Laws.{by-operator}
 use Rattle.questions.proofs.Accepted as questions
@@ -27,7 +28,7 @@ use Rattle.evaluation.specs.promises.Learnt.{known, gained, value-by, va
 use Rattle.evaluation.specs.promises.Known.{Known, Gained}
 use Rattle.evaluation.proofs.Integers.{rest-of-sum}
 use Rattle.evaluation.proofs.Values.{state-value, path-value}
-use Rattle.evaluation.proofs.Trails.{steps-length, steps-drop, state-next, used-at}
+use Rattle.evaluation.proofs.Trails.{steps-length, steps-drop, state-next, takes-at}
 
 pub flipped : (t : Bool) → one-if (eqb (one-if t) 0) ≡ one-if (not t)
 unfolding one-if
@@ -58,7 +59,7 @@ module _ {m q : Bytes} {s : ℕ} {depths truth cone : List ℕ} (ready : Ready m
   Needed j k = Reached m q (root-of cone) s j (at k)
 
   abbrev pub meaning : ℕ → ℕ → ℕ
-  meaning j k = value-of (model-of m) (formula q j) (at k) (from k)
+  meaning j k = value-of (model-in m) (formula q j) (at k) (from k)
 
   abbrev node : ℕ → ℕ
   node i = getD cone i 0
@@ -85,8 +86,8 @@ module _ {m q : Bytes} {s : ℕ} {depths truth cone : List ℕ} (ready : Ready m
       abbrev x : Node
       x = node-of q j
 
-      abbrev same : {φ : Formula} → formula q j ≡ φ → value-of (model-of m) φ (at k) (from k) ≡ meaning j k
-      same f = ap (λ φ. value-of (model-of m) φ (at k) (from k)) (sym f)
+      abbrev same : {φ : Formula} → formula q j ≡ φ → value-of (model-in m) φ (at k) (from k) ≡ meaning j k
+      same f = ap (λ φ. value-of (model-in m) φ (at k) (from k)) (sym f)
 
       pub not-level : x .operator ≡ 3 → k + depth (formula q (x .left)) ≡ length t
       unfolding depth
@@ -96,7 +97,7 @@ module _ {m q : Bytes} {s : ℕ} {depths truth cone : List ℕ} (ready : Ready m
       unfolding sat
       not-means e y h =
           ap (λ z. one-if (eqb z 0)) h
-          ∙ flipped (sat (model-of m) (formula q (x .left)) (at k) (from k))
+          ∙ flipped (sat (model-in m) (formula q (x .left)) (at k) (from k))
           ∙ same (questions.at-neg (state-count m) (action-count m) (prop-count m) q asked j inside e)
 
       pub and-level : x .operator ≡ 4 → (k + depth (formula q (x .left)) ≤ length t) × (k + depth (formula q (x .right)) ≤ length t)
@@ -111,20 +112,21 @@ module _ {m q : Bytes} {s : ℕ} {depths truth cone : List ℕ} (ready : Ready m
       unfolding sat
       and-means e y z g h =
           ap₂ bitAnd g h
-          ∙ joined (sat (model-of m) (formula q (x .left)) (at k) (from k)) (sat (model-of m) (formula q (x .right)) (at k) (from k))
+          ∙ joined (sat (model-in m) (formula q (x .left)) (at k) (from k)) (sat (model-in m) (formula q (x .right)) (at k) (from k))
           ∙ same (questions.at-both (state-count m) (action-count m) (prop-count m) q asked j inside e)
 
       pub do-level : x .operator ≡ 5 → k + 1 ≡ length t
       unfolding depth
       do-level e = omega (arith, ap depth (questions.at-does (state-count m) (action-count m) (prop-count m) q asked j inside e))
 
-      pub do-means : x .operator ≡ 5 → one-if (eqb (byte trail k / 4) (x .left)) ≡ meaning j k
-      unfolding sat step-of outcome-of
+      pub do-means : x .operator ≡ 5 → one-if (eqb (byte trail k / 32) (x .left)) ≡ meaning j k
+      unfolding sat step-of
       do-means e =
           let f = questions.at-does (state-count m) (action-count m) (prop-count m) q asked j inside e in
           let h : k < length t = omega (arith, do-level e) in
-          ap (λ y. one-if (eqb (y / 4) (x .left))) (sym (getD-take (length t) trail k 0 h) ∙ ap (λ z. getD z k 0) (sym prefix))
-          ∙ ap (λ z. value-of (model-of m) (does (x .left)) (at k) z) (sym (first-step k h))
+          ap (λ y. one-if (eqb (y / 32) (x .left))) (sym (getD-take (length t) trail k 0 h) ∙ ap (λ z. getD z k 0) (sym prefix))
+          ∙ ap (λ y. one-if (eqb y (x .left))) (takes-at m followed k h .named)
+          ∙ ap (λ z. value-of (model-in m) (does (x .left)) (at k) z) (sym (first-step k h))
           ∙ same f
 
       pub next-level : x .operator ≡ 6 → (k < length t) × (suc k + depth (formula q (x .left)) ≡ length t)
@@ -138,15 +140,15 @@ module _ {m q : Bytes} {s : ℕ} {depths truth cone : List ℕ} (ready : Ready m
       next-needed e r =
           let h = next-level e .0 in
           let b = getD t k 0 in
-          subst (Reached m q (root-of cone) s (x .left)) (sym (state-next m s k t h)) (under-next (b / 4) (b % 4) r e (used-at m followed k h))
+          subst (Reached m q (root-of cone) s (x .left)) (sym (state-next m s k t h)) (under-next (b % 32 / 4) (b % 4) r e (takes-at m followed k h .offers))
 
       pub next-means : x .operator ≡ 6 → (y : ℕ) → y ≡ meaning (x .left) (suc k) → y ≡ meaning j k
       unfolding sat step-of
       next-means e y g =
           let h = next-level e .0 in
           g
-          ∙ ap (λ y. value-of (model-of m) (formula q (x .left)) y (from (suc k))) (state-next m s k t h)
-          ∙ ap (λ z. value-of (model-of m) (next (formula q (x .left))) (at k) z) (sym (first-step k h))
+          ∙ ap (λ y. value-of (model-in m) (formula q (x .left)) y (from (suc k))) (state-next m s k t h)
+          ∙ ap (λ z. value-of (model-in m) (next (formula q (x .left))) (at k) z) (sym (first-step k h))
           ∙ same (questions.at-next (state-count m) (action-count m) (prop-count m) q asked j inside e)
 
       pub gain-means : x .operator ≡ 7 → one-if (gained q gains (length t) k j) ≡ meaning j k
@@ -227,7 +229,7 @@ module _ {m q : Bytes} {s : ℕ} {depths truth cone : List ℕ} (ready : Ready m
             state-value q truth trail gains (length t) (state-after m s t) (depth (formula q (node i))) (node i) v e
             ∙ ap (λ y. byte truth (32 * node i + y)) (sym a)
             ∙ ready .truth-right (node i) (at k) r e
-            ∙ ap (value-of (model-of m) (formula q (node i)) (at k)) (sym b)
+            ∙ ap (value-of (model-in m) (formula q (node i)) (at k)) (sym b)
         go (no f) =
             let n : length t - depth (formula q (node i)) ≡ k = omega arith in
             path-value q truth trail gains (length t) (state-after m s t) (depth (formula q (node i))) (node i) v f

@@ -7,14 +7,9 @@ use lib.IntN.{ℤ}
 use lib.ListN.{length, take}
 use lib.Seq.{take-take, take-at}
 use Rattle.blocks.specs.Bytes.{Bytes}
-use Rattle.evaluation.specs.promises.Path.{state-after}
-use Rattle.evaluation.specs.promises.Known.{Knows, Roomy, Stepped, Back}
+use Rattle.evaluation.specs.promises.Path.{number-of, state-after}
+use Rattle.evaluation.specs.promises.Known.{Knows, Stepped, Back}
 use Rattle.evaluation.proofs.Knowing.{knows-shorter}
-
--- Buffers as long as before have the same room.
-pub roomy-same : {trail₀ trail : List ℕ} {gains₀ gains : List ℤ} {v₀ v : List ℕ} → Roomy trail₀ gains₀ v₀
-    → length trail ≡ length trail₀ → length gains ≡ length gains₀ → length v ≡ length v₀ → Roomy trail gains v
-roomy-same R e f g = record { steps = omega (arith, R .steps); sums = omega (arith, R .sums); places = omega (arith, R .places) }
 
 module _ {m q : Bytes} {start : ℕ} {cone : List ℕ} {h : ℕ} where
   pub back-none : {trail : List ℕ} {gains : List ℤ} {v : List ℕ} → Knows m q start cone (take h trail) gains v → Back m q start cone h trail trail gains v
@@ -33,10 +28,10 @@ module _ {m q : Bytes} {start : ℕ} {cone : List ℕ} {h : ℕ} where
     state-back = ap (state-after m start) (B .kept)
 
   -- One step back.
-  pub step-back : {s a o t : ℕ} {trail trail′ trail″ : List ℕ} {gains′ gains″ : List ℤ} {v′ v″ : List ℕ} → length (take h trail) ≡ h
-      → Stepped m q start cone h s a o trail trail′ gains′ v′ t → Back m q start cone (h + 1) trail′ trail″ gains″ v″ → Back m q start cone h trail trail″ gains″ v″
-  step-back {a = a} {o} {trail = trail} {trail″ = trail″} {gains″ = gains″} {v″ = v″} n S B =
+  pub step-back : {s i o t : ℕ} {trail trail′ trail″ : List ℕ} {gains′ gains″ : List ℤ} {v′ v″ : List ℕ}
+      → Stepped m q start cone h s i o trail trail′ gains′ v′ t → Back m q start cone (h + 1) trail′ trail″ gains″ v″ → Back m q start cone h trail trail″ gains″ v″
+  step-back {s} {i} {o} {trail = trail} {trail″ = trail″} {gains″ = gains″} {v″ = v″} S B =
       record {
-        kept = sym (take-take h (h + 1) trail″ (omega arith)) ∙ ap (take h) (B .kept ∙ S .longer) ∙ take-at (take h trail) ((4 * a + o) ∷ []) h n;
-        knows = knows-shorter m q start cone (take h trail) (4 * a + o) gains″ v″ (subst (λ l. Knows m q start cone l gains″ v″) (S .longer) (B .knows));
+        kept = sym (take-take h (h + 1) trail″ (omega arith)) ∙ ap (take h) (B .kept ∙ S .longer) ∙ take-at (take h trail) (number-of m s i o ∷ []) h (S .whole);
+        knows = knows-shorter m q start cone (take h trail) (number-of m s i o) gains″ v″ (subst (λ l. Knows m q start cone l gains″ v″) (S .longer) (B .knows));
       }

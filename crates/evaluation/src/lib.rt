@@ -10,11 +10,12 @@ ghost use Rattle.logic.specs.promises.Total.{one-if};
 ghost use Rattle.evaluation.specs.promises.Learnt.{value-by, value-at, learn-node, learnt};
 ghost use Rattle.evaluation.specs.promises.Learnt as spec;
 ghost use Rattle.evaluation.specs.promises.Reached.{Ready};
-ghost use Rattle.evaluation.specs.promises.Known.{Knows, Roomy, Offered, Stepped};
+ghost use Rattle.evaluation.specs.promises.Known.{Knows, Offered, Stepped};
 ghost use Rattle.questions.specs.Layout.{node-of};
 use blocks::byte;
-use blocks::i16_at;
-use models::outcome_at;
+use prepared::choice;
+use prepared::reward;
+use prepared::target;
 use questions::left;
 use questions::operator;
 use questions::p;
@@ -66,8 +67,19 @@ fn gained(q: &[u8], gains: &[i32], h: u8, k: u8, j: u8) -> bool
     related(right(q, j), gain, p(q, j) as i64)
 }
 
+// The number of step k; 0 past the end.
+fn number_at(trail: &[u16], k: u8) -> u16
+    ensures { λ r. ⌜ r ≡ getD (now (trail .entry)) k 0 ⌝ }
+{
+    let i = k as usize;
+    if i < trail.len() {
+        return trail[i];
+    }
+    0
+}
+
 // The value at place k of node j, which looks at steps: each arm has its operator's meaning.
-fn value_by(q: &[u8], trail: &[u8], gains: &[i32], v: &[u8], h: u8, k: u8, j: u8) -> u8
+fn value_by(q: &[u8], trail: &[u16], gains: &[i32], v: &[u8], h: u8, k: u8, j: u8) -> u8
     requires { ⌜ k < 255 ⌝ }
     ensures { λ r. ⌜ r ≡ value-by (now (q .entry)) (now (trail .entry)) (now (gains .entry)) h k j (node-of (now (q .entry)) j .operator) (now (v .entry)) ⌝ }
 {
@@ -75,7 +87,7 @@ fn value_by(q: &[u8], trail: &[u8], gains: &[i32], v: &[u8], h: u8, k: u8, j: u8
     match op {
         3 => bit(known(v, left(q, j), k) == 0),
         4 => known(v, left(q, j), k) & known(v, right(q, j), k),
-        5 => bit(byte(trail, k as usize) / 4 == left(q, j)),
+        5 => bit(number_at(trail, k) / 32 == left(q, j) as u16),
         6 => known(v, left(q, j), k + 1),
         7 => bit(gained(q, gains, h, k, j)),
         _ => 0,
@@ -97,7 +109,7 @@ pub fn depth_at(depths: &[u32], j: u8) -> u32
 fn value_at(
     q: &[u8],
     truth: &[u8],
-    trail: &[u8],
+    trail: &[u16],
     gains: &[i32],
     v: &[u8],
     h: u8,
@@ -126,7 +138,7 @@ fn learn_node(
     q: &[u8],
     depths: &[u32],
     truth: &[u8],
-    trail: &[u8],
+    trail: &[u16],
     gains: &[i32],
     v: &mut [u8],
     h: u8,
@@ -147,7 +159,7 @@ pub fn learn(
     q: &[u8],
     depths: &[u32],
     truth: &[u8],
-    trail: &[u8],
+    trail: &[u16],
     gains: &[i32],
     cone: &[u8],
     v: &mut [u8],
@@ -163,33 +175,46 @@ pub fn learn(
     }
 }
 
-// Takes a step: the outcome o of action a in the state s, which the first h steps led to from the start. Gives the state reached.
+fn put(trail: &mut [u16], i: usize, x: u16)
+    ensures { λ _. ⌜ now (trail .exit) ≡ set (now (trail .entry)) i x ⌝ }
+{
+    if i < trail.len() {
+        trail[i] = x;
+    }
+}
+
+// Takes a step: the outcome o of the choice at place i of the state s, which the first h steps led to from the start. Gives the state reached.
 pub fn step(
-    m: &[u8],
+    m: &[u16; 8704],
     q: &[u8],
     depths: &[u32],
     truth: &[u8],
     cone: &[u8],
-    trail: &mut [u8],
-    gains: &mut [i32],
-    v: &mut [u8],
+    trail: &mut [u16; 6],
+    gains: &mut [i32; 7],
+    v: &mut [u8; 280],
     start: u8,
     h: u8,
     s: u8,
-    a: u8,
+    i: u8,
     o: u8,
 ) -> u8
     requires { ⌜ Ready (now m) (now q) start (now depths) (now truth) (now cone) ⌝ }
-    requires { ⌜ Roomy (now trail) (now gains) (now v) ⌝ }
-    requires { ⌜ Offered (now m) start (now trail) h s a o ⌝ }
+    requires { ⌜ Offered (now m) start (now trail) h s i o ⌝ }
     requires { ⌜ Knows (now m) (now q) start (now cone) (take h (now trail)) (now gains) (now v) ⌝ }
-    ensures { λ r. ⌜ Stepped (now (m .entry)) (now (q .entry)) start (now (cone .entry)) h s a o (now (trail .entry)) (now (trail .exit)) (now (gains .exit)) (now (v .exit)) r ⌝ }
+    ensures { λ r. ⌜ Stepped (now (m .entry)) (now (q .entry)) start (now (cone .entry)) h s i o (now (trail .entry)) (now (trail .exit)) (now (gains .exit)) (now (v .exit)) r ⌝ }
 {
-    let at = outcome_at(s as usize, a as usize, o as usize);
     let n = h as usize;
-    trail[n] = 4 * a + o;
-    gains[n + 1] = gains[n] + i16_at(m, at + 2) as i32;
-    let t = byte(m, at);
+    let state = s as usize;
+    let place = i as usize;
+    let outcome = o as usize;
+    put(
+        trail,
+        n,
+        32 * choice(m, state, place) as u16 + 4 * i as u16 + o as u16,
+    );
+    gains[n + 1] = gain_at(gains, h) + reward(m, state, place, outcome);
+    let t = target(m, state, place, outcome) as u8;
     learn(q, depths, truth, trail, gains, cone, v, h + 1, t);
     t
 }

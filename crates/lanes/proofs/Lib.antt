@@ -1,4 +1,2 @@
 pub mod Words
-pub mod Spare
 pub mod Gains
-pub mod Patterns

@@ -14,10 +14,10 @@ use Rattle.logic.specs.Formula.{Node, depth, sat, relation}
 use Rattle.logic.specs.Quantity.{integers, related}
 use Rattle.logic.specs.promises.Total.{one-if, value-of}
 use Rattle.blocks.specs.Bytes.{Bytes, byte}
-use Rattle.models.specs.Layout.{state-count, outcome-of, entries, model-of}
-use Rattle.models.proofs.Passed.{passed-all, passed-sized}
+use Rattle.models.specs.Layout.{state-count}
+use Rattle.prepared.specs.promises.Rows.{choice-in, step-in, Offers, lane, model-in}
 use Rattle.questions.specs.Layout.{node-count, node-of}
-use Rattle.evaluation.specs.promises.Path.{steps-of, state-after, Trail}
+use Rattle.evaluation.specs.promises.Path.{number-of, steps-of, state-after, Trail}
 use Rattle.evaluation.specs.promises.Reached.{formula, Reached, itself, under-not, and-left, and-right, reads-left, Earlier, root-of}
 use Rattle.evaluation.specs.promises.Learnt.{known, gained}
 use Rattle.evaluation.specs.promises.Known.{Known, Gained, Offered}
@@ -25,7 +25,7 @@ use Rattle.evaluation.proofs.Trails.{steps-length, steps-append}
 use Rattle.evaluation.proofs.Meaning.{not-level, not-means, and-level, and-means, do-level, do-means, next-level, next-needed, next-means, gain-means, by-path}
 use Rattle.evaluation.proofs.Knowing.{depth-is, cone-node, known-longer}
 use Rattle.evaluation.proofs.Stepping as stepping
-use Rattle.lanes.specs.promises.Lanes.{lane, Lanes, Laned}
+use Rattle.lanes.specs.promises.Lanes.{Lanes, Laned}
 use Rattle.last.specs.promises.Late.{Passed-on}
 use Rattle.last.specs.promises.Masks.{Before-last, Worded, Masked, Ended}
 
@@ -38,8 +38,8 @@ a-bit false = refl
 sum-last : (x y z : ℤ) → (x +ℤ z) -ℤ y ≡ (x -ℤ y) +ℤ z
 sum-last x y z = +ℤ-assoc x z (negℤ y) ∙ ap (λ w. x +ℤ w) (+ℤ-comm z (negℤ y)) ∙ sym (+ℤ-assoc x (negℤ y) z)
 
-module _ {m q : Bytes} {start : ℕ} {depths truth cone late : List ℕ} {rewards : List ℤ} {trail : List ℕ} {gains : List ℤ} {v : List ℕ} {h s : ℕ}
-    (B : Before-last m q start depths truth cone late rewards trail gains v h s) where
+module _ {m q : Bytes} {start : ℕ} {depths truth cone late trail : List ℕ} {gains : List ℤ} {v : List ℕ} {h s : ℕ}
+    (B : Before-last m q start depths truth cone late trail gains v h s) where
   abbrev T : List ℕ
   T = take h trail
 
@@ -49,51 +49,43 @@ module _ {m q : Bytes} {start : ℕ} {depths truth cone late : List ℕ} {reward
   pub state-here : s < state-count m
   state-here = stepping.state-reached (B .ready) (B .knows) (B .state)
 
-  pub few-states : s < 32
-  few-states = omega (arith, passed-sized m (passed-all m (B .ready .model-accepted)) .states, state-here)
-
-  -- The path that an outcome ends.
-  module _ (a o : ℕ) (used : o < entries m s a) where
+  -- The path that an outcome o of the choice at place a ends.
+  module _ (a o : ℕ) (offers : Offers m s a o) where
     abbrev on : List ℕ
-    on = T ++ ((4 * a + o) ∷ [])
+    on = T ++ (number-of m s a o ∷ [])
 
     offered : Offered m start trail h s a o
-    offered = record { steps = B .few; state = B .state; used = used }
+    offered = record { steps = B .few; state = B .state; offers = offers }
 
-    small : o < 4
-    small = stepping.outcome-small (B .ready) offered (B .knows)
+    sizes : (s < 32) × (a < 8) × (o < 4)
+    sizes = stepping.sizes-small (B .ready) offered (B .knows)
 
     pub lane-small : 4 * a + o < 32
-    lane-small =
-        let z = stepping.sizes-small (B .ready) offered (B .knows) in
-        omega (arith, z .1, small)
-
-    T-length : length T ≡ h
-    T-length = stepping.T-length (B .ready) offered (B .knows) (B .roomy)
+    lane-small = omega (arith, sizes)
 
     on-length : length on ≡ h + 1
-    on-length = stepping.on-length (B .ready) offered (B .knows) (B .roomy)
+    on-length = stepping.on-length (B .ready) offered (B .knows) (B .whole)
 
     prefix : on ≡ take (length on) on
     prefix = sym (take-length on)
 
     followed : Trail m start on
-    followed = stepping.followed-on (B .ready) offered (B .knows) (B .roomy)
+    followed = stepping.followed-on (B .ready) offered (B .knows) (B .whole)
 
     abbrev sums : List ℤ
-    sums = set gains (h + 1) (getD gains h (pos 0) +ℤ (outcome-of m s a o) .reward)
+    sums = set gains (h + 1) (getD gains h (pos 0) +ℤ (step-in m s a o) .reward)
 
     summed : Gained m start on sums
-    summed = stepping.gained-on (B .ready) offered (B .knows) (B .roomy) sums refl
+    summed = stepping.gained-on (B .ready) offered (B .knows) (B .whole) (B .room) sums refl
 
     known-before : Known m q start cone on 0 v
-    known-before = known-longer m q start cone T (4 * a + o) v (B .knows .values)
+    known-before = known-longer m q start cone T (number-of m s a o) v (B .knows .values)
 
     abbrev Needed : ℕ → ℕ → Type 0
     Needed j k = Reached m q (root-of cone) start j (state-after m start (take k on))
 
     abbrev meaning : ℕ → ℕ → ℕ
-    meaning j k = value-of (model-of m) (formula q j) (state-after m start (take k on)) (drop k (steps-of m start on))
+    meaning j k = value-of (model-in m) (formula q j) (state-after m start (take k on)) (drop k (steps-of m start on))
 
     -- A node that looks no further than the path before the last step.
     before : (i k c : ℕ) → i < length cone → Earlier cone i c → k + depth (formula q c) ≤ h → Needed c k → one-if (not (eqb (known v c k) 0)) ≡ meaning c k
@@ -101,7 +93,7 @@ module _ {m q : Bytes} {start : ℕ} {depths truth cone late : List ℕ} {reward
         let g : known v c k ≡ meaning c k =
         subst (λ z. k + depth (formula q z) ≤ h → Needed z k → known v z k ≡ meaning z k) (e .2)
         (λ d r. known-before .right (e .0) k (omega (arith, e .1)) (omega (arith, on-length)) (λ z. absurd (omega (arith, on-length))) r) d r in
-        ap (λ z. one-if (not (eqb z 0))) g ∙ a-bit (sat (model-of m) (formula q c) (state-after m start (take k on)) (drop k (steps-of m start on)))
+        ap (λ z. one-if (not (eqb z 0))) g ∙ a-bit (sat (model-in m) (formula q c) (state-after m start (take k on)) (drop k (steps-of m start on)))
 
   -- The node at place i of the cone, with the words of those before it.
   module _ {i : ℕ} {masks : List ℕ} (M : Masked m q start cone late T s i masks) (l : i < length cone) (marked : getD late (node i) 0 ≡ 1) (path : depth (formula q (node i)) ≡ 0 → ⊥) where
@@ -120,15 +112,15 @@ module _ {m q : Bytes} {start : ℕ} {depths truth cone late : List ℕ} {reward
     left : (op : ℕ) → x .operator ≡ op → reads-left op ≡ true → Earlier cone i (x .left)
     left op e h = B .ready .ordered .lefts i l path (ap reads-left e ∙ h)
 
-    level-on : (k a o : ℕ) (u : o < entries m s a) → k + depth (formula q (node i)) ≡ length T + 1 → k + depth (formula q (node i)) ≡ length (on a o u)
-    level-on k a o u d = omega (arith, T-length a o u, on-length a o u)
+    level-on : (k a o : ℕ) (u : Offers m s a o) → k + depth (formula q (node i)) ≡ length T + 1 → k + depth (formula q (node i)) ≡ length (on a o u)
+    level-on k a o u d = omega (arith, B .whole, on-length a o u)
 
     -- A child whose value becomes known with the same step.
-    child : (k c a o : ℕ) (u : o < entries m s a) → Earlier cone i c → getD late c 0 ≡ 1 → k + depth (formula q c) ≡ length (on a o u) → Needed a o u c k
+    child : (k c a o : ℕ) (u : Offers m s a o) → Earlier cone i c → getD late c 0 ≡ 1 → k + depth (formula q c) ≡ length (on a o u) → Needed a o u c k
         → lane (word c) (4 * a + o) ≡ meaning a o u c k
     child k c a o u e h d r =
         subst (λ z. getD late z 0 ≡ 1 → k + depth (formula q z) ≡ length (on a o u) → Needed a o u z k → lane (word z) (4 * a + o) ≡ meaning a o u z k) (e .2)
-        (λ h d r. M .right (e .0) (e .1) h .right k a o u (omega (arith, T-length a o u, on-length a o u)) r) h d r
+        (λ h d r. M .right (e .0) (e .1) h .right k a o u (omega (arith, B .whole, on-length a o u)) r) h d r
 
     pub not-word : (r : ℕ) → x .operator ≡ 3 → Lanes (λ n. one-if (eqb (lane (word (x .left)) n) 0)) r → Worded m q start cone T s (node i) r
     unfolding reads-left
@@ -150,7 +142,7 @@ module _ {m q : Bytes} {start : ℕ} {depths truth cone late : List ℕ} {reward
       pub own : getD depths c 0 ≡ depth (formula q (node i)) → y ≡ word c
       pub earlier : (getD depths c 0 ≡ depth (formula q (node i)) → ⊥) → Lanes (λ _. one-if (not (eqb (known v c k) 0))) y
 
-    of-part : (k c y a o : ℕ) (u : o < entries m s a) → Earlier cone i c → (depth (formula q c) ≡ depth (formula q (node i)) → getD late c 0 ≡ 1)
+    of-part : (k c y a o : ℕ) (u : Offers m s a o) → Earlier cone i c → (depth (formula q c) ≡ depth (formula q (node i)) → getD late c 0 ≡ 1)
         → k + depth (formula q (node i)) ≡ length (on a o u) → k + depth (formula q c) ≤ length (on a o u) → Needed a o u c k → Part k c y
         → lane y (4 * a + o) ≡ meaning a o u c k
     of-part k c y a o u e too z d r P = go (ℕ-discrete (getD depths c 0) (depth (formula q (node i))))
@@ -176,7 +168,7 @@ module _ {m q : Bytes} {start : ℕ} {depths truth cone late : List ℕ} {reward
     and-word r k y z e d P Q R =
         record {
           right = λ k′ a o u d′ n.
-              let same : k′ ≡ k = omega (arith, T-length a o u) in
+              let same : k′ ≡ k = omega (arith, B .whole) in
               let n′ = subst (λ w. Needed a o u (node i) w) same n in
               let w : k + depth (formula q (node i)) ≡ length (on a o u) = omega (arith, on-length a o u) in
               let p = prefix a o u in
@@ -190,7 +182,7 @@ module _ {m q : Bytes} {start : ℕ} {depths truth cone late : List ℕ} {reward
               ∙ ap (meaning a o u (node i)) (sym same);
         }
 
-    pub do-word : (r : ℕ) → x .operator ≡ 5 → Laned m s (λ b o. one-if (eqb b (x .left))) r → Worded m q start cone T s (node i) r
+    pub do-word : (r : ℕ) → x .operator ≡ 5 → Laned m s (λ a o. one-if (eqb (choice-in m s a) (x .left))) r → Worded m q start cone T s (node i) r
     do-word r e R =
         record {
           right = λ k a o u d n.
@@ -199,11 +191,11 @@ module _ {m q : Bytes} {start : ℕ} {depths truth cone late : List ℕ} {reward
               let g = summed a o u in
               let z = level-on k a o u d in
               let c = do-level (B .ready) (on a o u) (on a o u) p (sums a o u) f g (node i) k inside z e in
-              let here : k ≡ length T = omega (arith, T-length a o u, on-length a o u) in
-              let b : byte (on a o u) k / 4 ≡ a =
-              ap (λ w. getD (on a o u) w 0 / 4) here
-              ∙ ap (λ w. w / 4) (getD-append-seam T (4 * a + o) [] 0)
-              ∙ omega (arith, small a o u) in
+              let here : k ≡ length T = omega (arith, B .whole, on-length a o u) in
+              let b : byte (on a o u) k / 32 ≡ choice-in m s a =
+              ap (λ w. getD (on a o u) w 0 / 32) here
+              ∙ ap (λ w. w / 32) (getD-append-seam T (number-of m s a o) [] 0)
+              ∙ omega (arith, sizes a o u) in
               R .right a o u
               ∙ ap (λ w. one-if (eqb w (x .left))) (sym b)
               ∙ do-means (B .ready) (on a o u) (on a o u) p (sums a o u) f g (node i) k inside z e;
@@ -225,21 +217,21 @@ module _ {m q : Bytes} {start : ℕ} {depths truth cone late : List ℕ} {reward
         }
 
     pub gain-word : (r k : ℕ) → x .operator ≡ 7 → k + depth (formula q (node i)) ≡ h + 1
-        → Laned m s (λ a o. one-if (related integers (relation (x .right)) ((getD gains h (pos 0) -ℤ getD gains k (pos 0)) +ℤ (outcome-of m s a o) .reward) (x .p))) r
+        → Laned m s (λ a o. one-if (related integers (relation (x .right)) ((getD gains h (pos 0) -ℤ getD gains k (pos 0)) +ℤ (step-in m s a o) .reward) (x .p))) r
         → Worded m q start cone T s (node i) r
     unfolding gained
     gain-word r k e d R =
         record {
           right = λ k′ a o u d′ n.
-              let same : k′ ≡ k = omega (arith, T-length a o u) in
+              let same : k′ ≡ k = omega (arith, B .whole) in
               let w : k + depth (formula q (node i)) ≡ length (on a o u) = omega (arith, on-length a o u) in
-              let room : h + 1 < length gains = omega (arith, B .roomy .sums, B .few) in
-              let all : getD (sums a o u) (length (on a o u)) (pos 0) ≡ getD gains h (pos 0) +ℤ (outcome-of m s a o) .reward =
-              ap (λ n. getD (sums a o u) n (pos 0)) (on-length a o u) ∙ getD-set-same gains (h + 1) (getD gains h (pos 0) +ℤ (outcome-of m s a o) .reward) (pos 0) room in
+              let room : h + 1 < length gains = omega (arith, B .room, B .few) in
+              let all : getD (sums a o u) (length (on a o u)) (pos 0) ≡ getD gains h (pos 0) +ℤ (step-in m s a o) .reward =
+              ap (λ n. getD (sums a o u) n (pos 0)) (on-length a o u) ∙ getD-set-same gains (h + 1) (getD gains h (pos 0) +ℤ (step-in m s a o) .reward) (pos 0) room in
               let some : getD (sums a o u) k (pos 0) ≡ getD gains k (pos 0) =
-              getD-set-other gains (h + 1) k (getD gains h (pos 0) +ℤ (outcome-of m s a o) .reward) (pos 0) (λ n. path (omega arith)) in
-              let g : getD (sums a o u) (length (on a o u)) (pos 0) -ℤ getD (sums a o u) k (pos 0) ≡ (getD gains h (pos 0) -ℤ getD gains k (pos 0)) +ℤ (outcome-of m s a o) .reward =
-              ap₂ _-ℤ_ all some ∙ sum-last (getD gains h (pos 0)) (getD gains k (pos 0)) ((outcome-of m s a o) .reward) in
+              getD-set-other gains (h + 1) k (getD gains h (pos 0) +ℤ (step-in m s a o) .reward) (pos 0) (λ n. path (omega arith)) in
+              let g : getD (sums a o u) (length (on a o u)) (pos 0) -ℤ getD (sums a o u) k (pos 0) ≡ (getD gains h (pos 0) -ℤ getD gains k (pos 0)) +ℤ (step-in m s a o) .reward =
+              ap₂ _-ℤ_ all some ∙ sum-last (getD gains h (pos 0)) (getD gains k (pos 0)) ((step-in m s a o) .reward) in
               R .right a o u
               ∙ ap (λ y. one-if (related integers (relation (x .right)) y (x .p))) (sym g)
               ∙ gain-means (B .ready) (on a o u) (on a o u) (prefix a o u) (sums a o u) (followed a o u) (summed a o u) (node i) k inside w e
@@ -257,27 +249,27 @@ module _ {m q : Bytes} {start : ℕ} {depths truth cone late : List ℕ} {reward
   module _ {i : ℕ} (l : i < length cone) where
     -- A state formula: its truth in the target.
     pub state-word : (r : ℕ) → depth (formula q (node i)) ≡ 0
-        → Laned m s (λ a o. one-if (not (eqb (byte truth (32 * node i + (outcome-of m s a o) .target)) 0))) r → Worded m q start cone T s (node i) r
+        → Laned m s (λ a o. one-if (not (eqb (byte truth (32 * node i + (step-in m s a o) .target)) 0))) r → Worded m q start cone T s (node i) r
     state-word r e R =
         record {
           right = λ k a o u d n.
-              let z : k ≡ length (on a o u) = omega (arith, T-length a o u, on-length a o u) in
-              let here : state-after m start (take k (on a o u)) ≡ (outcome-of m s a o) .target =
+              let z : k ≡ length (on a o u) = omega (arith, B .whole, on-length a o u) in
+              let here : state-after m start (take k (on a o u)) ≡ (step-in m s a o) .target =
               ap (state-after m start) (take-all k (on a o u) (omega arith)) ∙ stepping.state-on (B .ready) (offered a o u) (B .knows) in
               let rest : drop k (steps-of m start (on a o u)) ≡ [] = drop-of-length-le (steps-of m start (on a o u)) {i = k} (omega (arith, steps-length m start (on a o u))) in
               let at = state-after m start (take k (on a o u)) in
-              let t : byte truth (32 * node i + (outcome-of m s a o) .target) ≡ value-of (model-of m) (formula q (node i)) at (drop k (steps-of m start (on a o u))) =
+              let t : byte truth (32 * node i + (step-in m s a o) .target) ≡ value-of (model-in m) (formula q (node i)) at (drop k (steps-of m start (on a o u))) =
               ap (λ y. byte truth (32 * node i + y)) (sym here)
               ∙ B .ready .truth-right (node i) at n e
-              ∙ ap (value-of (model-of m) (formula q (node i)) at) (sym rest) in
+              ∙ ap (value-of (model-in m) (formula q (node i)) at) (sym rest) in
               R .right a o u
               ∙ ap (λ y. one-if (not (eqb y 0))) t
-              ∙ a-bit (sat (model-of m) (formula q (node i)) at (drop k (steps-of m start (on a o u))));
+              ∙ a-bit (sat (model-in m) (formula q (node i)) at (drop k (steps-of m start (on a o u))));
         }
 
     -- A node that looks further than the whole path is not known with its last step.
     pub deep-word : (r : ℕ) → h + 1 < depth (formula q (node i)) → Worded m q start cone T s (node i) r
-    deep-word r e = record { right = λ k a o u d n. absurd (omega (arith, T-length a o u)) }
+    deep-word r e = record { right = λ k a o u d n. absurd (omega (arith, B .whole)) }
 
     -- One word more.
     pub masked-more : (masks : List ℕ) (x : ℕ) → length masks ≡ 40 → Masked m q start cone late T s i masks → Worded m q start cone T s (node i) x
@@ -313,7 +305,7 @@ module _ {m q : Bytes} {start : ℕ} {depths truth cone late : List ℕ} {reward
       record {
         right = λ a o u.
             let W = M .right (length cone - 1) (omega (arith, B .ready .ordered .some)) (B .marked .root) in
-            W .right 0 a o u (omega (arith, B .deep, T-length a o u)) itself
-            ∙ ap (value-of (model-of m) (formula q (root-of cone)) start)
-            (steps-append m start T ((4 * a + o) ∷ []) ∙ ap (λ z. steps-of m start T ++ (z ∷ [])) (stepping.the-step (B .ready) (offered a o u) (B .knows)));
+            W .right 0 a o u (omega (arith, B .deep, B .whole)) itself
+            ∙ ap (value-of (model-in m) (formula q (root-of cone)) start)
+            (steps-append m start T (number-of m s a o ∷ []) ∙ ap (λ z. steps-of m start T ++ (z ∷ [])) (stepping.the-step (B .ready) (offered a o u) (B .knows)));
       }

@@ -48,14 +48,13 @@ fn part(depths: &[u32], v: &[u8], masks: &[u32], d: u32, k: u8, child: u8) -> u3
 
 // The word of the node at place i of the cone, node j, which looks d steps ahead: each arm has its operator's meaning.
 fn mask_by(
-    m: &[u8],
+    m: &[u16; 8704],
     q: &[u8],
     depths: &[u32],
     truth: &[u8],
     cone: &[u8],
     late: &[u8; 40],
-    rewards: &[i32; 1024],
-    trail: &[u8],
+    trail: &[u16],
     gains: &[i32],
     v: &[u8],
     masks: &[u32],
@@ -66,7 +65,7 @@ fn mask_by(
     d: u32,
     j: u8,
 ) -> u32
-    requires { ⌜ Before-last (now m) (now q) start (now depths) (now truth) (now cone) (now late) (now rewards) (now trail) (now gains) (now v) h s ⌝ }
+    requires { ⌜ Before-last (now m) (now q) start (now depths) (now truth) (now cone) (now late) (now trail) (now gains) (now v) h s ⌝ }
     requires { ⌜ Masked (now m) (now q) start (now cone) (now late) (take h (now trail)) s i (now masks) × (i < length (now cone)) × (getD (now late) (getD (now cone) i 0) 0 ≡ 1) ⌝ }
     requires { ⌜ (j ≡ getD (now cone) i 0) × (d ≡ depth (formula (now q) (getD (now cone) i 0))) × (0 < d) × (d ≤ h + 1) ⌝ }
     ensures { λ r. ⌜ Worded (now (m .entry)) (now (q .entry)) start (now (cone .entry)) (take h (now (trail .entry))) s (getD (now (cone .entry)) i 0) r ⌝ }
@@ -79,12 +78,11 @@ fn mask_by(
             part(depths, v, masks, d, k, left(q, j)),
             part(depths, v, masks, d, k, right(q, j)),
         ),
-        5 => done(m, s, left(q, j)),
+        5 => done(m, s as usize, left(q, j)),
         6 => mask_at(masks, left(q, j)),
         7 => gained(
             m,
-            rewards,
-            s,
+            s as usize,
             right(q, j),
             gain_at(gains, h),
             gain_at(gains, k),
@@ -96,14 +94,13 @@ fn mask_by(
 
 // The word of the node at place i of the cone.
 fn mask_node(
-    m: &[u8],
+    m: &[u16; 8704],
     q: &[u8],
     depths: &[u32],
     truth: &[u8],
     cone: &[u8],
     late: &[u8; 40],
-    rewards: &[i32; 1024],
-    trail: &[u8],
+    trail: &[u16],
     gains: &[i32],
     v: &[u8],
     masks: &[u32],
@@ -112,14 +109,14 @@ fn mask_node(
     s: u8,
     i: usize,
 ) -> u32
-    requires { ⌜ Before-last (now m) (now q) start (now depths) (now truth) (now cone) (now late) (now rewards) (now trail) (now gains) (now v) h s ⌝ }
+    requires { ⌜ Before-last (now m) (now q) start (now depths) (now truth) (now cone) (now late) (now trail) (now gains) (now v) h s ⌝ }
     requires { ⌜ Masked (now m) (now q) start (now cone) (now late) (take h (now trail)) s i (now masks) × (i < length (now cone)) × (getD (now late) (getD (now cone) i 0) 0 ≡ 1) ⌝ }
     ensures { λ r. ⌜ Worded (now (m .entry)) (now (q .entry)) start (now (cone .entry)) (take h (now (trail .entry))) s (getD (now (cone .entry)) i 0) r ⌝ }
 {
     let j = cone[i];
     let d = depth_at(depths, j);
     if d == 0 {
-        return told(m, truth, s, j);
+        return told(m, truth, s as usize, j);
     }
     if d > h as u32 + 1 {
         return 0;
@@ -131,7 +128,6 @@ fn mask_node(
         truth,
         cone,
         late,
-        rewards,
         trail,
         gains,
         v,
@@ -147,21 +143,20 @@ fn mask_node(
 
 // The condition's word: its value on the path that each outcome of the state s ends.
 pub fn mask(
-    m: &[u8],
+    m: &[u16; 8704],
     q: &[u8],
     depths: &[u32],
     truth: &[u8],
     cone: &[u8],
     late: &[u8; 40],
-    rewards: &[i32; 1024],
-    trail: &[u8],
+    trail: &[u16],
     gains: &[i32],
     v: &[u8],
     start: u8,
     h: u8,
     s: u8,
 ) -> u32
-    requires { ⌜ Before-last (now m) (now q) start (now depths) (now truth) (now cone) (now late) (now rewards) (now trail) (now gains) (now v) h s ⌝ }
+    requires { ⌜ Before-last (now m) (now q) start (now depths) (now truth) (now cone) (now late) (now trail) (now gains) (now v) h s ⌝ }
     ensures { λ r. ⌜ Ended (now (m .entry)) (now (q .entry)) start (now (cone .entry)) (take h (now (trail .entry))) s r ⌝ }
 {
     let mut masks = [0u32; 40];
@@ -176,7 +171,6 @@ pub fn mask(
                 truth,
                 cone,
                 late,
-                rewards,
                 trail,
                 gains,
                 v,

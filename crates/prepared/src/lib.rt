@@ -1,6 +1,6 @@
 // A model prepared for those who go through its choices: one array of numbers, made once, in which the choices of a state stand in order.
 ghost use mathlib.Core.Path.{_≡_};
-ghost use Prim.Native.Nat.{ℕ, _<_, _≤_};
+ghost use Prim.Native.Nat.{ℕ, _<_, _≤_, _/_, _%_};
 ghost use lib.ListN.{length, getD};
 ghost use Rattle.logic.specs.promises.Refusal.{refusal};
 ghost use Rattle.models.specs.Grounds.{read-model};
@@ -120,6 +120,21 @@ pub fn reward(m: &[u16; 8704], s: usize, i: usize, o: usize) -> i32
     ensures { λ r. ⌜ r ≡ (step-in (now (m .entry)) s i o) .reward ⌝ }
 {
     signed(m[512 + 256 * s + 96 + 4 * i + o])
+}
+
+// The outcomes of a state by lanes: lane k is outcome k % 4 of choice k / 4.
+pub fn lane_target(m: &[u16; 8704], s: usize, k: usize) -> usize
+    requires { ⌜ (s < 32) × (k < 32) ⌝ }
+    ensures { λ r. ⌜ (r ≡ (step-in (now (m .entry)) s (k / 4) (k % 4)) .target) × (r < 65536) ⌝ }
+{
+    widened(m[512 + 256 * s + 32 + k])
+}
+
+pub fn lane_reward(m: &[u16; 8704], s: usize, k: usize) -> i32
+    requires { ⌜ (s < 32) × (k < 32) ⌝ }
+    ensures { λ r. ⌜ r ≡ (step-in (now (m .entry)) s (k / 4) (k % 4)) .reward ⌝ }
+{
+    signed(m[512 + 256 * s + 96 + k])
 }
 
 // The summed weights of the outcomes of choice i whose bits in the pattern y are 1.

@@ -1,16 +1,15 @@
-use Rattle.blocks.specs.Bytes.{byte, i16}
-use Rattle.models.specs.Layout.{outcome-of}
-use mathlib.Core.Path.{_≡_, ap, _∙_}
+use mathlib.Core.Path.{_≡_, ap, ap₂, _∙_}
 use Prim.Native.Nat.{_+_, _*_, _^_, _≤_, _<_}
 use native.Mathlib.Omega.{arith}
 use lib.IntN.{ℤ, pos, _+ℤ_}
 use lib.ListN.{length, getD, set, take}
 use lib.Seq.{length-take-le}
 use lib.Signed.{mag}
+use Rattle.prepared.specs.promises.Rows.{step-in}
 use Rattle.evaluation.specs.promises.Reached.{Ready}
-use Rattle.evaluation.proofs.Integers.{fits32, wider16, widened16, sum16, mag-add}
+use Rattle.evaluation.proofs.Integers.{fits32, sum32, mag-add}
 use Rattle.evaluation.proofs.Trails.{gain-small}
-use Rattle.evaluation.proofs.Stepping.{outcome-small, sizes-small, stepped}
+use Rattle.evaluation.proofs.Stepping.{state-small, sizes-small, stepped}
 use borrow.Author.Needs.{needs}
 use Rattle.evaluation.proofs.step.Statement.{statement}
 use Rattle.evaluation.proofs.step.Tie as tie
@@ -19,65 +18,74 @@ use Rattle.evaluation.proofs.step.Tie as tie
 abbrev P : (S : tie.Start) → Ready (S .args .m .now) (S .args .q .now) (S .args .start) (S .args .depths .now) (S .args .truth .now) (S .args .cone .now)
 P S = S .pre .0
 
-byte-fits : (S : tie.Start) → 4 * S .args .a + S .args .o < 256
-byte-fits S = omega (arith, sizes-small (P S) (S .pre .1 .1 .0) (S .pre .1 .1 .1), outcome-small (P S) (S .pre .1 .1 .0) (S .pre .1 .1 .1))
+sizes : (S : tie.Start) → (S .args .s < 32) × (S .args .i < 8) × (S .args .o < 4)
+sizes S = sizes-small (P S) (S .pre .1 .0) (S .pre .1 .1)
 
--- The sum of the rewards so far is small.
-gain-so-far : (S : tie.Start) → mag (getD (S .args .gains .now) (S .args .h) (pos 0)) ≤ 6006
-gain-so-far S =
-    let K = S .pre .1 .1 .1 in
-    let T = take (S .args .h) (S .args .trail .now) in
-    let n : length T ≡ S .args .h = length-take-le (S .args .h) (S .args .trail .now) (omega (arith, S .pre .1 .0 .steps, S .pre .1 .1 .0 .steps)) in
-    let g = gain-small (S .args .m .now) (P S .model-accepted) (K .followed) (P S .state) (S .args .h) in
-    rw (K .gained .right (S .args .h) (omega arith)) (omega (arith, S .pre .1 .1 .0 .steps))
+abbrev reward-of : tie.Start → ℤ
+reward-of S = (step-in (S .args .m .now) (S .args .s) (S .args .i) (S .args .o)) .reward
 
-sum-fits : (S : tie.Start) (r : ℤ) → mag r < 2 ^ 15 → mag (getD (S .args .gains .now) (S .args .h) (pos 0) +ℤ r) < 2 ^ 31
-sum-fits S r h = omega (arith, gain-so-far S, mag-add (getD (S .args .gains .now) (S .args .h) (pos 0)) r)
+whole : (S : tie.Start) → length (S .args .trail .now) ≡ 6 → length (take (S .args .h) (S .args .trail .now)) ≡ S .args .h
+whole S e = length-take-le (S .args .h) (S .args .trail .now) (omega (arith, S .pre .1 .0 .steps))
 
-outcome-at-requires : tie.Need-outcome-at-requires
-outcome-at-requires c κs = search needs
+-- The sum of the rewards so far is small, and so it stays.
+sum-fits : (S : tie.Start) → length (S .args .trail .now) ≡ 6 → mag (getD (S .args .gains .now) (S .args .h) (pos 0) +ℤ reward-of S) < 2 ^ 31
+sum-fits S e =
+    let K = S .pre .1 .1 in
+    let O = S .pre .1 .0 in
+    let so-far = getD (S .args .gains .now) (S .args .h) (pos 0) in
+    let n = whole S e in
+    let g = gain-small (P S .prepared) (K .followed) (P S .state) (S .args .h) in
+    let r = P S .prepared .modest (S .args .s) (S .args .i) (S .args .o) (state-small (P S) O K) (O .offers) in
+    omega (arith, mag-add so-far (reward-of S), ap mag (K .gained .right (S .args .h) (omega arith)), O .steps)
 
-mul-trail : tie.Need-mul-trail
-mul-trail c = record { fits = omega (arith, byte-fits (c .before .before .before .before .before .before .before .before)) }
+choice-requires : tie.Need-choice-requires
+choice-requires c κs = let S = c .before .before .before .before .before in
+    (P S .prepared, state-small (P S) (S .pre .1 .0) (S .pre .1 .1), S .pre .1 .0 .offers .0)
 
-add-trail : tie.Need-add-trail
-add-trail c = record { fits = byte-fits (c .before .before .before .before .before .before .before .before) }
+cast-put : tie.Need-cast-put
+cast-put c = search needs
 
-slice-write-trail : tie.Need-slice-write-trail
-slice-write-trail c = search needs
+mul-put : tie.Need-mul-put
+mul-put c = search needs
 
-mul-gains : tie.Need-mul-gains
-mul-gains c = search needs
+mul-put-2 : tie.Need-mul-put-2
+mul-put-2 c = search needs
 
-slice-copy-out-gains : tie.Need-slice-copy-out-gains
-slice-copy-out-gains c = search needs
+add-put : tie.Need-add-put
+add-put c = search needs
 
-add-i16-at : tie.Need-add-i16-at
-add-i16-at c = search needs
+add-put-2 : tie.Need-add-put-2
+add-put-2 c = search needs
 
-i16-at-requires : tie.Need-i16-at-requires
-i16-at-requires c κs = search needs
+put-requires : tie.Need-put-requires
+put-requires c κs = search needs
 
-cast-gains : tie.Need-cast-gains
-cast-gains c = wider16 (c .i16-at .result) (c .i16-at .ok)
+gain-at-requires : tie.Need-gain-at-requires
+gain-at-requires c κs = search needs
+
+reward-requires : tie.Need-reward-requires
+reward-requires c κs = sizes (c .before .before .before .before .before .before .before .before .before .before)
 
 add-gains : tie.Need-add-gains
-add-gains c = let S = c .before .before .before .before .before .before .before .before .before .before in
-    let r = c .i16-at in
-    rw (fits32 (getD (S .args .gains .now) (S .args .h) (pos 0)) (omega (arith, gain-so-far S)), widened16 (r .result) (r .ok))
-    (record { sfits = sum-fits S (r .result) (r .ok) })
+add-gains c = let S = c .before .before .before .before .before .before .before .before .before .before .before in
+    let g = c .before .gain-at in
+    rw (fits32 (g .result) (g .ok), fits32 (c .reward .result) (c .reward .ok)) (record { sfits = rw (g .ensures, c .reward .ensures) (sum-fits S (c .before .before .before .before .before .before .put-arg .given .0 .1)) })
 
-add-t19 : tie.Need-add-t19
-add-t19 c = search needs
+add-t35 : tie.Need-add-t35
+add-t35 c = search needs
 
-mul-t28 : tie.Need-mul-t28
-mul-t28 c = search needs
+mul-t36 : tie.Need-mul-t36
+mul-t36 c = search needs
 
-slice-set-from-gains : tie.Need-slice-set-from-gains
-slice-set-from-gains c = search needs
+element-set-from-gains : tie.Need-element-set-from-gains
+element-set-from-gains c = search needs
 
-byte-requires : tie.Need-byte-requires
-byte-requires c κs = search needs
+target-requires : tie.Need-target-requires
+target-requires c κs = sizes (c .before .before .before .before .before .before .before .before .before .before .before)
+
+cast-t : tie.Need-cast-t
+cast-t c = let S = c .before .before .before .before .before .before .before .before .before .before .before .before in
+    record { fits = omega (arith, c .target .ensures, P S .prepared .inside (S .args .s) (S .args .i) (S .args .o) (state-small (P S) (S .pre .1 .0) (S .pre .1 .1)) (S .pre .1 .0 .offers), P S .prepared .states) }
 
 add-learn : tie.Need-add-learn
 add-learn c = search needs
@@ -85,49 +93,36 @@ add-learn c = search needs
 learn-requires : tie.Need-learn-requires
 learn-requires c κs = search needs
 
-same-length : tie.Need-same-length
-same-length c = search needs
-
-same-length-2 : tie.Need-same-length-2
-same-length-2 c = search needs
-
-same-length-3 : tie.Need-same-length-3
-same-length-3 c = search needs
-
 returns : tie.Need-returns
-unfolding outcome-of
-returns c = let S = c .before .before .before .before .before .before .before .before .before .before .before .before .before .before .before .before .before in
-    let r = c .before .before .before .before .before .before .before .i16-at in
-    let g = getD (S .args .gains .now) (S .args .h) (pos 0) in
-    let at = c .before .before .before .before .before .before .before .before .before .outcome-at .ensures .0 in
-    stepped (P S) (S .pre .1 .1 .0) (S .pre .1 .1 .1) (S .pre .1 .0) _ _ _
-    (c .before .before .before .before .before .before .byte .ensures ∙ ap (byte (S .args .m .now)) at)
-    (ap (set (S .args .gains .now) (S .args .h + 1))
-    (sum16 g (r .result) (omega (arith, gain-so-far S)) (r .ok) (sum-fits S (r .result) (r .ok))
-    ∙ ap (λ z. g +ℤ z) (r .ensures ∙ ap (λ i. i16 (S .args .m .now) (i + 2)) at)))
-    (c .before .before .learn .ensures)
+returns c = let S = c .before .before .before .before .before .before .before .before .before .before .before .before .before .before .before .before .before .before in
+    let g = c .before .before .before .before .before .before .before .before .gain-at in
+    let r = c .before .before .before .before .before .before .before .reward in
+    let n = c .before .before .before .before .before .before .before .before .before .before .before .before .before .put-arg .given .0 .1 in
+    stepped (P S) (S .pre .1 .0) (S .pre .1 .1) (whole S n) n (c .before .before .before .before .before .before .before .before .before .gain-at-arg2 .given .0) (c .before .learn-arg5 .given .0 .1) _ _ _ _
+    (c .before .before .before .before .before .before .target .ensures)
+    (c .before .before .before .before .before .before .before .before .before .before .before .put .ensures ∙ ap (λ a. set (S .args .trail .now) (S .args .h) (32 * a + 4 * S .args .i + S .args .o)) (c .before .before .before .before .before .before .before .before .before .before .before .before .choice .ensures))
+    (ap (set (S .args .gains .now) (S .args .h + 1)) (sum32 (g .result) (r .result) (g .ok) (r .ok) (rw (g .ensures, r .ensures) (sum-fits S n)) ∙ ap₂ _+ℤ_ (g .ensures) (r .ensures)))
+    (c .learn .ensures)
 
 pub step-spec : {M : Type 1} → statement M
 step-spec =
     tie.close
     (tie.spec
-    outcome-at-requires
-    mul-trail
-    add-trail
-    slice-write-trail
-    mul-gains
-    slice-copy-out-gains
-    add-i16-at
-    i16-at-requires
-    cast-gains
+    choice-requires
+    cast-put
+    mul-put
+    mul-put-2
+    add-put
+    add-put-2
+    put-requires
+    gain-at-requires
+    reward-requires
     add-gains
-    add-t19
-    mul-t28
-    slice-set-from-gains
-    byte-requires
+    add-t35
+    mul-t36
+    element-set-from-gains
+    target-requires
+    cast-t
     add-learn
     learn-requires
-    same-length
-    same-length-2
-    same-length-3
     returns)

@@ -44,11 +44,14 @@ right-requires c κs = search needs
 known-requires-3 : tie.Need-known-requires-3
 known-requires-3 c κs = search needs
 
-byte-requires : tie.Need-byte-requires
-byte-requires c κs = search needs
+number-at-requires : tie.Need-number-at-requires
+number-at-requires c κs = search needs
 
 left-requires-3 : tie.Need-left-requires-3
 left-requires-3 c κs = search needs
+
+cast-bit : tie.Need-cast-bit
+cast-bit c = search needs
 
 bit-requires-2 : tie.Need-bit-requires-2
 bit-requires-2 c κs = search needs
@@ -82,7 +85,7 @@ returns-2 c = by-op (c .before .before .before .before .before .before .before .
 returns-3 : tie.Need-returns-3
 unfolding value-by
 returns-3 c = by-op (c .before .before .before .before .before .before .before .before) 5 (c .before .before .before .before .operator .ensures) (c .before .before .before .match .keys3)
-    (c .bit2 .ensures ∙ ap₂ (λ (x l : ℕ). one-if (eqb (x / 4) l)) (c .before .before .byte .ensures) (c .before .left3 .ensures))
+    (c .bit2 .ensures ∙ ap₂ (λ (x l : ℕ). one-if (eqb (x / 32) l)) (c .before .before .number-at .ensures) (c .before .left3 .ensures))
 
 returns-4 : tie.Need-returns-4
 unfolding value-by
@@ -113,8 +116,9 @@ value-by-spec =
     known-requires-2
     right-requires
     known-requires-3
-    byte-requires
+    number-at-requires
     left-requires-3
+    cast-bit
     bit-requires-2
     left-requires-4
     add-known

@@ -32,7 +32,7 @@ value-by q trail gains h k j op v =
     ∷ 0
     ∷ one-if (eqb (known v left k) 0)
     ∷ bitAnd (known v left k) (known v right k)
-    ∷ one-if (eqb (byte trail k / 4) left)
+    ∷ one-if (eqb (byte trail k / 32) left)
     ∷ known v left (k + 1)
     ∷ one-if (gained q gains h k j)
     ∷ [])

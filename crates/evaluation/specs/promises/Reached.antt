@@ -9,8 +9,8 @@ use Rattle.logic.specs.Model.{Step}
 use Rattle.logic.specs.Formula.{Formula, never, depth}
 use Rattle.logic.specs.promises.Total.{value-of}
 use Rattle.blocks.specs.Bytes.{Bytes}
-use Rattle.models.specs.Layout.{state-count, action-count, prop-count, outcome-of, entries, model-of}
-use Rattle.models.specs.Grounds.{read-model}
+use Rattle.models.specs.Layout.{state-count, action-count, prop-count}
+use Rattle.prepared.specs.promises.Rows.{step-in, Offers, model-in, Prepared}
 use Rattle.questions.specs.Layout.{node-count, node-of, formulas-of}
 use Rattle.questions.specs.Grounds.{read-question}
 use Rattle.questions.specs.promises.Tables.{table}
@@ -20,14 +20,14 @@ use Rattle.evaluation.specs.promises.Path.{steps-of}
 abbrev pub formula : Bytes → ℕ → Formula
 formula q j = getD (formulas-of q) j never
 
--- The pairs of a node and a state that the truth of node c in s, on whatever path, can turn on.
+-- `m` is a prepared model here and above. The pairs of a node and a state that the truth of node c in s, on whatever path, can turn on.
 pub data Reached (m q : Bytes) (c s : ℕ) : ℕ → ℕ → Type 0 where
   itself : Reached m q c s c s
   under-not : {j t : ℕ} → Reached m q c s j t → (node-of q j) .operator ≡ 3 → Reached m q c s ((node-of q j) .left) t
   and-left : {j t : ℕ} → Reached m q c s j t → (node-of q j) .operator ≡ 4 → Reached m q c s ((node-of q j) .left) t
   and-right : {j t : ℕ} → Reached m q c s j t → (node-of q j) .operator ≡ 4 → Reached m q c s ((node-of q j) .right) t
-  under-next : {j t : ℕ} (a i : ℕ) → Reached m q c s j t → (node-of q j) .operator ≡ 6 → i < entries m t a
-      → Reached m q c s ((node-of q j) .left) ((outcome-of m t a i) .target)
+  under-next : {j t : ℕ} (i o : ℕ) → Reached m q c s j t → (node-of q j) .operator ≡ 6 → Offers m t i o
+      → Reached m q c s ((node-of q j) .left) ((step-in m t i o) .target)
 
 -- "not", "and" and "next" read their child on the path.
 unfoldable pub reads-left : ℕ → Bool
@@ -52,15 +52,15 @@ root-of cone = getD cone (length cone - 1) 0
 
 -- The value of the condition at the cone's root on the path that begins with the trail t and goes on with r.
 abbrev pub on-path : (m q : Bytes) (start : ℕ) (cone t : List ℕ) → List Step → ℕ
-on-path m q start cone t r = value-of (model-of m) (formula q (root-of cone)) start (steps-of m start t ++ r)
+on-path m q start cone t r = value-of (model-in m) (formula q (root-of cone)) start (steps-of m start t ++ r)
 
 -- What a search from s for the condition at the root of a cone is handed. `truth` has 32 places a node: 1 where a state formula is true
 -- in a state, and it has to be right only where it is read.
 pub record Ready (m q : Bytes) (s : ℕ) (depths truth cone : List ℕ) : Type 0 where
-  pub model-accepted : refusal (read-model m) ≡ 0
+  pub prepared : Prepared m
   pub question-accepted : refusal (read-question (state-count m) (action-count m) (prop-count m) q) ≡ 0
   pub state : s < state-count m
   pub depths-right : depths ≡ table depth (formulas-of q)
   pub ordered : Cone q cone
   pub truth-right : (j t : ℕ) → Reached m q (root-of cone) s j t → depth (formula q j) ≡ 0
-      → getD truth (32 * j + t) 0 ≡ value-of (model-of m) (formula q j) t []
+      → getD truth (32 * j + t) 0 ≡ value-of (model-in m) (formula q j) t []

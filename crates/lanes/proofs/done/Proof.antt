@@ -1,49 +1,54 @@
--- The invariant: the lanes from i up are made.
+-- The invariant: the lanes from k up are made.
 use Prim.Native.Nat.{_*_, _/_, _≤_}
 use native.Mathlib.Omega.{arith}
-use mathlib.Core.Path.{_≡_, refl}
-use lib.Dec.{eqb}
+use mathlib.Core.Path.{_≡_, ap}
 use borrow.Author.Needs.{needs}
-use Rattle.models.specs.Layout.{action-count}
 use Rattle.lanes.proofs.Words.{Built, built-none, built-small, built-more, few-lanes, laned}
+use lib.Dec.{eqb}
+use Rattle.prepared.specs.promises.Rows.{choices-in, choice-in}
 use Rattle.lanes.proofs.done.Statement.{statement}
 use Rattle.lanes.proofs.done.Tie as tie
 
 abbrev Inv-loop : tie.InvT-loop
-Inv-loop m s a x₀ i₀ x i = (i ≤ 4 * action-count m) × Built (λ k. eqb (k / 4) a) (4 * action-count m) i x
+Inv-loop m s a x₀ k₀ x k = (k ≤ 4 * choices-in m s) × Built (λ n. eqb (choice-in m s (n / 4)) a) (4 * choices-in m s) k x
 
 abbrev μ-loop : tie.MeasureT-loop
-μ-loop m s a x₀ i₀ x i = i
+μ-loop m s a x₀ k₀ x k = k
 
-wide-requires : tie.Need-wide-requires Inv-loop μ-loop
-wide-requires c κs = search needs
+choices-requires : tie.Need-choices-requires Inv-loop μ-loop
+choices-requires c κs = omega (arith, c .pre .0 .states, c .pre .1)
 
-mul-i : tie.Need-mul-i Inv-loop μ-loop
-mul-i c = search needs
+mul-k : tie.Need-mul-k Inv-loop μ-loop
+mul-k c = record { fits = omega (arith, few-lanes (c .before .pre .0) (c .before .args .s) (c .before .pre .1)) }
 
 loop-holds : tie.Need-loop-holds Inv-loop μ-loop
-loop-holds c = (omega arith, built-none (λ k. eqb (k / 4) (c .before .before .args .a)) _ (omega arith))
+loop-holds c = (omega arith, built-none _ _ (omega arith))
 
-sub-i : tie.Need-sub-i Inv-loop μ-loop
-sub-i c = search needs
+sub-k : tie.Need-sub-k Inv-loop μ-loop
+sub-k c = search needs
+
+choice-requires : tie.Need-choice-requires Inv-loop μ-loop
+choice-requires c κs = let S = c .before .before .before in
+    (S .pre .0, S .pre .1, omega arith)
 
 pushed-requires : tie.Need-pushed-requires Inv-loop μ-loop
-pushed-requires c κs = let S = c .before .before .before .before in
-    let L = c .before .loop in
-    built-small _ _ (c .loop-test .taken) (L .inv .0) (L .inv .1) (few-lanes (S .args .m .now) (S .pre .0))
+pushed-requires c κs = let L = c .before .before .loop in
+    let S = c .before .before .before .before in
+    built-small _ _ (c .before .loop-test .taken) (L .inv .0) (L .inv .1) (few-lanes (S .pre .0) (S .args .s) (S .pre .1))
 
 loop-less : tie.Need-loop-less Inv-loop μ-loop
 loop-less c = search needs
 
 loop-again : tie.Need-loop-again Inv-loop μ-loop
-loop-again c = let L = c .before .before .loop in
-    (omega arith, built-more _ _ (c .before .loop-test .taken) (L .inv .0) (L .inv .1) (c .pushed .ensures) refl)
+loop-again c = let L = c .before .before .before .loop in
+    (omega arith, built-more _ _ (c .before .before .loop-test .taken) (L .inv .0) (L .inv .1) (c .pushed .ensures) (ap (λ b. eqb b (c .before .before .before .before .before .args .a)) (c .before .choice .ensures)))
 
 returns : tie.Need-returns Inv-loop μ-loop
-returns c = let S = c .before .before .before .before in
+returns c = let S = c .before .before .before in
     let L = c .before .loop in
-    let e : L .i ≡ 0 = omega arith in
-    laned (S .args .m .now) (S .pre .0) (S .args .s) (λ b o. eqb b (S .args .a)) (L .x) (rw e at (L .inv .1))
+    let A = S .args in
+    let e : L .k ≡ 0 = omega arith in
+    laned (S .pre .0) (A .s) (S .pre .1) (λ i o. eqb (choice-in (A .m .now) (A .s) i) (A .a)) (L .x) (rw e at (L .inv .1))
 
 pub done-spec : {M : Type 1} → statement M
 done-spec =
@@ -51,10 +56,11 @@ done-spec =
     (tie.spec
     Inv-loop
     μ-loop
-    wide-requires
-    mul-i
+    choices-requires
+    mul-k
     loop-holds
-    sub-i
+    sub-k
+    choice-requires
     pushed-requires
     loop-less
     loop-again

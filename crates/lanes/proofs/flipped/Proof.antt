@@ -1,4 +1,4 @@
-use Rattle.lanes.proofs.Words.{lane-flip}
+use Rattle.prepared.proofs.Words.{lane-flip}
 use Rattle.lanes.proofs.flipped.Statement.{statement}
 use Rattle.lanes.proofs.flipped.Tie as tie
 

@@ -1,7 +1,7 @@
 use Prim.Native.Nat.{_/_, _%_, _^_}
 use mathlib.Core.Path.{ap, _∙_}
 use lib.Bits.{and-shr, and-mod}
-use Rattle.lanes.specs.promises.Lanes.{lane}
+use Rattle.prepared.specs.promises.Rows.{lane}
 use Rattle.lanes.proofs.met.Statement.{statement}
 use Rattle.lanes.proofs.met.Tie as tie
 

@@ -1,6 +1,6 @@
 use borrow.Author.Tests.{ne-eqb}
 use Rattle.logic.specs.promises.Total.{one-if}
-use Rattle.lanes.proofs.Words.{lane-none, lane-ones}
+use Rattle.prepared.proofs.Words.{lane-none, lane-ones}
 use Rattle.lanes.proofs.spread.Statement.{statement}
 use Rattle.lanes.proofs.spread.Tie as tie
 

@@ -1,59 +1,40 @@
--- The table has the sum for the pattern of the action's lanes.
+-- The array has the sum for the pattern of the choice's lanes.
+use Prim.Native.Nat.{_*_, _/_, _^_, _<_}
 use native.Mathlib.Omega.{arith}
-use mathlib.Core.Path.{_∙_}
-use Rattle.lanes.proofs.Patterns.{sum-at, weighed-in}
+use mathlib.Core.Path.{ap, _∙_}
+use Rattle.prepared.specs.promises.Rows.{outcomes-in, step-in}
+use Rattle.prepared.proofs.Words.{lane-low, lane-shr, sum-same}
 use borrow.Author.Needs.{needs}
 use Rattle.lanes.proofs.total.Statement.{statement}
 use Rattle.lanes.proofs.total.Tie as tie
 
+place-small : (S : tie.Start) → S .args .i < 8
+place-small S = omega (arith, S .pre .0 .few-choices (S .args .s) (S .pre .1), S .pre .2)
+
+cast-y : tie.Need-cast-y
+cast-y c = record { fits = omega (arith, place-small c) }
+
 mul-y : tie.Need-mul-y
-mul-y c = search needs
+mul-y c = record { fits = omega (arith, place-small c) }
 
 shr-y : tie.Need-shr-y
-shr-y c = search needs
+shr-y c = omega (arith, place-small c)
 
-mul-widened : tie.Need-mul-widened
-mul-widened c = search needs
+cast-sum : tie.Need-cast-sum
+cast-sum c = search needs
 
-mul-widened-2 : tie.Need-mul-widened-2
-mul-widened-2 c = search needs
-
-add-widened : tie.Need-add-widened
-add-widened c = search needs
-
-cast-widened : tie.Need-cast-widened
-cast-widened c = search needs
-
-add-widened-2 : tie.Need-add-widened-2
-add-widened-2 c = search needs
-
-mul-widened-3 : tie.Need-mul-widened-3
-mul-widened-3 c = search needs
-
-element-copy-out-widened : tie.Need-element-copy-out-widened
-element-copy-out-widened c = search needs
-
-widened-requires : tie.Need-widened-requires
-widened-requires c κs = search needs
+sum-requires : tie.Need-sum-requires
+sum-requires c κs = (omega (arith, c .pre .0 .states, c .pre .1), place-small c, omega arith)
 
 returns : tie.Need-returns
-returns c = let S = c .before .before .before in
+returns c = let S = c .before in
     let A = S .args in
-    c .widened .ensures ∙ sum-at (A .m .now) (A .s) (A .a) _ (S .pre .4) (omega arith) (S .pre .5) (S .pre .1) (S .pre .3)
-    ∙ weighed-in (A .m .now) (S .pre .0) (A .s) (A .a) (A .x)
+    let w = S .pre .0 in
+    let few = w .few-outcomes (A .s) (A .i) (S .pre .1) (S .pre .2) in
+    c .sum .ensures .0
+    ∙ w .sums (A .s) (A .i) _ (S .pre .1) (S .pre .2) (omega arith)
+    ∙ sum-same _ _ (outcomes-in (A .m .now) (A .s) (A .i))
+    (λ o l. ap (λ b. (step-in (A .m .now) (A .s) (A .i) o) .weight * b) (lane-low (A .x / 2 ^ (4 * A .i)) o (omega arith) ∙ lane-shr (A .x) (4 * A .i) o))
 
 pub total-spec : {M : Type 1} → statement M
-total-spec =
-    tie.close
-    (tie.spec
-    mul-y
-    shr-y
-    mul-widened
-    mul-widened-2
-    add-widened
-    cast-widened
-    add-widened-2
-    mul-widened-3
-    element-copy-out-widened
-    widened-requires
-    returns)
+total-spec = tie.close (tie.spec cast-y mul-y shr-y cast-sum sum-requires returns)

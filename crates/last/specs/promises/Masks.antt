@@ -7,30 +7,30 @@ use lib.ListN.{getD, length, take, drop}
 use Rattle.logic.specs.Formula.{depth}
 use Rattle.logic.specs.promises.Total.{value-of}
 use Rattle.blocks.specs.Bytes.{Bytes}
-use Rattle.models.specs.Layout.{outcome-of, entries, model-of}
-use Rattle.evaluation.specs.promises.Path.{steps-of, state-after}
+use Rattle.prepared.specs.promises.Rows.{step-in, Offers, lane, model-in}
+use Rattle.evaluation.specs.promises.Path.{number-of, steps-of, state-after}
 use Rattle.evaluation.specs.promises.Reached.{formula, Reached, root-of, on-path, Ready}
-use Rattle.evaluation.specs.promises.Known.{Knows, Roomy}
-use Rattle.lanes.specs.promises.Lanes.{lane, Laned, Rewards}
+use Rattle.evaluation.specs.promises.Known.{Knows}
+use Rattle.lanes.specs.promises.Lanes.{Laned}
 use Rattle.last.specs.promises.Late.{Late}
 
--- One step is left of those that the condition looks ahead; the first h bytes of the trail lead from the start to the state s.
-pub record Before-last (m q : Bytes) (start : ℕ) (depths truth cone late : List ℕ) (rewards : List ℤ) (trail : List ℕ) (gains : List ℤ) (v : List ℕ) (h s : ℕ) : Type 0 where
+-- One step is left of those that the condition looks ahead; the first h numbers of the trail lead from the start to the state s.
+pub record Before-last (m q : Bytes) (start : ℕ) (depths truth cone late trail : List ℕ) (gains : List ℤ) (v : List ℕ) (h s : ℕ) : Type 0 where
   pub ready : Ready m q start depths truth cone
   pub marked : Late q cone late
-  pub rewarded : Rewards m rewards
-  pub roomy : Roomy trail gains v
+  pub whole : length (take h trail) ≡ h
+  pub room : length gains ≡ 7
   pub knows : Knows m q start cone (take h trail) gains v
   pub state : state-after m start (take h trail) ≡ s
   pub deep : depth (formula q (root-of cone)) ≡ h + 1
   pub few : h < 6
 
--- The word of node j after the trail t, which led to the state s: in the lane of the outcome o of the action a, the node's value at the
--- place where it becomes known with that outcome.
+-- The word of node j after the trail t, which led to the state s: in the lane of the outcome o of the choice at place i, the node's value
+-- at the place where it becomes known with that outcome.
 pub record Worded (m q : Bytes) (start : ℕ) (cone t : List ℕ) (s j x : ℕ) : Type 0 where
-  pub right : (k a o : ℕ) → o < entries m s a → k + depth (formula q j) ≡ length t + 1
-      → Reached m q (root-of cone) start j (state-after m start (take k (t ++ ((4 * a + o) ∷ []))))
-      → lane x (4 * a + o) ≡ value-of (model-of m) (formula q j) (state-after m start (take k (t ++ ((4 * a + o) ∷ [])))) (drop k (steps-of m start (t ++ ((4 * a + o) ∷ []))))
+  pub right : (k i o : ℕ) → Offers m s i o → k + depth (formula q j) ≡ length t + 1
+      → Reached m q (root-of cone) start j (state-after m start (take k (t ++ (number-of m s i o ∷ []))))
+      → lane x (4 * i + o) ≡ value-of (model-in m) (formula q j) (state-after m start (take k (t ++ (number-of m s i o ∷ [])))) (drop k (steps-of m start (t ++ (number-of m s i o ∷ []))))
 
 -- The words of the first i nodes of a cone, as far as they are marked.
 pub record Masked (m q : Bytes) (start : ℕ) (cone late t : List ℕ) (s i : ℕ) (masks : List ℕ) : Type 0 where
@@ -38,4 +38,4 @@ pub record Masked (m q : Bytes) (start : ℕ) (cone late t : List ℕ) (s i : �
 
 -- The condition's own word: its value on the path that each outcome ends.
 abbrev pub Ended : (m q : Bytes) (start : ℕ) (cone t : List ℕ) (s x : ℕ) → Type 0
-Ended m q start cone t s x = Laned m s (λ a o. on-path m q start cone t (outcome-of m s a o ∷ [])) x
+Ended m q start cone t s x = Laned m s (λ i o. on-path m q start cone t (step-in m s i o ∷ [])) x

@@ -12,14 +12,14 @@ use mir.Val.{toZ, ofZ}
 use Rattle.logic.specs.Formula.{Node, depth, relation}
 use Rattle.logic.specs.Quantity.{integers, related}
 use Rattle.logic.specs.promises.Total.{one-if}
-use Rattle.models.specs.Layout.{outcome-of}
+use Rattle.prepared.specs.promises.Rows.{choice-in, step-in, lane}
 use Rattle.questions.specs.Layout.{node-of}
 use Rattle.evaluation.proofs.Integers.{fits32}
 use Rattle.evaluation.specs.promises.Learnt.{known}
 use Rattle.evaluation.specs.promises.Reached.{formula}
-use Rattle.lanes.specs.promises.Lanes.{lane, Lanes, Laned}
+use Rattle.lanes.specs.promises.Lanes.{Lanes, Laned}
 use Rattle.last.specs.promises.Masks.{Worded}
-use Rattle.last.proofs.Masking.{state-here, few-states, not-word, Part, and-word, do-word, next-word, gain-word, no-word}
+use Rattle.last.proofs.Masking.{state-here, not-word, Part, and-word, do-word, next-word, gain-word, no-word}
 use borrow.Author.Needs.{needs}
 use Rattle.last.proofs.masks.mask_by.Statement.{statement}
 use Rattle.last.proofs.masks.mask_by.Tie as tie
@@ -56,7 +56,7 @@ signed {x} h e = fits32 x h ∙ e
 -- A word that `gained` gives.
 abbrev Gains : tie.Start → (kind : ℕ) (after before bound : ℤ) → ℕ → Type 0
 Gains S kind after before bound r =
-    Laned (S .args .m .now) (S .args .s) (λ a o. one-if (related integers (relation kind) ((after -ℤ before) +ℤ (outcome-of (S .args .m .now) (S .args .s) a o) .reward) bound)) r
+    Laned (S .args .m .now) (S .args .s) (λ a o. one-if (related integers (relation kind) ((after -ℤ before) +ℤ (step-in (S .args .m .now) (S .args .s) a o) .reward) bound)) r
 
 gain-lanes : (S : tie.Start) {kind : ℕ} {after before bound : ℤ} {r : ℕ} → kind ≡ node S .right → after ≡ getD (S .args .gains .now) (S .args .h) (pos 0)
     → before ≡ getD (S .args .gains .now) (S .args .h + 1 - S .args .d) (pos 0) → bound ≡ node S .p → Gains S kind after before bound r
@@ -107,7 +107,7 @@ left-requires-3 : tie.Need-left-requires-3
 left-requires-3 c κs = search needs
 
 done-requires : tie.Need-done-requires
-done-requires c κs = let S = c .before .before .before .before .before .before .before .before .before .before .before in (S .pre .0 .ready .model-accepted, few-states (S .pre .0))
+done-requires c κs = let S = c .before .before .before .before .before .before .before .before .before .before in (S .pre .0 .ready .prepared, state-here (S .pre .0))
 
 left-requires-4 : tie.Need-left-requires-4
 left-requires-4 c κs = search needs
@@ -128,17 +128,17 @@ p-requires : tie.Need-p-requires
 p-requires c κs = search needs
 
 gained-requires : tie.Need-gained-requires
-gained-requires c κs = let S = c .before .before .before .before .before .before .before .before .before .before .before .before .before .before in ((S .pre .0 .ready .model-accepted, state-here (S .pre .0), few-states (S .pre .0)), S .pre .0 .rewarded)
+gained-requires c κs = let S = c .before .before .before .before .before .before .before .before .before .before .before .before .before in (S .pre .0 .ready .prepared, state-here (S .pre .0))
 
 returns : tie.Need-returns
-returns c = let S = c .before .before .before .before .before .before .before .before .before .before .before .before .before in
+returns c = let S = c .before .before .before .before .before .before .before .before .before .before .before .before in
     let w = c .before .mask-at .ensures ∙ ap (λ z. getD (S .args .masks .now) z 0) (c .before .before .left .ensures ∙ field S (λ n. n .left)) in
     not-word (S .pre .0) (S .pre .1 .0 .0) (S .pre .1 .0 .1) (S .pre .1 .0 .2) (path S) (c .flipped .result)
     (sym (field S (λ n. n .operator)) ∙ sym (c .before .before .before .before .operator .ensures) ∙ c .before .before .before .match .keys1)
     (subst (λ x. Lanes (λ n. one-if (eqb (lane x n) 0)) (c .flipped .result)) w (c .flipped .ensures))
 
 returns-2 : tie.Need-returns-2
-returns-2 c = let S = c .before .before .before .before .before .before .before .before .before .before .before .before .before .before .before in
+returns-2 c = let S = c .before .before .before .before .before .before .before .before .before .before .before .before .before .before in
     and-word (S .pre .0) (S .pre .1 .0 .0) (S .pre .1 .0 .1) (S .pre .1 .0 .2) (path S) (c .met .result) (S .args .h + 1 - S .args .d) (c .before .before .before .part .result) (c .before .part2 .result)
     (sym (field S (λ n. n .operator)) ∙ sym (c .before .before .before .before .before .before .operator .ensures) ∙ c .before .before .before .before .before .match .keys2) (level S)
     (part-of S (c .before .before .before .before .left2 .ensures ∙ field S (λ n. n .left)) (c .before .before .before .part .ensures))
@@ -146,26 +146,26 @@ returns-2 c = let S = c .before .before .before .before .before .before .before 
     (c .met .ensures)
 
 returns-3 : tie.Need-returns-3
-returns-3 c = let S = c .before .before .before .before .before .before .before .before .before .before .before .before in
+returns-3 c = let S = c .before .before .before .before .before .before .before .before .before .before .before in
     do-word (S .pre .0) (S .pre .1 .0 .0) (S .pre .1 .0 .1) (S .pre .1 .0 .2) (path S) (c .done .result)
     (sym (field S (λ n. n .operator)) ∙ sym (c .before .before .before .operator .ensures) ∙ c .before .before .match .keys3)
-    (subst (λ x. Laned (S .args .m .now) (S .args .s) (λ b o. one-if (eqb b x)) (c .done .result)) (c .before .left3 .ensures ∙ field S (λ n. n .left)) (c .done .ensures))
+    (subst (λ x. Laned (S .args .m .now) (S .args .s) (λ a o. one-if (eqb (choice-in (S .args .m .now) (S .args .s) a) x)) (c .done .result)) (c .before .left3 .ensures ∙ field S (λ n. n .left)) (c .done .ensures))
 
 returns-4 : tie.Need-returns-4
-returns-4 c = let S = c .before .before .before .before .before .before .before .before .before .before .before .before in
+returns-4 c = let S = c .before .before .before .before .before .before .before .before .before .before .before in
     subst (Owed S) (sym (c .mask-at2 .ensures ∙ ap (λ z. getD (S .args .masks .now) z 0) (c .before .left4 .ensures ∙ field S (λ n. n .left))))
     (next-word (S .pre .0) (S .pre .1 .0 .0) (S .pre .1 .0 .1) (S .pre .1 .0 .2) (path S)
     (sym (field S (λ n. n .operator)) ∙ sym (c .before .before .before .operator .ensures) ∙ c .before .before .match .keys4))
 
 returns-5 : tie.Need-returns-5
-returns-5 c = let S = c .before .before .before .before .before .before .before .before .before .before .before .before .before .before .before in
+returns-5 c = let S = c .before .before .before .before .before .before .before .before .before .before .before .before .before .before in
     gain-word (S .pre .0) (S .pre .1 .0 .0) (S .pre .1 .0 .1) (S .pre .1 .0 .2) (path S) (c .gained .result) (S .args .h + 1 - S .args .d)
     (sym (field S (λ n. n .operator)) ∙ sym (c .before .before .before .before .before .before .operator .ensures) ∙ c .before .before .before .before .before .match .keys5) (level S)
     (gain-lanes S {r = c .gained .result} (c .before .before .before .before .right2 .ensures ∙ field S (λ n. n .right)) (signed (c .before .before .before .gain-at .ok) (c .before .before .before .gain-at .ensures))
     (signed (c .before .before .gain-at2 .ok) (c .before .before .gain-at2 .ensures)) (signed (c .before .p .ok) (c .before .p .ensures ∙ field S (λ n. n .p))) (c .gained .ensures))
 
 returns-6 : tie.Need-returns-6
-returns-6 c = let S = c .before .before .before .before .before .before .before .before .before .before in
+returns-6 c = let S = c .before .before .before .before .before .before .before .before .before in
     let n = c .match .rest in
     let e = c .before .operator .ensures ∙ field S (λ n. n .operator) in
     no-word (S .pre .0) (S .pre .1 .0 .0) (S .pre .1 .0 .1) (S .pre .1 .0 .2) (path S) 0

@@ -5,7 +5,7 @@ use lib.ListN.{getD}
 use Rattle.logic.specs.Formula.{depth}
 use Rattle.evaluation.specs.promises.Reached.{formula}
 use Rattle.evaluation.proofs.Knowing.{depth-is, cone-node}
-use Rattle.last.proofs.Masking.{few-states, state-word, deep-word}
+use Rattle.last.proofs.Masking.{state-here, state-word, deep-word}
 use borrow.Author.Needs.{needs}
 use Rattle.last.proofs.masks.mask_node.Statement.{statement}
 use Rattle.last.proofs.masks.mask_node.Tie as tie
@@ -21,21 +21,21 @@ depth-at-requires : tie.Need-depth-at-requires
 depth-at-requires c κs = search needs
 
 told-requires : tie.Need-told-requires
-told-requires c κs = let S = c .before .before .before .before .before .before .before .before .before .before .before in (S .pre .0 .ready .model-accepted, few-states (S .pre .0))
+told-requires c κs = let S = c .before .before .before .before .before .before .before .before .before .before in (S .pre .0 .ready .prepared, state-here (S .pre .0))
 
 returns : tie.Need-returns
-returns c = let S = c .before .before .before .before .before .before .before .before .before .before .before .before in
+returns c = let S = c .before .before .before .before .before .before .before .before .before .before .before in
     state-word (S .pre .0) (S .pre .1 .1) (c .told .result) (deep S ∙ sym (c .before .before .depth-at .ensures) ∙ c .before .if1 .taken) (c .told .ensures)
 
 add-if2 : tie.Need-add-if2
 add-if2 c = search needs
 
 returns-2 : tie.Need-returns-2
-returns-2 c = let S = c .before .before .before .before .before .before .before .before .before .before .before .before in
+returns-2 c = let S = c .before .before .before .before .before .before .before .before .before .before .before in
     deep-word (S .pre .0) (S .pre .1 .1) 0 (omega (arith, deep S, c .before .before .depth-at .ensures, c .if2 .taken))
 
 mask-by-requires : tie.Need-mask-by-requires
-mask-by-requires c κs = let S = c .before .before .before .before .before .before .before .before .before .before .before .before in
+mask-by-requires c κs = let S = c .before .before .before .before .before .before .before .before .before .before .before in
     let e = c .before .before .depth-at .ensures ∙ sym (deep S) in
     (S .pre .0, (S .pre .1, (refl, e, pos-of-ne-zero (c .before .if1 .left), omega (arith, c .if2 .left))))
 
