@@ -2,27 +2,18 @@
 use Prim.Native.Nat.{ℕ, zero, suc, _+_, _*_, _-_, _≤_, _<_, min, zero-le}
 use native.Mathlib.Omega.{arith}
 use native.Mathlib.Numerals.{add-one}
-use native.Mathlib.Nat.{suc-mul, mul-le-mul-right, le-refl, min-le-left, min-eq-left, not-suc-le-zero, le-of-suc-le-suc, eq-or-lt-of-le}
+use native.Mathlib.Nat.{suc-mul, mul-le-mul-right, le-refl, min-le-left, min-eq-left, not-suc-le-zero, le-of-suc-le-suc}
 use mathlib.Core.Path.{_≡_, refl, sym, ap, ap₂, subst, _∙_}
-use mathlib.Core.Bool.{Bool, true, false, cond}
-use mathlib.Core.Logic.{_⊎_, inl, inr}
 use mathlib.Core.List.{List, [], _∷_, _++_, append-nil, append-assoc}
-use lib.Dec.{ltb}
 use lib.ListN.{length, getD, drop, set, length-append}
 use lib.Seq.{drop-drop, getD-drop}
-use Rattle.logic.specs.Lists.{keep, count-from, tabulate}
+use Rattle.logic.specs.Lists.{count-from, tabulate}
 use Rattle.logic.specs.Model.{Model, Step, outcomes}
 use Rattle.logic.specs.promises.Extension.{first-choice}
-use Rattle.logic.proofs.Tests.{tabulate-more, count-more, keep-append, keep-same}
-use Rattle.blocks.specs.Bytes.{Bytes}
+use Rattle.logic.proofs.Tests.{tabulate-more}
 use Rattle.blocks.specs.Splice.{splice}
 use Rattle.blocks.proofs.Splice.{splice-none, splice-one, splice-behind}
-use Rattle.models.specs.Layout.{state-count, outcome-of, entries, model-of}
-use Rattle.models.specs.promises.Readable.{Readable}
-use Rattle.models.specs.promises.Used.{Used, count-in}
-use Rattle.models.proofs.Rows.{outcomes-are, enabled-are, entries-few}
-use Rattle.models.proofs.Table.{count-entries}
-use Rattle.extension.specs.promises.Choices.{Run, each, choice-at, after-choice, extend, first-in, room, Ran}
+use Rattle.extension.specs.promises.Choices.{Run, each, choice-at, after-choice, extend, room, Ran}
 
 -- ---- runs
 
@@ -86,7 +77,6 @@ module _ (m : Model) (src : List ℕ) where
       let less : d - k ≡ d - 1 = ap (λ k. d - k) h ∙ less-one d in
       let here : drop (from + k) src ≡ drop (min 1 d) (drop from src) = ap (λ k. drop (from + k) src) h ∙ sym (drop-drop (min 1 d) from src) in
       let y : Run = each (λ o. extend m (d - k) (suc n - 1) (o .target)) (outcomes m s a) (drop (from + k) src) in
-      let v : ℕ = choice-at (first-choice m s) d (drop from src) in
       ran-most src _ (1 + 4 * room (suc n - 1)) (1 + 4 * room n) from f at t dst dst′ (rw one (le-refl (1 + 4 * room n)))
       (ran-ran src (a ∷ [], drop (from + k) src) y _ 1 (4 * room (suc n - 1)) from (from + k) f at (at + 1) t dst (set dst at a) dst′ (omega arith)
       (ran-choice src a k from at dst (omega (arith, min-one d)) g) r
@@ -109,44 +99,38 @@ module _ (a d from : ℕ) (src : List ℕ) where
 
 -- ---- the loop over the outcomes
 
-pub target-inside : (b : Bytes) → Readable b → (s a x i c t : ℕ) → x ≡ a → c ≡ entries b s a → i < c → t ≡ (outcome-of b s x i) .target → t < state-count b
-target-inside b r s a x i c t e h l g =
-    subst (λ t. t < state-count b) (sym (g ∙ ap (λ x. (outcome-of b s x i) .target) e)) (r .inside s a (omega arith))
-
-module _ (b : Bytes) (s a d n : ℕ) (src : List ℕ) where
+-- The outcomes are given by g, in their order.
+module _ (m : Model) (g : ℕ → Step) (d n : ℕ) (src : List ℕ) where
   -- The runs below the first i outcomes.
   abbrev pub runs : ℕ → List ℕ → Run
-  runs i cs = each (λ o. extend (model-of b) d n (o .target)) (tabulate i (outcome-of b s a)) cs
+  runs i cs = each (λ o. extend m d n (o .target)) (tabulate i g) cs
 
   pub runs-none : (from at : ℕ) (dst : List ℕ) → Ran (runs 0 (drop from src)) (0 * room n) src from from dst dst at at
   unfolding each tabulate count-from
   runs-none from at dst = ran-most src ([], drop from src) 0 (0 * room n) from from at at dst dst (omega arith) (ran-none src (drop from src) from at dst refl)
 
-  pub runs-more : (i t f0 f1 f2 a0 a1 a2 : ℕ) (d0 d1 d2 : List ℕ) → t ≡ (outcome-of b s a i) .target → a0 + i * room n ≤ length d0
-      → Ran (runs i (drop f0 src)) (i * room n) src f0 f1 d0 d1 a0 a1 → Ran (extend (model-of b) d n t (drop f1 src)) (room n) src f1 f2 d1 d2 a1 a2
+  pub runs-more : (i t f0 f1 f2 a0 a1 a2 : ℕ) (d0 d1 d2 : List ℕ) → t ≡ (g i) .target → a0 + i * room n ≤ length d0
+      → Ran (runs i (drop f0 src)) (i * room n) src f0 f1 d0 d1 a0 a1 → Ran (extend m d n t (drop f1 src)) (room n) src f1 f2 d1 d2 a1 a2
       → Ran (runs (i + 1) (drop f0 src)) ((i + 1) * room n) src f0 f2 d0 d2 a0 a2
   runs-more i t f0 f1 f2 a0 a1 a2 d0 d1 d2 e h r q =
-      let g : Step → List ℕ → Run = λ o. extend (model-of b) d n (o .target) in
-      let l : List Step = tabulate i (outcome-of b s a) in
-      let o : Step = outcome-of b s a i in
+      let w : Step → List ℕ → Run = λ o. extend m d n (o .target) in
       rw (add-one i)
       (ran-most src (runs (suc i) (drop f0 src)) (i * room n + room n) (suc i * room n) f0 f2 a0 a2 d0 d2 (omega (arith, suc-mul i (room n)))
-      (ran-ran src (runs i (drop f0 src)) (extend (model-of b) d n t (drop f1 src)) _ (i * room n) (room n) f0 f1 f2 a0 a1 a2 d0 d1 d2 (omega (arith, r .size)) r q
-      (ap (λ z. each g z (drop f0 src)) (tabulate-more (outcome-of b s a) i)
-      ∙ each-more g l o (drop f0 src)
-      ∙ ap (λ (w : Run). (runs i (drop f0 src) .0 ++ w .0, w .1)) (ap₂ (λ (t : ℕ) (cs : List ℕ). extend (model-of b) d n t cs) (sym e) (sym (r .left))))))
+      (ran-ran src (runs i (drop f0 src)) (extend m d n t (drop f1 src)) _ (i * room n) (room n) f0 f1 f2 a0 a1 a2 d0 d1 d2 (omega (arith, r .size)) r q
+      (ap (λ z. each w z (drop f0 src)) (tabulate-more g i)
+      ∙ each-more w (tabulate i g) (g i) (drop f0 src)
+      ∙ ap (λ (w : Run). (runs i (drop f0 src) .0 ++ w .0, w .1)) (ap₂ (λ (t : ℕ) (cs : List ℕ). extend m d n t cs) (sym e) (sym (r .left))))))
 
-  pub runs-all : (c i f0 f1 a0 a1 : ℕ) (d0 d1 : List ℕ) → Readable b → c ≡ entries b s a → i ≡ c → Ran (runs i (drop f0 src)) (i * room n) src f0 f1 d0 d1 a0 a1
-      → Ran (each (λ o. extend (model-of b) d n (o .target)) (outcomes (model-of b) s a) (drop f0 src)) (4 * room n) src f0 f1 d0 d1 a0 a1
-  runs-all c i f0 f1 a0 a1 d0 d1 r e h q =
-      let k : i ≡ entries b s a = h ∙ e in
-      subst (λ l. Ran (each (λ o. extend (model-of b) d n (o .target)) l (drop f0 src)) (4 * room n) src f0 f1 d0 d1 a0 a1)
-      (ap (λ i. tabulate i (outcome-of b s a)) k ∙ sym (outcomes-are b s a))
-      (ran-most src (runs i (drop f0 src)) (i * room n) (4 * room n) f0 f1 a0 a1 d0 d1 (mul-le-mul-right (room n) (omega (arith, entries-few b r s a))) q)
+  pub runs-all : (s a c i f0 f1 a0 a1 : ℕ) (d0 d1 : List ℕ) → outcomes m s a ≡ tabulate c g → c ≤ 4 → i ≡ c → Ran (runs i (drop f0 src)) (i * room n) src f0 f1 d0 d1 a0 a1
+      → Ran (each (λ o. extend m d n (o .target)) (outcomes m s a) (drop f0 src)) (4 * room n) src f0 f1 d0 d1 a0 a1
+  runs-all s a c i f0 f1 a0 a1 d0 d1 e l h q =
+      subst (λ l. Ran (each (λ o. extend m d n (o .target)) l (drop f0 src)) (4 * room n) src f0 f1 d0 d1 a0 a1)
+      (ap (λ i. tabulate i g) h ∙ sym e)
+      (ran-most src (runs i (drop f0 src)) (i * room n) (4 * room n) f0 f1 a0 a1 d0 d1 (mul-le-mul-right (room n) (omega arith)) q)
 
-  -- There is room for one outcome more.
-  pub room-more : (i c : ℕ) → Readable b → c ≡ entries b s a → i < c → i * room n + room n ≤ 4 * room n
-  room-more i c r e h = omega (arith, suc-mul i (room n), mul-le-mul-right {m = suc i} {n = 4} (room n) (omega (arith, entries-few b r s a)))
+-- There is room for one outcome more.
+pub room-more : (n i : ℕ) → i < 4 → i * room n + room n ≤ 4 * room n
+room-more n i h = omega (arith, suc-mul i (room n), mul-le-mul-right {m = suc i} {n = 4} (room n) (omega arith))
 
 pub room-step : (n : ℕ) → (n ≡ 0 → ⊥) → room n ≡ 1 + 4 * room (n - 1)
 unfolding room
@@ -164,36 +148,3 @@ room-rises (suc n) (suc k) h = omega (arith, room-rises n k (le-of-suc-le-suc h)
 pub room-most : (n : ℕ) → n ≤ 6 → room n ≤ 1365
 unfolding room
 room-most n h = room-rises n 6 h
-
--- ---- the table of used entries
-
-module _ (b : Bytes) (r : Readable b) {used : List ℕ} (u : Used b used) (s : ℕ) (k : s < state-count b) where
-  pub first-enabled : first-in used s ≡ first-choice (model-of b) s
-  unfolding first-in first-choice
-  first-enabled =
-      ap (λ l. getD l 0 0)
-      (keep-same (λ a. ltb 0 (count-in used s a)) (λ a. ltb 0 (entries b s a)) (count-from 0 8) (λ a i. ap (ltb 0) (count-entries b r u s k a))
-      ∙ sym (enabled-are b r s k))
-
--- The first number that is kept.
-module _ (f : ℕ → Bool) where
-  kept-one : (n : ℕ) → keep f (count-from 0 (suc n)) ≡ keep f (count-from 0 n) ++ cond (f n) (n ∷ []) []
-  unfolding keep
-  kept-one n =
-      let z : 0 + n ≡ n = omega arith in
-      ap (keep f) (count-more 0 n) ∙ keep-append f (count-from 0 n) ((0 + n) ∷ []) ∙ ap (λ i. keep f (count-from 0 n) ++ cond (f i) (i ∷ []) []) z
-
-  pub none-kept : (a : ℕ) → keep f (count-from 0 a) ≡ [] → f a ≡ false → keep f (count-from 0 (a + 1)) ≡ []
-  none-kept a e h = rw (add-one a) (kept-one a ∙ ap₂ (λ (l : List ℕ) (t : Bool). l ++ cond t (a ∷ []) []) e h)
-
-  kept-first : (a n : ℕ) → keep f (count-from 0 a) ≡ [] → f a ≡ true → a < n → (l : List ℕ) × (keep f (count-from 0 n) ≡ a ∷ l)
-  kept-first a zero e h g = absurd (not-suc-le-zero g)
-  kept-first a (suc n) e h g = pick (λ k. kept-first a n e h k) (eq-or-lt-of-le (le-of-suc-le-suc g))
-    where
-      pick : (a < n → (l : List ℕ) × (keep f (count-from 0 n) ≡ a ∷ l)) → (a ≡ n) ⊎ (a < n) → (l : List ℕ) × (keep f (count-from 0 (suc n)) ≡ a ∷ l)
-      pick k (inl q) =
-          ([], ap (λ i. keep f (count-from 0 (suc i))) (sym q) ∙ kept-one a ∙ ap₂ (λ (l : List ℕ) (t : Bool). l ++ cond t (a ∷ []) []) e h)
-      pick k (inr l) = let w = k l in (w .0 ++ cond (f n) (n ∷ []) [], kept-one n ∙ ap (λ l. l ++ cond (f n) (n ∷ []) []) (w .1))
-
-  pub first-kept : (a n : ℕ) → keep f (count-from 0 a) ≡ [] → f a ≡ true → a < n → a ≡ getD (keep f (count-from 0 n)) 0 0
-  first-kept a n e h g = let w = kept-first a n e h g in sym (ap (λ l. getD l 0 0) (w .1))

@@ -5,25 +5,22 @@ use native.Mathlib.Omega.{arith}
 use native.Mathlib.Numerals.{add-one}
 use native.Mathlib.Decide.{decLt, ℕ-discrete}
 use native.Mathlib.Nat.{min-le-left, min-eq-left, min-eq-right, le-trans, mul-le-mul-left, mul-assoc, mul-one, mul-comm, add-zero, add-assoc, mul-zero}
-use mathlib.Core.Path.{_≡_, refl, sym, ap, ap₂, subst, _∙_}
+use mathlib.Core.Path.{_≡_, refl, sym, ap, ap₂, _∙_}
 use mathlib.Core.Logic.{_⊎_, inl, inr, ⊎-elim}
-use mathlib.Core.Bool.{Bool, true, false, cond}
+use mathlib.Core.Bool.{Bool, true, false}
 use mathlib.Core.List.{List, [], _∷_, _++_, List·Memᴰ, List·Memᴰ·head, List·Memᴰ·tail}
-use lib.Dec.{ltb}
 use lib.ListN.{getD, length, set, length-set, replicate, length-replicate, getD-replicate}
 use lib.Seq.{getD-set-same, getD-set-other}
-use borrow.Author.Tests.{lt-ltb}
-use Rattle.logic.specs.Lists.{keep, count-from, tabulate}
+use Rattle.logic.specs.Lists.{count-from, tabulate}
 use Rattle.logic.specs.Model.{Model, Step, enabled, outcomes}
 use Rattle.logic.specs.Quantity.{naturals, sum}
 use Rattle.logic.specs.Limits.{path-total, plan-total, multiply}
 use Rattle.logic.proofs.Sums.{naturals-additive, sum-append, sum-ext}
-use Rattle.logic.proofs.Tests.{count-more, tabulate-more, keep-append}
-use Rattle.blocks.specs.Bytes.{Bytes}
-use Rattle.models.specs.Layout.{state-count, outcome-of, entries, model-of}
-use Rattle.models.specs.promises.Readable.{Readable}
-use Rattle.models.proofs.Held.{states-held, tabulate-member}
-use Rattle.models.proofs.Rows.{outcomes-are, enabled-are}
+use Rattle.logic.proofs.Tests.{tabulate-more}
+use Rattle.models.specs.Layout.{state-count}
+use Rattle.prepared.specs.promises.Rows.{choices-in, choice-in, model-in, Prepared}
+use Rattle.prepared.proofs.Laws.{states-are}
+use Rattle.prepared.proofs.Ranges.{outcome-inside}
 use Rattle.limits.specs.promises.Totals.{total, none, joined, gather, step-total, limit, cap, Totals}
 
 -- ---- the same up to a cap
@@ -169,70 +166,28 @@ module _ (plans : Bool) (f : Step → ℕ) (g : ℕ → Step) where
       ∙ joined-same plans (min (cap plans) l) l (f (g i)) (f (g i)) (capped-same (cap plans) l) refl
       ∙ ap (min (cap plans)) (sym (gather-more plans f (tabulate i g) (g i)) ∙ ap (gather plans f) (sym (tabulate-more g i)) ∙ ap (λ n. gather plans f (tabulate n g)) (sym (add-one i)))
 
-module _ (c : ℕ) (f : ℕ → ℕ) (t : ℕ → Bool) where
-  pub sum-start : 0 ≡ min c (sum naturals f (keep t (count-from 0 0)))
-  unfolding sum keep count-from
+module _ (c : ℕ) (f g : ℕ → ℕ) where
+  pub sum-start : 0 ≡ min c (sum naturals f (tabulate 0 g))
+  unfolding sum tabulate count-from
   sum-start = sym (min-eq-right (omega arith))
 
-  one-kept : (a : ℕ) → sum naturals f (keep t (a ∷ [])) ≡ cond (t a) (f a) 0
-  unfolding sum keep
-  one-kept a = pick (t a)
-    where
-      pick : (u : Bool) → sum naturals f (cond u (a ∷ []) []) ≡ cond u (f a) 0
-      pick true = add-zero (f a)
-      pick false = refl
-
-  kept-same : (u : Bool) (x : ℕ) → Same c (cond u (min c x) 0) (cond u x 0)
-  kept-same true x = capped-same c x
-  kept-same false x = refl
-
-  pub sum-next : (a x v r : ℕ) → x ≡ min c (sum naturals f (keep t (count-from 0 a))) → v ≡ cond (t a) (min c (f a)) 0 → r ≡ min c (x + v)
-      → r ≡ min c (sum naturals f (keep t (count-from 0 (a + 1))))
-  sum-next a x v r e h k =
-      let l : List ℕ = keep t (count-from 0 a) in
-      let z : 0 + a ≡ a = omega arith in
+  pub sum-next : (i x v r : ℕ) → x ≡ min c (sum naturals f (tabulate i g)) → v ≡ min c (f (g i)) → r ≡ min c (x + v) → r ≡ min c (sum naturals f (tabulate (i + 1) g))
+  unfolding sum
+  sum-next i x v r e h k =
+      let l : List ℕ = tabulate i g in
       k ∙ ap₂ (λ p q. min c (p + q)) e h
-      ∙ plus-same c (min c (sum naturals f l)) (sum naturals f l) (cond (t a) (min c (f a)) 0) (cond (t a) (f a) 0) (capped-same c (sum naturals f l)) (kept-same (t a) (f a))
+      ∙ plus-same c (min c (sum naturals f l)) (sum naturals f l) (min c (f (g i))) (f (g i)) (capped-same c (sum naturals f l)) (capped-same c (f (g i)))
       ∙ ap (min c)
-      (ap (λ y. sum naturals f l + y) (sym (one-kept a))
-      ∙ sym (sum-append naturals naturals-additive f l (keep t (a ∷ [])))
-      ∙ ap (sum naturals f) (sym (keep-append t (count-from 0 a) (a ∷ [])) ∙ ap (λ y. keep t (count-from 0 a ++ (y ∷ []))) (sym z) ∙ ap (keep t) (sym (count-more 0 a)))
-      ∙ ap (λ n. sum naturals f (keep t (count-from 0 n))) (sym (add-one a)))
+      (ap (λ y. sum naturals f l + y) (sym (add-zero (f (g i))))
+      ∙ sym (sum-append naturals naturals-additive f l (g i ∷ []))
+      ∙ ap (sum naturals f) (sym (tabulate-more g i))
+      ∙ ap (λ n. sum naturals f (tabulate n g)) (sym (add-one i)))
 
--- ---- reading a choice's cell
-
-module _ (b : Bytes) where
-  module _ (s a x : ℕ) where
-    pub not-enabled : entries b s a ≡ 0 → 0 ≡ cond (ltb 0 (entries b s a)) x 0
-    not-enabled e = rw e refl
-
-    pub is-enabled : (entries b s a ≡ 0 → ⊥) → x ≡ cond (ltb 0 (entries b s a)) x 0
-    is-enabled h = ap (λ t. cond t x 0) (sym (lt-ltb 0 (entries b s a) (omega arith)))
-
-  pub outcome-inside : Readable b → (s a : ℕ) (o : Step) → List·Memᴰ o (outcomes (model-of b) s a) → o .target < state-count b
-  outcome-inside r s a o i =
-      let w = tabulate-member (outcome-of b s a) (entries b s a) (subst (λ l. List·Memᴰ o l) (outcomes-are b s a) i) in
-      subst (λ z. z .target < state-count b) (sym (w .2)) (r .inside s a (w .1))
-
-module _ (b : Bytes) (s a : ℕ) (plans : Bool) (f : Step → ℕ) where
-  -- The loop over a cell ends with all outcomes of the choice.
-  pub choice-end : (count i x : ℕ) → count ≡ entries b s a → i ≡ count → (count ≡ 0 → ⊥) → x ≡ min (cap plans) (gather plans f (tabulate i (outcome-of b s a)))
-      → x ≡ cond (ltb 0 (entries b s a)) (min (cap plans) (gather plans f (outcomes (model-of b) s a))) 0
-  choice-end count i x e h z g =
-      g
-      ∙ ap (λ n. min (cap plans) (gather plans f (tabulate n (outcome-of b s a)))) (h ∙ e)
-      ∙ ap (λ l. min (cap plans) (gather plans f l)) (sym (outcomes-are b s a))
-      ∙ is-enabled b s a (min (cap plans) (gather plans f (outcomes (model-of b) s a))) (λ k. z (e ∙ k))
-
-module _ (b : Bytes) (r : Readable b) (s : ℕ) (k : s < state-count b) (plans : Bool) (f : ℕ → ℕ) where
-  -- The loop over the actions ends with all choices of the state.
-  pub state-end : (a x : ℕ) → a ≡ 8
-      → x ≡ min (cap plans) (sum naturals (λ a. gather plans (λ o. f (o .target)) (outcomes (model-of b) s a)) (keep (λ a. ltb 0 (entries b s a)) (count-from 0 a)))
-      → x ≡ min (cap plans) (step-total plans (model-of b) f s)
-  unfolding step-total
-  state-end a x h e =
-      let g : ℕ → ℕ = λ a. gather plans (λ o. f (o .target)) (outcomes (model-of b) s a) in
-      e ∙ ap (λ n. min (cap plans) (sum naturals g (keep (λ a. ltb 0 (entries b s a)) (count-from 0 n)))) h ∙ ap (λ l. min (cap plans) (sum naturals g l)) (sym (enabled-are b r s k))
+-- The loop over the choices of a state ends with all of them.
+pub state-end : {m : List ℕ} → Prepared m → (plans : Bool) (f : ℕ → ℕ) (s : ℕ) → s < state-count m
+    → sum naturals (λ a. gather plans (λ o. f (o .target)) (outcomes (model-in m) s a)) (tabulate (choices-in m s) (choice-in m s)) ≡ step-total plans (model-in m) f s
+unfolding step-total
+state-end {m} w plans f s h = ap (sum naturals (λ a. gather plans (λ o. f (o .target)) (outcomes (model-in m) s a))) (sym (w .choices s h))
 
 -- ---- one step more
 
@@ -255,30 +210,30 @@ module _ (plans : Bool) (m : Model) where
 
   -- Where the totals f are the capped ones of n steps, those of a step more come out capped.
   pub step-capped : (n s : ℕ) (f : ℕ → ℕ)
-      → ((a : ℕ) (o : Step) → List·Memᴰ o (outcomes m s a) → f (o .target) ≡ min (cap plans) (total plans m n (o .target)))
+      → ((a : ℕ) → List·Memᴰ a (enabled m s) → (o : Step) → List·Memᴰ o (outcomes m s a) → f (o .target) ≡ min (cap plans) (total plans m n (o .target)))
       → min (cap plans) (step-total plans m f s) ≡ min (cap plans) (total plans m (suc n) s)
   unfolding step-total
   step-capped n s f h =
       sum-same (cap plans) _ _ (enabled m s)
       (λ a i. gather-same plans (λ o. f (o .target)) (λ o. total plans m n (o .target)) (outcomes m s a)
-      (λ o j. ap (min (cap plans)) (h a o j) ∙ capped-same (cap plans) (total plans m n (o .target))))
+      (λ o j. ap (min (cap plans)) (h a i o j) ∙ capped-same (cap plans) (total plans m n (o .target))))
       ∙ ap (min (cap plans)) (sym (total-step n s))
 
 -- ---- the table
 
 -- The totals before place k stand in the table.
-pub record Filled (plans : Bool) (b : Bytes) (table : List ℕ) (k : ℕ) : Type 0 where
+pub record Filled (plans : Bool) (m table : List ℕ) (k : ℕ) : Type 0 where
   pub size : length table ≡ 224
   pub small : (i : ℕ) → getD table i 0 ≤ cap plans
-  pub counted : (n s : ℕ) → 32 * n + s < k → s < state-count b → getD table (32 * n + s) 0 ≡ min (cap plans) (total plans (model-of b) n s)
+  pub counted : (n s : ℕ) → 32 * n + s < k → s < state-count m → getD table (32 * n + s) 0 ≡ min (cap plans) (total plans (model-in m) n s)
 
 ones-small : (n i : ℕ) → getD (replicate n 1) i 0 ≤ 1
 ones-small zero i = omega arith
 ones-small (suc n) zero = omega arith
 ones-small (suc n) (suc i) = ones-small n i
 
-module _ (plans : Bool) (b : Bytes) (r : Readable b) where
-  pub filled-start : Filled plans b (replicate 224 1) 32
+module _ (plans : Bool) (m : List ℕ) (w : Prepared m) where
+  pub filled-start : Filled plans m (replicate 224 1) 32
   filled-start =
       record {
         size = length-replicate {A = ℕ} 224 1;
@@ -286,21 +241,21 @@ module _ (plans : Bool) (b : Bytes) (r : Readable b) where
         counted = λ n s h k.
             let z : n ≡ 0 = omega arith in
             getD-replicate {A = ℕ} 224 (32 * n + s) 1 0 (omega arith)
-            ∙ sym (ap (λ n. min (cap plans) (total plans (model-of b) n s)) z ∙ ap (min (cap plans)) (total-none plans (model-of b) s) ∙ min-eq-right (omega arith));
+            ∙ sym (ap (λ n. min (cap plans) (total plans (model-in m) n s)) z ∙ ap (min (cap plans)) (total-none plans (model-in m) s) ∙ min-eq-right (omega arith));
       }
 
-  module _ (table : List ℕ) (k : ℕ) (f : Filled plans b table k) where
+  module _ (table : List ℕ) (k : ℕ) (f : Filled plans m table k) where
     -- A place of no state stays.
-    pub filled-past : state-count b ≤ k % 32 → Filled plans b table (k + 1)
+    pub filled-past : state-count m ≤ k % 32 → Filled plans m table (k + 1)
     filled-past h =
         record {
           size = f .size;
           small = f .small;
-          counted = λ n s l g. f .counted n s (omega (arith, r .states)) g;
+          counted = λ n s l g. f .counted n s (omega (arith, w .states)) g;
         }
 
-    pub filled-more : (v : ℕ) → 32 ≤ k → k < 224 → k % 32 < state-count b
-        → v ≡ min (cap plans) (step-total plans (model-of b) (λ t. getD table (32 * (k / 32 - 1) + t) 0) (k % 32)) → Filled plans b (set table k v) (k + 1)
+    pub filled-more : (v : ℕ) → 32 ≤ k → k < 224 → k % 32 < state-count m
+        → v ≡ min (cap plans) (step-total plans (model-in m) (λ t. getD table (32 * (k / 32 - 1) + t) 0) (k % 32)) → Filled plans m (set table k v) (k + 1)
     filled-more v low high h e =
         record {
           size = length-set table k v ∙ f .size;
@@ -312,24 +267,24 @@ module _ (plans : Bool) (b : Bytes) (r : Readable b) where
         small i (yes q) = rw (q, getD-set-same table k v 0 (rw (f .size) high), e) (min-le-left (cap plans) _)
         small i (no q) = rw (getD-set-other table k i v 0 q) (f .small i)
 
-        here : v ≡ min (cap plans) (total plans (model-of b) (k / 32) (k % 32))
+        here : v ≡ min (cap plans) (total plans (model-in m) (k / 32) (k % 32))
         here =
             let z : suc (k / 32 - 1) ≡ k / 32 = omega arith in
             e
-            ∙ step-capped plans (model-of b) (k / 32 - 1) (k % 32) (λ t. getD table (32 * (k / 32 - 1) + t) 0)
-            (λ a o i. let t = outcome-inside b r (k % 32) a o i in f .counted (k / 32 - 1) (o .target) (omega (arith, r .states)) t)
-            ∙ ap (λ n. min (cap plans) (total plans (model-of b) n (k % 32))) z
+            ∙ step-capped plans (model-in m) (k / 32 - 1) (k % 32) (λ t. getD table (32 * (k / 32 - 1) + t) 0)
+            (λ a i o j. let t = outcome-inside w (k % 32) h a i o j in f .counted (k / 32 - 1) (o .target) (omega (arith, w .states)) t)
+            ∙ ap (λ n. min (cap plans) (total plans (model-in m) n (k % 32))) z
 
-        counted : (n s : ℕ) → 32 * n + s < k + 1 → s < state-count b → Dec (32 * n + s ≡ k)
-            → getD (set table k v) (32 * n + s) 0 ≡ min (cap plans) (total plans (model-of b) n s)
+        counted : (n s : ℕ) → 32 * n + s < k + 1 → s < state-count m → Dec (32 * n + s ≡ k)
+            → getD (set table k v) (32 * n + s) 0 ≡ min (cap plans) (total plans (model-in m) n s)
         counted n s l g (yes q) =
-            let en : k / 32 ≡ n = omega (arith, r .states) in
-            let es : k % 32 ≡ s = omega (arith, r .states) in
+            let en : k / 32 ≡ n = omega (arith, w .states) in
+            let es : k % 32 ≡ s = omega (arith, w .states) in
             ap (λ i. getD (set table k v) i 0) q
             ∙ getD-set-same table k v 0 (rw (f .size) high)
             ∙ here
-            ∙ ap₂ (λ n s. min (cap plans) (total plans (model-of b) n s)) en es
+            ∙ ap₂ (λ n s. min (cap plans) (total plans (model-in m) n s)) en es
         counted n s l g (no q) = getD-set-other table k (32 * n + s) v 0 q ∙ f .counted n s (omega arith) g
 
-  pub filled-all : (table : List ℕ) → Filled plans b table 224 → Totals plans (model-of b) table
-  filled-all table f = record { at = λ n s h g. let k : s < state-count b = rw (states-held b) at g in f .counted n s (omega (arith, r .states)) k }
+  pub filled-all : (table : List ℕ) → Filled plans m table 224 → Totals plans (model-in m) table
+  filled-all table f = record { at = λ n s h g. let k : s < state-count m = rw (states-are m) at g in f .counted n s (omega (arith, w .states)) k }

@@ -1,23 +1,19 @@
 // Grounds 24 and 25: the numbers of paths and plans from each state, counted by recursion over the steps up to a cap above the limit.
 ghost use mathlib.Core.Path.{_≡_};
 ghost use Prim.Native.Nat.{ℕ, _+_, _*_, _<_, _≤_, min};
-ghost use mathlib.Core.Bool.{true, cond};
-ghost use lib.Dec.{ltb, leb};
+ghost use mathlib.Core.Bool.{true, false};
+ghost use lib.Dec.{leb};
 ghost use lib.ListN.{getD};
 ghost use Rattle.logic.specs.Lists.{every};
 ghost use Rattle.logic.specs.promises.Refusal.{refusal};
 ghost use Rattle.logic.specs.Model.{outcomes};
 ghost use Rattle.logic.specs.Limits.{every-plan, limits};
-ghost use Rattle.models.specs.Layout.{state-count, action-count, prop-count, entries, model-of};
-ghost use Rattle.models.specs.Grounds.{read-model};
-ghost use Rattle.models.specs.promises.Readable.{Readable};
-ghost use Rattle.models.specs.promises.Used.{Used};
-ghost use Rattle.questions.specs.Layout.{node-count, node-of, formulas-of, question-of};
+ghost use Rattle.models.specs.Layout.{state-count, action-count, prop-count};
+ghost use Rattle.prepared.specs.promises.Rows.{choices-in, choice-in, model-in, Prepared};
+ghost use Rattle.questions.specs.Layout.{node-of, formulas-of, question-of};
 ghost use Rattle.questions.specs.Grounds.{read-question};
 ghost use Rattle.limits.specs.promises.Totals.{gather, step-total, Totals, fits, node-fits, Numbered};
 ghost use Rattle.limits.specs.promises.Totals as spec;
-use blocks::wide;
-use models::target;
 use questions::asks_equal;
 use questions::node_count;
 use questions::operator;
@@ -56,73 +52,57 @@ fn joined(plans: bool, x: u64, y: u64) -> u64
     capped(plans, x + y)
 }
 
-fn number(x: u8) -> usize
-    ensures { λ r. ⌜ r ≡ x ⌝ }
-{
-    x as usize
-}
-
-// The total below a choice, from the totals of the states that stand in the table from `at` on; 0 for an action that is not enabled.
+// The total below choice i, from the totals of the states that stand in the table from `at` on.
 fn choice_total(
-    m: &[u8],
-    used: &[u8; 264],
+    m: &[u16; 8704],
     plans: bool,
     table: &[u64; 224],
     at: usize,
     s: usize,
-    a: usize,
+    i: usize,
 ) -> u64
-    requires { ⌜ Readable (now m) × Used (now m) (now used) × (at + 32 ≤ 224) × (s < 32) × (a < 8) ⌝ }
-    requires { ⌜ ((i : ℕ) → getD (now table) i 0 ≤ spec.cap plans) ⌝ }
-    ensures { λ r. ⌜ (r ≡ cond (ltb 0 (entries (now (m .entry)) s a)) (min (spec.cap plans) (gather plans (λ o. getD (now (table .entry)) (at + o .target) 0) (outcomes (model-of (now (m .entry))) s a))) 0) × (r ≤ 1000001) ⌝ }
+    requires { ⌜ Prepared (now m) × (at + 32 ≤ 224) × (s < state-count (now m)) × (i < choices-in (now m) s) ⌝ }
+    requires { ⌜ ((k : ℕ) → getD (now table) k 0 ≤ spec.cap plans) ⌝ }
+    ensures { λ r. ⌜ r ≡ min (spec.cap plans) (gather plans (λ o. getD (now (table .entry)) (at + o .target) 0) (outcomes (model-in (now (m .entry))) s (choice-in (now (m .entry)) s i))) ⌝ }
 {
-    let count = number(used[8 * s + a]);
-    if count == 0 {
-        return 0;
-    }
+    let count = prepared::outcomes(m, s, i);
     let mut total = none(plans);
-    let mut i: usize = 0;
-    while i < count {
-        let t = target(m, s, a, i);
+    let mut o: usize = 0;
+    while o < count {
+        let t = prepared::target(m, s, i, o);
         total = joined(plans, total, table[at + t]);
-        i += 1;
+        o += 1;
     }
     total
 }
 
 // The total of a state, from those of the states after a step.
-fn state_total(
-    m: &[u8],
-    used: &[u8; 264],
-    plans: bool,
-    table: &[u64; 224],
-    at: usize,
-    s: usize,
-) -> u64
-    requires { ⌜ Readable (now m) × Used (now m) (now used) × (at + 32 ≤ 224) × (s < state-count (now m)) ⌝ }
-    requires { ⌜ ((i : ℕ) → getD (now table) i 0 ≤ spec.cap plans) ⌝ }
-    ensures { λ r. ⌜ r ≡ min (spec.cap plans) (step-total plans (model-of (now (m .entry))) (λ t. getD (now (table .entry)) (at + t) 0) s) ⌝ }
+fn state_total(m: &[u16; 8704], plans: bool, table: &[u64; 224], at: usize, s: usize) -> u64
+    requires { ⌜ Prepared (now m) × (at + 32 ≤ 224) × (s < state-count (now m)) ⌝ }
+    requires { ⌜ ((k : ℕ) → getD (now table) k 0 ≤ spec.cap plans) ⌝ }
+    ensures { λ r. ⌜ r ≡ min (spec.cap plans) (step-total plans (model-in (now (m .entry))) (λ t. getD (now (table .entry)) (at + t) 0) s) ⌝ }
 {
+    let n = prepared::choices(m, s);
     let mut total: u64 = 0;
-    let mut a: usize = 0;
-    while a < 8 {
-        total = capped(plans, total + choice_total(m, used, plans, table, at, s, a));
-        a += 1;
+    let mut i: usize = 0;
+    while i < n {
+        total = capped(plans, total + choice_total(m, plans, table, at, s, i));
+        i += 1;
     }
     total
 }
 
 // The totals of 0 to 6 steps from each state: those of k / 32 steps from the state k % 32 stand at k.
-fn totals(m: &[u8], used: &[u8; 264], plans: bool) -> [u64; 224]
-    requires { ⌜ Readable (now m) × Used (now m) (now used) ⌝ }
-    ensures { λ r. ⌜ Totals plans (model-of (now (m .entry))) r ⌝ }
+fn totals(m: &[u16; 8704], plans: bool) -> [u64; 224]
+    requires { ⌜ Prepared (now m) ⌝ }
+    ensures { λ r. ⌜ Totals plans (model-in (now (m .entry))) r ⌝ }
 {
-    let states = wide(m, 2);
+    let states = prepared::states(m);
     let mut table = [1u64; 224];
     let mut k: usize = 32;
     while k < 224 {
         if k % 32 < states {
-            table[k] = state_total(m, used, plans, &table, 32 * (k / 32 - 1), k % 32);
+            table[k] = state_total(m, plans, &table, 32 * (k / 32 - 1), k % 32);
         }
         k += 1;
     }
@@ -130,11 +110,11 @@ fn totals(m: &[u8], used: &[u8; 264], plans: bool) -> [u64; 224]
 }
 
 // The numbers of plans, for those who count them.
-pub fn plan_totals(m: &[u8], used: &[u8; 264]) -> [u64; 224]
-    requires { ⌜ Readable (now m) × Used (now m) (now used) ⌝ }
-    ensures { λ r. ⌜ Totals true (model-of (now (m .entry))) r ⌝ }
+pub fn plan_totals(m: &[u16; 8704]) -> [u64; 224]
+    requires { ⌜ Prepared (now m) ⌝ }
+    ensures { λ r. ⌜ Totals true (model-in (now (m .entry))) r ⌝ }
 {
-    totals(m, used, true)
+    totals(m, true)
 }
 
 // How many plans of n steps there are from s, by that table.
@@ -170,44 +150,61 @@ fn bounded(q: &[u8], i: u8, plans: bool) -> bool
     !plans || asks_equal(q, i)
 }
 
-fn node_fits(m: &[u8], q: &[u8], table: &[u64; 224], plans: bool, i: u8) -> bool
-    requires { ⌜ Readable (now m) × Totals plans (model-of (now m)) (now table) × Numbered (node-of (now q) i) ⌝ }
-    ensures { λ r. ⌜ r ≡ node-fits plans (model-of (now (m .entry))) (node-of (now (q .entry)) i) ⌝ }
+fn node_fits(m: &[u16; 8704], q: &[u8], table: &[u64; 224], plans: bool, i: u8) -> bool
+    requires { ⌜ Prepared (now m) × Totals plans (model-in (now m)) (now table) × Numbered (node-of (now q) i) ⌝ }
+    ensures { λ r. ⌜ r ≡ node-fits plans (model-in (now (m .entry))) (node-of (now (q .entry)) i) ⌝ }
 {
     if !bounded(q, i, plans) {
         return true;
     }
-    row_fits(table, steps(q, i) as usize, wide(m, 2), plans)
+    row_fits(table, steps(q, i) as usize, prepared::states(m), plans)
 }
 
 // All nodes are checked, used or not.
-fn nodes_fit(m: &[u8], q: &[u8], table: &[u64; 224], plans: bool) -> bool
-    requires { ⌜ Readable (now m) × Totals plans (model-of (now m)) (now table) ⌝ }
-    requires { ⌜ ((i : ℕ) → i < node-count (now q) → Numbered (node-of (now q) i)) ⌝ }
-    ensures { λ r. ⌜ r ≡ every-plan (fits plans (model-of (now (m .entry)))) (model-of (now (m .entry))) (formulas-of (now (q .entry))) ⌝ }
+fn nodes_fit(m: &[u16; 8704], q: &[u8], plans: bool) -> bool
+    requires { ⌜ Prepared (now m) ⌝ }
+    requires { ⌜ refusal (read-question (state-count (now m)) (action-count (now m)) (prop-count (now m)) (now q)) ≡ 0 ⌝ }
+    ensures { λ r. ⌜ r ≡ every-plan (fits plans (model-in (now (m .entry)))) (model-in (now (m .entry))) (formulas-of (now (q .entry))) ⌝ }
 {
+    let table = totals(m, plans);
     let n = node_count(q);
     let mut right = true;
     let mut i: u8 = 0;
     while i < n {
-        right = right & node_fits(m, q, table, plans, i);
+        right = right & node_fits(m, q, &table, plans, i);
         i += 1;
     }
     right
 }
 
-// The ground, 24 or 25, on which an accepted question is not judged on an accepted model; 0 where there is none.
-pub fn limit_refusal(m: &[u8], used: &[u8; 264], q: &[u8]) -> u32
-    requires { ⌜ (refusal (read-model (now m)) ≡ 0) × Used (now m) (now used) ⌝ }
+// The test of ground 24: no "plan" node has too many paths.
+pub fn paths_fit(m: &[u16; 8704], q: &[u8]) -> bool
+    requires { ⌜ Prepared (now m) ⌝ }
     requires { ⌜ refusal (read-question (state-count (now m)) (action-count (now m)) (prop-count (now m)) (now q)) ≡ 0 ⌝ }
-    ensures { λ r. ⌜ r ≡ refusal (limits (model-of (now (m .entry))) ((question-of (now (q .entry))) .nodes)) ⌝ }
+    ensures { λ r. ⌜ r ≡ every-plan (fits false (model-in (now (m .entry)))) (model-in (now (m .entry))) (formulas-of (now (q .entry))) ⌝ }
 {
-    let paths = totals(m, used, false);
-    if !nodes_fit(m, q, &paths, false) {
+    nodes_fit(m, q, false)
+}
+
+// The test of ground 25: no "plan" node whose relation is "equal" has too many plans.
+pub fn plans_fit(m: &[u16; 8704], q: &[u8]) -> bool
+    requires { ⌜ Prepared (now m) ⌝ }
+    requires { ⌜ refusal (read-question (state-count (now m)) (action-count (now m)) (prop-count (now m)) (now q)) ≡ 0 ⌝ }
+    ensures { λ r. ⌜ r ≡ every-plan (fits true (model-in (now (m .entry)))) (model-in (now (m .entry))) (formulas-of (now (q .entry))) ⌝ }
+{
+    nodes_fit(m, q, true)
+}
+
+// The ground, 24 or 25, on which an accepted question is not judged on an accepted model; 0 where there is none.
+pub fn limit_refusal(m: &[u16; 8704], q: &[u8]) -> u32
+    requires { ⌜ Prepared (now m) ⌝ }
+    requires { ⌜ refusal (read-question (state-count (now m)) (action-count (now m)) (prop-count (now m)) (now q)) ≡ 0 ⌝ }
+    ensures { λ r. ⌜ r ≡ refusal (limits (model-in (now (m .entry))) ((question-of (now (q .entry))) .nodes)) ⌝ }
+{
+    if !paths_fit(m, q) {
         return 24;
     }
-    let plans = totals(m, used, true);
-    if !nodes_fit(m, q, &plans, true) {
+    if !plans_fit(m, q) {
         return 25;
     }
     0

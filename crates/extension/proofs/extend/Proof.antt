@@ -6,7 +6,7 @@ use Rattle.extension.proofs.extend.Statement.{statement}
 use Rattle.extension.proofs.extend.Tie as tie
 
 extend-from-requires : tie.Need-extend-from-requires
-extend-from-requires c κs = let S = c .before .before .before .before in
+extend-from-requires c κs = let S = c .before .before .before in
     let most = room-most (S .args .n) (S .pre .1 .0) in
     (S .pre .0, (omega arith, omega arith, omega arith))
 

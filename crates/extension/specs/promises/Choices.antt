@@ -3,13 +3,10 @@
 use Prim.Native.Nat.{ℕ, zero, suc, _+_, _*_, _-_, _≤_, min}
 use mathlib.Core.Path.{_≡_}
 use mathlib.Core.List.{List, [], _∷_, _++_}
-use lib.Dec.{ltb}
 use lib.ListN.{getD, drop, length}
-use Rattle.logic.specs.Lists.{keep, count-from}
 use Rattle.logic.specs.Model.{Model, outcomes}
 use Rattle.logic.specs.promises.Extension.{first-choice}
 use Rattle.blocks.specs.Splice.{splice}
-use Rattle.models.specs.promises.Used.{count-in}
 
 -- What is written, and what is left to read.
 abbrev pub Run : Type 0
@@ -35,11 +32,6 @@ extend m d zero s cs = ([], cs)
 extend m d (suc n) s cs =
     let a : ℕ = choice-at (first-choice m s) d cs in
     after-choice a (each (λ o. extend m (d - 1) n (o .target)) (outcomes m s a) (drop (min 1 d) cs))
-
--- ---- by the table of used entries
-
-unfoldable pub first-in : List ℕ → ℕ → ℕ
-first-in used s = getD (keep (λ a. ltb 0 (count-in used s a)) (count-from 0 8)) 0 0
 
 -- ---- in a buffer
 

@@ -11,18 +11,18 @@ use Rattle.limits.proofs.totals.Statement.{statement}
 use Rattle.limits.proofs.totals.Tie as tie
 
 abbrev Inv-loop : tie.InvT-loop
-Inv-loop m used plans states table₀ k₀ table k = (states ≡ state-count m) × (32 ≤ k) × (k ≤ 224) × Filled plans m table k
+Inv-loop m plans states table₀ k₀ table k = (states ≡ state-count m) × (32 ≤ k) × (k ≤ 224) × Filled plans m table k
 
 abbrev μ-loop : tie.MeasureT-loop
-μ-loop m used plans states table₀ k₀ table k = 224 - k
+μ-loop m plans states table₀ k₀ table k = 224 - k
 
-wide-requires : tie.Need-wide-requires Inv-loop μ-loop
-wide-requires c κs = search needs
+states-requires : tie.Need-states-requires Inv-loop μ-loop
+states-requires c κs = search needs
 
 loop-holds : tie.Need-loop-holds Inv-loop μ-loop
 loop-holds c =
-    let S = c .before .before in
-    (c .wide .ensures .0, omega arith, omega arith, filled-start (S .args .plans) (S .args .m .now) (S .pre .0))
+    let S = c .before in
+    (c .states .ensures, omega arith, omega arith, filled-start (S .args .plans) (S .args .m .now) (S .pre))
 
 sub-state-total : tie.Need-sub-state-total Inv-loop μ-loop
 sub-state-total c = search needs
@@ -32,8 +32,8 @@ mul-state-total c = search needs
 
 state-total-requires : tie.Need-state-total-requires Inv-loop μ-loop
 state-total-requires c κs =
-    let S = c .before .before .before .before .before .before in
-    ((S .pre .0, S .pre .1, omega arith, omega arith), (c .before .before .before .loop .inv .3) .small)
+    let S = c .before .before .before .before .before in
+    ((S .pre, omega arith, omega arith), (c .before .before .before .loop .inv .3) .small)
 
 mul-table : tie.Need-mul-table Inv-loop μ-loop
 mul-table c = search needs
@@ -49,7 +49,7 @@ loop-less c = search needs
 
 loop-again : tie.Need-loop-again Inv-loop μ-loop
 loop-again c =
-    let S = c .before .before .before .before .before in
+    let S = c .before .before .before .before in
     let L = c .before .before .loop in (
       L .inv .0,
       omega arith,
@@ -57,18 +57,18 @@ loop-again c =
       ⊎-elim
           (λ w.
           subst (λ t. Filled (S .args .plans) (S .args .m .now) t (L .k + 1)) (sym (w .3))
-          (filled-more (S .args .plans) (S .args .m .now) (S .pre .0) (L .table) (L .k) (L .inv .3) (w .2 .result) (omega arith) (omega arith) (omega arith) (w .2 .ensures)))
+          (filled-more (S .args .plans) (S .args .m .now) (S .pre) (L .table) (L .k) (L .inv .3) (w .2 .result) (omega arith) (omega arith) (omega arith) (w .2 .ensures)))
           (λ w.
           subst (λ t. Filled (S .args .plans) (S .args .m .now) t (L .k + 1)) (sym (w .1))
-          (filled-past (S .args .plans) (S .args .m .now) (S .pre .0) (L .table) (L .k) (L .inv .3) (omega arith)))
+          (filled-past (S .args .plans) (S .args .m .now) (S .pre) (L .table) (L .k) (L .inv .3) (omega arith)))
           (c .if1 .came),
     )
 
 returns : tie.Need-returns Inv-loop μ-loop
 returns c =
-    let S = c .before .before .before .before in
+    let S = c .before .before .before in
     let L = c .before .loop in
-    filled-all (S .args .plans) (S .args .m .now) (S .pre .0) (L .table) (subst (Filled (S .args .plans) (S .args .m .now) (L .table)) (omega arith) (L .inv .3))
+    filled-all (S .args .plans) (S .args .m .now) (S .pre) (L .table) (subst (Filled (S .args .plans) (S .args .m .now) (L .table)) (omega arith) (L .inv .3))
 
 pub totals-spec : {M : Type 1} → statement M
 totals-spec =
@@ -76,7 +76,7 @@ totals-spec =
     (tie.spec
     Inv-loop
     μ-loop
-    wide-requires
+    states-requires
     loop-holds
     sub-state-total
     mul-state-total
