@@ -33,7 +33,7 @@ reads-cases =
     (λ e. absurd (false≢true e))
     (λ k e. absurd (false≢true e))
 
-pub given-ordered : {m q : Bytes} {used : List ℕ} → Given m q used → Ordered q
+pub given-ordered : {m q : Bytes} → Given m q → Ordered q
 given-ordered {m} {q} given =
     let a = given-question given in
     record {

@@ -11,13 +11,8 @@ use lib.ListN.{getD, length, set, length-set, replicate, length-replicate, getD-
 use lib.Seq.{getD-set-same, getD-set-other}
 use Rattle.logic.specs.Formula.{Node}
 use Rattle.blocks.specs.Bytes.{Bytes}
-use Rattle.models.specs.Layout.{state-count, action-count, prop-count, outcome-of, entries}
-use Rattle.models.specs.promises.Readable.{Readable}
-use Rattle.models.specs.promises.Used.{Used}
-use Rattle.models.proofs.Readable.{readable}
-use Rattle.models.proofs.Laws.{entries-past-actions}
-use Rattle.models.proofs.Rows.{entries-few}
-use Rattle.models.proofs.Table.{used-at}
+use Rattle.models.specs.Layout.{state-count, action-count, prop-count}
+use Rattle.prepared.specs.promises.Rows.{step-in, Offers, Prepared}
 use Rattle.questions.specs.Layout.{start-of, node-count, node-of}
 use Rattle.questions.proofs.Accepted as questions
 use Rattle.evaluation.specs.promises.Reached.{Reached, itself, under-not, and-left, and-right, under-next}
@@ -77,47 +72,24 @@ module _ (n c : ℕ) (h : c < n) where
           let z : length (blank n) ≤ x = subst (λ k. k ≤ x) (sym (length-replicate {A = ℕ} n 0)) (omega arith) in
           absurd (omega (arith, sym (getD-set-other (blank n) c x 1 0 p) ∙ e, List·getD-eq-default (blank n) 0 z))
 
--- ---- outcomes by one number
+-- ---- the outcomes of a choice
 
--- What holds of the outcomes k % 4 of the actions k / 4 holds of all that are used.
-pub by-outcome : (m : Bytes) → Readable m → (s : ℕ) (P : ℕ → ℕ → Type 0)
-    → ((k : ℕ) → k < 32 → k % 4 < entries m s (k / 4) → P (k / 4) (k % 4)) → (a i : ℕ) → i < entries m s a → P a i
-by-outcome m r s P f a i h = go (decLt a (action-count m))
-  where
-    go : Dec (a < action-count m) → P a i
-    go (no n) = absurd (omega (arith, entries-past-actions m s a (omega arith)))
-    go (yes l) =
-        let few : entries m s a ≤ 4 = entries-few m r s a in
-        let eight : action-count m ≤ 8 = r .actions in
-        let p : (4 * a + i) / 4 ≡ a = omega arith in
-        let q : (4 * a + i) % 4 ≡ i = omega arith in
-        subst (λ x. P x i) p (subst (λ y. P ((4 * a + i) / 4) y) q
-        (f (4 * a + i) (omega arith) (subst (λ y. y < entries m s ((4 * a + i) / 4)) (sym q) (subst (λ x. i < entries m s x) (sym p) h))))
-
--- An outcome that is used has its target marked; of one that is not, nothing is asked.
-abbrev pub Outcome-done : (m need : List ℕ) (child s k : ℕ) → List ℕ → Type 0
-Outcome-done m need child s k need′ =
-    Grown (state-count m) (32 * child + 32) need need′ × (k % 4 < entries m s (k / 4) → Marked need′ child ((outcome-of m s (k / 4) (k % 4)) .target))
-
-module _ (m used need : List ℕ) (child s k : ℕ) (r : Readable m) (u : Used m used) (z : length need ≡ 1280) (hc : child < 40) (hs : s < 32) (hk : k < 32) where
+module _ {m : List ℕ} (w : Prepared m) (need : List ℕ) (child s i o : ℕ) (z : length need ≡ 1280) (hc : child < 40) (hs : s < state-count m) (u : Offers m s i o) where
   abbrev target-of : ℕ
-  target-of = (outcome-of m s (k / 4) (k % 4)) .target
+  target-of = (step-in m s i o) .target
 
-  entries-at : getD used (8 * s + k / 4) 0 ≡ entries m s (k / 4)
-  entries-at = used-at m u s (k / 4) hs (omega arith)
+  pub target-small : target-of < 32
+  target-small = omega (arith, w .inside s i o hs u, w .states)
 
-  pub outcome-marked : (t : ℕ) → k % 4 < getD used (8 * s + k / 4) 0 → t ≡ target-of → Outcome-done m need child s k (set need (32 * child + t) 1)
-  outcome-marked t l e =
-      let b : target-of < state-count m = r .inside s (k / 4) (subst (λ n. k % 4 < n) entries-at l) in
-      let f : state-count m ≤ 32 = r .states in
-      let x : (32 * child + target-of) % 32 ≡ target-of = omega arith in
-      subst (λ y. Outcome-done m need child s k (set need (32 * child + y) 1)) (sym e) (
-        grown-mark (state-count m) (32 * child + 32) need (32 * child + target-of) (omega arith) (omega arith) (omega arith),
-        λ _. getD-set-same need (32 * child + target-of) 1 0 (omega arith),
+  pub outcome-marked : {t : ℕ} {need′ : List ℕ} → t ≡ target-of → need′ ≡ set need (32 * child + t) 1
+      → Grown (state-count m) (32 * child + 32) need need′ × Marked need′ child target-of
+  outcome-marked e f =
+      let x : (32 * child + target-of) % 32 ≡ target-of = omega (arith, target-small) in
+      subst (λ l. Grown (state-count m) (32 * child + 32) need l × Marked l child target-of) (sym (f ∙ ap (λ y. set need (32 * child + y) 1) e)) (
+        grown-mark (state-count m) (32 * child + 32) need (32 * child + target-of) (omega (arith, target-small)) (omega (arith, target-small))
+            (omega (arith, w .inside s i o hs u)),
+        getD-set-same need (32 * child + target-of) 1 0 (omega (arith, target-small)),
       )
-
-  pub outcome-skipped : getD used (8 * s + k / 4) 0 ≤ k % 4 → Outcome-done m need child s k need
-  outcome-skipped l = (grown-none _ _ need, λ g. absurd (omega (arith, entries-at)))
 
 -- ---- one pair
 
@@ -128,7 +100,7 @@ module _ {m q : Bytes} {j s : ℕ} {need : List ℕ} where
         under-not = λ o. g .stays _ (p .under-not o);
         and-left = λ o. g .stays _ (p .and-left o);
         and-right = λ o. g .stays _ (p .and-right o);
-        under-next = λ o a i l. g .stays _ (p .under-next o a i l);
+        under-next = λ e i o u. g .stays _ (p .under-next e i o u);
         under-plan = λ o. g .stays _ (p .under-plan o);
       }
 
@@ -152,7 +124,7 @@ module _ {m q : Bytes} {j s : ℕ} {need : List ℕ} where
         under-plan = λ p. absurd (omega arith);
       }
 
-  pub passed-next : (node-of q j) .operator ≡ 6 → ((a i : ℕ) → i < entries m s a → Marked need ((node-of q j) .left) ((outcome-of m s a i) .target))
+  pub passed-next : (node-of q j) .operator ≡ 6 → ((i o : ℕ) → Offers m s i o → Marked need ((node-of q j) .left) ((step-in m s i o) .target))
       → Passed-on m q need j s
   passed-next o f =
       record {
@@ -180,10 +152,7 @@ Pair-done m q need k need′ = Grown (state-count m) (32 * (k / 32)) need need�
 
 -- ---- what is given
 
-module _ {m q : Bytes} {used : List ℕ} (given : Given m q used) where
-  pub given-readable : Readable m
-  given-readable = readable m (given .model-accepted)
-
+module _ {m q : Bytes} (given : Given m q) where
   pub given-question : questions.Accepted (state-count m) (action-count m) (prop-count m) q
   given-question = questions.accepted (state-count m) (action-count m) (prop-count m) q (given .question-accepted)
 
@@ -219,7 +188,7 @@ module _ {m q : Bytes} {used : List ℕ} (given : Given m q used) where
         )
 
     pub next-marked : {need′ : List ℕ} → node .operator ≡ 6 → Grown (state-count m) (32 * node .left + 32) need need′
-        → ((a i : ℕ) → i < entries m (k % 32) a → Marked need′ (node .left) ((outcome-of m (k % 32) a i) .target)) → Pair-done m q need k need′
+        → ((i o : ℕ) → Offers m (k % 32) i o → Marked need′ (node .left) ((step-in m (k % 32) i o) .target)) → Pair-done m q need k need′
     next-marked o g f = let b = range .of-next o in (grown-wider _ _ _ (omega arith) g, λ _. passed-next o f)
 
     pub none-marked : ((node .operator ≡ 3) ⊎ (node .operator ≡ 8) → ⊥) → (node .operator ≡ 4 → ⊥) → (node .operator ≡ 6 → ⊥) → Pair-done m q need k need
@@ -234,7 +203,7 @@ pub record Passing (m q : Bytes) (need : List ℕ) (k : ℕ) : Type 0 where
   pub inside : (x : ℕ) → getD need x 0 ≡ 1 → (x < 32 * node-count q) × (x % 32 < state-count m)
   pub closed : (x : ℕ) → k ≤ x → getD need x 0 ≡ 1 → Passed-on m q need (x / 32) (x % 32)
 
-module _ {m q : Bytes} {used : List ℕ} (given : Given m q used) where
+module _ {m q : Bytes} (given : Given m q) where
   abbrev first : ℕ
   first = 32 * (node-count q - 1) + start-of q
 
@@ -242,7 +211,7 @@ module _ {m q : Bytes} {used : List ℕ} (given : Given m q used) where
   first-inside =
       let a = given-question given in
       let h : start-of q < state-count m = a .starts in
-      let g : state-count m ≤ 32 = given-readable given .states in
+      let g : state-count m ≤ 32 = given .prepared .states in
       let n : 1 ≤ node-count q = a .some-node in
       let l : node-count q ≤ 40 = a .few-nodes in
       (omega arith, omega arith, omega arith, h, g)
@@ -279,10 +248,10 @@ passing-end p = record { root = p .root; inside = p .inside; closed = λ k e. p 
 
 -- ---- what is reached is marked
 
-module _ {m q : Bytes} {used need : List ℕ} (given : Given m q used) (needs : Needs m q need) where
+module _ {m q : Bytes} {need : List ℕ} (given : Given m q) (needs : Needs m q need) where
   pub passed-at : (j t : ℕ) → t < state-count m → Marked need j t → Passed-on m q need j t
   passed-at j t h e =
-      let g : state-count m ≤ 32 = given-readable given .states in
+      let g : state-count m ≤ 32 = given .prepared .states in
       let p : (32 * j + t) / 32 ≡ j = omega arith in
       let r : (32 * j + t) % 32 ≡ t = omega arith in
       subst (λ x. Passed-on m q need x t) p (subst (λ y. Passed-on m q need ((32 * j + t) / 32) y) r (needs .closed (32 * j + t) e))
@@ -293,5 +262,5 @@ module _ {m q : Bytes} {used need : List ℕ} (given : Given m q used) (needs : 
   reached-marked e h (under-not {j} {t} r o) = let w = reached-marked e h r in (passed-at j t (w .1) (w .0) .under-not o, w .1)
   reached-marked e h (and-left {j} {t} r o) = let w = reached-marked e h r in (passed-at j t (w .1) (w .0) .and-left o, w .1)
   reached-marked e h (and-right {j} {t} r o) = let w = reached-marked e h r in (passed-at j t (w .1) (w .0) .and-right o, w .1)
-  reached-marked e h (under-next {j} {t} a i r o l) =
-      let w = reached-marked e h r in (passed-at j t (w .1) (w .0) .under-next o a i l, given-readable given .inside t a l)
+  reached-marked e h (under-next {j} {t} i o r p u) =
+      let w = reached-marked e h r in (passed-at j t (w .1) (w .0) .under-next p i o u, given .prepared .inside t i o (w .1) u)

@@ -4,10 +4,8 @@ ghost use mathlib.Core.Path.{_≡_};
 ghost use Prim.Native.Nat.{_+_, _*_, _/_, _%_, ℕ, _<_, _≤_};
 ghost use lib.ListN.{getD, set, length, take};
 ghost use Rattle.logic.specs.Formula.{depth};
-ghost use Rattle.models.specs.Layout.{state-count, outcome-of};
-ghost use Rattle.models.specs.Layout as layout;
-ghost use Rattle.models.specs.promises.Readable.{Readable};
-ghost use Rattle.models.specs.promises.Used.{Used};
+ghost use Rattle.models.specs.Layout.{state-count};
+ghost use Rattle.prepared.specs.promises.Rows.{choices-in, outcomes-in, step-in, Offers, Prepared};
 ghost use Rattle.questions.specs.Layout.{formulas-of};
 ghost use Rattle.questions.specs.Layout as question;
 ghost use Rattle.questions.specs.promises.Tables.{table};
@@ -15,10 +13,11 @@ ghost use Rattle.evaluation.specs.promises.Reached.{Cone, root-of};
 ghost use Rattle.tables.specs.promises.Need.{Given, Marked, Passed-on, Grown, Needs};
 ghost use Rattle.tables.specs.promises.Chosen.{Ordered, Entered, Chosen, Listed};
 use blocks::byte;
-use blocks::wide;
 use evaluation::depth_at;
 use evaluation::store;
-use models::target;
+use prepared::choices;
+use prepared::outcomes;
+use prepared::target;
 use questions::left;
 use questions::node_count;
 use questions::operator;
@@ -40,35 +39,36 @@ fn mark(need: &mut [u8], j: u8, s: u8)
     store(need, place(j, s), 1);
 }
 
-// Marks the child of "next" in the target of outcome k % 4 of action k / 4, if that is used.
-fn mark_outcome(m: &[u8], used: &[u8; 264], need: &mut [u8], child: u8, s: u8, k: usize)
-    requires { ⌜ Readable (now m) × Used (now m) (now used) × (length (now need) ≡ 1280) ⌝ }
-    requires { ⌜ (child < 40) × (s < 32) × (k < 32) ⌝ }
-    ensures { λ _. ⌜ Grown (state-count (now (m .entry))) (32 * child + 32) (now (need .entry)) (now (need .exit)) × (k % 4 < layout.entries (now (m .entry)) s (k / 4) → Marked (now (need .exit)) child (outcome-of (now (m .entry)) s (k / 4) (k % 4) .target)) ⌝ }
+// Marks the child of "next" in the targets of the outcomes of choice i.
+fn mark_outcomes(m: &[u16; 8704], need: &mut [u8], child: u8, s: u8, i: usize)
+    requires { ⌜ Prepared (now m) × (length (now need) ≡ 1280) × (child < 40) ⌝ }
+    requires { ⌜ (s < state-count (now m)) × (i < choices-in (now m) s) ⌝ }
+    ensures { λ _. ⌜ Grown (state-count (now (m .entry))) (32 * child + 32) (now (need .entry)) (now (need .exit)) × ((o : ℕ) → o < outcomes-in (now (m .entry)) s i → Marked (now (need .exit)) child (step-in (now (m .entry)) s i o .target)) ⌝ }
 {
-    let a = k / 4;
-    let i = k % 4;
-    if i < wide(used, 8 * s as usize + a) {
-        mark(need, child, target(m, s as usize, a, i) as u8);
+    let n = outcomes(m, s as usize, i);
+    let mut o: usize = 0;
+    while o < n {
+        mark(need, child, target(m, s as usize, i, o) as u8);
+        o += 1;
     }
 }
 
 // Marks the child of "next" wherever a step from s can lead.
-fn mark_next(m: &[u8], used: &[u8; 264], need: &mut [u8], child: u8, s: u8)
-    requires { ⌜ Readable (now m) × Used (now m) (now used) × (length (now need) ≡ 1280) ⌝ }
-    requires { ⌜ (child < 40) × (s < 32) ⌝ }
-    ensures { λ _. ⌜ Grown (state-count (now (m .entry))) (32 * child + 32) (now (need .entry)) (now (need .exit)) × ((a i : ℕ) → i < layout.entries (now (m .entry)) s a → Marked (now (need .exit)) child (outcome-of (now (m .entry)) s a i .target)) ⌝ }
+fn mark_next(m: &[u16; 8704], need: &mut [u8], child: u8, s: u8)
+    requires { ⌜ Prepared (now m) × (length (now need) ≡ 1280) × (child < 40) × (s < state-count (now m)) ⌝ }
+    ensures { λ _. ⌜ Grown (state-count (now (m .entry))) (32 * child + 32) (now (need .entry)) (now (need .exit)) × ((i o : ℕ) → Offers (now (m .entry)) s i o → Marked (now (need .exit)) child (step-in (now (m .entry)) s i o .target)) ⌝ }
 {
-    let mut k: usize = 0;
-    while k < 32 {
-        mark_outcome(m, used, need, child, s, k);
-        k += 1;
+    let n = choices(m, s as usize);
+    let mut i: usize = 0;
+    while i < n {
+        mark_outcomes(m, need, child, s, i);
+        i += 1;
     }
 }
 
 // Marks what the pair at a place of the table turns on, if it is marked.
-fn pass_on(m: &[u8], q: &[u8], used: &[u8; 264], need: &mut [u8], k: usize)
-    requires { ⌜ Given (now m) (now q) (now used) × (length (now need) ≡ 1280) × (k < 32 * question.node-count (now q)) ⌝ }
+fn pass_on(m: &[u16; 8704], q: &[u8], need: &mut [u8], k: usize)
+    requires { ⌜ Given (now m) (now q) × (length (now need) ≡ 1280) × (k < 32 * question.node-count (now q)) ⌝ }
     requires { ⌜ (getD (now need) k 0 ≡ 1 → k % 32 < state-count (now m)) ⌝ }
     ensures { λ _. ⌜ Grown (state-count (now (m .entry))) (32 * (k / 32)) (now (need .entry)) (now (need .exit)) × (getD (now (need .entry)) k 0 ≡ 1 → Passed-on (now (m .entry)) (now (q .entry)) (now (need .exit)) (k / 32) (k % 32)) ⌝ }
 {
@@ -84,14 +84,14 @@ fn pass_on(m: &[u8], q: &[u8], used: &[u8; 264], need: &mut [u8], k: usize)
             mark(need, left(q, j), s);
             mark(need, right(q, j), s);
         }
-        6 => mark_next(m, used, need, left(q, j), s),
+        6 => mark_next(m, need, left(q, j), s),
         _ => {}
     }
 }
 
 // Marks from the root in the start state downwards: children have smaller numbers.
-pub fn needed(m: &[u8], q: &[u8], used: &[u8; 264]) -> [u8; 1280]
-    requires { ⌜ Given (now m) (now q) (now used) ⌝ }
+pub fn needed(m: &[u16; 8704], q: &[u8]) -> [u8; 1280]
+    requires { ⌜ Given (now m) (now q) ⌝ }
     ensures { λ r. ⌜ Needs (now (m .entry)) (now (q .entry)) r ⌝ }
 {
     let mut need = [0u8; 1280];
@@ -101,7 +101,7 @@ pub fn needed(m: &[u8], q: &[u8], used: &[u8; 264]) -> [u8; 1280]
     let mut k = place(root, 0) + 32;
     while k > 0 {
         k -= 1;
-        pass_on(m, q, used, &mut need, k);
+        pass_on(m, q, &mut need, k);
     }
     need
 }

@@ -1,20 +1,17 @@
--- Sums over choices, plan or not, stay far below 2 to the 64: a state's action has at most 4 outcomes, each of weight at most 100.
+-- Sums over choices, plan or not, stay far below 2 to the 64: the weights of a choice's outcomes sum to the denominator.
 use Prim.Native.Nat.{ℕ, zero, suc, _+_, _*_, _^_, _≤_, _<_}
 use native.Mathlib.Omega.{arith}
-use native.Mathlib.Nat.{add-assoc, mul-le-mul, mul-le-mul-right, suc-mul, pow-zero, pow-suc, pow-le-pow-right}
-use mathlib.Core.Path.{_≡_, sym, ap, _∙_}
-use mathlib.Core.List.{List, [], _∷_, _++_}
-use lib.ListN.{getD, drop}
-use Rattle.logic.specs.Lists.{tabulate, count-from}
-use Rattle.logic.specs.promises.Refusal.{refusal}
-use Rattle.logic.specs.Model.{Step, outcomes}
-use Rattle.logic.proofs.Tests.{tabulate-more}
-use Rattle.blocks.specs.Bytes.{Bytes}
-use Rattle.models.specs.Layout.{state-count, outcome-of, entries, model-of}
-use Rattle.models.specs.Grounds.{read-model}
-use Rattle.models.proofs.Readable.{readable}
-use Rattle.models.proofs.Rows.{outcomes-are, entries-few}
-use Rattle.evaluation.proofs.Trails.{fair}
+use native.Mathlib.Nat.{add-assoc, mul-le-mul-left, add-mul, mul-comm, pow-zero, pow-suc}
+use mathlib.Core.Path.{_≡_, refl, sym, ap, subst, _∙_}
+use mathlib.Core.Bool.{Bool, true, false, false≢true}
+use mathlib.Core.List.{List, [], _∷_, _++_, List·Memᴰ, List·Memᴰ·head, List·Memᴰ·tail}
+use lib.Dec.{eqb}
+use lib.ListN.{getD, length, drop}
+use Rattle.logic.specs.Lists.{any}
+use Rattle.logic.specs.Model.{Model, Step, enabled, outcomes}
+use Rattle.logic.specs.Accepted.{Accepted, Executable}
+use Rattle.logic.specs.Quantity.{naturals, sum}
+use Rattle.logic.proofs.Reading.{any-member, member-any}
 use Rattle.weighing.specs.promises.Sums.{Run, each, weigh}
 
 -- One outcome more, at the end.
@@ -28,32 +25,38 @@ each-more f (p ∷ l) o cs =
     ap (λ (z : Run). (p .weight * x .0 + z .0, z .1)) (each-more f l o (x .1))
     ∙ ap (λ v. (v, f o (y .1) .1)) (sym (add-assoc (p .weight * x .0) (y .0) (o .weight * f o (y .1) .0)))
 
-each-small : (g : Step → List ℕ → Run) (f : ℕ → Step) (B i : ℕ) → ((j : ℕ) → j < i → (cs : List ℕ) → f j .weight * g (f j) cs .0 ≤ B)
-    → (cs : List ℕ) → each g (tabulate i f) cs .0 ≤ i * B
-unfolding each tabulate count-from
-each-small g f B zero h cs = omega arith
-each-small g f B (suc i) h cs =
-    let l : List Step = tabulate i f in
-    let e : each g (tabulate (suc i) f) cs .0 ≡ each g l cs .0 + f i .weight * g (f i) (each g l cs .1) .0 =
-    ap (λ l. each g l cs .0) (tabulate-more f i) ∙ ap (λ (x : Run). x .0) (each-more g l (f i) cs) in
-    omega (arith, each-small g f B i (λ j k. h j (omega arith)) cs, h i (omega arith) (each g l cs .1), suc-mul i B)
+-- Where the sum below each outcome is at most B.
+pub each-small : (f : Step → List ℕ → Run) (B : ℕ) (l : List Step) → ((o : Step) → List·Memᴰ o l → (cs : List ℕ) → f o cs .0 ≤ B)
+    → (cs : List ℕ) → each f l cs .0 ≤ sum naturals (λ o. o .weight) l * B
+unfolding each sum
+each-small f B [] h cs = omega arith
+each-small f B (o ∷ l) h cs =
+    omega (
+      arith,
+      mul-le-mul-left (o .weight) (h o (List·Memᴰ·head refl) cs),
+      each-small f B l (λ p i. h p (List·Memᴰ·tail i)) (f o cs .1),
+      add-mul (o .weight) (sum naturals (λ o. o .weight) l) B,
+    )
 
-module _ (m : Bytes) (accepted : refusal (read-model m) ≡ 0) where
-  -- Below the first i outcomes, where the sum below each is at most B.
-  pub outcomes-small : (g : Step → List ℕ → Run) (B s a i : ℕ) → s < state-count m → i ≤ entries m s a
-      → ((j : ℕ) → j < i → (cs : List ℕ) → g (outcome-of m s a j) cs .0 ≤ B) → (cs : List ℕ) → each g (tabulate i (outcome-of m s a)) cs .0 ≤ i * (100 * B)
-  outcomes-small g B s a i k l h = each-small g (outcome-of m s a) (100 * B) i (λ j n cs. mul-le-mul (fair m accepted s a j k (omega arith) .light) (h j n cs))
+module _ (M : Model) (A : Accepted M) where
+  -- Below a choice, whether it is enabled or not.
+  choice-small : (f : Step → List ℕ → Run) (B s a : ℕ) → s < length (M .states)
+      → ((o : Step) → o .target < length (M .states) → (cs : List ℕ) → f o cs .0 ≤ B) → (cs : List ℕ) → each f (outcomes M s a) cs .0 ≤ M .denominator * B
+  unfolding each
+  choice-small f B s a l h cs = go (any (eqb a) (enabled M s)) refl
+    where
+      go : (t : Bool) → any (eqb a) (enabled M s) ≡ t → each f (outcomes M s a) cs .0 ≤ M .denominator * B
+      go true e =
+          let x : Executable M s a = record { state = l; choice = any-member a (enabled M s) e } in
+          subst (λ d. each f (outcomes M s a) cs .0 ≤ d * B) (A .sums x) (each-small f B (outcomes M s a) (λ o i. h o (A .inside x o i)) cs)
+      go false e =
+          let n : outcomes M s a ≡ [] = A .defined s a l (λ i. false≢true (sym e ∙ member-any i)) in
+          subst (λ os. each f os cs .0 ≤ M .denominator * B) (sym n) (omega arith)
 
-  pub weigh-small : (k s : ℕ) (f : List Step → ℕ) → ((r : List Step) → f r ≤ 1) → s < state-count m → (cs : List ℕ) → weigh (model-of m) k s f cs .0 ≤ 400 ^ k
+  pub weigh-small : (k s : ℕ) (f : List Step → ℕ) → ((r : List Step) → f r ≤ 1) → s < length (M .states) → (cs : List ℕ) → weigh M k s f cs .0 ≤ M .denominator ^ k
   unfolding weigh
-  weigh-small zero s f h l cs = rw (pow-zero 400) (h [])
+  weigh-small zero s f h l cs = rw (pow-zero (M .denominator)) (h [])
   weigh-small (suc k) s f h l cs =
-      let a : ℕ = getD cs 0 0 in
-      let g : Step → List ℕ → Run = λ o. weigh (model-of m) k (o .target) (λ r. f (o ∷ r)) in
-      let n = outcomes-small g (400 ^ k) s a (entries m s a) l (omega arith)
-      (λ j i ds. weigh-small k ((outcome-of m s a j) .target) (λ r. f (outcome-of m s a j ∷ r)) (λ r. h (outcome-of m s a j ∷ r)) (fair m accepted s a j l i .reaches) ds) (drop 1 cs) in
-      let e : each g (outcomes (model-of m) s a) (drop 1 cs) ≡ each g (tabulate (entries m s a) (outcome-of m s a)) (drop 1 cs) = ap (λ os. each g os (drop 1 cs)) (outcomes-are m s a) in
-      rw (e, pow-suc 400 k) (omega (arith, n, mul-le-mul-right (100 * 400 ^ k) (entries-few m (readable m accepted) s a)))
-
-pub power-small : (k : ℕ) → k ≤ 5 → 400 ^ k ≤ 10240000000000
-power-small k h = pow-le-pow-right {n = 400} (omega arith) h
+      rw (pow-suc (M .denominator) k, mul-comm (M .denominator ^ k) (M .denominator))
+      (choice-small (λ o. weigh M k (o .target) (λ r. f (o ∷ r))) (M .denominator ^ k) s (getD cs 0 0) l
+      (λ o i ds. weigh-small k (o .target) (λ r. f (o ∷ r)) (λ r. h (o ∷ r)) i ds) (drop 1 cs))

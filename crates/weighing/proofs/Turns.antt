@@ -3,37 +3,38 @@
 use Prim.Native.Nat.{ℕ, zero, suc, _+_, _*_, _-_, _^_, _≤_, _<_}
 use native.Mathlib.Omega.{arith}
 use native.Mathlib.Numerals.{add-one}
-use native.Mathlib.Nat.{mul-le-mul, mul-le-mul-right}
+use native.Mathlib.Nat.{le-trans, mul-le-mul, pow-le-pow-left, pow-le-pow-right}
 use mathlib.Core.Path.{_≡_, refl, sym, ap, ap₂, subst, _∙_}
 use mathlib.Core.List.{List, [], _∷_}
 use lib.IntN.{ℤ, pos}
-use lib.ListN.{length, getD, take, drop, drop-of-length-le}
-use lib.Seq.{length-take-le, getD-drop, drop-drop}
+use lib.ListN.{length, getD, take, drop, length-append, drop-of-length-le}
+use lib.Seq.{getD-drop, drop-drop}
 use Rattle.logic.specs.Lists.{tabulate, count-from}
 use Rattle.logic.specs.Model.{Model, Step, outcomes}
 use Rattle.logic.specs.Checked.{ok}
 use Rattle.logic.specs.Plan.{Plan}
 use Rattle.logic.specs.Choices.{plan-of}
 use Rattle.logic.specs.Formula.{depth, W}
+use Rattle.logic.specs.Quantity.{naturals}
+use Rattle.logic.specs.Quantity as quantity
 use Rattle.logic.proofs.Tests.{tabulate-more}
-use Rattle.blocks.specs.Bytes.{Bytes}
-use Rattle.models.specs.Layout.{state-count, outcome-of, entries, model-of}
-use Rattle.models.specs.promises.Used.{Used, count-in}
-use Rattle.models.proofs.Readable.{readable}
-use Rattle.models.proofs.Rows.{outcomes-are, entries-few}
-use Rattle.models.proofs.Table.{count-entries}
+use Rattle.blocks.specs.Block.{sum-below}
+use Rattle.models.specs.Layout.{state-count}
+use Rattle.models.proofs.Held.{tabulate-member, sum-tabulate}
+use Rattle.prepared.specs.promises.Rows.{step-in, Offers, model-in, Row-of}
+use Rattle.prepared.proofs.Laws.{states-are, denominator-is}
+use Rattle.prepared.proofs.Ranges.{read-range}
 use Rattle.evaluation.specs.promises.Path.{steps-of, state-after}
 use Rattle.evaluation.specs.promises.Reached.{formula, root-of, on-path, Ready}
 use Rattle.evaluation.specs.promises.Learnt.{known, learnt}
-use Rattle.evaluation.specs.promises.Known.{Knows, Roomy, Offered, Stepped}
-use Rattle.evaluation.proofs.Trails.{fair}
-use Rattle.evaluation.proofs.Returning.{roomy-same, back-none, back-same, knows-back, state-back, step-back}
+use Rattle.evaluation.specs.promises.Known.{Knows, Offered, Stepped}
+use Rattle.evaluation.proofs.Returning.{back-none, back-same, knows-back, state-back, step-back}
 use Rattle.evaluation.proofs.Stepping.{state-reached, leaf-value, begun, state-stepped, on-path-stepped}
-use Rattle.evaluation.proofs.Values.{one-if-small, learnt-length}
+use Rattle.evaluation.proofs.Values.{one-if-small}
 use Rattle.weighing.specs.promises.Sums.{Run, each, weigh}
 use Rattle.weighing.specs.promises.Places.{Here, Ran}
 use Rattle.weighing.proofs.Plans.{plan-weighed}
-use Rattle.weighing.proofs.Fits.{each-more, outcomes-small, weigh-small, power-small}
+use Rattle.weighing.proofs.Fits.{each-more, each-small, weigh-small}
 
 -- ---- the choice at a place
 
@@ -57,52 +58,49 @@ after-end choices at h = let e : drop at choices ≡ [] = drop-of-length-le choi
 
 -- ---- the loop over the outcomes
 
--- The sum below an outcome after the trail t, of k steps; and the sum below the first i outcomes of an action.
-module _ (m q : Bytes) (start : ℕ) (cone t : List ℕ) (k : ℕ) where
+-- The sum below an outcome after the trail t, of k steps; and the sum below the first n outcomes of the choice at place i.
+module _ (m q : List ℕ) (start : ℕ) (cone t : List ℕ) (k : ℕ) where
   abbrev pub below : Step → List ℕ → Run
-  below o = weigh (model-of m) k (o .target) (λ r. on-path m q start cone t (o ∷ r))
+  below o = weigh (model-in m) k (o .target) (λ r. on-path m q start cone t (o ∷ r))
 
-  abbrev pub runs : (s a i : ℕ) → List ℕ → Run
-  runs s a i cs = each below (tabulate i (outcome-of m s a)) cs
+  abbrev pub runs : (s i n : ℕ) → List ℕ → Run
+  runs s i n cs = each below (tabulate n (step-in m s i)) cs
 
-module _ {m q : Bytes} {start : ℕ} {depths truth cone : List ℕ} (ready : Ready m q start depths truth cone) where
+weights-few : (n : ℕ) (f : ℕ → ℕ) → ((j : ℕ) → j < n → f j ≤ 100) → sum-below n f ≤ n * 100
+unfolding sum-below
+weights-few zero f h = omega arith
+weights-few (suc n) f h = omega (arith, weights-few n f (λ j l. h j (omega arith)), h n (omega arith))
+
+module _ {m q : List ℕ} {start : ℕ} {depths truth cone : List ℕ} (ready : Ready m q start depths truth cone) where
   -- ---- here
 
   module _ {trail : List ℕ} {gains : List ℤ} {v : List ℕ} {h s k : ℕ} (here : Here m q start cone trail gains v h s k) where
     pub state-here : s < state-count m
     state-here = state-reached ready (here .knows) (here .state)
 
-    pub state-few : s < 32
-    state-few = omega (arith, state-here, readable m (ready .model-accepted) .states)
-
-    pub trail-length : length (take h trail) ≡ h
-    trail-length = length-take-le h trail (omega (arith, here .roomy .steps, here .steps))
-
-    pub count-here : {used : List ℕ} → Used m used → (a : ℕ) → count-in used s a ≡ entries m s a
-    count-here u a = count-entries m (readable m (ready .model-accepted)) u s state-here a
-
     -- At the end of a path the condition has its value.
     pub weigh-done : (choices : List ℕ) (at x : ℕ) → k ≡ 0 → at ≤ length choices → x ≡ known v (root-of cone) 0
-        → Ran (weigh (model-of m) k s (on-path m q start cone (take h trail)) (drop at choices)) m q start cone h trail trail gains v choices x at
+        → Ran (weigh (model-in m) k s (on-path m q start cone (take h trail)) (drop at choices)) m q start cone h trail trail gains v choices x at
     unfolding weigh
     weigh-done choices at x z l e =
         let T = take h trail in
-        let d : depth (formula q (root-of cone)) ≤ length T = omega (arith, here .deep, trail-length) in
-        let f : x ≡ on-path m q start cone T [] =
-        e ∙ leaf-value ready T gains v (here .knows) d [] in
-        rw z (record { sum = f; left = refl; inside = l; back = back-none (here .knows) })
+        let d : depth (formula q (root-of cone)) ≤ length T = omega (arith, here .deep, here .whole) in
+        rw z (record { sum = e ∙ leaf-value ready T gains v (here .knows) d []; left = refl; inside = l; back = back-none (here .knows) })
 
     -- A choice is read, and the sum is that below its outcomes.
-    pub weigh-choice : {trail′ : List ℕ} {gains′ : List ℤ} {v′ : List ℕ} (choices : List ℕ) (at a next : ℕ) {x y : ℕ} → (k ≡ 0 → ⊥) → a ≡ getD choices at 0
-        → drop next choices ≡ drop 1 (drop at choices)
-        → Ran (each (λ o. weigh (model-of m) (k - 1) (o .target) (λ r. on-path m q start cone (take h trail) (o ∷ r))) (outcomes (model-of m) s a) (drop next choices)) m q start cone h trail trail′ gains′ v′ choices x y
-        → Ran (weigh (model-of m) k s (on-path m q start cone (take h trail)) (drop at choices)) m q start cone h trail trail′ gains′ v′ choices x y
-    weigh-choice {trail′} {gains′} {v′} choices at a next {x} {y} n e f R =
-        subst (λ z. Ran z m q start cone h trail trail′ gains′ v′ choices x y) (weigh-step (model-of m) (on-path m q start cone (take h trail)) choices k s at a next n e f) R
+    pub weigh-choice : {trail′ : List ℕ} {gains′ : List ℤ} {v′ : List ℕ} (choices : List ℕ) (at a next : ℕ) {i c x y : ℕ} → (k ≡ 0 → ⊥) → a ≡ getD choices at 0
+        → drop next choices ≡ drop 1 (drop at choices) → Row-of m s a i c
+        → Ran (runs m q start cone (take h trail) (k - 1) s i c (drop next choices)) m q start cone h trail trail′ gains′ v′ choices x y
+        → Ran (weigh (model-in m) k s (on-path m q start cone (take h trail)) (drop at choices)) m q start cone h trail trail′ gains′ v′ choices x y
+    weigh-choice {trail′} {gains′} {v′} choices at a next {x = x} {y} n e f w R =
+        subst (λ z. Ran z m q start cone h trail trail′ gains′ v′ choices x y)
+        (ap (λ os. each (below m q start cone (take h trail) (k - 1)) os (drop next choices)) (sym (w .row))
+        ∙ weigh-step (model-in m) (on-path m q start cone (take h trail)) choices k s at a next n e f) R
 
   -- ---- the loop
 
-  module _ {trail₀ : List ℕ} {gains₀ : List ℤ} {v₀ : List ℕ} {h s : ℕ} (k : ℕ) (here : Here m q start cone trail₀ gains₀ v₀ h s (k + 1)) (choices : List ℕ) (at a : ℕ) where
+  module _ {trail₀ : List ℕ} {gains₀ : List ℤ} {v₀ : List ℕ} {h s : ℕ} (k : ℕ) (here : Here m q start cone trail₀ gains₀ v₀ h s (k + 1)) (choices : List ℕ) (at : ℕ)
+      {i c : ℕ} (offers : (o : ℕ) → o < c → Offers m s i o) where
     abbrev T : List ℕ
     T = take h trail₀
 
@@ -110,110 +108,99 @@ module _ {m q : Bytes} {start : ℕ} {depths truth cone : List ℕ} (ready : Rea
     under = below m q start cone T k
 
     abbrev upto : ℕ → Run
-    upto i = runs m q start cone T k s a i (drop at choices)
+    upto n = runs m q start cone T k s i n (drop at choices)
 
     pub runs-none : at ≤ length choices → Ran (upto 0) m q start cone h trail₀ trail₀ gains₀ v₀ choices 0 at
     unfolding each tabulate count-from
     runs-none l = record { sum = refl; left = refl; inside = l; back = back-none (here .knows) }
 
-    pub runs-all : (c i : ℕ) {trail : List ℕ} {gains : List ℤ} {v : List ℕ} {sum next : ℕ} → c ≡ entries m s a → i ≡ c
-        → Ran (upto i) m q start cone h trail₀ trail gains v choices sum next
-        → Ran (each under (outcomes (model-of m) s a) (drop at choices)) m q start cone h trail₀ trail gains v choices sum next
-    runs-all c i {trail} {gains} {v} {sum} {next} e f R =
-        subst (λ os. Ran (each under os (drop at choices)) m q start cone h trail₀ trail gains v choices sum next)
-        (ap (λ i. tabulate i (outcome-of m s a)) (f ∙ e) ∙ sym (outcomes-are m s a)) R
+    pub runs-all : {n : ℕ} {trail : List ℕ} {gains : List ℤ} {v : List ℕ} {sum next : ℕ} → n ≡ c
+        → Ran (upto n) m q start cone h trail₀ trail gains v choices sum next → Ran (upto c) m q start cone h trail₀ trail gains v choices sum next
+    runs-all {trail = trail} {gains} {v} {sum} {next} e R = subst (λ n. Ran (upto n) m q start cone h trail₀ trail gains v choices sum next) e R
 
-    module _ (i : ℕ) {c : ℕ} {trail : List ℕ} {gains : List ℤ} {v : List ℕ} {sum next : ℕ} (ec : c ≡ entries m s a) (l : i < c)
-        (R : Ran (upto i) m q start cone h trail₀ trail gains v choices sum next) where
-      pub offered : Offered m start trail h s a i
-      offered = record { steps = omega (arith, here .steps); state = state-back (R .back) ∙ here .state; used = subst (λ n. i < n) ec l }
+    -- The weights of a choice's outcomes are small, and so are the sums below them.
+    runs-small : (n : ℕ) → n ≤ c → n ≤ 4 → upto n .0 ≤ 400 * 100 ^ 5
+    runs-small n l f =
+        let P = ready .prepared in
+        let D : ℕ = (model-in m) .denominator in
+        let d : D ≤ 100 = subst (λ x. x ≤ 100) (sym (denominator-is m)) (P .parts) in
+        let b : D ^ k ≤ 100 ^ 5 = le-trans (pow-le-pow-left d k) (pow-le-pow-right {n = 100} (omega arith) {i = k} {j = 5} (omega (arith, here .steps))) in
+        let at-step : (p : Step) (cs : List ℕ) → p .target < length (model-in m .states) → under p cs .0 ≤ D ^ k =
+        λ p cs x. weigh-small (model-in m) (P .accepted) k (p .target) (λ r. on-path m q start cone T (p ∷ r)) (λ r. one-if-small _) x cs in
+        let u = each-small under (D ^ k) (tabulate n (step-in m s i))
+        (λ p j cs. let x = tabulate-member (step-in m s i) n j in at-step p cs (rw (states-are m, x .2) (P .inside s i (x .0) (state-here here) (offers (x .0) (omega (arith, x .1))))))
+        (drop at choices) in
+        let w = weights-few n (λ o. (step-in m s i o) .weight) (λ o x. P .light s i o (state-here here) (offers o (omega arith))) in
+        let v : quantity.sum naturals (λ o. o .weight) (tabulate n (step-in m s i)) ≤ 400 = rw (sum-tabulate (λ o. o .weight) (step-in m s i) n) (omega (arith, w)) in
+        le-trans u (mul-le-mul v b)
+
+    module _ (o : ℕ) {trail : List ℕ} {gains : List ℤ} {v : List ℕ} {sum next : ℕ} (l : o < c)
+        (R : Ran (upto o) m q start cone h trail₀ trail gains v choices sum next) where
+      pub within : (s < 32) × (i < 8) × (o < 4)
+      within = read-range (ready .prepared) s (state-here here) i o (offers o l)
+
+      pub offered : Offered m start trail h s i o
+      offered = record { steps = omega (arith, here .steps); state = state-back (R .back) ∙ here .state; offers = offers o l }
 
       pub known-here : Knows m q start cone (take h trail) gains v
       known-here = knows-back (R .back)
 
-      few : i < 4
-      few = omega (arith, entries-few m (readable m (ready .model-accepted)) s a)
-
-      inside-here : (outcome-of m s a i) .target < state-count m
-      inside-here = fair m (ready .model-accepted) s a i (state-here here) (subst (λ n. i < n) ec l) .reaches
-
-      module _ {trail′ : List ℕ} {gains′ : List ℤ} {v′ : List ℕ} {t : ℕ} (St : Stepped m q start cone h s a i trail trail′ gains′ v′ t) where
-        pub here-next : Roomy trail′ gains′ v′ → Here m q start cone trail′ gains′ v′ (h + 1) t k
-        here-next room =
+      module _ {trail′ : List ℕ} {gains′ : List ℤ} {v′ : List ℕ} {t : ℕ} (St : Stepped m q start cone h s i o trail trail′ gains′ v′ t) where
+        pub here-next : Here m q start cone trail′ gains′ v′ (h + 1) t k
+        here-next =
             record {
               steps = omega (arith, here .steps);
               deep = omega (arith, here .deep);
+              whole = ap length (St .longer) ∙ length-append (take h trail) _ ∙ ap (λ n. n + 1) (St .whole);
               state = state-stepped ready offered known-here St;
-              roomy = room;
               knows = St .knows;
             }
 
         -- The values of the steps to come are those of the step taken and the steps after it.
-        below-next : (cs : List ℕ) → weigh (model-of m) k t (on-path m q start cone (take (h + 1) trail′)) cs ≡ under (outcome-of m s a i) cs
+        below-next : (cs : List ℕ) → weigh (model-in m) k t (on-path m q start cone (take (h + 1) trail′)) cs ≡ under (step-in m s i o) cs
         below-next cs =
-            ap₂ (λ t f. weigh (model-of m) k t f cs) (St .state)
-            (on-path-stepped ready offered known-here St ∙ ap (λ l r. on-path m q start cone l (outcome-of m s a i ∷ r)) (R .back .kept))
+            ap₂ (λ t f. weigh (model-in m) k t f cs) (St .state)
+            (on-path-stepped ready offered known-here St ∙ ap (λ l r. on-path m q start cone l (step-in m s i o ∷ r)) (R .back .kept))
 
         module _ {trail″ : List ℕ} {gains″ : List ℤ} {v″ : List ℕ} {x next′ : ℕ}
-            (C : Ran (weigh (model-of m) k t (on-path m q start cone (take (h + 1) trail′)) (drop next choices)) m q start cone (h + 1) trail′ trail″ gains″ v″ choices x next′) where
-          part : weigh (model-of m) k t (on-path m q start cone (take (h + 1) trail′)) (drop next choices) ≡ under (outcome-of m s a i) (upto i .1)
-          part = below-next (drop next choices) ∙ ap (under (outcome-of m s a i)) (R .left)
+            (C : Ran (weigh (model-in m) k t (on-path m q start cone (take (h + 1) trail′)) (drop next choices)) m q start cone (h + 1) trail′ trail″ gains″ v″ choices x next′) where
+          part : weigh (model-in m) k t (on-path m q start cone (take (h + 1) trail′)) (drop next choices) ≡ under (step-in m s i o) (upto o .1)
+          part = below-next (drop next choices) ∙ ap (under (step-in m s i o)) (R .left)
 
-          pub runs-fit : sum + (outcome-of m s a i) .weight * x < 2 ^ 64
-          runs-fit =
-              let A = ready .model-accepted in
-              let B = 400 ^ k in
-              let p : B ≤ 10240000000000 = power-small k (omega (arith, here .steps)) in
-              let f : (o : Step) (r : List Step) → on-path m q start cone (take h trail₀) (o ∷ r) ≤ 1 = λ o r. one-if-small _ in
-              let y : x ≤ B = rw (C .sum ∙ ap (λ (z : Run). z .0) part) (weigh-small m A k ((outcome-of m s a i) .target) _ (f (outcome-of m s a i)) inside-here (upto i .1)) in
-              let u : sum ≤ i * (100 * B) =
-              rw (R .sum)
-              (outcomes-small m A under B s a i (state-here here) (omega (arith, ec))
-              (λ j n cs. weigh-small m A k ((outcome-of m s a j) .target) _ (f (outcome-of m s a j)) (fair m A s a j (state-here here) (omega (arith, ec)) .reaches) cs) (drop at choices)) in
-              let w : (outcome-of m s a i) .weight * x ≤ 100 * B = mul-le-mul (fair m A s a i (state-here here) (omega (arith, ec)) .light) y in
-              let n : i * (100 * B) ≤ 3 * (100 * B) = mul-le-mul-right (100 * B) (omega (arith, few)) in
-              omega (arith, u, w, n, p)
-
-          pub runs-more : {sum′ : ℕ} → sum′ ≡ sum + (outcome-of m s a i) .weight * x → Ran (upto (i + 1)) m q start cone h trail₀ trail″ gains″ v″ choices sum′ next′
+          pub runs-more : {sum′ : ℕ} → sum′ ≡ sum + (step-in m s i o) .weight * x → Ran (upto (o + 1)) m q start cone h trail₀ trail″ gains″ v″ choices sum′ next′
           runs-more {sum′} e =
-              let o = outcome-of m s a i in
-              let y : Run = under o (upto i .1) in
-              let all : upto (i + 1) ≡ (upto i .0 + o .weight * y .0, y .1) =
-              ap (λ n. each under (tabulate n (outcome-of m s a)) (drop at choices)) (add-one i)
-              ∙ ap (λ os. each under os (drop at choices)) (tabulate-more (outcome-of m s a) i)
-              ∙ each-more under (tabulate i (outcome-of m s a)) o (drop at choices) in
+              let p : Step = step-in m s i o in
+              let y : Run = under p (upto o .1) in
+              let all : upto (o + 1) ≡ (upto o .0 + p .weight * y .0, y .1) =
+              ap (λ n. each under (tabulate n (step-in m s i)) (drop at choices)) (add-one o)
+              ∙ ap (λ os. each under os (drop at choices)) (tabulate-more (step-in m s i) o)
+              ∙ each-more under (tabulate o (step-in m s i)) p (drop at choices) in
               record {
-                sum = e ∙ ap₂ (λ z x. z + o .weight * x) (R .sum) (C .sum ∙ ap (λ (z : Run). z .0) part) ∙ sym (ap (λ (z : Run). z .0) all);
+                sum = e ∙ ap₂ (λ z x. z + p .weight * x) (R .sum) (C .sum ∙ ap (λ (z : Run). z .0) part) ∙ sym (ap (λ (z : Run). z .0) all);
                 left = C .left ∙ ap (λ (z : Run). z .1) part ∙ sym (ap (λ (z : Run). z .1) all);
                 inside = C .inside;
-                back = back-same (R .back .kept) (step-back (ap length (R .back .kept) ∙ trail-length here) St (C .back));
+                back = back-same (R .back .kept) (step-back St (C .back));
               }
 
-pub length-on : {A : Type 0} (x y z : List A) → length x ≡ length y → length y ≡ length z → length x ≡ length z
-length-on x y z e f = e ∙ f
+          pub runs-fit : sum + (step-in m s i o) .weight * x < 2 ^ 64
+          runs-fit = omega (arith, runs-more refl .sum, runs-small (o + 1) (omega arith) (omega (arith, within .2)))
 
-pub here-again : {m q : Bytes} {start : ℕ} {cone trail : List ℕ} {gains : List ℤ} {v : List ℕ} {h s k : ℕ} → (k ≡ 0 → ⊥)
+pub here-again : {m q : List ℕ} {start : ℕ} {cone trail : List ℕ} {gains : List ℤ} {v : List ℕ} {h s k : ℕ} → (k ≡ 0 → ⊥)
     → Here m q start cone trail gains v h s k → Here m q start cone trail gains v h s (k - 1 + 1)
 here-again {m} {q} {start} {cone} {trail} {gains} {v} {h} {s} {k} n here =
     let e : k ≡ k - 1 + 1 = omega (arith, n) in
     subst (Here m q start cone trail gains v h s) e here
 
 -- At the start, before any step.
-pub here-begun : {m q : Bytes} {start : ℕ} {depths truth cone : List ℕ} → Ready m q start depths truth cone → (trail : List ℕ) (gains : List ℤ) (v : List ℕ)
-    → Roomy trail gains v → getD gains 0 (pos 0) ≡ pos 0 → {v′ : List ℕ} → v′ ≡ learnt q depths truth trail gains 0 start cone v
+pub here-begun : {m q : List ℕ} {start : ℕ} {depths truth cone : List ℕ} → Ready m q start depths truth cone → (trail : List ℕ) (gains : List ℤ) (v : List ℕ)
+    → 280 ≤ length v → getD gains 0 (pos 0) ≡ pos 0 → {v′ : List ℕ} → v′ ≡ learnt q depths truth trail gains 0 start cone v
     → {n : ℕ} → depth (formula q (root-of cone)) ≤ n → n ≤ 6 → Here m q start cone trail gains v′ 0 start n
 unfolding state-after
-here-begun {m} {q} {start} {depths} {truth} {cone} ready trail gains v room g {v′} e d l =
-    record {
-      steps = omega arith;
-      deep = omega arith;
-      state = refl;
-      roomy = roomy-same room refl refl (ap length e ∙ learnt-length q depths truth trail gains 0 start cone v);
-      knows = begun ready trail gains v v′ g (room .places) e;
-    }
+here-begun ready trail gains v room g {v′} e d l =
+    record { steps = omega arith; deep = omega arith; whole = refl; state = refl; knows = begun ready trail gains v v′ g room e }
 
-pub all-weighed : {m q : Bytes} {start : ℕ} {cone : List ℕ} (n : ℕ) (trail : List ℕ) {trail′ : List ℕ} {gains′ : List ℤ} {v′ choices : List ℕ} {x next : ℕ}
-    → Ran (weigh (model-of m) n start (on-path m q start cone (take 0 trail)) (drop 0 choices)) m q start cone 0 trail trail′ gains′ v′ choices x next
-    → (π : Plan n) → plan-of (model-of m) n start choices ≡ ok π → x ≡ W (model-of m) (formula q (root-of cone)) n start π
+pub all-weighed : {m q : List ℕ} {start : ℕ} {cone : List ℕ} (n : ℕ) (trail : List ℕ) {trail′ : List ℕ} {gains′ : List ℤ} {v′ choices : List ℕ} {x next : ℕ}
+    → Ran (weigh (model-in m) n start (on-path m q start cone (take 0 trail)) (drop 0 choices)) m q start cone 0 trail trail′ gains′ v′ choices x next
+    → (π : Plan n) → plan-of (model-in m) n start choices ≡ ok π → x ≡ W (model-in m) (formula q (root-of cone)) n start π
 unfolding steps-of
-all-weighed {m} {q} {start} {cone} n trail {choices = choices} R π e = R .sum ∙ plan-weighed (model-of m) (formula q (root-of cone)) n start choices π e
+all-weighed {m} {q} {start} {cone} n trail {choices = choices} R π e = R .sum ∙ plan-weighed (model-in m) (formula q (root-of cone)) n start choices π e

@@ -1,15 +1,14 @@
 // Weighing a plan: the summed weights of the paths that it allows and on which the condition is true, each path met once.
 ghost use mathlib.Core.Path.{_≡_};
-ghost use Prim.Native.Nat.{_+_, _*_, _^_, _<_, _≤_};
+ghost use Prim.Native.Nat.{ℕ, _+_, _*_, _^_, _<_, _≤_};
 ghost use lib.ListN.{length, take, drop};
 ghost use mathlib.Core.List.{_∷_};
 ghost use Rattle.logic.specs.Checked.{ok};
-ghost use Rattle.logic.specs.Model.{outcomes};
+ghost use Rattle.logic.specs.Lists.{tabulate};
 ghost use Rattle.logic.specs.Plan.{Plan};
 ghost use Rattle.logic.specs.Choices.{plan-of};
 ghost use Rattle.logic.specs.Formula.{depth, W};
-ghost use Rattle.models.specs.Layout.{model-of, outcome-of};
-ghost use Rattle.models.specs.promises.Used.{Used};
+ghost use Rattle.prepared.specs.promises.Rows.{step-in, Offers, model-in};
 ghost use Rattle.evaluation.specs.promises.Reached.{formula, root-of, on-path, Ready};
 ghost use Rattle.evaluation.specs.promises.Learnt.{known};
 ghost use Rattle.weighing.specs.promises.Sums.{each, weigh};
@@ -17,8 +16,18 @@ ghost use Rattle.weighing.specs.promises.Places.{Here, Ran};
 use blocks::byte;
 use evaluation::learn;
 use evaluation::step;
-use models::used_outcomes;
-use models::weight;
+use prepared::Row;
+use prepared::row_of;
+use prepared::weight;
+
+// Where a sum is made: after h steps from the start, in the state s, with k steps to go; the choices are read from `at` on.
+pub struct Spot {
+    start: u8,
+    h: u8,
+    s: u8,
+    k: u8,
+    at: usize,
+}
 
 // A sum, and where to read on.
 pub struct Part {
@@ -38,7 +47,7 @@ fn after(choices: &[u8], at: usize) -> usize
 }
 
 // The value of the condition on the path taken.
-fn leaf(cone: &[u8], v: &[u8]) -> u64
+fn leaf(cone: &[u8], v: &[u8; 280]) -> u64
     requires { ⌜ 0 < length (now cone) ⌝ }
     ensures { λ r. ⌜ r ≡ known (now (v .entry)) (root-of (now (cone .entry))) 0 ⌝ }
 {
@@ -47,46 +56,46 @@ fn leaf(cone: &[u8], v: &[u8]) -> u64
 }
 
 // A sum with the weight of an outcome times x.
-fn plus(m: &[u8], s: u8, a: u8, o: u8, sum: u64, x: u64) -> u64
-    requires { ⌜ sum + (outcome-of (now m) s a o) .weight * x < 2 ^ 64 ⌝ }
-    ensures { λ r. ⌜ r ≡ sum + (outcome-of (now (m .entry)) s a o) .weight * x ⌝ }
+fn plus(m: &[u16; 8704], s: u8, i: usize, o: usize, sum: u64, x: u64) -> u64
+    requires { ⌜ (s < 32) × (i < 8) × (o < 4) × (sum + (step-in (now m) s i o) .weight * x < 2 ^ 64) ⌝ }
+    ensures { λ r. ⌜ r ≡ sum + (step-in (now (m .entry)) s i o) .weight * x ⌝ }
 {
-    sum + weight(m, s as usize, a as usize, o as usize) as u64 * x
+    sum + weight(m, s as usize, i, o) * x
 }
 
-// Sums over the paths of k steps from here that the choices from `at` on allow.
+// Sums over the paths from a spot that the choices allow.
 fn weigh_from(
-    m: &[u8],
-    used: &[u8; 264],
+    m: &[u16; 8704],
     q: &[u8],
     depths: &[u32],
     truth: &[u8],
     cone: &[u8],
     choices: &[u8],
-    trail: &mut [u8],
-    gains: &mut [i32],
-    v: &mut [u8],
-    start: u8,
-    h: u8,
-    s: u8,
-    k: u8,
-    at: usize,
+    trail: &mut [u16; 6],
+    gains: &mut [i32; 7],
+    v: &mut [u8; 280],
+    spot: Spot,
 ) -> Part
-    requires { ⌜ Ready (now m) (now q) start (now depths) (now truth) (now cone) × Used (now m) (now used) ⌝ }
-    requires { ⌜ Here (now m) (now q) start (now cone) (now trail) (now gains) (now v) h s k × (at ≤ length (now choices)) ⌝ }
-    ensures { λ r. ⌜ Ran (weigh (model-of (now (m .entry))) k s (on-path (now (m .entry)) (now (q .entry)) start (now (cone .entry)) (take h (now (trail .entry)))) (drop at (now (choices .entry)))) (now (m .entry)) (now (q .entry)) start (now (cone .entry)) h (now (trail .entry)) (now (trail .exit)) (now (gains .exit)) (now (v .exit)) (now (choices .entry)) (r .value) (r .next) ⌝ }
+    requires { ⌜ Ready (now m) (now q) (spot .start) (now depths) (now truth) (now cone) ⌝ }
+    requires { ⌜ Here (now m) (now q) (spot .start) (now cone) (now trail) (now gains) (now v) (spot .h) (spot .s) (spot .k) × (spot .at ≤ length (now choices)) ⌝ }
+    ensures { λ r. ⌜ Ran (weigh (model-in (now (m .entry))) (spot .k) (spot .s) (on-path (now (m .entry)) (now (q .entry)) (spot .start) (now (cone .entry)) (take (spot .h) (now (trail .entry)))) (drop (spot .at) (now (choices .entry)))) (now (m .entry)) (now (q .entry)) (spot .start) (now (cone .entry)) (spot .h) (now (trail .entry)) (now (trail .exit)) (now (gains .exit)) (now (v .exit)) (now (choices .entry)) (r .value) (r .next) ⌝ }
 {
-    if k == 0 {
+    if spot.k == 0 {
         return Part {
             value: leaf(cone, v),
-            next: at,
+            next: spot.at,
         };
     }
-    let a = byte(choices, at);
-    let next = after(choices, at);
+    let row = row_of(m, spot.s as usize, byte(choices, spot.at));
+    let below = Spot {
+        start: spot.start,
+        h: spot.h,
+        s: spot.s,
+        k: spot.k - 1,
+        at: after(choices, spot.at),
+    };
     weigh_below(
         m,
-        used,
         q,
         depths,
         truth,
@@ -95,43 +104,33 @@ fn weigh_from(
         trail,
         gains,
         v,
-        start,
-        h,
-        s,
-        k - 1,
-        a,
-        next,
+        below,
+        row,
     )
 }
 
-// Sums over the paths that begin with an outcome of the action a and go on for k steps.
+// Sums over the paths that begin with an outcome of the choice whose row is given and go on for k steps.
 fn weigh_below(
-    m: &[u8],
-    used: &[u8; 264],
+    m: &[u16; 8704],
     q: &[u8],
     depths: &[u32],
     truth: &[u8],
     cone: &[u8],
     choices: &[u8],
-    trail: &mut [u8],
-    gains: &mut [i32],
-    v: &mut [u8],
-    start: u8,
-    h: u8,
-    s: u8,
-    k: u8,
-    a: u8,
-    at: usize,
+    trail: &mut [u16; 6],
+    gains: &mut [i32; 7],
+    v: &mut [u8; 280],
+    spot: Spot,
+    row: Row,
 ) -> Part
-    requires { ⌜ Ready (now m) (now q) start (now depths) (now truth) (now cone) × Used (now m) (now used) ⌝ }
-    requires { ⌜ Here (now m) (now q) start (now cone) (now trail) (now gains) (now v) h s (k + 1) × (at ≤ length (now choices)) ⌝ }
-    ensures { λ r. ⌜ Ran (each (λ o. weigh (model-of (now (m .entry))) k (o .target) (λ r. on-path (now (m .entry)) (now (q .entry)) start (now (cone .entry)) (take h (now (trail .entry))) (o ∷ r))) (outcomes (model-of (now (m .entry))) s a) (drop at (now (choices .entry)))) (now (m .entry)) (now (q .entry)) start (now (cone .entry)) h (now (trail .entry)) (now (trail .exit)) (now (gains .exit)) (now (v .exit)) (now (choices .entry)) (r .value) (r .next) ⌝ }
+    requires { ⌜ Ready (now m) (now q) (spot .start) (now depths) (now truth) (now cone) × ((o : ℕ) → o < row .count → Offers (now m) (spot .s) (row .at) o) ⌝ }
+    requires { ⌜ Here (now m) (now q) (spot .start) (now cone) (now trail) (now gains) (now v) (spot .h) (spot .s) (spot .k + 1) × (spot .at ≤ length (now choices)) ⌝ }
+    ensures { λ r. ⌜ Ran (each (λ o. weigh (model-in (now (m .entry))) (spot .k) (o .target) (λ r. on-path (now (m .entry)) (now (q .entry)) (spot .start) (now (cone .entry)) (take (spot .h) (now (trail .entry))) (o ∷ r))) (tabulate (row .count) (step-in (now (m .entry)) (spot .s) (row .at))) (drop (spot .at) (now (choices .entry)))) (now (m .entry)) (now (q .entry)) (spot .start) (now (cone .entry)) (spot .h) (now (trail .entry)) (now (trail .exit)) (now (gains .exit)) (now (v .exit)) (now (choices .entry)) (r .value) (r .next) ⌝ }
 {
-    let c = used_outcomes(used, s as usize, a);
     let mut sum: u64 = 0;
-    let mut next = at;
-    let mut o: u8 = 0;
-    while o < c {
+    let mut next = spot.at;
+    let mut o: usize = 0;
+    while o < row.count {
         let t = step(
             m,
             q,
@@ -141,30 +140,21 @@ fn weigh_below(
             trail,
             gains,
             v,
-            start,
-            h,
-            s,
-            a,
-            o,
+            spot.start,
+            spot.h,
+            spot.s,
+            row.at as u8,
+            o as u8,
         );
-        let r = weigh_from(
-            m,
-            used,
-            q,
-            depths,
-            truth,
-            cone,
-            choices,
-            trail,
-            gains,
-            v,
-            start,
-            h + 1,
-            t,
-            k,
-            next,
-        );
-        sum = plus(m, s, a, o, sum, r.value);
+        let on = Spot {
+            start: spot.start,
+            h: spot.h + 1,
+            s: t,
+            k: spot.k,
+            at: next,
+        };
+        let r = weigh_from(m, q, depths, truth, cone, choices, trail, gains, v, on);
+        sum = plus(m, spot.s, row.at, o, sum, r.value);
         next = r.next;
         o += 1;
     }
@@ -176,8 +166,7 @@ fn weigh_below(
 
 // The total of the plan with these choices: the summed weights of the paths that it allows and on which the condition is true.
 pub fn plan_weight(
-    m: &[u8],
-    used: &[u8; 264],
+    m: &[u16; 8704],
     q: &[u8],
     depths: &[u32],
     truth: &[u8],
@@ -186,17 +175,23 @@ pub fn plan_weight(
     start: u8,
     n: u8,
 ) -> u64
-    requires { ⌜ Ready (now m) (now q) start (now depths) (now truth) (now cone) × Used (now m) (now used) ⌝ }
+    requires { ⌜ Ready (now m) (now q) start (now depths) (now truth) (now cone) ⌝ }
     requires { ⌜ (depth (formula (now q) (root-of (now cone))) ≤ n) × (n ≤ 6) ⌝ }
-    ensures { λ r. ⌜ ((π : Plan n) → plan-of (model-of (now (m .entry))) n start (now (choices .entry)) ≡ ok π → r ≡ W (model-of (now (m .entry))) (formula (now (q .entry)) (root-of (now (cone .entry)))) n start π) ⌝ }
+    ensures { λ r. ⌜ ((π : Plan n) → plan-of (model-in (now (m .entry))) n start (now (choices .entry)) ≡ ok π → r ≡ W (model-in (now (m .entry))) (formula (now (q .entry)) (root-of (now (cone .entry)))) n start π) ⌝ }
 {
-    let mut trail = [0u8; 6];
+    let mut trail = [0u16; 6];
     let mut gains = [0i32; 7];
     let mut v = [0u8; 280];
     learn(q, depths, truth, &trail, &gains, cone, &mut v, 0, start);
+    let spot = Spot {
+        start: start,
+        h: 0,
+        s: start,
+        k: n,
+        at: 0,
+    };
     let r = weigh_from(
         m,
-        used,
         q,
         depths,
         truth,
@@ -205,11 +200,7 @@ pub fn plan_weight(
         &mut trail,
         &mut gains,
         &mut v,
-        start,
-        0,
-        start,
-        n,
-        0,
+        spot,
     );
     r.value
 }

@@ -1,31 +1,36 @@
--- The invariant: marks were added, and the outcomes passed have theirs.
-use Prim.Native.Nat.{ℕ, _+_, _*_, _-_, _/_, _%_, _≤_, _<_}
+-- The invariant: marks were added, and the targets of the choices passed have theirs.
+use Prim.Native.Nat.{ℕ, _+_, _*_, _-_, _≤_, _<_}
 use native.Mathlib.Omega.{arith}
 use mathlib.Core.Path.{_≡_, sym, _∙_}
 use lib.ListN.{length}
 use borrow.Author.Count.{below-more}
-use Rattle.models.specs.Layout.{state-count, entries, outcome-of}
+use Rattle.models.specs.Layout.{state-count}
+use Rattle.prepared.specs.promises.Rows.{choices-in, outcomes-in, step-in}
 use Rattle.tables.specs.promises.Need.{Marked, Grown}
-use Rattle.tables.proofs.Marks.{grown-none, grown-then, by-outcome}
+use Rattle.tables.proofs.Marks.{grown-none, grown-then}
 use Rattle.tables.proofs.mark_next.Statement.{statement}
 use Rattle.tables.proofs.mark_next.Tie as tie
 
 abbrev Inv-loop : tie.InvT-loop
-Inv-loop m used need₀ child s k₀ need k =
-    (k ≤ 32) × (length need ≡ 1280) × Grown (state-count m) (32 * child + 32) need₀ need
-    × ((x : ℕ) → x < k → x % 4 < entries m s (x / 4) → Marked need child ((outcome-of m s (x / 4) (x % 4)) .target))
+Inv-loop m need₀ child s n i₀ need i = (n ≡ choices-in m s) × (i ≤ n) × (length need ≡ 1280) × Grown (state-count m) (32 * child + 32) need₀ need
+    × ((x : ℕ) → x < i → (o : ℕ) → o < outcomes-in m s x → Marked need child ((step-in m s x o) .target))
 
 abbrev μ-loop : tie.MeasureT-loop
-μ-loop m used need₀ child s k₀ need k = 32 - k
+μ-loop m need₀ child s n i₀ need i = n - i
+
+choices-requires : tie.Need-choices-requires Inv-loop μ-loop
+choices-requires c κs = let S = c .before in omega (arith, S .pre .3, S .pre .0 .states)
 
 loop-holds : tie.Need-loop-holds Inv-loop μ-loop
-loop-holds c = (omega arith, c .before .before .pre .0 .2, grown-none _ _ (c .before .before .args .need .now), λ x h. absurd (omega arith))
+loop-holds c = let S = c .before .before in (c .choices .ensures, omega arith, S .pre .1, grown-none _ _ (S .args .need .now), λ x h. absurd (omega arith))
 
-mark-outcome-requires : tie.Need-mark-outcome-requires Inv-loop μ-loop
-mark-outcome-requires c κs = ((c .before .before .before .before .before .pre .0 .0, c .before .before .before .before .before .pre .0 .1, c .before .before .loop .inv .1), (c .before .before .before .before .before .pre .1 .0, c .before .before .before .before .before .pre .1 .1, omega arith))
+mark-outcomes-requires : tie.Need-mark-outcomes-requires Inv-loop μ-loop
+mark-outcomes-requires c κs = let S = c .before .before .before .before .before in
+    let L = c .before .before .loop in
+    ((S .pre .0, L .inv .2, S .pre .2), (S .pre .3, omega (arith, L .inv .0, c .before .loop-test .taken)))
 
-add-k : tie.Need-add-k Inv-loop μ-loop
-add-k c = omega arith
+add-i : tie.Need-add-i Inv-loop μ-loop
+add-i c = omega arith
 
 loop-less : tie.Need-loop-less Inv-loop μ-loop
 loop-less c = omega arith
@@ -33,25 +38,21 @@ loop-less c = omega arith
 loop-again : tie.Need-loop-again Inv-loop μ-loop
 loop-again c = let S = c .before .before .before .before .before .before .before .before in
     let L = c .before .before .before .before .before .loop in
-    let n = c .before .before .mark-outcome in
-    let m = S .args .m .now in
-    let s = S .args .s in (
+    let n = c .before .before .mark-outcomes in (
+      L .inv .0,
       omega arith,
-      n .kept .1 .1 .0 ∙ L .inv .1,
-      grown-then _ _ _ _ (omega arith) (omega arith) (L .inv .2) (n .ensures .0),
-      below-more (λ (x : ℕ). x % 4 < entries m s (x / 4) → Marked (n .last .1 .1 .0) (S .args .child) ((outcome-of m s (x / 4) (x % 4)) .target)) (L .k)
-          (λ x h e. n .ensures .0 .stays _ (L .inv .3 x h e)) (n .ensures .1),
+      n .kept .1 .0 ∙ L .inv .2,
+      grown-then _ _ _ _ (omega arith) (omega arith) (L .inv .3) (n .ensures .0),
+      below-more (λ (x : ℕ). (o : ℕ) → o < outcomes-in (S .args .m .now) (S .args .s) x → Marked (n .last .1 .0) (S .args .child) ((step-in (S .args .m .now) (S .args .s) x o) .target)) (L .i)
+          (λ x l o u. n .ensures .0 .stays _ (L .inv .4 x l o u)) (n .ensures .1),
     )
 
 same-length : tie.Need-same-length Inv-loop μ-loop
-same-length c = c .before .loop .inv .1 ∙ sym (c .before .before .before .before .pre .0 .2)
+same-length c = c .before .loop .inv .2 ∙ sym (c .before .before .before .before .pre .1)
 
 returns : tie.Need-returns Inv-loop μ-loop
-returns c = let S = c .before .before .before .before in
-    let L = c .before .loop in
-    let m = S .args .m .now in
-    let s = S .args .s in
-    (L .inv .2, by-outcome m (S .pre .0 .0) s (λ a i. Marked (L .need) (S .args .child) ((outcome-of m s a i) .target)) (λ x h e. L .inv .3 x (omega arith) e))
+returns c = let L = c .before .loop in
+    (L .inv .3, λ i o u. L .inv .4 i (omega (arith, L .inv .0, u .0)) o (u .1))
 
 pub mark-next-spec : {M : Type 1} → statement M
 mark-next-spec =
@@ -59,9 +60,10 @@ mark-next-spec =
     (tie.spec
     Inv-loop
     μ-loop
+    choices-requires
     loop-holds
-    mark-outcome-requires
-    add-k
+    mark-outcomes-requires
+    add-i
     loop-less
     loop-again
     same-length

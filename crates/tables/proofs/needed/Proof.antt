@@ -10,16 +10,16 @@ use Rattle.tables.proofs.needed.Statement.{statement}
 use Rattle.tables.proofs.needed.Tie as tie
 
 abbrev Inv-loop : tie.InvT-loop
-Inv-loop m q used need₀ root first k₀ need k = (k ≤ 32 * node-count q) × Passing m q need k
+Inv-loop m q need₀ root first k₀ need k = (k ≤ 32 * node-count q) × Passing m q need k
 
 abbrev μ-loop : tie.MeasureT-loop
-μ-loop m q used need₀ root first k₀ need k = k
+μ-loop m q need₀ root first k₀ need k = k
 
 node-count-requires : tie.Need-node-count-requires Inv-loop μ-loop
 node-count-requires c κs = search needs
 
 sub-root : tie.Need-sub-root Inv-loop μ-loop
-sub-root c = omega (arith, c .node-count .ensures, (given-question (c .before .before .before .pre)) .some-node)
+sub-root c = omega (arith, c .node-count .ensures, (given-question (c .before .before .pre)) .some-node)
 
 start-requires : tie.Need-start-requires Inv-loop μ-loop
 start-requires c κs = search needs
@@ -28,18 +28,18 @@ place-requires : tie.Need-place-requires Inv-loop μ-loop
 place-requires c κs = search needs
 
 array-write-need : tie.Need-array-write-need Inv-loop μ-loop
-array-write-need c = omega (arith, first-inside (c .before .before .before .before .before .pre) .0, c .place .ensures, c .before .start .ensures, c .before .before .node-count .ensures)
+array-write-need c = omega (arith, first-inside (c .before .before .before .before .pre) .0, c .place .ensures, c .before .start .ensures, c .before .before .node-count .ensures)
 
 place-requires-2 : tie.Need-place-requires-2 Inv-loop μ-loop
 place-requires-2 c κs = search needs
 
 add-k : tie.Need-add-k Inv-loop μ-loop
-add-k c = omega (arith, c .place2 .ensures, c .before .before .before .node-count .ensures, (given-question (c .before .before .before .before .before .before .pre)) .few-nodes)
+add-k c = omega (arith, c .place2 .ensures, c .before .before .before .node-count .ensures, (given-question (c .before .before .before .before .before .pre)) .few-nodes)
 
 loop-holds : tie.Need-loop-holds Inv-loop μ-loop
-loop-holds c = let G = c .before .before .before .before .before .before .pre in
-    let m = c .before .before .before .before .before .before .args .m .now in
-    let q = c .before .before .before .before .before .before .args .q .now in
+loop-holds c = let G = c .before .before .before .before .before .pre in
+    let m = c .before .before .before .before .before .args .m .now in
+    let q = c .before .before .before .before .before .args .q .now in
     let n = (given-question G) .some-node in
     let p : c .before .place .result ≡ 32 * (node-count q - 1) + start-of q = omega (arith, c .before .place .ensures, c .before .before .start .ensures, c .before .before .before .node-count .ensures) in
     let r : c .place2 .result + 32 ≡ 32 * node-count q = omega (arith, c .place2 .ensures, c .before .before .before .node-count .ensures) in (
@@ -55,20 +55,20 @@ slice-aggregate-pass-on : tie.Need-slice-aggregate-pass-on Inv-loop μ-loop
 slice-aggregate-pass-on c = sym ((c .before .before .loop .inv .1) .size)
 
 pass-on-requires : tie.Need-pass-on-requires Inv-loop μ-loop
-pass-on-requires c κs = ((c .before .before .before .before .before .before .before .before .before .pre, (c .before .before .loop .inv .1) .size, omega arith), λ e. (c .before .before .loop .inv .1) .inside _ e .1)
+pass-on-requires c κs = ((c .before .before .before .before .before .before .before .before .pre, (c .before .before .loop .inv .1) .size, omega arith), λ e. (c .before .before .loop .inv .1) .inside _ e .1)
 
 loop-less : tie.Need-loop-less Inv-loop μ-loop
 loop-less c = omega arith
 
 loop-again : tie.Need-loop-again Inv-loop μ-loop
-loop-again c = let m = c .before .before .before .before .before .before .before .before .before .before .before .args .m .now in
-    let q = c .before .before .before .before .before .before .before .before .before .before .before .args .q .now in
+loop-again c = let m = c .before .before .before .before .before .before .before .before .before .before .args .m .now in
+    let q = c .before .before .before .before .before .before .before .before .before .before .args .q .now in
     let L = c .before .before .before .before .loop in
     let n = c .before .pass-on in
-    (omega arith, passing-more (L .k - 1) (subst (Passing m q (L .need)) (omega arith) (L .inv .1)) (omega arith) (n .kept .1 .1 .1 .0) (n .ensures .0) (n .ensures .1))
+    (omega arith, passing-more (L .k - 1) (subst (Passing m q (L .need)) (omega arith) (L .inv .1)) (omega arith) (n .kept .1 .1 .0) (n .ensures .0) (n .ensures .1))
 
 returns : tie.Need-returns Inv-loop μ-loop
-returns c = let L = c .before .loop in passing-end (subst (Passing (c .before .before .before .before .before .before .before .before .args .m .now) (c .before .before .before .before .before .before .before .before .args .q .now) (L .need)) (omega arith) (L .inv .1))
+returns c = let L = c .before .loop in passing-end (subst (Passing (c .before .before .before .before .before .before .before .args .m .now) (c .before .before .before .before .before .before .before .args .q .now) (L .need)) (omega arith) (L .inv .1))
 
 pub needed-spec : {M : Type 1} → statement M
 needed-spec =

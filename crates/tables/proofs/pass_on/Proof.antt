@@ -1,14 +1,15 @@
 -- Each operator marks what it reads; a pair that is not marked passes nothing on.
-use Prim.Native.Nat.{ℕ, _+_, _*_, _/_, _%_, _<_}
+use Prim.Native.Nat.{ℕ, _+_, _*_, _/_, _%_}
 use native.Mathlib.Omega.{arith}
 use mathlib.Core.Path.{sym, ap, ap₂, subst, _∙_}
 use mathlib.Core.Logic.{inl, inr, ⊎-elim}
 use mathlib.Core.List.{List}
 use lib.ListN.{set}
 use borrow.Author.Needs.{needs}
-use Rattle.models.specs.Layout.{state-count, entries, outcome-of}
+use Rattle.models.specs.Layout.{state-count}
+use Rattle.prepared.specs.promises.Rows.{step-in, Offers}
 use Rattle.tables.specs.promises.Need.{Marked, Grown}
-use Rattle.tables.proofs.Marks.{Pair-done, grown-none, given-readable, given-question, left-marked, both-marked, next-marked, none-marked}
+use Rattle.tables.proofs.Marks.{Pair-done, grown-none, given-question, left-marked, both-marked, next-marked, none-marked}
 use Rattle.tables.proofs.pass_on.Statement.{statement}
 use Rattle.tables.proofs.pass_on.Tie as tie
 
@@ -19,10 +20,10 @@ same-length : tie.Need-same-length
 same-length c = search needs
 
 returns : tie.Need-returns
-returns c = (grown-none _ _ (c .before .before .before .before .before .before .args .need .now), λ e. absurd (c .if1 .taken (c .before .byte .ensures ∙ e)))
+returns c = (grown-none _ _ (c .before .before .before .before .before .args .need .now), λ e. absurd (c .if1 .taken (c .before .byte .ensures ∙ e)))
 
 cast-j : tie.Need-cast-j
-cast-j c = omega (arith, (given-question (c .before .before .before .before .before .before .pre .0 .0)) .few-nodes)
+cast-j c = omega (arith, (given-question (c .before .before .before .before .before .pre .0 .0)) .few-nodes)
 
 cast-s : tie.Need-cast-s
 cast-s c = search needs
@@ -52,16 +53,16 @@ left-requires-3 : tie.Need-left-requires-3
 left-requires-3 c κs = search needs
 
 mark-next-requires : tie.Need-mark-next-requires
-mark-next-requires c κs = let P = c .before .before .before .before .before .before .before .before .before .before .pre .0 in
+mark-next-requires c κs = let P = c .before .before .before .before .before .before .before .before .before .pre .0 in
     let A = given-question (P .0) in
-    let b = A .in-range (c .before .before .before .before .before .before .before .before .before .before .args .k / 32) (omega arith) .of-next (sym (c .before .before .before .operator .ensures) ∙ c .before .before .match .keys3) in
-    ((given-readable (P .0), P .0 .used-right, P .1), (omega (arith, b, A .few-nodes, c .left3 .ensures), omega arith))
+    let b = A .in-range (c .before .before .before .before .before .before .before .before .before .args .k / 32) (omega arith) .of-next (sym (c .before .before .before .operator .ensures) ∙ c .before .before .match .keys3) in
+    (P .0 .prepared, P .1, omega (arith, b, A .few-nodes, c .left3 .ensures), c .before .before .before .before .before .before .before .before .before .pre .1 (sym (c .before .before .before .before .before .byte .ensures) ∙ c .before .before .before .before .if1 .left))
 
 same-length-2 : tie.Need-same-length-2
 same-length-2 c = search needs
 
 returns-2 : tie.Need-returns-2
-returns-2 c = let S = c .before .before .before .before .before .before .before .before .before .before .before .before .before in
+returns-2 c = let S = c .before .before .before .before .before .before .before .before .before .before .before .before in
     let need = S .args .need .now in
     let k = S .args .k in
     let e = c .before .before .before .before .before .before .operator .ensures in
@@ -73,7 +74,7 @@ same-length-3 : tie.Need-same-length-3
 same-length-3 c = search needs
 
 returns-3 : tie.Need-returns-3
-returns-3 c = let S = c .before .before .before .before .before .before .before .before .before .before .before .before .before .before .before .before .before .before in
+returns-3 c = let S = c .before .before .before .before .before .before .before .before .before .before .before .before .before .before .before .before .before in
     let need = S .args .need .now in
     let k = S .args .k in
     subst (Pair-done (S .args .m .now) (S .args .q .now) need k)
@@ -86,12 +87,12 @@ same-length-4 : tie.Need-same-length-4
 same-length-4 c = search needs
 
 returns-4 : tie.Need-returns-4
-returns-4 c = let S = c .before .before .before .before .before .before .before .before .before .before .before .before .before in
+returns-4 c = let S = c .before .before .before .before .before .before .before .before .before .before .before .before in
     let m = S .args .m .now in
     let need = S .args .need .now in
     let k = S .args .k in
     let n = c .before .before .mark-next in
-    let w = subst (λ (l : ℕ). Grown (state-count m) (32 * l + 32) need (n .last .1 .1 .0) × ((a i : ℕ) → i < entries m (k % 32) a → Marked (n .last .1 .1 .0) l ((outcome-of m (k % 32) a i) .target)))
+    let w = subst (λ (l : ℕ). Grown (state-count m) (32 * l + 32) need (n .last .1 .0) × ((i o : ℕ) → Offers m (k % 32) i o → Marked (n .last .1 .0) l ((step-in m (k % 32) i o) .target)))
     (c .before .before .before .left3 .ensures) (n .ensures) in
     next-marked (S .pre .0 .0) need k (S .pre .0 .1) (S .pre .0 .2) (S .pre .1 (sym (c .before .before .before .before .before .before .before .before .byte .ensures) ∙ c .before .before .before .before .before .before .before .if1 .left))
     (sym (c .before .before .before .before .before .before .operator .ensures) ∙ c .before .before .before .before .before .match .keys3) (w .0) (w .1)
@@ -100,7 +101,7 @@ same-length-5 : tie.Need-same-length-5
 same-length-5 c = search needs
 
 returns-5 : tie.Need-returns-5
-returns-5 c = let S = c .before .before .before .before .before .before .before .before in
+returns-5 c = let S = c .before .before .before .before .before .before .before in
     let n = c .match .rest in
     let e = c .before .operator .ensures in
     none-marked (S .pre .0 .0) (S .args .need .now) (S .args .k) (S .pre .0 .1) (S .pre .0 .2) (S .pre .1 (sym (c .before .before .before .byte .ensures) ∙ c .before .before .if1 .left))

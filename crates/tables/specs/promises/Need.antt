@@ -6,17 +6,15 @@ use mathlib.Core.List.{List}
 use lib.ListN.{getD}
 use Rattle.logic.specs.promises.Refusal.{refusal}
 use Rattle.blocks.specs.Bytes.{Bytes}
-use Rattle.models.specs.Layout.{state-count, action-count, prop-count, outcome-of, entries}
-use Rattle.models.specs.Grounds.{read-model}
-use Rattle.models.specs.promises.Used.{Used}
+use Rattle.models.specs.Layout.{state-count, action-count, prop-count}
+use Rattle.prepared.specs.promises.Rows.{step-in, Offers, Prepared}
 use Rattle.questions.specs.Layout.{start-of, node-count, node-of}
 use Rattle.questions.specs.Grounds.{read-question}
 
--- What is judged: an accepted question for an accepted model, with the table of the model's used outcomes.
-pub record Given (m q : Bytes) (used : List ℕ) : Type 0 where
-  pub model-accepted : refusal (read-model m) ≡ 0
+-- What is judged: an accepted question for a prepared model.
+pub record Given (m q : Bytes) : Type 0 where
+  pub prepared : Prepared m
   pub question-accepted : refusal (read-question (state-count m) (action-count m) (prop-count m) q) ≡ 0
-  pub used-right : Used m used
 
 abbrev pub Marked : List ℕ → ℕ → ℕ → Type 0
 Marked need j s = getD need (32 * j + s) 0 ≡ 1
@@ -26,7 +24,7 @@ pub record Passed-on (m q : Bytes) (need : List ℕ) (j s : ℕ) : Type 0 where
   pub under-not : (node-of q j) .operator ≡ 3 → Marked need ((node-of q j) .left) s
   pub and-left : (node-of q j) .operator ≡ 4 → Marked need ((node-of q j) .left) s
   pub and-right : (node-of q j) .operator ≡ 4 → Marked need ((node-of q j) .right) s
-  pub under-next : (node-of q j) .operator ≡ 6 → (a i : ℕ) → i < entries m s a → Marked need ((node-of q j) .left) ((outcome-of m s a i) .target)
+  pub under-next : (node-of q j) .operator ≡ 6 → (i o : ℕ) → Offers m s i o → Marked need ((node-of q j) .left) ((step-in m s i o) .target)
   pub under-plan : (node-of q j) .operator ≡ 8 → Marked need ((node-of q j) .left) s
 
 -- Marks were added, all of them before place b and in one of S states.

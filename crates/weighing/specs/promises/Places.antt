@@ -8,15 +8,15 @@ use Rattle.logic.specs.Formula.{depth}
 use Rattle.blocks.specs.Bytes.{Bytes}
 use Rattle.evaluation.specs.promises.Path.{state-after}
 use Rattle.evaluation.specs.promises.Reached.{formula, root-of}
-use Rattle.evaluation.specs.promises.Known.{Knows, Roomy, Back}
+use Rattle.evaluation.specs.promises.Known.{Knows, Back}
 use Rattle.weighing.specs.promises.Sums.{Run}
 
 -- After h steps from the start, in the state s, with k steps to go.
 pub record Here (m q : Bytes) (start : ℕ) (cone trail : List ℕ) (gains : List ℤ) (v : List ℕ) (h s k : ℕ) : Type 0 where
   pub steps : h + k ≤ 6
   pub deep : depth (formula q (root-of cone)) ≤ h + k
+  pub whole : length (take h trail) ≡ h
   pub state : state-after m start (take h trail) ≡ s
-  pub roomy : Roomy trail gains v
   pub knows : Knows m q start cone (take h trail) gains v
 
 -- The sum x was made, and the choices are read up to `next`; the path's first h steps stayed, and so did what is known of them.
