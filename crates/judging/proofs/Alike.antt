@@ -22,9 +22,9 @@ module _ (m : Bytes) {q q′ : Bytes} (h : Shared (state-count m) (action-count 
   served-alike s =
       record { prepared = s .prepared; question-accepted = h .accepted; within = sym (same-limits h (model-in m)) ∙ s .within }
 
-  verdict-alike : root-verdict m q′ ≡ root-verdict m q
+  verdict-alike : root-verdict (model-in m) q′ ≡ root-verdict (model-in m) q
   unfolding question-of
   verdict-alike = sym (same-verdict h (model-in m))
 
-  pub announces-alike : (r : Outcome) (before after : List ℕ) → Announces (root-verdict m q′) r before after → Announces (root-verdict m q) r before after
+  pub announces-alike : (r : Outcome) (before after : List ℕ) → Announces (root-verdict (model-in m) q′) r before after → Announces (root-verdict (model-in m) q) r before after
   announces-alike r before after a = subst (λ v. Announces v r before after) verdict-alike a

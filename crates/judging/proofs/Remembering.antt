@@ -93,7 +93,7 @@ module _ {m q : Bytes} {truth : List ℕ} {c s : ℕ} (given : Given m q) (h : S
 
   pub best-fits : depth (formula q c) ≤ 6 → best-total m q c s least ≤ 100 ^ 6
   best-fits l =
-      value-small m (given .prepared) least (depth (formula q c)) 6 s (value-of (model-in m) (formula q c) s) (h .state) l (λ r. one-if-small _)
+      value-small (given .prepared) least (depth (formula q c)) 6 s (value-of (model-in m) (formula q c) s) (h .state) l (λ r. one-if-small _)
 
   -- ---- what is remembered
 

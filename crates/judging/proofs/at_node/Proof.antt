@@ -1,4 +1,3 @@
--- A "plan" is decided by its search, and any other state formula by its truth.
 use native.Mathlib.Omega.{arith}
 use mathlib.Core.Path.{_≡_, sym, _∙_}
 use mathlib.Core.List.{[]}
@@ -16,67 +15,57 @@ use Rattle.judging.proofs.at_node.Tie as tie
 operator-requires : tie.Need-operator-requires
 operator-requires c κs = search needs
 
-truth-at-requires : tie.Need-truth-at-requires
-truth-at-requires c κs = search needs
+plain-truth-requires : tie.Need-plain-truth-requires
+plain-truth-requires c κs = search needs
 
 plain-requires : tie.Need-plain-requires
 plain-requires c κs = search needs
 
-same-length : tie.Need-same-length
-same-length c = search needs
-
 returns : tie.Need-returns
-returns c = let T = c .before .before .before in
-    let S = T .before .before .before .before .before .before .before .before .before .before .before in
+returns c = let T = c .before in
+    let S = c .before .before .before .before .before .before .before .before in
     let P = S .pre .0 in
     let N = S .pre .1 in
-    let n : (node-of (S .args .q .now) (S .args .j)) .operator ≡ 8 → ⊥ = λ o. T .before .before .before .if1 .taken (T .before .before .before .before .operator .ensures ∙ o) in
+    let n : (node-of (S .args .q .now) (S .args .j)) .operator ≡ 8 → ⊥ = λ o. T .before .if1 .taken (T .before .before .operator .ensures ∙ o) in
     announces-truth (sat (model-in (S .args .m .now)) (formula (S .args .q .now) (S .args .j)) (S .args .s) []) (S .args .choices .now)
-    (other-verdict (P .0 .given) (S .args .j) (S .args .s) (P .1) n) (T .truth-at .ensures .0 (N .0 .1)) (c .plain .ensures)
+    (other-verdict (P .0 .given) (S .args .j) (S .args .s) (P .1) n) (T .plain-truth .ensures (N .1)) (c .plain .ensures)
+
+slice-aggregate-decide : tie.Need-slice-aggregate-decide
+slice-aggregate-decide c = search needs
 
 decide-requires : tie.Need-decide-requires
-decide-requires c κs = let S = c .before .before .before .before .before .before .before .before .before in
+decide-requires c κs = let S = c .before .before .before .before .before .before .before in
     let P = S .pre .0 in
     let N = S .pre .1 in
     let o = sym (c .before .before .operator .ensures) ∙ c .before .if1 .left in
-    ((P .0, posed-at (P .0) (P .1) o (P .2) (N .0 .0 .under-plan o)), N .1 .0)
+    ((P .0, posed-at (P .0) (P .1) o (P .2) (N .0 .under-plan o)), omega arith)
+
+slice-aggregate-show : tie.Need-slice-aggregate-show
+slice-aggregate-show c = search needs
 
 show-requires : tie.Need-show-requires
-show-requires c κs = let D = c .before .before .before .before .before in
-    let S = D .before .before .before .before .before .before .before .before .before .before in
-    let P = S .pre .0 in
-    let N = S .pre .1 in
-    let o = sym (D .before .before .before .operator .ensures) ∙ D .before .before .if1 .left in
-    ((P .0, D .decide .ensures, c .before .before .if2 .taken), (P .1, o, P .2, N .1 .2))
+show-requires c κs = search needs
 
-same-length-2 : tie.Need-same-length-2
-same-length-2 c = search needs
-
-same-length-3 : tie.Need-same-length-3
-same-length-3 c = search needs
+same-length : tie.Need-same-length
+same-length c = search needs
 
 returns-2 : tie.Need-returns-2
 returns-2 c = search needs
 
 cast-plain : tie.Need-cast-plain
-cast-plain c = let D = c .before .before .before in
-    let S = D .before .before .before .before .before .before .before .before .before .before in
+cast-plain c = let D = c .before .before in
+    let S = D .before .before .before .before .before .before .before .before in
     let P = S .pre .0 in
-    let N = S .pre .1 in
     let o = sym (D .before .before .before .operator .ensures) ∙ D .before .before .if1 .left in
     record { fits = omega (arith, place-few (P .0) (S .args .j) (S .args .s) (P .1) o (P .2) (D .decide .ensures)) }
 
 plain-requires-2 : tie.Need-plain-requires-2
 plain-requires-2 c κs = search needs
 
-same-length-4 : tie.Need-same-length-4
-same-length-4 c = search needs
-
 returns-3 : tie.Need-returns-3
-returns-3 c = let D = c .before .before .before .before in
-    let S = D .before .before .before .before .before .before .before .before .before .before in
+returns-3 c = let D = c .before .before .before in
+    let S = D .before .before .before .before .before .before .before .before in
     let P = S .pre .0 in
-    let N = S .pre .1 in
     let o = sym (D .before .before .before .operator .ensures) ∙ D .before .before .if1 .left in
     let v = no-verdict (P .0) (S .args .j) (S .args .s) (P .1) o (P .2) (D .decide .ensures) (c .before .if2 .left) in
     announces-no (S .args .choices .now) v (c .plain2 .ensures)
@@ -86,16 +75,15 @@ at-node-spec =
     tie.close
     (tie.spec
     operator-requires
-    truth-at-requires
+    plain-truth-requires
     plain-requires
-    same-length
     returns
+    slice-aggregate-decide
     decide-requires
+    slice-aggregate-show
     show-requires
-    same-length-2
-    same-length-3
+    same-length
     returns-2
     cast-plain
     plain-requires-2
-    same-length-4
     returns-3)

@@ -1,4 +1,3 @@
--- The table is right at all needed places before the root.
 use native.Mathlib.Nat.{le-refl}
 use Rattle.judging.proofs.Truths.{root-supplied}
 use borrow.Author.Needs.{needs}
@@ -14,20 +13,9 @@ slice-aggregate-truth-table c = search needs
 truth-table-requires : tie.Need-truth-table-requires
 truth-table-requires c κs = search needs
 
-same-length : tie.Need-same-length
-same-length c = search needs
-
 returns : tie.Need-returns
-returns c = let T = c .before .before in
-    let N = T .before .before .before .before in
-    (root-supplied (N .before .before .before .before .before .pre .0 .given) (N .needed .ensures) _ (T .truth-table .ensures .0) (le-refl _), T .truth-table .ensures .1)
+returns c = let S = c .before .before .before .before .before in root-supplied (S .pre .given) (c .before .before .needed .ensures) _ (c .truth-table .ensures) (le-refl _)
 
 pub root-truth-spec : {M : Type 1} → statement M
 root-truth-spec =
-    tie.close
-    (tie.spec
-    needed-requires
-    slice-aggregate-truth-table
-    truth-table-requires
-    same-length
-    returns)
+    tie.close (tie.spec needed-requires slice-aggregate-truth-table truth-table-requires returns)

@@ -25,7 +25,7 @@ node-count-requires : tie.Need-node-count-requires
 node-count-requires c κs = search needs
 
 sub-j : tie.Need-sub-j
-sub-j c = omega (arith, c .before .before .before .before .before .before .pre .1 .node, c .node-count .ensures)
+sub-j c = omega (arith, c .before .before .before .before .before .pre .1 .node, c .node-count .ensures)
 
 left-requires : tie.Need-left-requires
 left-requires c κs = search needs
@@ -34,7 +34,7 @@ slice-aggregate-cone : tie.Need-slice-aggregate-cone
 slice-aggregate-cone c = search needs
 
 cone-requires : tie.Need-cone-requires
-cone-requires c κs = let S = c .before .before .before .before .before .before .before .before in
+cone-requires c κs = let S = c .before .before .before .before .before .before .before in
     let l = before (S .pre .0 .0) (S .pre .1) .0 in
     (given-ordered (S .pre .0 .0), S .pre .0 .1, omega (arith, at-root S (c .before .before .node-count .ensures) (c .before .left .ensures)), refl)
 
@@ -53,22 +53,19 @@ steps-requires c κs = search needs
 
 plan-weight-requires : tie.Need-plan-weight-requires
 plan-weight-requires c κs = let K = c .before .before .before .before in
-    let S = K .before .before .before .before .before .before .before .before .before in
+    let S = K .before .before .before .before .before .before .before .before in
     let G = S .pre .0 .0 in
     let top = K .cone .ensures .2 ∙ at-root S (K .before .before .before .node-count .ensures) (K .before .before .left .ensures) in
     let l : List ℕ = take (K .cone .result) (K .cone .last .1 .1 .1 .0) in
     let n = c .steps .ensures ∙ ap (λ (i : ℕ). (node-of (S .args .q .now) (i - 1)) .n) (K .before .before .before .node-count .ensures) in (
-      (
-        subst (λ (s : ℕ). Ready (S .args .m .now) (S .args .q .now) s (S .args .depths .now) (S .args .truth .now) l) (sym (c .before .start .ensures))
-            (ready G (S .pre .1) (S .pre .0 .1) (K .cone .ensures .1) top),
-        G .used-right,
-      ),
+      subst (λ (s : ℕ). Ready (S .args .m .now) (S .args .q .now) s (S .args .depths .now) (S .args .truth .now) l) (sym (c .before .start .ensures))
+          (ready G (S .pre .1) (S .pre .0 .1) (K .cone .ensures .1) top),
       (omega (arith, planned G (S .pre .1) .deep, ap (λ (i : ℕ). depth (formula (S .args .q .now) i)) top), omega (arith, planned G (S .pre .1) .few)),
     )
 
 returns : tie.Need-returns
 returns c = let K = c .before .before .before .before .before in
-    let S = K .before .before .before .before .before .before .before .before .before in
+    let S = K .before .before .before .before .before .before .before .before in
     let n = c .before .steps .ensures ∙ ap (λ (i : ℕ). (node-of (S .args .q .now) (i - 1)) .n) (K .before .before .before .node-count .ensures) in
     root-weighs (S .args .m .now) (S .args .q .now) (S .args .choices .now) (take (K .cone .result) (K .cone .last .1 .1 .1 .0))
     (c .plan-weight .result) (c .before .steps .result) (c .before .before .start .result) n (c .before .before .start .ensures)

@@ -21,14 +21,14 @@ asks-equal-requires c κs = search needs
 
 nth-requires : tie.Need-nth-requires
 nth-requires c κs = let R = c .before .before in
-    let S = R .before .before .before .before .before .before .before in
+    let S = R .before .before .before .before .before .before in
     let P = S .pre .0 in
     let N = S .pre .1 in
     let e = asked-equal (S .args .q .now) (S .args .j) (R .asks-equal .ensures) (c .before .if1 .taken) in
     let n = R .before .steps .ensures in
     let few = equal-few (P .0) (S .args .j) (S .args .s) (N .0) (N .1) (N .2) (P .1) e .0 in
     let here = equal-inside (P .0) (S .args .j) (S .args .s) (N .0) (N .1) (N .2) (P .1) e (P .2) in (
-      (P .0 .given .model-accepted, P .0 .given .used-right, P .0 .counted),
+      (P .0 .given .prepared, P .0 .counted),
       (
         N .2,
         omega (arith, plan-here (P .0 .given) (S .args .j) (N .0) (N .1) .few),
@@ -39,13 +39,13 @@ nth-requires c κs = let R = c .before .before in
     )
 
 cast-with-plan : tie.Need-cast-with-plan
-cast-with-plan c = let S = c .before .before .before .before .before .before .before .before .before .before .before .before in
+cast-with-plan c = let S = c .before .before .before .before .before .before .before .before .before .before .before in
     let P = S .pre .0 in
     let N = S .pre .1 in
     record { fits = omega (arith, place-few (P .0) (S .args .j) (S .args .s) (N .0) (N .1) (N .2) (P .1)) }
 
 add-with-plan : tie.Need-add-with-plan
-add-with-plan c = let S = c .before .before .before .before .before .before .before .before .before .before .before .before in
+add-with-plan c = let S = c .before .before .before .before .before .before .before .before .before .before .before in
     let P = S .pre .0 in
     let N = S .pre .1 in
     record { fits = omega (arith, place-few (P .0) (S .args .j) (S .args .s) (N .0) (N .1) (N .2) (P .1)) }
@@ -58,7 +58,7 @@ same-length c = search needs
 
 returns : tie.Need-returns
 returns c = let R = c .before .before .before .before .before .before in
-    let S = R .before .before .before .before .before .before .before in
+    let S = R .before .before .before .before .before .before in
     let P = S .pre .0 in
     let N = S .pre .1 in
     let e = asked-equal (S .args .q .now) (S .args .j) (R .asks-equal .ensures) (c .before .before .before .before .before .if1 .taken) in
@@ -80,11 +80,11 @@ cast-extend-2 c = search needs
 
 extend-requires : tie.Need-extend-requires
 extend-requires c κs = let R = c .before .before .before .before in
-    let S = R .before .before .before .before .before .before .before in
+    let S = R .before .before .before .before .before .before in
     let P = S .pre .0 in
     let N = S .pre .1 in
     let few = plan-here (P .0 .given) (S .args .j) (N .0) (N .1) .few in
-    ((given-readable (P .0 .given), P .0 .given .used-right, N .2), (omega (arith, R .before .steps .ensures), N .3))
+    ((P .0 .given .prepared, N .2), (omega (arith, R .before .steps .ensures), N .3))
 
 with-plan-requires-2 : tie.Need-with-plan-requires-2
 with-plan-requires-2 c κs = search needs
@@ -94,7 +94,7 @@ same-length-2 c = search needs
 
 returns-2 : tie.Need-returns-2
 returns-2 c = let R = c .before .before .before .before .before .before .before .before in
-    let S = R .before .before .before .before .before .before .before in
+    let S = R .before .before .before .before .before .before in
     let P = S .pre .0 in
     let N = S .pre .1 in
     let e = asked-other (S .args .q .now) (S .args .j) (R .asks-equal .ensures) (c .before .before .before .before .before .before .before .if1 .left) in

@@ -15,7 +15,7 @@ depth-at-requires : tie.Need-depth-at-requires
 depth-at-requires c κs = search needs
 
 cast-d : tie.Need-cast-d
-cast-d c = let S = c .before .before .before .before .before .before in
+cast-d c = let S = c .before .before .before .before .before in
     let P = S .pre .0 in
     let d = looks (P .0) (P .2) (P .1) (c .depth-at .ensures) in
     record { fits = omega (arith, S .pre .1 .0) }
@@ -24,7 +24,7 @@ slice-aggregate-cone : tie.Need-slice-aggregate-cone
 slice-aggregate-cone c = search needs
 
 cone-requires : tie.Need-cone-requires
-cone-requires c κs = let P = c .before .before .before .before .before .before .before .pre .0 in (given-ordered (P .0), P .1, P .2 .node, refl)
+cone-requires c κs = let P = c .before .before .before .before .before .before .pre .0 in (given-ordered (P .0), P .1, P .2 .node, refl)
 
 array-share-prefix-nodes : tie.Need-array-share-prefix-nodes
 array-share-prefix-nodes c = search needs
@@ -35,12 +35,11 @@ slice-aggregate-find c = let K = c .before .before in
 
 find-requires : tie.Need-find-requires
 find-requires c κs = let K = c .before .before .before in
-    let S = K .before .before .before .before .before .before .before .before in
+    let S = K .before .before .before .before .before .before .before in
     let P = S .pre .0 in
-    let tools = S .pre .1 .1 in
     let d = looks (P .0) (P .2) (P .1) (K .before .before .depth-at .ensures) in (
-      (ready (P .0) (P .2) (P .1) (K .cone .ensures .1) (K .cone .ensures .2), P .0 .used-right, tools .rewarded, tools .summed),
-      (d ∙ ap (λ (i : ℕ). depth (formula (S .args .q .now) i)) (sym (K .cone .ensures .2)), omega (arith, S .pre .1 .0), tools .roomy),
+      ready (P .0) (P .2) (P .1) (K .cone .ensures .1) (K .cone .ensures .2),
+      (d ∙ ap (λ (i : ℕ). depth (formula (S .args .q .now) i)) (sym (K .cone .ensures .2)), omega (arith, S .pre .1 .0), S .pre .1 .1),
     )
 
 same-length : tie.Need-same-length
@@ -49,7 +48,7 @@ same-length c = search needs
 returns : tie.Need-returns
 returns c = let F = c .before .before in
     let K = F .before .before .before .before in
-    let P = K .before .before .before .before .before .before .before .before .pre .0 in
+    let P = K .before .before .before .before .before .before .before .pre .0 in
     finds (P .0) (P .2) (looks (P .0) (P .2) (P .1) (K .before .before .depth-at .ensures)) (K .cone .ensures .2) (F .find .ensures)
 
 pub searched-spec : {M : Type 1} → statement M

@@ -8,17 +8,17 @@ asks-equal-requires : tie.Need-asks-equal-requires
 asks-equal-requires c κs = search needs
 
 first-requires : tie.Need-first-requires
-first-requires c κs = let S = c .before .before .before .before .before .before .before in
+first-requires c κs = let S = c .before .before .before .before .before .before in
     let e = asked-equal (S .args .q .now) (S .args .j) (c .before .asks-equal .ensures) (c .if1 .taken) in
     search needs
 
 returns : tie.Need-returns
-returns c = let S = c .before .before .before .before .before .before .before .before in
+returns c = let S = c .before .before .before .before .before .before .before in
     let e = asked-equal (S .args .q .now) (S .args .j) (c .before .before .asks-equal .ensures) (c .before .if1 .taken) in
     record { led = λ n. absurd (n e); placed = λ f. c .first .ensures }
 
 led-requires : tie.Need-led-requires
-led-requires c κs = let S = c .before .before .before .before .before .before .before .before in
+led-requires c κs = let S = c .before .before .before .before .before .before .before in
     let n = asked-other (S .args .q .now) (S .args .j) (c .before .before .asks-equal .ensures) (c .before .if1 .left) in
     search needs
 
@@ -26,7 +26,7 @@ same-length : tie.Need-same-length
 same-length c = search needs
 
 returns-2 : tie.Need-returns-2
-returns-2 c = let S = c .before .before .before .before .before .before .before .before .before .before .before in
+returns-2 c = let S = c .before .before .before .before .before .before .before .before .before .before in
     let n = asked-other (S .args .q .now) (S .args .j) (c .before .before .before .before .before .asks-equal .ensures) (c .before .before .before .before .if1 .left) in
     record { led = λ f. c .before .before .led .ensures; placed = λ e. absurd (n e) }
 

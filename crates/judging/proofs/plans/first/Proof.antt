@@ -29,14 +29,14 @@ steps-requires : tie.Need-steps-requires
 steps-requires c κs = search needs
 
 plans-counted-requires : tie.Need-plans-counted-requires
-plans-counted-requires c κs = let P = c .before .before .before .before .before .pre .0 in
+plans-counted-requires c κs = let P = c .before .before .before .before .pre .0 in
     (omega (arith, planned (P .0 .given) (P .1) .few, c .steps .ensures), omega (arith, P .1 .state, P .0 .given .prepared .states))
 
 exact-total-requires : tie.Need-exact-total-requires
-exact-total-requires c κs = let P = c .before .before .before .before .before .before .pre .0 in bounded (P .0 .given) (P .1)
+exact-total-requires c κs = let P = c .before .before .before .before .before .pre .0 in bounded (P .0 .given) (P .1)
 
 returns : tie.Need-returns
-returns c = let S = c .before .before .before .before .before .before .before .before .before in
+returns c = let S = c .before .before .before .before .before .before .before .before in
     let P = S .pre .0 in
     placed-never (P .0 .given) (P .1) (c .before .before .exact-total .ensures)
     (number S (c .before .before .before .plans-counted .ensures) (c .before .before .before .before .steps .ensures)) (not-true _ (c .if1 .taken))
@@ -48,7 +48,7 @@ depth-at-requires : tie.Need-depth-at-requires
 depth-at-requires c κs = search needs
 
 cast-d : tie.Need-cast-d
-cast-d c = let P = c .before .before .before .before .before .before .before .before .before .before .before .pre .0 in
+cast-d c = let P = c .before .before .before .before .before .before .before .before .before .before .pre .0 in
     let d = looks (P .0 .given) (P .1) (P .0 .deep) (c .before .left .ensures) (c .depth-at .ensures) in
     record { fits = omega (arith, planned (P .0 .given) (P .1) .deep, planned (P .0 .given) (P .1) .few) }
 
@@ -56,7 +56,7 @@ slice-aggregate-cone : tie.Need-slice-aggregate-cone
 slice-aggregate-cone c = search needs
 
 cone-requires : tie.Need-cone-requires
-cone-requires c κs = let P = c .before .before .before .before .before .before .before .before .before .before .before .before .pre .0 in
+cone-requires c κs = let P = c .before .before .before .before .before .before .before .before .before .before .before .pre .0 in
     let l = before (P .0 .given) (P .1) .0 in
     (given-ordered (P .0 .given), P .0 .deep, omega (arith, c .before .before .left .ensures), refl)
 
@@ -69,7 +69,7 @@ slice-aggregate-first-equal c = let K = c .before .before in
 
 first-equal-requires : tie.Need-first-equal-requires
 first-equal-requires c κs = let K = c .before .before in
-    let S = K .before .before .before .before .before .before .before .before .before .before .before .before .before in
+    let S = K .before .before .before .before .before .before .before .before .before .before .before .before in
     let A = S .pre .0 .0 in
     let P = S .pre .0 .1 in
     let top = K .cone .ensures .2 ∙ K .before .before .before .left .ensures in
@@ -78,7 +78,6 @@ first-equal-requires c κs = let K = c .before .before in
     let few = few-plans A (S .args .j) (S .args .s) (P .node) (P .is-plan) (S .pre .1) (P .state) in (
       record {
         ready = ready (A .given) P (A .deep) (K .cone .ensures .1) top;
-        uses = A .given .used-right;
         counts = counts-right (S .args .m .now) (S .args .counts .now) (A .counted);
         looks = d ∙ ap (λ (i : ℕ). depth (formula (S .args .q .now) i)) (sym top);
       },
@@ -92,7 +91,7 @@ first-equal-requires c κs = let K = c .before .before in
 returns-2 : tie.Need-returns-2
 returns-2 c = let K = c .before .before .before in
     let X = K .before .before .before .before .before .before in
-    let S = X .before .before .before .before .before .before .before in
+    let S = X .before .before .before .before .before .before in
     let P = S .pre .0 in
     let n = X .before .before .steps .ensures in
     let all = number S (X .before .plans-counted .ensures) n in

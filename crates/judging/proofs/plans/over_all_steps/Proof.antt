@@ -15,39 +15,39 @@ depth-at-requires : tie.Need-depth-at-requires
 depth-at-requires c κs = search needs
 
 cast-d : tie.Need-cast-d
-cast-d c = let P = c .before .before .before .before .before .pre .0 in
+cast-d c = let P = c .before .before .before .before .pre .0 in
     let d = looks-there (P .0) (P .1) (c .before .left .ensures) (c .depth-at .ensures) in
     record { fits = omega (arith, plan-bounded (P .0) .deep, plan-bounded (P .0) .few) }
 
-wide-requires : tie.Need-wide-requires
-wide-requires c κs = search needs
+denominator-requires : tie.Need-denominator-requires
+denominator-requires c κs = search needs
 
 steps-requires : tie.Need-steps-requires
 steps-requires c κs = search needs
 
 sub-power : tie.Need-sub-power
-sub-power c = let P = c .before .before .before .before .before .before .before .pre .0 in
+sub-power c = let P = c .before .before .before .before .before .before .pre .0 in
     let d = looks-there (P .0) (P .1) (c .before .before .before .left .ensures) (c .before .before .depth-at .ensures) in
     omega (arith, plan-bounded (P .0) .deep, c .steps .ensures)
 
 power-requires : tie.Need-power-requires
-power-requires c κs = let S = c .before .before .before .before .before .before .before in
+power-requires c κs = let S = c .before .before .before .before .before .before in
     let P = S .pre .0 in
     let D = small (S .args .m .now) (S .args .q .now) (S .args .j) (P .0) in
-    (omega (arith, c .before .wide .ensures .0), omega (arith, plan-bounded (P .0) .few, c .steps .ensures))
+    (omega (arith, c .before .denominator .ensures), omega (arith, plan-bounded (P .0) .few, c .steps .ensures))
 
 mul-result : tie.Need-mul-result
-mul-result c = let S = c .before .before .before .before .before .before .before .before in
+mul-result c = let S = c .before .before .before .before .before .before .before in
     let P = S .pre .0 in
     let d = looks-there (P .0) (P .1) (c .before .before .before .before .left .ensures) (c .before .before .before .depth-at .ensures) in
-    let l = lengthened (P .0) d (c .before .steps .ensures) (c .before .before .wide .ensures .0) (c .power .ensures) (S .pre .1) in
+    let l = lengthened (P .0) d (c .before .steps .ensures) (c .before .before .denominator .ensures) (c .power .ensures) (S .pre .1) in
     record { fits = lt-of-le-of-lt (l .small) (power-fits (P .0)) }
 
 returns : tie.Need-returns
-returns c = let S = c .before .before .before .before .before .before .before .before in
+returns c = let S = c .before .before .before .before .before .before .before in
     let P = S .pre .0 in
     let d = looks-there (P .0) (P .1) (c .before .before .before .before .left .ensures) (c .before .before .before .depth-at .ensures) in
-    lengthened (P .0) d (c .before .steps .ensures) (c .before .before .wide .ensures .0) (c .power .ensures) (S .pre .1)
+    lengthened (P .0) d (c .before .steps .ensures) (c .before .before .denominator .ensures) (c .power .ensures) (S .pre .1)
 
 pub over-all-steps-spec : {M : Type 1} → statement M
 over-all-steps-spec =
@@ -56,7 +56,7 @@ over-all-steps-spec =
     left-requires
     depth-at-requires
     cast-d
-    wide-requires
+    denominator-requires
     steps-requires
     sub-power
     power-requires

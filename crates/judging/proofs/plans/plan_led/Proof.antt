@@ -12,10 +12,10 @@ peel-requires : tie.Need-peel-requires
 peel-requires c κs = search needs
 
 meets-requires : tie.Need-meets-requires
-meets-requires c κs = let P = c .before .before .before .before .before .before .before .before .pre .0 in (bounded (P .0) (P .2), omega arith)
+meets-requires c κs = let P = c .before .before .before .before .before .before .before .pre .0 in (bounded (P .0) (P .2), omega arith)
 
 returns : tie.Need-returns
-returns c = let S = c .before .before .before .before .before .before .before .before .before in
+returns c = let S = c .before .before .before .before .before .before .before .before in
     let P = S .pre .0 in
     (dead-truth (P .0) (P .2) (S .pre .1 .0) (c .before .before .before .left .ensures) (c .before .before .peel .ensures) (c .before .if1 .taken) (c .meets .ensures), S .pre .1 .2)
 
@@ -23,7 +23,7 @@ asks-less-requires : tie.Need-asks-less-requires
 asks-less-requires c κs = search needs
 
 best-value-requires : tie.Need-best-value-requires
-best-value-requires c κs = let S = c .before .before .before .before .before .before .before .before .before .before .before in
+best-value-requires c κs = let S = c .before .before .before .before .before .before .before .before .before .before in
     let P = S .pre .0 in
     let N = S .pre .1 in
     let e = c .before .before .before .before .before .left .ensures in
@@ -32,7 +32,7 @@ best-value-requires c κs = let S = c .before .before .before .before .before .b
     ((P .0, P .1, left-stands (P .0) (P .2) (N .0) e p d), (left-few (P .0) (P .2) (N .0) e p d, N .1, N .2))
 
 over-all-steps-requires : tie.Need-over-all-steps-requires
-over-all-steps-requires c κs = let S = c .before .before .before .before .before .before .before .before .before .before .before .before .before .before in
+over-all-steps-requires c κs = let S = c .before .before .before .before .before .before .before .before .before .before .before .before .before in
     let P = S .pre .0 in
     let R = c .before .before .before .before .before in (
       (bounded (P .0) (P .2), P .1),
@@ -40,13 +40,13 @@ over-all-steps-requires c κs = let S = c .before .before .before .before .befor
     )
 
 meets-requires-2 : tie.Need-meets-requires-2
-meets-requires-2 c κs = let P = c .before .before .before .before .before .before .before .before .before .before .before .before .before .before .before .pre .0 in (bounded (P .0) (P .2), c .over-all-steps .ensures .small)
+meets-requires-2 c κs = let P = c .before .before .before .before .before .before .before .before .before .before .before .before .before .before .pre .0 in (bounded (P .0) (P .2), c .over-all-steps .ensures .small)
 
 same-length : tie.Need-same-length
 same-length c = search needs
 
 returns-2 : tie.Need-returns-2
-returns-2 c = let S = c .before .before .before .before .before .before .before .before .before .before .before .before .before .before .before .before in
+returns-2 c = let S = c .before .before .before .before .before .before .before .before .before .before .before .before .before .before .before in
     let P = S .pre .0 in
     let R = c .before .before .before .before .before .before .before in
     let b = c .before .before .before .before .best-value .ensures in (

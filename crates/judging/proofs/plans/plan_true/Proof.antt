@@ -8,12 +8,12 @@ asks-equal-requires : tie.Need-asks-equal-requires
 asks-equal-requires c κs = search needs
 
 first-requires : tie.Need-first-requires
-first-requires c κs = let S = c .before .before .before .before .before .before .before in
+first-requires c κs = let S = c .before .before .before .before .before .before in
     let P = S .pre in
     ((P .0 .0, posed-at (P .0 .0) (P .0 .1) (P .1 .0 .0) (P .0 .2) (P .1 .0 .1)), asked-equal (S .args .q .now) (S .args .j) (c .before .asks-equal .ensures) (c .if1 .taken))
 
 returns : tie.Need-returns
-returns c = let S = c .before .before .before .before .before .before .before .before in
+returns c = let S = c .before .before .before .before .before .before .before in
     let P = S .pre in (
       placed-truth (P .0 .0 .given) (posed-at (P .0 .0) (P .0 .1) (P .1 .0 .0) (P .0 .2) (P .1 .0 .1))
           (asked-equal (S .args .q .now) (S .args .j) (c .before .before .asks-equal .ensures) (c .before .if1 .taken)) (c .first .ensures),
@@ -21,7 +21,7 @@ returns c = let S = c .before .before .before .before .before .before .before .b
     )
 
 plan-led-requires : tie.Need-plan-led-requires
-plan-led-requires c κs = let S = c .before .before .before .before .before .before .before .before .before in
+plan-led-requires c κs = let S = c .before .before .before .before .before .before .before .before in
     let P = S .pre in (
       (P .0 .0 .given, P .0 .0 .deep, posed-at (P .0 .0) (P .0 .1) (P .1 .0 .0) (P .0 .2) (P .1 .0 .1)),
       (asked-other (S .args .q .now) (S .args .j) (c .before .before .before .asks-equal .ensures) (c .before .before .if1 .left), P .1 .1 .0, P .1 .1 .1),

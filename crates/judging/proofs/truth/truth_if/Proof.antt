@@ -11,16 +11,16 @@ byte-requires : tie.Need-byte-requires
 byte-requires c κs = search needs
 
 returns : tie.Need-returns
-returns c = ((λ e. absurd (c .if1 .taken (c .before .byte .ensures ∙ e))), c .before .before .before .before .before .before .before .before .pre .1 .3)
+returns c = ((λ e. absurd (c .if1 .taken (c .before .byte .ensures ∙ e))), c .before .before .before .before .before .before .before .pre .1 .3)
 
 cast-truth-at : tie.Need-cast-truth-at
-cast-truth-at c = omega (arith, (given-question (c .before .before .before .before .before .before .before .before .before .before .pre .0 .0 .given)) .few-nodes)
+cast-truth-at c = omega (arith, (given-question (c .before .before .before .before .before .before .before .before .before .pre .0 .0 .given)) .few-nodes)
 
 cast-truth-at-2 : tie.Need-cast-truth-at-2
 cast-truth-at-2 c = search needs
 
 truth-at-requires : tie.Need-truth-at-requires
-truth-at-requires c κs = let S = c .before .before .before .before .before .before .before .before .before .before in
+truth-at-requires c κs = let S = c .before .before .before .before .before .before .before .before .before in
     let P = S .pre .0 in
     let N = S .pre .1 in
     let e = sym (c .before .before .before .byte .ensures) ∙ c .before .before .if1 .left in

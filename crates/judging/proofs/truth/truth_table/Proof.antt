@@ -1,47 +1,47 @@
--- The invariant: the table is right at the needed places passed.
 use Prim.Native.Nat.{ℕ, _*_, _-_, _≤_}
 use native.Mathlib.Omega.{arith}
-use mathlib.Core.Path.{_≡_, refl, sym, subst, _∙_}
+use mathlib.Core.Path.{_≡_, sym, subst, _∙_}
 use lib.ListN.{length, length-set, length-replicate}
-use borrow.Author.Needs.{needs}
 use Rattle.questions.specs.Layout.{node-count}
 use Rattle.judging.specs.promises.Truth.{Right}
 use Rattle.judging.specs.promises.Conditions.{Remembers}
 use Rattle.tables.proofs.Marks.{given-question}
-use Rattle.judging.proofs.Posing.{equipped}
+use Rattle.judging.proofs.Remembering.{remembers-none}
 use Rattle.judging.proofs.Truths.{right-none, right-more}
 use Rattle.judging.proofs.truth.truth_table.Statement.{statement}
 use Rattle.judging.proofs.truth.truth_table.Tie as tie
 
 abbrev Inv-loop : tie.InvT-loop
-Inv-loop m q used counts depths rewards sums need scratch₀ memo₀ end truth₀ k₀ scratch memo truth k =
-    (end ≡ 32 * (node-count q - 1)) × (k ≤ end) × (length truth ≡ 1280) × Right m q need truth k × (length scratch ≡ length scratch₀) × Remembers m q memo
+Inv-loop m q counts depths need end scratch₀ memo₀ truth₀ k₀ scratch memo truth k = (end ≡ 32 * (node-count q - 1)) × (k ≤ end) × (length truth ≡ 1280) × Right m q need truth k × (length scratch ≡ 4095) × Remembers m q memo
 
 abbrev μ-loop : tie.MeasureT-loop
-μ-loop m q used counts depths rewards sums need scratch₀ memo₀ end truth₀ k₀ scratch memo truth k = end - k
+μ-loop m q counts depths need end scratch₀ memo₀ truth₀ k₀ scratch memo truth k = end - k
 
 node-count-requires : tie.Need-node-count-requires Inv-loop μ-loop
-node-count-requires c κs = search needs
+node-count-requires c κs = tt
 
 sub-place : tie.Need-sub-place Inv-loop μ-loop
-sub-place c = omega (arith, c .node-count .ensures, (given-question (c .before .before .before .before .before .before .pre .0 .given)) .some-node)
+sub-place c = omega (arith, c .node-count .ensures, (given-question (c .before .before .before .before .pre .0 .given)) .some-node)
 
 place-requires : tie.Need-place-requires Inv-loop μ-loop
-place-requires c κs = search needs
+place-requires c κs = tt
 
 loop-holds : tie.Need-loop-holds Inv-loop μ-loop
-loop-holds c = (omega (arith, c .place .ensures, c .before .node-count .ensures), omega arith, length-replicate {A = ℕ} 1280 0, right-none _ _ _ _, refl, c .before .before .before .before .before .before .before .pre .3)
+loop-holds c = (omega (arith, c .place .ensures, c .before .node-count .ensures), omega arith, length-replicate {A = ℕ} 1280 0, right-none _ _ _ _, length-replicate {A = ℕ} 4095 0, remembers-none _ _)
 
 slice-aggregate-truth-if : tie.Need-slice-aggregate-truth-if Inv-loop μ-loop
 slice-aggregate-truth-if c = sym (c .before .before .loop .inv .2)
 
+slice-aggregate-truth-if-2 : tie.Need-slice-aggregate-truth-if-2 Inv-loop μ-loop
+slice-aggregate-truth-if-2 c = sym (c .before .before .before .loop .inv .4)
+
 truth-if-requires : tie.Need-truth-if-requires Inv-loop μ-loop
-truth-if-requires c κs = let P = c .before .before .before .before .before .before .before .before .before .before .before .before .pre in
+truth-if-requires c κs = let P = c .before .before .before .before .before .before .before .before .before .before .pre in
     let L = c .before .before .before .before .loop in
-    ((P .0, omega arith), (P .1, L .inv .3, equipped (P .2 .rewarded) (P .2 .summed) (omega (arith, L .inv .4, P .2 .roomy)), L .inv .5))
+    ((P .0, omega arith), (P .1, L .inv .3, omega (arith, L .inv .4), L .inv .5))
 
 array-write-truth : tie.Need-array-write-truth Inv-loop μ-loop
-array-write-truth c = omega (arith, (given-question (c .before .before .before .before .before .before .before .before .before .before .before .before .before .before .before .pre .0 .given)) .few-nodes)
+array-write-truth c = omega (arith, (given-question (c .before .before .before .before .before .before .before .before .before .before .before .before .pre .0 .given)) .few-nodes)
 
 add-k : tie.Need-add-k Inv-loop μ-loop
 add-k c = omega arith
@@ -50,20 +50,17 @@ loop-less : tie.Need-loop-less Inv-loop μ-loop
 loop-less c = omega arith
 
 loop-again : tie.Need-loop-again Inv-loop μ-loop
-loop-again c = let L = c .before .before .before .before .before .before .before .loop in
-    let few = (given-question (c .before .before .before .before .before .before .before .before .before .before .before .before .before .before .before .pre .0 .given)) .few-nodes in
-    let n = c .before .before .truth-if in
+loop-again c = let L = c .before .before .before .before .before .before .loop in
+    let few = (given-question (c .before .before .before .before .before .before .before .before .before .before .before .before .pre .0 .given)) .few-nodes in
+    let n = c .before .truth-if in
     let v = n .result in
-    (L .inv .0, omega arith, length-set (L .truth) (L .k) v ∙ L .inv .2, right-more v (L .inv .3) (omega arith) (n .ensures .0), n .kept .1 .1 .1 .1 .1 .1 .1 .1 .1 .0 ∙ L .inv .4, n .ensures .1)
-
-same-length : tie.Need-same-length Inv-loop μ-loop
-same-length c = c .before .loop .inv .4
+    (L .inv .0, omega arith, length-set (L .truth) (L .k) v ∙ L .inv .2, right-more v (L .inv .3) (omega arith) (n .ensures .0), n .kept .1 .1 .1 .1 .1 .1 .0 ∙ L .inv .4, n .ensures .1)
 
 returns : tie.Need-returns Inv-loop μ-loop
 returns c = let L = c .before .loop in
-    let S = c .before .before .before .before .before .before .before .before .before in
+    let S = c .before .before .before .before .before .before .before in
     let e : L .k ≡ 32 * (node-count (S .args .q .now) - 1) = omega arith in
-    (subst (Right (S .args .m .now) (S .args .q .now) (S .args .need .now) (L .truth)) e (L .inv .3), L .inv .5)
+    subst (Right (S .args .m .now) (S .args .q .now) (S .args .need .now) (L .truth)) e (L .inv .3)
 
 pub truth-table-spec : {M : Type 1} → statement M
 truth-table-spec =
@@ -76,10 +73,10 @@ truth-table-spec =
     place-requires
     loop-holds
     slice-aggregate-truth-if
+    slice-aggregate-truth-if-2
     truth-if-requires
     array-write-truth
     add-k
     loop-less
     loop-again
-    same-length
     returns)
