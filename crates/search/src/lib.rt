@@ -1,4 +1,4 @@
-// The search for the plan of greatest or of least weight: one pass over the tree of paths, which meets each path at most once: an action that
+// The search for the plan of greatest or of least weight: one pass over the tree of paths, which meets each path at most once: a choice that
 // cannot win any more is given up. The last step of the paths through a state is taken for all its outcomes at once.
 ghost use mathlib.Core.Path.{_≡_};
 ghost use mathlib.Core.Bool.{not};
@@ -52,7 +52,7 @@ pub struct Best {
     end: usize,
 }
 
-// What an action's outcomes come to: their total, and where the choices below them end.
+// What a choice's outcomes come to: their total, and where the choices below them end.
 pub struct Walked {
     value: u64,
     end: usize,
