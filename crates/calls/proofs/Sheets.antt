@@ -24,11 +24,11 @@ use Rattle.logic.specs.Verdict.{Goal, goal}
 use Rattle.logic.proofs.Checked.{not-ok, ok-same}
 use Rattle.logic.proofs.Dictionary.{plans-are}
 use Rattle.logic.proofs.PathWeights.{path-weights}
-use Rattle.logic.proofs.Tests.{and-left, and-right, keep-member, counted-range, length-tabulate}
-use borrow.Author.Tests.{leb-true}
-use Rattle.blocks.specs.Bytes.{Bytes, within}
-use Rattle.models.specs.Layout.{state-count, action-count, prop-count, denominator-of, model-of, entries, outcome-of}
-use Rattle.models.specs.Grounds.{sizes-right, read-model}
+use Rattle.logic.proofs.Tests.{keep-member, counted-range, length-tabulate}
+use Rattle.blocks.specs.Bytes.{Bytes}
+use Rattle.models.specs.Layout.{state-count, action-count, prop-count, model-of, entries, outcome-of}
+use Rattle.models.specs.Grounds.{read-model}
+use Rattle.models.proofs.Laws.{sizes}
 use Rattle.models.proofs.Passed.{passed-all, read-passed}
 use Rattle.models.proofs.Readable.{readable}
 use Rattle.models.proofs.Rows.{entries-few, outcomes-are}
@@ -159,22 +159,6 @@ module _ (S A N : ℕ) (c : Bytes) (a : questions.Accepted S A N c) (i : ℕ) (h
       let r = a .in-range i h .of-plan o .compares in
       subst (λ n. (1 ≤ n) × (n ≤ 6)) (ap steps (sym (questions.at-plan S A N c a i h o))) (r .some-step, r .few-steps)
 
--- ---- the sizes that an accepted model has
-
-denominator-most : (b : Bytes) → sizes-right b ≡ true → denominator-of b ≤ 100
-unfolding sizes-right within
-denominator-most b e =
-    let four : Bool = within 1 32 (state-count b) && within 1 8 (action-count b) && within 1 32 (prop-count b) && within 1 100 (denominator-of b) in
-    let three : Bool = within 1 32 (state-count b) && within 1 8 (action-count b) && within 1 32 (prop-count b) in
-    let d = and-right three (within 1 100 (denominator-of b)) (and-left four _ e) in
-    leb-true _ _ (and-right (leb 1 (denominator-of b)) (leb (denominator-of b) 100) d)
-
-states-most : (b : Bytes) → sizes-right b ≡ true → state-count b ≤ 32
-unfolding sizes-right within
-states-most b e =
-    let d = and-left (within 1 32 (state-count b)) _ (and-left _ _ (and-left _ _ (and-left _ _ e))) in
-    leb-true _ _ (and-right (leb 1 (state-count b)) (leb (state-count b) 32) d)
-
 actions-most : (b : Bytes) → sizes-right b ≡ true → action-count b ≤ 8
 unfolding sizes-right within
 actions-most b e =
@@ -262,12 +246,12 @@ module _ {h : Held} (sound-held : Sound h) (x : Plan-question h) where
 
   denominator-few : x .model .denominator ≤ 100
   unfolding model-of
-  denominator-few = subst (λ m. m .denominator ≤ 100) (sym same-model) (denominator-most b (passed-all b passed .sizes))
+  denominator-few = subst (λ m. m .denominator ≤ 100) (sym same-model) (sizes b (passed-all b passed .sizes) .parts)
 
   start-few : s < 256
   start-few =
       let n = subst (λ m. s < length (m .states)) same-model start-inside in
-      omega (arith, states-held b, states-most b (passed-all b passed .sizes), n)
+      omega (arith, states-held b, sizes b (passed-all b passed .sizes) .states, n)
 
   actions-few : length (x .model .actions) ≤ 8
   unfolding model-of

@@ -133,6 +133,7 @@ pub record Sizes (b : Bytes) : Type 0 where
   pub states : state-count b ≤ 32
   pub actions : action-count b ≤ 8
   pub props : prop-count b ≤ 32
+  pub parts : denominator-of b ≤ 100
   pub blocks : length b / 512 ≡ 1 + (state-count b + 2) / 3
 
 pub sizes : (b : Bytes) → sizes-right b ≡ true → Sizes b
@@ -144,12 +145,14 @@ sizes b e =
     let s = and-left _ _ e2 in
     let a = and-right (within 1 32 (state-count b)) _ e2 in
     let p = and-right (within 1 32 (state-count b) && within 1 8 (action-count b)) _ e3 in
+    let d = and-right (within 1 32 (state-count b) && within 1 8 (action-count b) && within 1 32 (prop-count b)) _ e4 in
     let r = and-right (within 1 32 (state-count b) && within 1 8 (action-count b) && within 1 32 (prop-count b) && within 1 100 (denominator-of b)) _ e in
     record {
       some = at-least 1 32 (state-count b) s;
       states = at-most 1 32 (state-count b) s;
       actions = at-most 1 8 (action-count b) a;
       props = at-most 1 32 (prop-count b) p;
+      parts = at-most 1 100 (denominator-of b) d;
       blocks = eqb-true _ _ r;
     }
 

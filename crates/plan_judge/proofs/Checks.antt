@@ -13,13 +13,17 @@ use Rattle.logic.specs.Checked.{Checked, ok, refused, _>>=_, _>>_, guard}
 use Rattle.logic.specs.promises.Refusal.{refusal}
 use Rattle.logic.specs.Model.{Model}
 use Rattle.logic.specs.Plan.{Plan}
-use Rattle.logic.specs.Formula.{W}
+use Rattle.logic.specs.Quantity.{naturals}
+use Rattle.logic.specs.Formula.{W, meets, relation, nonnegative}
 use Rattle.logic.specs.Verdict.{Goal}
 use Rattle.logic.specs.Limits.{limits}
 use Rattle.logic.specs.Choices.{plan-of}
 use Rattle.blocks.specs.Bytes.{Bytes}
-use Rattle.models.specs.Layout.{denominator-of, model-of}
+use Rattle.models.specs.Layout.{state-count, action-count, prop-count, denominator-of, model-of}
+use Rattle.prepared.specs.promises.Rows.{model-in, Prepares}
+use mathlib.Core.List.{List}
 use Rattle.questions.specs.Layout.{Question, start-of, node-count, node-of, question-of}
+use Rattle.questions.specs.Grounds.{read-question}
 use Rattle.questions.proofs.Accepted.{accepted}
 use Rattle.sheets.specs.Layout.{Sheet, weight-of, sheet-of}
 use Rattle.sheets.specs.Grounds.{read-sheet}
@@ -121,7 +125,7 @@ module _ (m q : Bytes) (r : PlanRoot m q) (b : Bytes) where
 
   -- What is reported of a sheet whose plan has this total.
   abbrev on-total : ℕ → Report
-  on-total w = record { met = meets-at m q (node-count q - 1) w }
+  on-total w = record { met = meets naturals M n (relation (root-node q .right)) (nonnegative (root-node q .p)) (root-node q .q) w }
 
   -- What check does with the plan on a sheet that claims a weight.
   abbrev weighed : ℤ → Plan n → Checked Report
@@ -134,15 +138,20 @@ module _ (m q : Bytes) (r : PlanRoot m q) (b : Bytes) where
   pub check-limited : (k : ℕ) → k ≡ refusal (limits M (question-of q .nodes)) → (k ≡ 0 → ⊥) → Refused k ≡ checking (check-on M (question-of q) b)
   check-limited k i h = refused-by (check-on M (question-of q) b) k (then-refused (limits M (question-of q .nodes)) _ k i h ∙ sym (ap refusal check-is)) h
 
-  pub root-bounded : (j : ℕ) → j ≡ node-count q - 1 → Bounded m q j
-  root-bounded j i =
-      record { model-accepted = r .passed; question-accepted = r .asked; node = omega (arith, accepted _ _ _ q (r .asked) .some-node); is-plan = ap (λ k. node-of q k .operator) i ∙ r .is-plan }
+  -- The model prepared.
+  module _ {a : List ℕ} (p : Prepares m a) where
+    pub sheet-asked : refusal (read-question (state-count a) (action-count a) (prop-count a) q) ≡ 0
+    sheet-asked = rw (p .head 2 (omega arith), p .head 3 (omega arith), p .head 4 (omega arith)) (r .asked)
+
+    pub root-bounded : (j : ℕ) → j ≡ node-count q - 1 → Bounded a q j
+    root-bounded j i =
+        record { prepared = p .prepared; question-accepted = sheet-asked; node = omega (arith, accepted _ _ _ q (r .asked) .some-node); is-plan = ap (λ k. node-of q k .operator) i ∙ r .is-plan }
+
+    pub sheet-served : refusal (limits M (question-of q .nodes)) ≡ 0 → Served a q
+    unfolding question-of
+    sheet-served l = record { prepared = p .prepared; question-accepted = sheet-asked; within = rw (p .same) l }
 
   module _ (l : refusal (limits M (question-of q .nodes)) ≡ 0) where
-    pub sheet-served : Served m q
-    unfolding question-of
-    sheet-served = record { model-accepted = r .passed; question-accepted = r .asked; within = l }
-
     -- What is left past the limits.
     past-limits : check-on M (question-of q) b ≡ (read-sheet n s b >>= (λ x. plan-of M n s (x .choices) >>= weighed (x .weight)))
     unfolding question-of
@@ -158,18 +167,18 @@ module _ (m q : Bytes) (r : PlanRoot m q) (b : Bytes) where
         by (refused j) z = z
 
     -- The weight of the plan on the sheet decides.
-    module _ (e : refusal (plan-on M n s b) ≡ 0) (w : ℕ) (g : Weighs m q (sheet-of b .choices) w) where
+    module _ (e : refusal (plan-on M n s b) ≡ 0) (w : ℕ) {a : List ℕ} (p : Prepares m a) (g : Weighs (model-in a) q (sheet-of b .choices) w) where
       o : OnSheet M n s b
       o = on-sheet M n s b e
 
       weight-is : w ≡ W M (condition q) n s (o .plan)
-      weight-is = g (o .plan) (o .read)
+      weight-is = subst (λ M. Weighs M q (sheet-of b .choices) w) (p .same) g (o .plan) (o .read)
 
       -- It is at most D to the n, so that it can be put to the bound of the root.
-      pub weight-fits : (j : ℕ) → j ≡ node-count q - 1 → w ≤ denominator-of m ^ (node-of q j .n)
+      pub weight-fits : (j : ℕ) → j ≡ node-count q - 1 → w ≤ denominator-of a ^ (node-of q j .n)
       weight-fits j i =
           let l : w ≤ denominator-of m ^ n = omega (arith, weight-is, weight-most m (r .passed) (condition q) n s (accepted _ _ _ q (r .asked) .starts) (sheet-of b .choices) (o .plan) (o .read)) in
-          subst (λ k. w ≤ denominator-of m ^ (node-of q k .n)) (sym i) l
+          rw (p .head 5 (omega arith)) (subst (λ k. w ≤ denominator-of m ^ (node-of q k .n)) (sym i) l)
 
       past-sheet : check-on M (question-of q) b ≡ (guard 11 (same (pos (weight-of b 0)) (pos w)) >> ok (on-total w))
       unfolding sheet-of
@@ -185,6 +194,6 @@ module _ (m q : Bytes) (r : PlanRoot m q) (b : Bytes) where
           (sym (ap refusal (past-sheet ∙ ap (λ t. guard 11 t >> ok (on-total w)) (other-weight (weight-of b 0) w h))))
           (λ z. omega arith)
 
-      pub check-met : weight-of b 0 ≡ w → (t : Bool) → t ≡ meets-at m q (node-count q - 1) w → Accepted (record { met = t }) ≡ checking (check-on M (question-of q) b)
+      pub check-met : weight-of b 0 ≡ w → (t : Bool) → t ≡ meets-at a q (node-count q - 1) w → Accepted (record { met = t }) ≡ checking (check-on M (question-of q) b)
       check-met h t j =
-          ap (λ t. Accepted (record { met = t })) j ∙ sym (ap checking (past-sheet ∙ ap (λ t. guard 11 t >> ok (on-total w)) (same-weight (weight-of b 0) w h)))
+          ap (λ t. Accepted (record { met = t })) (j ∙ ap (λ M. meets naturals M n (relation (root-node q .right)) (nonnegative (root-node q .p)) (root-node q .q) w) (p .same)) ∙ sym (ap checking (past-sheet ∙ ap (λ t. guard 11 t >> ok (on-total w)) (same-weight (weight-of b 0) w h)))

@@ -1,9 +1,8 @@
 -- What judge returns, at each of its returns: the grounds of the state and of the limits in their order, then the verdict.
-use Prim.Native.Nat.{ℕ, zero, suc, _+_}
+use Prim.Native.Nat.{ℕ, _+_}
 use native.Mathlib.Omega.{arith}
 use mathlib.Core.Path.{_≡_, refl, sym, ap, ap₂, _∙_}
 use mathlib.Core.Bool.{true}
-use mathlib.Core.List.{_++_}
 use lib.ListN.{length, drop, replicate}
 use Rattle.logic.specs.Checked.{Checked, ok, refused, _>>_}
 use Rattle.logic.specs.promises.Refusal.{refusal}
@@ -11,7 +10,10 @@ use Rattle.logic.specs.Model.{Model}
 use Rattle.logic.specs.Verdict as logic
 use Rattle.logic.specs.Limits.{limits}
 use Rattle.blocks.specs.Bytes.{Bytes}
-use Rattle.models.specs.Layout.{model-of}
+use mathlib.Core.List.{List, _++_}
+use Rattle.models.specs.Layout.{state-count, action-count, prop-count, model-of}
+use Rattle.prepared.specs.promises.Rows.{model-in, Prepares}
+use Rattle.questions.specs.Grounds.{read-question}
 use Rattle.questions.specs.Layout.{Question, question-of}
 use Rattle.blocks.specs.Splice.{splice}
 use Rattle.judging.specs.promises.Asked.{Served}
@@ -19,13 +21,13 @@ use Rattle.judging.specs.promises.Announced.{root-verdict, told, shown-choices}
 use Rattle.calls.specs.promises.Chains.{do-judge}
 use Rattle.plan_judge.specs.declared.Desk.{Desk}
 use Rattle.plan_judge.specs.declared.Verdict.{Verdict}
-use Rattle.plan_judge.specs.declared.Judgement.the-variants.{Judged, Refused}
+use Rattle.plan_judge.specs.declared.Judgement.the-variants.{Judged}
 use Rattle.plan_judge.specs.declared.Judging.{Judging}
 use Rattle.plan_judge.specs.View.{view}
 use Rattle.plan_judge.specs.promises.Values.{verdict-code, choices-code, settling, judging, judged-by}
 use Rattle.plan_judge.specs.promises.State.{held-both, verdict-from}
 use Rattle.plan_judge.proofs.Returns.{said-bytes, padded-copy}
-use Rattle.plan_judge.proofs.Grounds.{Both, limits-passed, both, both-held, both-refused, both-passed}
+use Rattle.plan_judge.proofs.Grounds.{Both, limits-passed, both-held, both-refused, both-passed}
 
 -- ---- the verdict that is told
 
@@ -57,13 +59,13 @@ module _ (d : Desk) where
         desk = record { blocks = d .blocks; model = d .model; asked = d .asked; question = d .question; judged = true; verdict = v; choices = cs };
       }
 
-  pub judge-refused : (k : ℕ) → k ≡ refusal (do-judge (view d)) → (k ≡ 0 → ⊥) → turned-away k ≡ judged-by d
+  pub judge-refused : (k : ℕ) → k ≡ refusal (do-judge (view d)) → (k ≡ 0 → ⊥) → judging d (refused k) ≡ judged-by d
   unfolding judged-by
   judge-refused k e h = by (do-judge (view d)) e
     where
-      by : (c : Checked logic.Verdict) → k ≡ refusal c → turned-away k ≡ judging d c
+      by : (c : Checked logic.Verdict) → k ≡ refusal c → judging d (refused k) ≡ judging d c
       by (ok v) i = absurd (h i)
-      by (refused j) i = ap turned-away i
+      by (refused j) i = ap (λ k. judging d (refused k)) i
 
   -- What judge does with a model and a question.
   abbrev judge-for : Model → Question → Checked logic.Verdict
@@ -91,22 +93,23 @@ module _ (d : Desk) where
         by (ok a) v = refl
         by (refused k) v = refl
 
-  -- Where judge is not refused, both are held and within the limits.
-  module _ (e : refusal (do-judge (view d)) ≡ 0) where
-    pub both-judged : Both d
-    both-judged = both d (by (refusal (held-both (view d))) refl)
-      where
-        by : (k : ℕ) → k ≡ refusal (held-both (view d)) → refusal (held-both (view d)) ≡ 0
-        by zero i = sym i
-        by (suc k) i = absurd (omega (arith, ground-state (suc k) i (λ z. omega arith)))
+  -- The model prepared.
+  module _ (b : Both d) {a : List ℕ} (p : Prepares (said-bytes d) a) where
+    pub limits-prepared : refusal (limits (model-in a) (question-of (d .question) .nodes)) ≡ refusal (do-judge (view d))
+    limits-prepared = rw (p .same) (ground-limits b)
 
-    pub served : Served (said-bytes d) (d .question)
-    unfolding question-of
-    served = record { model-accepted = both-judged .passed; question-accepted = both-judged .asked; within = ground-limits both-judged ∙ e }
+    pub asked-prepared : refusal (read-question (state-count a) (action-count a) (prop-count a) (d .question)) ≡ 0
+    asked-prepared = rw (p .head 2 (omega arith), p .head 3 (omega arith), p .head 4 (omega arith)) (b .asked)
 
-    pub judge-done : (cs : Bytes) → cs ≡ choices-code (root-verdict (said-bytes d) (d .question)) → (v : Verdict) → v ≡ verdict-code (root-verdict (said-bytes d) (d .question))
-        → announced cs v ≡ judged-by d
-    unfolding judged-by settling question-of
-    judge-done cs i v j =
-        ap₂ announced i j
-        ∙ sym (ap (judging d) (judge-is both-judged ∙ ap (λ c. c >> ok (root-verdict (said-bytes d) (d .question))) (limits-passed _ _ (served .within))))
+    -- Where judge is not refused, the verdict is told.
+    module _ (e : refusal (do-judge (view d)) ≡ 0) where
+      pub served : Served a (d .question)
+      unfolding question-of
+      served = record { prepared = p .prepared; question-accepted = asked-prepared; within = limits-prepared ∙ e }
+
+      pub judge-done : (cs : Bytes) → cs ≡ choices-code (root-verdict (model-in a) (d .question)) → (v : Verdict) → v ≡ verdict-code (root-verdict (model-in a) (d .question))
+          → announced cs v ≡ judged-by d
+      unfolding judged-by settling question-of
+      judge-done cs i v j =
+          ap₂ announced (i ∙ ap (λ M. choices-code (root-verdict M (d .question))) (p .same)) (j ∙ ap (λ M. verdict-code (root-verdict M (d .question))) (p .same))
+          ∙ sym (ap (judging d) (judge-is b ∙ ap (λ c. c >> ok (root-verdict (model-of (said-bytes d)) (d .question))) (limits-passed _ _ (ground-limits b ∙ e))))

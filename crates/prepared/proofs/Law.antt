@@ -16,9 +16,9 @@ use Rattle.logic.specs.Model.{Model, Action, Step, true-of}
 use Rattle.logic.proofs.Tests.{and-both, length-tabulate, getD-tabulate, tabulate-more, counted-range, keep-same}
 use Rattle.blocks.specs.Bytes.{Bytes, byte, u16, u32, i16, signed, within}
 use Rattle.blocks.specs.Block.{sum-below}
-use Rattle.models.specs.Grounds.{sizes-right, outcome-in-range, read-model}
+use Rattle.models.specs.Grounds.{outcome-in-range, read-model}
 use Rattle.models.specs.Layout.{state-count, action-count, prop-count, denominator-of, literals, state-mask, pre-of, post-count, post-of, cell-at, outcome-of, entries, model-of}
-use Rattle.models.proofs.Laws.{at-most, sizes, entries-inside, entries-small}
+use Rattle.models.proofs.Laws.{sizes, entries-inside, entries-small}
 use Rattle.models.proofs.Passed.{Passed, passed-all, passed-sized, some-post, outcome-passed}
 use Rattle.models.proofs.Rows.{outcomes-are}
 use Rattle.models.proofs.Held.{enabled-entries, accepted}
@@ -44,12 +44,6 @@ model-alike : {p p′ d d′ : ℕ} {s s′ : List ℕ} {a a′ : List Action} {
 model-alike {p} {p′} {d} {d′} {s} {s′} {a} {a′} {r} {r′} e1 e2 e3 e4 e5 =
     let make : ℕ → ℕ → List ℕ → List Action → List (List (List Step)) → Model = λ p d s a r. record { propositions = p; denominator = d; states = s; actions = a; rows = r } in
     ap₂ (λ x y. make x y s a r) e1 e2 ∙ ap₂ (λ x y. make p′ d′ x y r) e3 e4 ∙ ap (make p′ d′ s′ a′) e5
-
-denominator-most : (b : Bytes) → sizes-right b ≡ true → denominator-of b ≤ 100
-unfolding sizes-right
-denominator-most b e =
-    let s : Bool = within 1 32 (state-count b) && within 1 8 (action-count b) && within 1 32 (prop-count b) in
-    at-most 1 100 (denominator-of b) (and-both s (within 1 100 (denominator-of b)) (and-both (s && within 1 100 (denominator-of b)) _ e .0) .1)
 
 -- What ground 5 found of an outcome.
 record Fair (b : Bytes) (o : Step) : Type 0 where
@@ -248,7 +242,7 @@ module _ (b : Bytes) (e : refusal (read-model b) ≡ 0) (m : List ℕ) (small : 
         states = omega (arith, states);
         actions = omega (arith, actions);
         props = rw (head 4 (omega arith)) (sizes b (passed .sizes) .props);
-        parts = rw (head 5 (omega arith)) (denominator-most b (passed .sizes));
+        parts = rw (head 5 (omega arith)) (sizes b (passed .sizes) .parts);
         choices = λ s h. rw same (enabled-entries b passed s (omega arith)) ∙ listed-is s (omega arith);
         few-choices = λ s h. few-choices s (omega arith);
         bytes = λ s i h g. omega (arith, choice-small s (omega arith) i g, actions);

@@ -6,7 +6,7 @@ use mathlib.Core.List.{List}
 use mathlib.Core.Option.{some}
 use lib.ListN.{length, take}
 use lib.Seq.{length-take-le}
-use Rattle.bounds.proofs.Meeting.{denominator-small}
+use Rattle.models.proofs.Laws.{sizes}
 use Rattle.models.specs.Layout.{denominator-of, model-of}
 use Rattle.models.proofs.Passed.{passed-all}
 use Rattle.models.proofs.Held.{denominator-held}
@@ -44,7 +44,7 @@ module _ (d : Desk) (m q : Bytes) (l : Asked d m q) (r : Judging) (i : r ≡ jud
     told-shown w =
         let a = accepted _ _ _ q (l .question) in
         record {
-          small = denominator-small m (passed-all m (l .model) .sizes);
+          small = sizes m (passed-all m (l .model) .sizes) .parts;
           some-node = a .some-node;
           few-steps = subst (λ x. shown-steps x ≤ 6) (sym (t .code)) (few-steps a (model-of m) (question-of q .start));
           few-choices = omega (arith, length-take-le count (r .choices) (omega (arith, count-few w)), count-few w);

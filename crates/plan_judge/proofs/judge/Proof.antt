@@ -1,18 +1,18 @@
--- A ground stands; past all of them the verdict is the one that judging tells, on the bytes that the desk says it has.
 use Prim.Native.Nat.{_≤_}
 use native.Mathlib.Omega.{arith}
 use mathlib.Core.Path.{_≡_, sym, ap, subst, _∙_}
 use lib.ListN.{length, take}
 use lib.Seq.{length-take-le}
 use Rattle.logic.specs.promises.Refusal.{refusal}
+use Rattle.models.specs.Grounds.{read-model}
+use Rattle.prepared.specs.promises.Rows.{model-in, Prepares}
 use Rattle.calls.specs.promises.Chains.{do-judge}
-use Rattle.judging.specs.promises.Asked.{Served}
 use Rattle.judging.specs.promises.Announced.{root-verdict}
 use Rattle.plan_judge.specs.View.{view}
-use Rattle.plan_judge.specs.promises.Values.{verdict-code, choices-code}
 use Rattle.plan_judge.specs.promises.State.{verdict-from}
 use Rattle.plan_judge.proofs.Returns.{said-bytes, cut-inside, cut-said}
-use Rattle.plan_judge.proofs.Judges.{verdict-told, choices-told, judge-refused, served, judge-done}
+use Rattle.plan_judge.proofs.Grounds.{Both, both}
+use Rattle.plan_judge.proofs.Judges.{verdict-told, choices-told, judge-refused, ground-state, limits-prepared, asked-prepared, served, judge-done}
 use borrow.Author.Needs.{needs}
 use Rattle.plan_judge.proofs.judge.Statement.{statement}
 use Rattle.plan_judge.proofs.judge.Tie as tie
@@ -24,14 +24,30 @@ inside c = cut-inside (c .before .before .before .before .before .args .d) (sear
 cut : (c : tie.After-blocks-end) → take (c .blocks-end .result) (c .before .before .before .before .before .args .d .model) ≡ said-bytes (c .before .before .before .before .before .args .d)
 cut c = cut-said (c .before .before .before .before .before .args .d) (search needs) (c .blocks-end .result) (c .blocks-end .ensures)
 
-past : (c : tie.Else1) → refusal (do-judge (view (c .before .before .args .d))) ≡ 0
-past c = sym (c .before .judge-ground .ensures) ∙ c .if1 .left
+-- Both are held, and the model of these bytes is prepared.
+held : (c : tie.Else1) → Both (c .before .before .args .d)
+held c = both (c .before .before .args .d) (sym (c .before .state-ground .ensures) ∙ c .if1 .left)
 
-judge-ground-requires : tie.Need-judge-ground-requires
-judge-ground-requires c κs = search needs
+both-held : (c : tie.After-prepare) → Both (c .before .before .before .before .before .before .before .args .d)
+both-held c = held (c .before .before .before .before .before)
+
+prepared : (c : tie.After-prepare) → Prepares (said-bytes (c .before .before .before .before .before .before .before .args .d)) (c .prepare .result)
+prepared c = subst (λ z. Prepares z (c .prepare .result)) (cut (c .before .before)) (c .prepare .ensures)
+
+-- Past the limits.
+past : (c : tie.Else2) → refusal (do-judge (view (c .before .before .before .before .before .before .before .before .before .before .before .args .d))) ≡ 0
+past c = sym (limits-prepared (c .before .before .before .before .before .before .before .before .before .before .before .args .d) (both-held (c .before .before .before .before)) (prepared (c .before .before .before .before))) ∙ sym (c .before .limit-refusal .ensures) ∙ c .if2 .left
+
+state-ground-requires : tie.Need-state-ground-requires
+state-ground-requires c κs = search needs
+
+turned-away-requires : tie.Need-turned-away-requires
+turned-away-requires c κs = search needs
 
 returns : tie.Need-returns
-returns c = judge-refused (c .before .before .args .d) (c .before .judge-ground .result) (c .before .judge-ground .ensures) (c .if1 .taken)
+returns c = let S = c .before .before .before in
+    let g = c .before .before .state-ground in
+    c .turned-away .ensures ∙ judge-refused (S .args .d) (g .result) (ground-state (S .args .d) (g .result) (g .ensures) (c .before .if1 .taken)) (c .before .if1 .taken)
 
 blocks-end-requires : tie.Need-blocks-end-requires
 blocks-end-requires c κs = search needs
@@ -39,41 +55,63 @@ blocks-end-requires c κs = search needs
 array-share-prefix-m : tie.Need-array-share-prefix-m
 array-share-prefix-m c = inside c
 
+slice-aggregate-prepare : tie.Need-slice-aggregate-prepare
+slice-aggregate-prepare c = sym (length-take-le (c .before .blocks-end .result) (c .before .before .before .before .before .before .args .d .model) (inside (c .before)))
+
+prepare-requires : tie.Need-prepare-requires
+prepare-requires c κs = ap (λ z. refusal (read-model z)) (cut (c .before)) ∙ held (c .before .before .before .before) .passed
+
+slice-aggregate-limit-refusal : tie.Need-slice-aggregate-limit-refusal
+slice-aggregate-limit-refusal c = search needs
+
+limit-refusal-requires : tie.Need-limit-refusal-requires
+limit-refusal-requires c κs = let R = c .before .before in (prepared R .prepared, asked-prepared (R .before .before .before .before .before .before .before .args .d) (both-held R) (prepared R))
+
+turned-away-requires-2 : tie.Need-turned-away-requires-2
+turned-away-requires-2 c κs = search needs
+
+returns-2 : tie.Need-returns-2
+returns-2 c = let R = c .before .before .before .before .before in
+    let d = R .before .before .before .before .before .before .before .args .d in
+    let l = c .before .before .limit-refusal in
+    c .turned-away2 .ensures ∙ judge-refused d (l .result) (l .ensures ∙ limits-prepared d (both-held R) (prepared R)) (c .before .if2 .taken)
+
 slice-aggregate-judged : tie.Need-slice-aggregate-judged
-slice-aggregate-judged c = sym (length-take-le (c .before .blocks-end .result) (c .before .before .before .before .before .before .args .d .model) (inside (c .before)))
+slice-aggregate-judged c = search needs
 
 slice-aggregate-judged-2 : tie.Need-slice-aggregate-judged-2
 slice-aggregate-judged-2 c = search needs
 
-slice-aggregate-judged-3 : tie.Need-slice-aggregate-judged-3
-slice-aggregate-judged-3 c = search needs
-
 judged-requires : tie.Need-judged-requires
-judged-requires c κs = let d = c .before .before .before .before .before .before .before .before .args .d in
-    (subst (λ z. Served z (d .question)) (sym (cut (c .before .before .before))) (served d (past (c .before .before .before .before .before .before))), omega arith)
+judged-requires c κs = let R = c .before .before .before .before .before .before .before in (served (R .before .before .before .before .before .before .before .args .d) (both-held R) (prepared R) (past (c .before .before .before)), omega arith)
 
 verdict-of-requires : tie.Need-verdict-of-requires
 verdict-of-requires c κs = search needs
 
-returns-2 : tie.Need-returns-2
-returns-2 c = let d = c .before .before .before .before .before .before .before .before .before .before .before .args .d in
-    let e = cut (c .before .before .before .before .before .before) in
-    let v = root-verdict (take (c .before .before .before .before .before .before .blocks-end .result) (d .model)) (d .question) in
-    judge-done d (past (c .before .before .before .before .before .before .before .before .before))
-    _ (c .before .before .judged .ensures .1 ∙ choices-told v ∙ ap (λ z. choices-code (root-verdict z (d .question))) e)
-    (c .verdict-of .result) (c .verdict-of .ensures ∙ ap verdict-from (c .before .before .judged .ensures .0) ∙ verdict-told v ∙ ap (λ z. verdict-code (root-verdict z (d .question))) e)
+returns-3 : tie.Need-returns-3
+returns-3 c = let R = c .before .before .before .before .before .before .before .before .before .before in
+    let d = R .before .before .before .before .before .before .before .args .d in
+    let v = root-verdict (model-in (R .prepare .result)) (d .question) in
+    let o = c .before .before .judged .ensures in
+    judge-done d (both-held R) (prepared R) (past (c .before .before .before .before .before .before)) _ (o .1 ∙ choices-told v) (c .verdict-of .result) (c .verdict-of .ensures ∙ ap verdict-from (o .0) ∙ verdict-told v)
 
 pub judge-spec : {M : Type 1} → statement M
 judge-spec =
     tie.close
     (tie.spec
-    judge-ground-requires
+    state-ground-requires
+    turned-away-requires
     returns
     blocks-end-requires
     array-share-prefix-m
+    slice-aggregate-prepare
+    prepare-requires
+    slice-aggregate-limit-refusal
+    limit-refusal-requires
+    turned-away-requires-2
+    returns-2
     slice-aggregate-judged
     slice-aggregate-judged-2
-    slice-aggregate-judged-3
     judged-requires
     verdict-of-requires
-    returns-2)
+    returns-3)

@@ -4,6 +4,7 @@ use mathlib.Core.Path.{sym, subst}
 use lib.ListN.{length}
 use lib.Seq.{length-take-le}
 use Rattle.sheets.specs.Layout.{sheet-of}
+use Rattle.prepared.specs.promises.Rows.{model-in}
 use Rattle.judging.specs.promises.Announced.{Weighs}
 use Rattle.plan_judge.proofs.Checks.{gathered-are}
 use borrow.Author.Needs.{needs}
@@ -27,8 +28,8 @@ sheet-weight-requires : tie.Need-sheet-weight-requires
 sheet-weight-requires c κs = search needs
 
 returns : tie.Need-returns
-returns c = let S = c .before .before .before .before .before .before .before .before in
-    subst (λ l. Weighs (S .args .m .now) (S .args .q .now) l (c .sheet-weight .result))
+returns c = let S = c .before .before .before .before .before .before .before in
+    subst (λ l. Weighs (model-in (S .args .m .now)) (S .args .q .now) l (c .sheet-weight .result))
     (gathered-are (sheet-of (S .args .b .now) .choices) _ (c .before .before .before .gather .last .1 .0) (c .before .before .before .gather .result) (c .before .before .before .gather .ensures)) (c .sheet-weight .ensures)
 
 pub sheet-weight-spec : {M : Type 1} → statement M
