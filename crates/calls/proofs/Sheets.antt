@@ -5,10 +5,10 @@ use Prim.Native.Nat.{ℕ, zero, suc, _+_, _*_, _-_, _^_, _≤_, _<_}
 use native.Mathlib.Omega.{arith}
 use native.Mathlib.Nat.{le-refl, le-trans, lt-of-le-of-lt, suc-mul, mul-le-mul-right, pow-le-pow-left, pow-le-pow-right}
 use mathlib.Core.Path.{_≡_, refl, sym, ap, subst, _∙_}
-use mathlib.Core.Bool.{Bool, true, false, cond, _&&_, false≢true}
+use mathlib.Core.Bool.{Bool, true, false, cond, false≢true}
 use mathlib.Core.Logic.{⊎-elim}
 use mathlib.Core.List.{List, [], _∷_, flatMap, List·Memᴰ, List·Memᴰ·head, List·Memᴰ·tail, List·Memᴰ·not-nil, List·Memᴰ·cases-cons, List·Memᴰ·append-cases}
-use lib.Dec.{leb, lit<}
+use lib.Dec.{lit<}
 use lib.IntN.{pos}
 use lib.ListN.{length, getD, length-append}
 use Rattle.logic.specs.Checked.{ok}
@@ -159,12 +159,6 @@ module _ (S A N : ℕ) (c : Bytes) (a : questions.Accepted S A N c) (i : ℕ) (h
       let r = a .in-range i h .of-plan o .compares in
       subst (λ n. (1 ≤ n) × (n ≤ 6)) (ap steps (sym (questions.at-plan S A N c a i h o))) (r .some-step, r .few-steps)
 
-actions-most : (b : Bytes) → sizes-right b ≡ true → action-count b ≤ 8
-unfolding sizes-right within
-actions-most b e =
-    let d = and-right (within 1 32 (state-count b)) _ (and-left _ _ (and-left _ _ (and-left _ _ e))) in
-    leb-true _ _ (and-right (leb 1 (action-count b)) (leb (action-count b) 8) d)
-
 -- ---- the whole
 
 -- What a goal asks: its root is "plan".
@@ -255,7 +249,7 @@ module _ {h : Held} (sound-held : Sound h) (x : Plan-question h) where
 
   actions-few : length (x .model .actions) ≤ 8
   unfolding model-of
-  actions-few = subst (λ m. length (m .actions) ≤ 8) (sym same-model) (subst (λ n. n ≤ 8) (sym (length-tabulate _ (action-count b))) (actions-most b (passed-all b passed .sizes)))
+  actions-few = subst (λ m. length (m .actions) ≤ 8) (sym same-model) (subst (λ n. n ≤ 8) (sym (length-tabulate _ (action-count b))) (sizes b (passed-all b passed .sizes) .actions))
 
   module _ (π : Plan (n)) (i : List·Memᴰ π (plans (x .model) (n) s)) where
     choices-few : length (choices (n) π) ≤ 1365
