@@ -29,6 +29,7 @@ use crate::truth::truth_table;
 use evaluation::depth_at;
 use extension::extend;
 use limits::plan_totals;
+use nodes::nodes;
 use questions::asks_equal;
 use questions::depth_table;
 use questions::left;
@@ -37,7 +38,6 @@ use questions::operator;
 use questions::start;
 use questions::steps;
 use ranking::nth;
-use sharing::shared;
 use tables::cone;
 use tables::needed;
 use weighing::plan_weight;
@@ -213,7 +213,7 @@ pub fn judged(m: &[u16; 8704], q: &[u8], choices: &mut [u8]) -> Outcome
     requires { ⌜ 1365 ≤ length (now choices) ⌝ }
     ensures { λ r. ⌜ Announces (root-verdict (now (m .entry)) (now (q .entry))) r (now (choices .entry)) (now (choices .exit)) ⌝ }
 {
-    let alike = shared(q);
+    let alike = nodes(q);
     judged_as_shared(m, &alike, choices)
 }
 
