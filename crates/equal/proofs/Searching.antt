@@ -10,10 +10,10 @@ use lib.ListN.{length, take, getD}
 use lib.Seq.{getD-take, length-take-le}
 use Rattle.logic.specs.promises.Total.{value-of}
 use Rattle.blocks.specs.Bytes.{Bytes}
-use Rattle.models.specs.Layout.{model-of}
+use Rattle.prepared.specs.promises.Rows.{model-in}
 use Rattle.evaluation.specs.promises.Path.{steps-of, state-after}
 use Rattle.evaluation.specs.promises.Reached.{formula, root-of, on-path}
-use Rattle.evaluation.specs.promises.Known.{Knows, Roomy}
+use Rattle.evaluation.specs.promises.Known.{Knows}
 use Rattle.equal.specs.promises.Totals.{totals}
 use Rattle.equal.specs.promises.Listing.{Given, Here, Written, First}
 
@@ -42,17 +42,17 @@ module _ (buf : List ℕ) (len x : ℕ) (fits : len ≤ length buf) where
 
 -- ---- the start
 
-module _ {m q : Bytes} {start d : ℕ} {depths truth cone used table : List ℕ} (G : Given m q start d depths truth cone used table) where
-  pub begins : {n : ℕ} (trail : List ℕ) (gains : List ℤ) (v : List ℕ) → d ≤ n → n ≤ 6 → Roomy trail gains v → Knows m q start cone [] gains v
+module _ {m q : Bytes} {start d : ℕ} {depths truth cone table : List ℕ} (G : Given m q start d depths truth cone table) where
+  pub begins : {n : ℕ} (trail : List ℕ) (gains : List ℤ) (v : List ℕ) → d ≤ n → n ≤ 6 → Knows m q start cone [] gains v
       → Here m q start d cone trail gains v 0 start n
   unfolding state-after
-  begins trail gains v h k R K = record { steps = omega arith; deep = omega arith; inside = G .ready .state; state = refl; roomy = R; knows = K }
+  begins trail gains v h k K = record { steps = omega arith; deep = omega arith; inside = G .ready .state; whole = refl; state = refl; knows = K }
 
   -- The list from the start, and the first of it.
   pub first-listed : (n x : ℕ) {r i : ℕ} {trail trail₁ : List ℕ} {gains₁ : List ℤ} {v₁ buf buf₁ : List ℕ}
-      → Written (totals (model-of m) n start (on-path m q start cone (take 0 trail))) m q start cone 0 0 trail trail₁ gains₁ v₁ buf buf₁ r
-      → First (take r buf₁) x i → First (totals (model-of m) n start (value-of (model-of m) (formula q (root-of cone)) start)) x i
+      → Written (totals (model-in m) n start (on-path m q start cone (take 0 trail))) m q start cone 0 0 trail trail₁ gains₁ v₁ buf buf₁ r
+      → First (take r buf₁) x i → First (totals (model-in m) n start (value-of (model-in m) (formula q (root-of cone)) start)) x i
   unfolding steps-of
   first-listed n x {r} {i} {buf₁ = buf₁} W F =
-      let X : List ℕ = totals (model-of m) n start (value-of (model-of m) (formula q (root-of cone)) start) in
+      let X : List ℕ = totals (model-in m) n start (value-of (model-in m) (formula q (root-of cone)) start) in
       subst (λ l. First l x i) (ap (λ k. take k buf₁) (W .count ∙ sym (zero-add (length X))) ∙ W .listed) F

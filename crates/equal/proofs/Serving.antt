@@ -7,12 +7,12 @@ use mathlib.Core.Bool.{true}
 use mathlib.Core.List.{List}
 use Rattle.logic.specs.Limits.{plan-total}
 use Rattle.blocks.specs.Bytes.{Bytes}
-use Rattle.models.specs.Layout.{model-of}
-use Rattle.models.proofs.Held.{states-held}
+use Rattle.prepared.specs.promises.Rows.{model-in}
+use Rattle.prepared.proofs.Laws.{states-are}
 use Rattle.limits.specs.promises.Totals.{total, limit, Totals}
 use Rattle.equal.specs.promises.Listing.{Counts}
 
-pub counts-right : (m : Bytes) (table : List ℕ) → Totals true (model-of m) table → Counts m table
+pub counts-right : (m : Bytes) (table : List ℕ) → Totals true (model-in m) table → Counts m table
 unfolding total limit
 counts-right m table T =
-    record { right = λ n s h k l. T .at n s h (rw (states-held m) k) ∙ min-eq-right {n = plan-total (model-of m) n s} {m = 65537} (omega arith) }
+    record { right = λ n s h k l. T .at n s h (rw (states-are m) k) ∙ min-eq-right {n = plan-total (model-in m) n s} {m = 65537} (omega arith) }

@@ -1,21 +1,15 @@
--- Lists over consecutive numbers, one more at either end: products, combined lists, and those that pass a test.
+-- Lists over consecutive numbers, one more at either end: products, combined lists, and lists one after the other.
 use Prim.Native.Nat.{ℕ, zero, suc, _+_, _-_, _*_, _≤_, _<_}
-use native.Mathlib.Nat.{zero-add, add-zero, mul-one, one-mul, mul-assoc, le-refl, le-trans, le-mul-of-pos-right, mul-comm}
+use native.Mathlib.Nat.{zero-add, mul-one, one-mul, mul-assoc, le-refl, le-trans, le-mul-of-pos-right, mul-comm}
 use native.Mathlib.Omega.{arith}
 use mathlib.Core.Path.{_≡_, refl, sym, ap, subst, _∙_}
-use mathlib.Core.Bool.{Bool, true, false, cond}
 use mathlib.Core.List.{List, [], _∷_, _++_, map, flatMap, append-nil, append-assoc}
-use Rattle.logic.specs.Lists.{keep, count-from}
-use Rattle.logic.specs.Quantity.{naturals, sum}
+use lib.ListN.{length, length-append}
+use Rattle.logic.specs.Lists.{count-from, tabulate}
 use Rattle.logic.specs.Limits.{multiply}
-use Rattle.logic.proofs.Sums.{naturals-additive, sum-append}
+use Rattle.logic.proofs.Tests.{count-more, tabulate-more}
 use Rattle.equal.specs.promises.Totals.{grid, combined}
 use Rattle.equal.proofs.Grid.{combined-append, combined-one}
-
-pub count-last : (k n : ℕ) → count-from k (suc n) ≡ count-from k n ++ ((k + n) ∷ [])
-unfolding count-from
-count-last k zero = ap (λ i. i ∷ []) (omega arith)
-count-last k (suc n) = ap (λ l. k ∷ l) (count-last (suc k) n ∙ ap (λ i. count-from (suc k) n ++ (i ∷ [])) (omega arith))
 
 multiply-append : {A : Type 0} (t : A → ℕ) (l r : List A) → multiply t (l ++ r) ≡ multiply t l * multiply t r
 unfolding multiply
@@ -37,7 +31,7 @@ combined-map f g (x ∷ l) = ap (grid (f (g x))) (combined-map f g l)
 module _ (f : ℕ → List ℕ) (lo n : ℕ) where
   pub combined-right : combined f (count-from lo (suc n)) ≡ grid (combined f (count-from lo n)) (f (lo + n))
   combined-right =
-      ap (combined f) (count-last lo n)
+      ap (combined f) (count-more lo n)
       ∙ combined-append f (count-from lo n) ((lo + n) ∷ [])
       ∙ ap (grid (combined f (count-from lo n))) (combined-one f (lo + n))
 
@@ -49,7 +43,7 @@ module _ (t : ℕ → ℕ) where
   pub multiply-right : (lo n : ℕ) → multiply t (count-from lo (suc n)) ≡ multiply t (count-from lo n) * t (lo + n)
   unfolding multiply
   multiply-right lo n =
-      ap (multiply t) (count-last lo n)
+      ap (multiply t) (count-more lo n)
       ∙ multiply-append t (count-from lo n) ((lo + n) ∷ [])
       ∙ ap (λ k. multiply t (count-from lo n) * k) (mul-one (t (lo + n)))
 
@@ -94,50 +88,25 @@ unfolding flatMap
 flatMap-last g [] x = append-nil (g x)
 flatMap-last g (y ∷ l) x = ap (λ r. g y ++ r) (flatMap-last g l x) ∙ sym (append-assoc (g y) (flatMap g l) (g x))
 
--- ---- those below n that pass a test
+-- ---- lists made for the numbers below n, one after the other
 
-module _ (t : ℕ → Bool) where
-  keep-append : (l : List ℕ) (x : ℕ) → keep t (l ++ (x ∷ [])) ≡ keep t l ++ cond (t x) (x ∷ []) []
-  unfolding keep
-  keep-append [] x = refl
-  keep-append (y ∷ l) x = step (t y) (keep t l) (keep-append l x)
-    where
-      step : (v : Bool) (r : List ℕ) {k : List ℕ} → k ≡ r ++ cond (t x) (x ∷ []) [] → cond v (y ∷ k) k ≡ cond v (y ∷ r) r ++ cond (t x) (x ∷ []) []
-      step true r e = ap (λ l. y ∷ l) e
-      step false r e = e
+module _ (f : ℕ → List ℕ) (g : ℕ → ℕ) where
+  pub flatMap-more : (n : ℕ) → flatMap f (tabulate (suc n) g) ≡ flatMap f (tabulate n g) ++ f (g n)
+  flatMap-more n = ap (flatMap f) (tabulate-more g n) ∙ flatMap-last f (tabulate n g) (g n)
 
-  keep-last : (n : ℕ) → keep t (count-from 0 (suc n)) ≡ keep t (count-from 0 n) ++ cond (t n) (n ∷ []) []
-  keep-last n = ap (keep t) (count-last 0 n ∙ ap (λ k. count-from 0 n ++ (k ∷ [])) (zero-add n)) ∙ keep-append (count-from 0 n) n
-
-  -- One number more, which passes, or does not.
-  pub keep-yes : (n : ℕ) → t n ≡ true → keep t (count-from 0 (suc n)) ≡ keep t (count-from 0 n) ++ (n ∷ [])
-  keep-yes n e = keep-last n ∙ ap (λ v. keep t (count-from 0 n) ++ cond v (n ∷ []) []) e
-
-  pub keep-no : (n : ℕ) → t n ≡ false → keep t (count-from 0 (suc n)) ≡ keep t (count-from 0 n)
-  keep-no n e = keep-last n ∙ ap (λ v. keep t (count-from 0 n) ++ cond v (n ∷ []) []) e ∙ append-nil (keep t (count-from 0 n))
-
-  pub flatMap-yes : (g : ℕ → List ℕ) (n : ℕ) → t n ≡ true → flatMap g (keep t (count-from 0 (suc n))) ≡ flatMap g (keep t (count-from 0 n)) ++ g n
-  flatMap-yes g n e = ap (flatMap g) (keep-yes n e) ∙ flatMap-last g (keep t (count-from 0 n)) n
-
-  pub sum-yes : (f : ℕ → ℕ) (n : ℕ) → t n ≡ true → sum naturals f (keep t (count-from 0 (suc n))) ≡ sum naturals f (keep t (count-from 0 n)) + f n
-  unfolding sum
-  sum-yes f n e =
-      ap (sum naturals f) (keep-yes n e)
-      ∙ sum-append naturals naturals-additive f (keep t (count-from 0 n)) (n ∷ [])
-      ∙ ap (λ k. sum naturals f (keep t (count-from 0 n)) + k) (add-zero (f n))
-
-  sum-more : (f : ℕ → ℕ) (n e : ℕ) → sum naturals f (keep t (count-from 0 n)) ≤ sum naturals f (keep t (count-from 0 (n + e)))
-  sum-more f n zero = let z : n + 0 ≡ n = omega arith in rw z (le-refl _)
-  sum-more f n (suc e) =
+  longer : (n e : ℕ) → length (flatMap f (tabulate n g)) ≤ length (flatMap f (tabulate (n + e) g))
+  longer n zero = let z : n + 0 ≡ n = omega arith in rw z (le-refl _)
+  longer n (suc e) =
       let z : n + suc e ≡ suc (n + e) = omega arith in
-      rw z (le-trans (sum-more f n e) (one (t (n + e)) refl))
-    where
-      one : (v : Bool) → t (n + e) ≡ v → sum naturals f (keep t (count-from 0 (n + e))) ≤ sum naturals f (keep t (count-from 0 (suc (n + e))))
-      one true q = omega (arith, sum-yes f (n + e) q)
-      one false q = rw (keep-no (n + e) q) (le-refl _)
+      rw (z, flatMap-more (n + e)) (omega (arith, longer n e, length-append (flatMap f (tabulate (n + e) g)) (f (g (n + e)))))
 
-  -- The sum below n and its next term come to no more than the sum below c.
-  pub sum-within : (f : ℕ → ℕ) (n c : ℕ) → n < c → t n ≡ true → sum naturals f (keep t (count-from 0 n)) + f n ≤ sum naturals f (keep t (count-from 0 c))
-  sum-within f n c h e =
+  -- Those below n and the next come to no more than those below c.
+  pub flatMap-within : (n c : ℕ) → n < c → length (flatMap f (tabulate n g)) + length (f (g n)) ≤ length (flatMap f (tabulate c g))
+  flatMap-within n c h =
       let z : suc n + (c - suc n) ≡ c = omega arith in
-      omega (arith, sum-yes f n e, subst (λ k. sum naturals f (keep t (count-from 0 (suc n))) ≤ sum naturals f (keep t (count-from 0 k))) z (sum-more f (suc n) (c - suc n)))
+      omega (
+        arith,
+        length-append (flatMap f (tabulate n g)) (f (g n)),
+        ap length (flatMap-more n),
+        subst (λ k. length (flatMap f (tabulate (suc n) g)) ≤ length (flatMap f (tabulate k g))) z (longer (suc n) (c - suc n)),
+      )

@@ -6,30 +6,26 @@ use mathlib.Core.Path.{_≡_, refl, sym, ap, ap₂, subst, _∙_}
 use mathlib.Core.List.{List, [], _∷_, _++_, append-assoc, append-nil}
 use lib.IntN.{ℤ}
 use lib.ListN.{length, take, getD, replicate, length-append}
-use lib.Seq.{length-take-le}
 use Rattle.logic.specs.Model.{Step}
 use Rattle.logic.specs.Limits.{plan-total}
-use Rattle.blocks.specs.Bytes.{Bytes, byte}
+use Rattle.blocks.specs.Bytes.{Bytes}
 use Rattle.blocks.specs.Splice.{splice}
 use Rattle.blocks.proofs.Splice.{take-written}
-use Rattle.models.specs.Layout.{state-count, model-of, entries, outcome-of}
-use Rattle.models.proofs.Held.{states-held, denominator-held}
-use Rattle.models.specs.promises.Used.{count-in}
-use Rattle.models.proofs.Readable.{readable}
-use Rattle.models.proofs.Table.{count-entries}
+use Rattle.models.specs.Layout.{state-count, denominator-of}
+use Rattle.prepared.specs.promises.Rows.{step-in, Offers, model-in}
+use Rattle.prepared.proofs.Laws.{states-are, denominator-is}
+use Rattle.prepared.proofs.Ranges.{read-range}
 use Rattle.evaluation.specs.promises.Reached.{root-of, on-path}
 use Rattle.evaluation.specs.promises.Learnt.{known}
 use Rattle.evaluation.specs.promises.Known.{Knows, Offered, Stepped}
-use Rattle.evaluation.proofs.Trails.{fair}
 use Rattle.evaluation.proofs.Values.{one-if-small}
-use Rattle.evaluation.proofs.Returning.{roomy-same, back-none, back-same, knows-back, state-back, step-back}
+use Rattle.evaluation.proofs.Returning.{back-none, back-same, knows-back, state-back, step-back}
 use Rattle.evaluation.proofs.Stepping.{leaf-value, state-stepped, on-path-stepped}
 use Rattle.equal.specs.promises.Totals.{totals}
 use Rattle.equal.specs.promises.Room.{Room}
 use Rattle.equal.specs.promises.Listing.{Given, Here, Written, Decides}
 use Rattle.equal.proofs.Totals.{totals-length}
 use Rattle.equal.proofs.Bounds.{totals-alike}
-use Rattle.equal.proofs.Accepting.{is-accepted, is-sized, denominator-small}
 
 -- ---- one after the other
 
@@ -66,41 +62,35 @@ module _ {m q : Bytes} {start : ℕ} {cone : List ℕ} {h : ℕ} {trail : List �
   -- What is known of the path is as before.
   pub still : {xs : List ℕ} {d s k at r : ℕ} {gains : List ℤ} {v : List ℕ} {trail₁ : List ℕ} {gains₁ : List ℤ} {v₁ b b₁ : List ℕ}
       → Here m q start d cone trail gains v h s k → Written xs m q start cone h at trail trail₁ gains₁ v₁ b b₁ r
-      → length trail₁ ≡ length trail → length gains₁ ≡ length gains → length v₁ ≡ length v → Here m q start d cone trail₁ gains₁ v₁ h s k
-  still {gains₁ = gains₁} {v₁} H W e f g =
+      → Here m q start d cone trail₁ gains₁ v₁ h s k
+  still H W =
       record {
         steps = H .steps;
         deep = H .deep;
         inside = H .inside;
+        whole = ap length (W .back .kept) ∙ H .whole;
         state = state-back (W .back) ∙ H .state;
-        roomy = roomy-same (H .roomy) e f g;
         knows = knows-back (W .back);
       }
 
-module _ {m q : Bytes} {start d : ℕ} {depths truth cone used table : List ℕ} (G : Given m q start d depths truth cone used table) where
+module _ {m q : Bytes} {start d : ℕ} {depths truth cone table : List ℕ} (G : Given m q start d depths truth cone table) where
   pub state-small : {s : ℕ} → s < state-count m → s < 32
-  state-small h = omega (arith, is-sized m (G .ready .model-accepted) .states)
+  state-small h = omega (arith, G .ready .prepared .states)
 
-  pub reached : (s a o : ℕ) → s < state-count m → o < entries m s a → (outcome-of m s a o) .target < state-count m
-  reached s a o h u = fair m (G .ready .model-accepted) s a o h u .reaches
-
-  pub action-small : (s a o : ℕ) → s < state-count m → o < entries m s a → a < 8
-  action-small s a o h u = omega (arith, fair m (G .ready .model-accepted) s a o h u .action, is-sized m (G .ready .model-accepted) .actions)
-
-  pub uses-right : (s a : ℕ) {x : ℕ} → s < state-count m → x ≡ count-in used s a → x ≡ entries m s a
-  uses-right s a h e = e ∙ count-entries m (readable m (G .ready .model-accepted)) (G .uses) s h a
+  pub reached : (s i o : ℕ) → s < state-count m → Offers m s i o → (step-in m s i o) .target < state-count m
+  reached s i o h u = G .ready .prepared .inside s i o h u
 
   module _ {trail : List ℕ} {gains : List ℤ} {v : List ℕ} {h s k : ℕ} (H : Here m q start d cone trail gains v h s k) where
-    pub path-length : length (take h trail) ≡ h
-    path-length = length-take-le h trail (omega (arith, H .steps, H .roomy .steps))
+    pub within : (i o : ℕ) → Offers m s i o → (s < 32) × (i < 8) × (o < 4)
+    within = read-range (G .ready .prepared) s (H .inside)
 
     -- ---- where the condition is decided
     module _ (dh : d ≤ h) where
       value-here : (r : List Step) → known v (root-of cone) 0 ≡ on-path m q start cone (take h trail) r
-      value-here = leaf-value (G .ready) (take h trail) gains v (H .knows) (omega (arith, path-length, G .looks))
+      value-here = leaf-value (G .ready) (take h trail) gains v (H .knows) (omega (arith, H .whole, G .looks))
 
-      module _ (buf : List ℕ) {at : ℕ} (room : Room k (plan-total (model-of m) k s) at (length buf)) where
-        served : getD table (32 * k + s) 0 ≡ plan-total (model-of m) k s
+      module _ (buf : List ℕ) {at : ℕ} (room : Room k (plan-total (model-in m) k s) at (length buf)) where
+        served : getD table (32 * k + s) 0 ≡ plan-total (model-in m) k s
         served = G .counts .right k s (omega (arith, H .steps)) (H .inside) (room .few)
 
         pub decides : Decides m cone v table buf s k at
@@ -109,56 +99,56 @@ module _ {m q : Bytes} {start d : ℕ} {depths truth cone used table : List ℕ}
               some = G .ready .ordered .some;
               steps = omega (arith, H .steps);
               state = state-small (H .inside);
-              part-of = denominator-small m (G .ready .model-accepted);
+              part-of = G .ready .prepared .parts;
               truth = rw (value-here []) (one-if-small _);
               room = omega (arith, served, room .fits);
             }
 
         pub decided-written : {buf′ : List ℕ} {r : ℕ} → r ≡ getD table (32 * k + s) 0
-            → buf′ ≡ splice buf at (replicate (getD table (32 * k + s) 0) (known v (root-of cone) 0 * byte m 5 ^ k))
-            → Written (totals (model-of m) k s (on-path m q start cone (take h trail))) m q start cone h at trail trail gains v buf buf′ r
+            → buf′ ≡ splice buf at (replicate (getD table (32 * k + s) 0) (known v (root-of cone) 0 * denominator-of m ^ k))
+            → Written (totals (model-in m) k s (on-path m q start cone (take h trail))) m q start cone h at trail trail gains v buf buf′ r
         decided-written {buf′} {r} e f =
-            let X : List ℕ = replicate (plan-total (model-of m) k s) (known v (root-of cone) 0 * byte m 5 ^ k) in
-            let alike : totals (model-of m) k s (on-path m q start cone (take h trail)) ≡ X =
-            totals-alike (model-of m) (is-accepted m (G .ready .model-accepted)) k s (rw (states-held m) (H .inside))
+            let X : List ℕ = replicate (plan-total (model-in m) k s) (known v (root-of cone) 0 * denominator-of m ^ k) in
+            let alike : totals (model-in m) k s (on-path m q start cone (take h trail)) ≡ X =
+            totals-alike (model-in m) (G .ready .prepared .accepted) k s (rw (states-are m) (H .inside))
             (on-path m q start cone (take h trail)) (known v (root-of cone) 0) (λ r. sym (value-here r))
-            ∙ ap (λ z. replicate (plan-total (model-of m) k s) (known v (root-of cone) 0 * z ^ k)) (denominator-held m) in
-            let g : buf′ ≡ splice buf at X = f ∙ ap (λ n. splice buf at (replicate n (known v (root-of cone) 0 * byte m 5 ^ k))) served in
+            ∙ ap (λ z. replicate (plan-total (model-in m) k s) (known v (root-of cone) 0 * z ^ k)) (denominator-is m) in
+            let g : buf′ ≡ splice buf at X = f ∙ ap (λ n. splice buf at (replicate n (known v (root-of cone) 0 * denominator-of m ^ k))) served in
             record {
               back = back-none (H .knows);
-              count = e ∙ served ∙ sym (totals-length (model-of m) k s (on-path m q start cone (take h trail)));
+              count = e ∙ served ∙ sym (totals-length (model-in m) k s (on-path m q start cone (take h trail)));
               listed =
                   subst (λ l. take (at + length l) buf′ ≡ take at buf ++ l) (sym alike)
                   (ap (take (at + length X)) g ∙ take-written buf at X (omega (arith, room .fits)));
             }
 
   -- ---- below an outcome
-  module _ (a o k : ℕ) {trail : List ℕ} {gains : List ℤ} {v : List ℕ} {h s : ℕ} (H : Here m q start d cone trail gains v h s (k + 1)) (u : o < entries m s a) where
-    pub offered : Offered m start trail h s a o
-    offered = record { steps = omega (arith, H .steps); state = H .state; used = u }
+  module _ (i o k : ℕ) {trail : List ℕ} {gains : List ℤ} {v : List ℕ} {h s : ℕ} (H : Here m q start d cone trail gains v h s (k + 1)) (u : Offers m s i o) where
+    pub offered : Offered m start trail h s i o
+    offered = record { steps = omega (arith, H .steps); state = H .state; offers = u }
 
-    module _ {trail₁ : List ℕ} {gains₁ : List ℤ} {v₁ : List ℕ} {t : ℕ} (S : Stepped m q start cone h s a o trail trail₁ gains₁ v₁ t) where
-      pub below-here : length trail₁ ≡ length trail → length gains₁ ≡ length gains → length v₁ ≡ length v → Here m q start d cone trail₁ gains₁ v₁ (h + 1) t k
-      below-here e f g =
+    module _ {trail₁ : List ℕ} {gains₁ : List ℤ} {v₁ : List ℕ} {t : ℕ} (S : Stepped m q start cone h s i o trail trail₁ gains₁ v₁ t) where
+      pub below-here : Here m q start d cone trail₁ gains₁ v₁ (h + 1) t k
+      below-here =
           record {
             steps = omega (arith, H .steps);
             deep = omega (arith, H .deep);
-            inside = rw (S .state) (reached s a o (H .inside) u);
+            inside = rw (S .state) (reached s i o (H .inside) u);
+            whole = ap length (S .longer) ∙ length-append (take h trail) _ ∙ ap (λ n. n + 1) (S .whole);
             state = state-stepped (G .ready) offered (H .knows) S;
-            roomy = roomy-same (H .roomy) e f g;
             knows = S .knows;
           }
 
       pub below-written : {at r : ℕ} {trail₂ : List ℕ} {gains₂ : List ℤ} {v₂ buf buf₂ : List ℕ}
-          → Written (totals (model-of m) k t (on-path m q start cone (take (h + 1) trail₁))) m q start cone (h + 1) at trail₁ trail₂ gains₂ v₂ buf buf₂ r
-          → Written (totals (model-of m) k ((outcome-of m s a o) .target) (λ l. on-path m q start cone (take h trail) (outcome-of m s a o ∷ l)))
+          → Written (totals (model-in m) k t (on-path m q start cone (take (h + 1) trail₁))) m q start cone (h + 1) at trail₁ trail₂ gains₂ v₂ buf buf₂ r
+          → Written (totals (model-in m) k ((step-in m s i o) .target) (λ l. on-path m q start cone (take h trail) (step-in m s i o ∷ l)))
           m q start cone h at trail trail₂ gains₂ v₂ buf buf₂ r
       below-written {at} {r} {trail₂} {gains₂} {v₂} {buf} {buf₂} W =
-          let X : List ℕ = totals (model-of m) k ((outcome-of m s a o) .target) (λ l. on-path m q start cone (take h trail) (outcome-of m s a o ∷ l)) in
-          let same : totals (model-of m) k t (on-path m q start cone (take (h + 1) trail₁)) ≡ X =
-          ap₂ (λ i f. totals (model-of m) k i f) (S .state) (on-path-stepped (G .ready) offered (H .knows) S) in
+          let X : List ℕ = totals (model-in m) k ((step-in m s i o) .target) (λ l. on-path m q start cone (take h trail) (step-in m s i o ∷ l)) in
+          let same : totals (model-in m) k t (on-path m q start cone (take (h + 1) trail₁)) ≡ X =
+          ap₂ (λ t f. totals (model-in m) k t f) (S .state) (on-path-stepped (G .ready) offered (H .knows) S) in
           record {
-            back = step-back (path-length H) S (W .back);
+            back = step-back S (W .back);
             count = W .count ∙ ap length same;
             listed = subst (λ l. take (at + length l) buf₂ ≡ take at buf ++ l) same (W .listed);
           }

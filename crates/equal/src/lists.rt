@@ -6,9 +6,9 @@ ghost use mathlib.Core.List.{_∷_};
 ghost use lib.ListN.{getD, length, replicate, take};
 ghost use Rattle.logic.specs.Model.{outcomes};
 ghost use Rattle.logic.specs.Limits.{multiply, plan-total};
-ghost use Rattle.blocks.specs.Bytes.{byte};
 ghost use Rattle.blocks.specs.Splice.{splice};
-ghost use Rattle.models.specs.Layout.{model-of, entries, outcome-of};
+ghost use Rattle.models.specs.Layout.{denominator-of};
+ghost use Rattle.prepared.specs.promises.Rows.{choices-in, choice-in, step-in, Offers, model-in};
 ghost use Rattle.evaluation.specs.promises.Learnt as learnt;
 ghost use Rattle.evaluation.specs.promises.Reached.{root-of, on-path};
 ghost use Rattle.equal.specs.promises.Totals.{totals, combined, weighed, joined, part};
@@ -17,26 +17,37 @@ ghost use Rattle.equal.specs.promises.Listing.{Given, Here, Written, Lon
 use crate::spread::fill;
 use crate::spread::join;
 use crate::spread::shift;
-use blocks::byte;
-use blocks::wide;
 use bounds::power;
 use evaluation::known;
 use evaluation::step;
 use limits::plans_counted;
-use models::target;
-use models::used_outcomes;
-use models::weight;
+use prepared::choices;
+use prepared::denominator;
+use prepared::outcomes;
+use prepared::target;
+use prepared::weight;
+
+// Where a list is made: after h steps from the start, in the state s, with k steps to go, and written from `at` on. The condition looks
+// d steps ahead.
+pub struct Spot {
+    pub start: u8,
+    pub d: u8,
+    pub h: u8,
+    pub s: u8,
+    pub k: u8,
+    pub at: usize,
+}
 
 // An outcome with the most plans below it: its list is made first, in its place.
-fn longest(m: &[u8], table: &[u64; 224], s: u8, a: u8, c: u8, k: u8) -> u8
-    requires { ⌜ (k ≤ 6) × (0 < c) × ((o : _) → o < c → (outcome-of (now m) s a o) .target < 32) ⌝ }
-    ensures { λ r. ⌜ Longest (now (m .entry)) (now (table .entry)) s a c k r ⌝ }
+fn longest(m: &[u16; 8704], table: &[u64; 224], s: usize, i: usize, c: usize, k: u8) -> usize
+    requires { ⌜ (k ≤ 6) × (s < 32) × (i < 8) × (0 < c) × (c ≤ 4) × ((o : _) → o < c → (step-in (now m) s i o) .target < 32) ⌝ }
+    ensures { λ r. ⌜ Longest (now (m .entry)) (now (table .entry)) s i c k r ⌝ }
 {
-    let mut best: u8 = 0;
-    let mut o: u8 = 1;
+    let mut best: usize = 0;
+    let mut o: usize = 1;
     while o < c {
-        let n = plans_counted(table, k, target(m, s as usize, a as usize, o as usize));
-        if plans_counted(table, k, target(m, s as usize, a as usize, best as usize)) < n {
+        let n = plans_counted(table, k, target(m, s, i, o));
+        if plans_counted(table, k, target(m, s, i, best)) < n {
             best = o;
         }
         o += 1;
@@ -45,20 +56,20 @@ fn longest(m: &[u8], table: &[u64; 224], s: u8, a: u8, c: u8, k: u8) -> u8
 }
 
 // The outcome to take next, beside those from lo to hi: on the right as long as there is one.
-fn beside(lo: u8, hi: u8, c: u8) -> u8
+fn beside(lo: usize, hi: usize, c: usize) -> usize
     requires { ⌜ (lo < hi) × (hi ≤ c) × (hi - lo < c) ⌝ }
     ensures { λ r. ⌜ ((r ≡ hi) × (hi < c)) ⊎ (r + 1 ≡ lo) ⌝ }
 {
     if hi < c { hi } else { lo - 1 }
 }
 
-fn least(x: u8, y: u8) -> u8
+fn least(x: usize, y: usize) -> usize
     ensures { λ r. ⌜ r ≡ min x y ⌝ }
 {
     if y < x { y } else { x }
 }
 
-fn most(x: u8, y: u8) -> u8
+fn most(x: usize, y: usize) -> usize
     ensures { λ r. ⌜ r ≡ max x y ⌝ }
 {
     if x < y { y } else { x }
@@ -66,113 +77,102 @@ fn most(x: u8, y: u8) -> u8
 
 // The list where the condition is decided: all plans have the same total.
 fn decided(
-    m: &[u8],
+    m: &[u16; 8704],
     table: &[u64; 224],
     cone: &[u8],
-    v: &[u8],
+    v: &[u8; 280],
     buf: &mut [u64],
     s: u8,
     k: u8,
     at: usize,
 ) -> usize
     requires { ⌜ Decides (now m) (now cone) (now v) (now table) (now buf) s k at ⌝ }
-    ensures { λ r. ⌜ (r ≡ getD (now (table .entry)) (32 * k + s) 0) × (now (buf .exit) ≡ splice (now (buf .entry)) at (replicate (getD (now (table .entry)) (32 * k + s) 0) (learnt.known (now (v .entry)) (root-of (now (cone .entry))) 0 * byte (now (m .entry)) 5 ^ k))) ⌝ }
+    ensures { λ r. ⌜ (r ≡ getD (now (table .entry)) (32 * k + s) 0) × (now (buf .exit) ≡ splice (now (buf .entry)) at (replicate (getD (now (table .entry)) (32 * k + s) 0) (learnt.known (now (v .entry)) (root-of (now (cone .entry))) 0 * denominator-of (now (m .entry)) ^ k))) ⌝ }
 {
     let n = plans_counted(table, k, s as usize) as usize;
     let last = cone.len() - 1;
-    let x = known(v, cone[last], 0) as u64 * power(wide(m, 5), k);
+    let x = known(v, cone[last], 0) as u64 * power(denominator(m), k);
     fill(buf, at, n, x);
     n
 }
 
-// Writes the totals of all plans of k steps from the state s, after h steps, and gives their number.
+// Writes the totals of all plans from a spot, and gives their number.
 pub fn list(
-    m: &[u8],
+    m: &[u16; 8704],
     q: &[u8],
     depths: &[u32],
     truth: &[u8],
     cone: &[u8],
-    used: &[u8; 264],
     table: &[u64; 224],
-    trail: &mut [u8],
-    gains: &mut [i32],
-    v: &mut [u8],
+    trail: &mut [u16; 6],
+    gains: &mut [i32; 7],
+    v: &mut [u8; 280],
     buf: &mut [u64],
-    start: u8,
-    d: u8,
-    h: u8,
-    s: u8,
-    k: u8,
-    at: usize,
+    spot: Spot,
 ) -> usize
-    requires { ⌜ Given (now m) (now q) start d (now depths) (now truth) (now cone) (now used) (now table) ⌝ }
-    requires { ⌜ Here (now m) (now q) start d (now cone) (now trail) (now gains) (now v) h s k ⌝ }
-    requires { ⌜ Room k (plan-total (model-of (now m)) k s) at (length (now buf)) ⌝ }
-    ensures { λ r. ⌜ Written (totals (model-of (now (m .entry))) k s (on-path (now (m .entry)) (now (q .entry)) start (now (cone .entry)) (take h (now (trail .entry))))) (now (m .entry)) (now (q .entry)) start (now (cone .entry)) h at (now (trail .entry)) (now (trail .exit)) (now (gains .exit)) (now (v .exit)) (now (buf .entry)) (now (buf .exit)) r ⌝ }
+    requires { ⌜ Given (now m) (now q) (spot .start) (spot .d) (now depths) (now truth) (now cone) (now table) ⌝ }
+    requires { ⌜ Here (now m) (now q) (spot .start) (spot .d) (now cone) (now trail) (now gains) (now v) (spot .h) (spot .s) (spot .k) ⌝ }
+    requires { ⌜ Room (spot .k) (plan-total (model-in (now m)) (spot .k) (spot .s)) (spot .at) (length (now buf)) ⌝ }
+    ensures { λ r. ⌜ Written (totals (model-in (now (m .entry))) (spot .k) (spot .s) (on-path (now (m .entry)) (now (q .entry)) (spot .start) (now (cone .entry)) (take (spot .h) (now (trail .entry))))) (now (m .entry)) (now (q .entry)) (spot .start) (now (cone .entry)) (spot .h) (spot .at) (now (trail .entry)) (now (trail .exit)) (now (gains .exit)) (now (v .exit)) (now (buf .entry)) (now (buf .exit)) r ⌝ }
 {
-    if d <= h {
-        return decided(m, table, cone, v, buf, s, k, at);
+    if spot.d <= spot.h {
+        return decided(m, table, cone, v, buf, spot.s, spot.k, spot.at);
     }
-    let n = byte(m, 3);
+    let n = choices(m, spot.s as usize);
     let mut len: usize = 0;
-    let mut a: u8 = 0;
-    while a < n {
-        if 0 < used_outcomes(used, s as usize, a) {
-            len += combine(
-                m,
-                q,
-                depths,
-                truth,
-                cone,
-                used,
-                table,
-                trail,
-                gains,
-                v,
-                buf,
-                start,
-                d,
-                h,
-                s,
-                a,
-                k - 1,
-                at + len,
-            );
-        }
-        a += 1;
+    let mut i: usize = 0;
+    while i < n {
+        let first = Spot {
+            start: spot.start,
+            d: spot.d,
+            h: spot.h,
+            s: spot.s,
+            k: spot.k - 1,
+            at: spot.at + len,
+        };
+        len += combine(
+            m,
+            q,
+            depths,
+            truth,
+            cone,
+            table,
+            trail,
+            gains,
+            v,
+            buf,
+            first,
+            i,
+        );
+        i += 1;
     }
     len
 }
 
-// Writes the totals of all plans that begin with the action a, with k steps below it: the lists below its outcomes, combined from the
-// longest one on, to the right and then to the left.
+// Writes the totals of all plans that begin with the choice at place i, with k steps below it: the lists below its outcomes, combined from
+// the longest one on, to the right and then to the left.
 fn combine(
-    m: &[u8],
+    m: &[u16; 8704],
     q: &[u8],
     depths: &[u32],
     truth: &[u8],
     cone: &[u8],
-    used: &[u8; 264],
     table: &[u64; 224],
-    trail: &mut [u8],
-    gains: &mut [i32],
-    v: &mut [u8],
+    trail: &mut [u16; 6],
+    gains: &mut [i32; 7],
+    v: &mut [u8; 280],
     buf: &mut [u64],
-    start: u8,
-    d: u8,
-    h: u8,
-    s: u8,
-    a: u8,
-    k: u8,
-    at: usize,
+    spot: Spot,
+    i: usize,
 ) -> usize
-    requires { ⌜ Given (now m) (now q) start d (now depths) (now truth) (now cone) (now used) (now table) ⌝ }
-    requires { ⌜ Here (now m) (now q) start d (now cone) (now trail) (now gains) (now v) h s (k + 1) × (0 < entries (now m) s a) ⌝ }
-    requires { ⌜ Room (k + 1) (multiply (λ o. plan-total (model-of (now m)) k (o .target)) (outcomes (model-of (now m)) s a)) at (length (now buf)) ⌝ }
-    ensures { λ r. ⌜ Written (combined (weighed (model-of (now (m .entry))) k (on-path (now (m .entry)) (now (q .entry)) start (now (cone .entry)) (take h (now (trail .entry))))) (outcomes (model-of (now (m .entry))) s a)) (now (m .entry)) (now (q .entry)) start (now (cone .entry)) h at (now (trail .entry)) (now (trail .exit)) (now (gains .exit)) (now (v .exit)) (now (buf .entry)) (now (buf .exit)) r ⌝ }
+    requires { ⌜ Given (now m) (now q) (spot .start) (spot .d) (now depths) (now truth) (now cone) (now table) ⌝ }
+    requires { ⌜ Here (now m) (now q) (spot .start) (spot .d) (now cone) (now trail) (now gains) (now v) (spot .h) (spot .s) (spot .k + 1) × (i < choices-in (now m) (spot .s)) ⌝ }
+    requires { ⌜ Room (spot .k + 1) (multiply (λ o. plan-total (model-in (now m)) (spot .k) (o .target)) (outcomes (model-in (now m)) (spot .s) (choice-in (now m) (spot .s) i))) (spot .at) (length (now buf)) ⌝ }
+    ensures { λ r. ⌜ Written (combined (weighed (model-in (now (m .entry))) (spot .k) (on-path (now (m .entry)) (now (q .entry)) (spot .start) (now (cone .entry)) (take (spot .h) (now (trail .entry))))) (outcomes (model-in (now (m .entry))) (spot .s) (choice-in (now (m .entry)) (spot .s) i))) (now (m .entry)) (now (q .entry)) (spot .start) (now (cone .entry)) (spot .h) (spot .at) (now (trail .entry)) (now (trail .exit)) (now (gains .exit)) (now (v .exit)) (now (buf .entry)) (now (buf .exit)) r ⌝ }
 {
-    let c = used_outcomes(used, s as usize, a);
-    let mut lo = longest(m, table, s, a, c, k);
+    let s = spot.s as usize;
+    let c = outcomes(m, s, i);
+    let mut lo = longest(m, table, s, i, c, spot.k);
     let mut hi = lo + 1;
     let mut len = below(
         m,
@@ -180,29 +180,16 @@ fn combine(
         depths,
         truth,
         cone,
-        used,
         table,
         trail,
         gains,
         v,
         buf,
-        start,
-        d,
-        h,
-        s,
-        a,
+        spot,
+        i,
         lo,
-        k,
-        at,
     );
-    shift(
-        buf,
-        at,
-        at,
-        len,
-        weight(m, s as usize, a as usize, lo as usize) as u64,
-        0,
-    );
+    shift(buf, spot.at, spot.at, len, weight(m, s, i, lo), 0);
     while hi - lo < c {
         let o = beside(lo, hi, c);
         len = grown(
@@ -211,20 +198,14 @@ fn combine(
             depths,
             truth,
             cone,
-            used,
             table,
             trail,
             gains,
             v,
             buf,
-            start,
-            d,
-            h,
-            s,
-            a,
+            spot,
+            i,
             o,
-            k,
-            at,
             len,
             lo < o,
         );
@@ -236,93 +217,76 @@ fn combine(
 
 // Combines the list at `at` with the totals below a further outcome o, which are made behind the product: on its right, or on its left.
 fn grown(
-    m: &[u8],
+    m: &[u16; 8704],
     q: &[u8],
     depths: &[u32],
     truth: &[u8],
     cone: &[u8],
-    used: &[u8; 264],
     table: &[u64; 224],
-    trail: &mut [u8],
-    gains: &mut [i32],
-    v: &mut [u8],
+    trail: &mut [u16; 6],
+    gains: &mut [i32; 7],
+    v: &mut [u8; 280],
     buf: &mut [u64],
-    start: u8,
-    d: u8,
-    h: u8,
-    s: u8,
-    a: u8,
-    o: u8,
-    k: u8,
-    at: usize,
+    spot: Spot,
+    i: usize,
+    o: usize,
     len: usize,
     right: bool,
 ) -> usize
-    requires { ⌜ Given (now m) (now q) start d (now depths) (now truth) (now cone) (now used) (now table) ⌝ }
-    requires { ⌜ Here (now m) (now q) start d (now cone) (now trail) (now gains) (now v) h s (k + 1) × (o < entries (now m) s a) ⌝ }
-    requires { ⌜ Grows (now buf) at len (plan-total (model-of (now m)) k ((outcome-of (now m) s a o) .target)) k ⌝ }
-    ensures { λ r. ⌜ Written (joined right (part (now (buf .entry)) at len) (weighed (model-of (now (m .entry))) k (on-path (now (m .entry)) (now (q .entry)) start (now (cone .entry)) (take h (now (trail .entry)))) (outcome-of (now (m .entry)) s a o))) (now (m .entry)) (now (q .entry)) start (now (cone .entry)) h at (now (trail .entry)) (now (trail .exit)) (now (gains .exit)) (now (v .exit)) (now (buf .entry)) (now (buf .exit)) r ⌝ }
+    requires { ⌜ Given (now m) (now q) (spot .start) (spot .d) (now depths) (now truth) (now cone) (now table) ⌝ }
+    requires { ⌜ Here (now m) (now q) (spot .start) (spot .d) (now cone) (now trail) (now gains) (now v) (spot .h) (spot .s) (spot .k + 1) × Offers (now m) (spot .s) i o ⌝ }
+    requires { ⌜ Grows (now buf) (spot .at) len (plan-total (model-in (now m)) (spot .k) ((step-in (now m) (spot .s) i o) .target)) (spot .k) ⌝ }
+    ensures { λ r. ⌜ Written (joined right (part (now (buf .entry)) (spot .at) len) (weighed (model-in (now (m .entry))) (spot .k) (on-path (now (m .entry)) (now (q .entry)) (spot .start) (now (cone .entry)) (take (spot .h) (now (trail .entry)))) (step-in (now (m .entry)) (spot .s) i o))) (now (m .entry)) (now (q .entry)) (spot .start) (now (cone .entry)) (spot .h) (spot .at) (now (trail .entry)) (now (trail .exit)) (now (gains .exit)) (now (v .exit)) (now (buf .entry)) (now (buf .exit)) r ⌝ }
 {
-    let n = plans_counted(table, k, target(m, s as usize, a as usize, o as usize)) as usize;
-    let end = at + len * n;
+    let s = spot.s as usize;
+    let n = plans_counted(table, spot.k, target(m, s, i, o)) as usize;
+    let behind = Spot {
+        start: spot.start,
+        d: spot.d,
+        h: spot.h,
+        s: spot.s,
+        k: spot.k,
+        at: spot.at + len * n,
+    };
     below(
         m,
         q,
         depths,
         truth,
         cone,
-        used,
         table,
         trail,
         gains,
         v,
         buf,
-        start,
-        d,
-        h,
-        s,
-        a,
+        behind,
+        i,
         o,
-        k,
-        end,
     );
-    join(
-        buf,
-        at,
-        len,
-        n,
-        weight(m, s as usize, a as usize, o as usize) as u64,
-        right,
-    );
+    join(buf, spot.at, len, n, weight(m, s, i, o), right);
     len * n
 }
 
-// Writes the totals of all plans of k steps below the outcome o of the action a.
+// Writes the totals of all plans of k steps below the outcome o of the choice at place i.
 fn below(
-    m: &[u8],
+    m: &[u16; 8704],
     q: &[u8],
     depths: &[u32],
     truth: &[u8],
     cone: &[u8],
-    used: &[u8; 264],
     table: &[u64; 224],
-    trail: &mut [u8],
-    gains: &mut [i32],
-    v: &mut [u8],
+    trail: &mut [u16; 6],
+    gains: &mut [i32; 7],
+    v: &mut [u8; 280],
     buf: &mut [u64],
-    start: u8,
-    d: u8,
-    h: u8,
-    s: u8,
-    a: u8,
-    o: u8,
-    k: u8,
-    at: usize,
+    spot: Spot,
+    i: usize,
+    o: usize,
 ) -> usize
-    requires { ⌜ Given (now m) (now q) start d (now depths) (now truth) (now cone) (now used) (now table) ⌝ }
-    requires { ⌜ Here (now m) (now q) start d (now cone) (now trail) (now gains) (now v) h s (k + 1) × (o < entries (now m) s a) ⌝ }
-    requires { ⌜ Room k (plan-total (model-of (now m)) k ((outcome-of (now m) s a o) .target)) at (length (now buf)) ⌝ }
-    ensures { λ r. ⌜ Written (totals (model-of (now (m .entry))) k ((outcome-of (now (m .entry)) s a o) .target) (λ l. on-path (now (m .entry)) (now (q .entry)) start (now (cone .entry)) (take h (now (trail .entry))) (outcome-of (now (m .entry)) s a o ∷ l))) (now (m .entry)) (now (q .entry)) start (now (cone .entry)) h at (now (trail .entry)) (now (trail .exit)) (now (gains .exit)) (now (v .exit)) (now (buf .entry)) (now (buf .exit)) r ⌝ }
+    requires { ⌜ Given (now m) (now q) (spot .start) (spot .d) (now depths) (now truth) (now cone) (now table) ⌝ }
+    requires { ⌜ Here (now m) (now q) (spot .start) (spot .d) (now cone) (now trail) (now gains) (now v) (spot .h) (spot .s) (spot .k + 1) × Offers (now m) (spot .s) i o ⌝ }
+    requires { ⌜ Room (spot .k) (plan-total (model-in (now m)) (spot .k) ((step-in (now m) (spot .s) i o) .target)) (spot .at) (length (now buf)) ⌝ }
+    ensures { λ r. ⌜ Written (totals (model-in (now (m .entry))) (spot .k) ((step-in (now (m .entry)) (spot .s) i o) .target) (λ l. on-path (now (m .entry)) (now (q .entry)) (spot .start) (now (cone .entry)) (take (spot .h) (now (trail .entry))) ((step-in (now (m .entry)) (spot .s) i o) ∷ l))) (now (m .entry)) (now (q .entry)) (spot .start) (now (cone .entry)) (spot .h) (spot .at) (now (trail .entry)) (now (trail .exit)) (now (gains .exit)) (now (v .exit)) (now (buf .entry)) (now (buf .exit)) r ⌝ }
 {
     let t = step(
         m,
@@ -333,29 +297,19 @@ fn below(
         trail,
         gains,
         v,
-        start,
-        h,
-        s,
-        a,
-        o,
+        spot.start,
+        spot.h,
+        spot.s,
+        i as u8,
+        o as u8,
     );
-    list(
-        m,
-        q,
-        depths,
-        truth,
-        cone,
-        used,
-        table,
-        trail,
-        gains,
-        v,
-        buf,
-        start,
-        d,
-        h + 1,
-        t,
-        k,
-        at,
-    )
+    let on = Spot {
+        start: spot.start,
+        d: spot.d,
+        h: spot.h + 1,
+        s: t,
+        k: spot.k,
+        at: spot.at,
+    };
+    list(m, q, depths, truth, cone, table, trail, gains, v, buf, on)
 }

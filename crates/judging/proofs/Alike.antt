@@ -20,7 +20,7 @@ served-ordered {m} {q} h = ordered (state-count m) (action-count m) (prop-count 
 module _ (m : Bytes) {q q′ : Bytes} (h : Shared (state-count m) (action-count m) (prop-count m) q q′) where
   pub served-alike : Served m q → Served m q′
   served-alike s =
-      record { model-accepted = s .model-accepted; question-accepted = h .accepted; within = sym (same-limits h (model-in m)) ∙ s .within }
+      record { prepared = s .prepared; question-accepted = h .accepted; within = sym (same-limits h (model-in m)) ∙ s .within }
 
   verdict-alike : root-verdict m q′ ≡ root-verdict m q
   unfolding question-of

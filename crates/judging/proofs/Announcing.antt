@@ -28,7 +28,6 @@ use Rattle.blocks.specs.Splice.{splice}
 use Rattle.blocks.proofs.Splice.{splice-none}
 use Rattle.models.specs.Layout.{state-count}
 use Rattle.prepared.specs.promises.Rows.{model-in}
-use Rattle.models.specs.promises.Used.{Used}
 use Rattle.questions.specs.Layout.{start-of, node-count, node-of, formulas-of, question-of}
 use Rattle.questions.specs.promises.Tables.{table}
 use Rattle.limits.specs.promises.Totals.{Totals}
@@ -94,7 +93,7 @@ state-depth (plan n φ b p q) e = refl
 
 -- ---- the verdict on a "plan" node
 
-module _ {m q : Bytes} {used counts depths : List ℕ} (asked : Asked m q used counts depths) (j s : ℕ) (h : j < node-count q)
+module _ {m q : Bytes} {counts depths : List ℕ} (asked : Asked m q counts depths) (j s : ℕ) (h : j < node-count q)
     (o : (node-of q j) .operator ≡ 8) (inside : s < state-count m) {scratch : List ℕ} {r : Decision} (x : Decided m q j s scratch r) where
   -- "equal"
   pub equal-few : (node-of q j) .right ≡ 2 → (plan-total (model-in m) ((node-of q j) .n) s ≤ 65536) × (r .place ≤ 65536)
@@ -161,11 +160,11 @@ module _ {m q : Bytes} {used counts depths : List ℕ} (asked : Asked m q used c
 
 -- ---- the root
 
-pub asked-at : {m q : Bytes} {used counts depths : List ℕ} → Served m q → Used m used → Totals true (model-in m) counts → depths ≡ table depth (formulas-of q)
-    → Asked m q used counts depths
-asked-at x u c d =
+pub asked-at : {m q : Bytes} {counts depths : List ℕ} → Served m q → Totals true (model-in m) counts → depths ≡ table depth (formulas-of q)
+    → Asked m q counts depths
+asked-at x c d =
     record {
-      given = record { model-accepted = x .model-accepted; question-accepted = x .question-accepted; used-right = u };
+      given = record { prepared = x .prepared; question-accepted = x .question-accepted };
       counted = c;
       within = x .within;
       deep = d;
@@ -175,7 +174,7 @@ asked-at x u c d =
 abbrev pub Judged-at : (m q truth : Bytes) → ℕ → ℕ → Type 0
 Judged-at m q truth j s = (j < node-count q) × (s < state-count m) × Supplied m q truth j s × (depth (formula q j) ≡ 0)
 
-module _ {m q : Bytes} {used : List ℕ} (given : Given m q used) where
+module _ {m q : Bytes} (given : Given m q) where
   root-node : root q < node-count q
   root-node = let n : 1 ≤ node-count q = given-question given .some-node in omega arith
 
@@ -192,12 +191,12 @@ module _ {m q : Bytes} {used : List ℕ} (given : Given m q used) where
   root-posed x o = record { node = root-node; is-plan = o; state = given-question given .starts; told = x .under-plan o }
 
 pub root-announces : (m q : Bytes) {j s : ℕ} {x : Outcome} (before after : List ℕ) → j ≡ root q → s ≡ start-of q
-    → Announces (verdict (model-in m) s (formula q j)) x before after → Announces (root-verdict m q) x before after
+    → Announces (verdict (model-in m) s (formula q j)) x before after → Announces (root-verdict (model-in m) q) x before after
 root-announces m q {x = x} before after e f =
     subst (λ v. Announces v x before after) (ap₂ (λ s j. verdict (model-in m) s (formula q j)) f e)
 
 pub root-weighs : (m q cs l : Bytes) (r n s : ℕ) → n ≡ (node-of q (root q)) .n → s ≡ start-of q → root-of l ≡ (node-of q (root q)) .left
-    → ((π : Plan n) → plan-of (model-in m) n s cs ≡ ok π → r ≡ W (model-in m) (formula q (root-of l)) n s π) → Weighs m q cs r
+    → ((π : Plan n) → plan-of (model-in m) n s cs ≡ ok π → r ≡ W (model-in m) (formula q (root-of l)) n s π) → Weighs (model-in m) q cs r
 root-weighs m q cs l r n s e f g h =
     subst (λ n. (π : Plan n) → plan-of (model-in m) n (start-of q) cs ≡ ok π → r ≡ W (model-in m) (condition q (root q)) n (start-of q) π) e
     (subst (λ s. (π : Plan n) → plan-of (model-in m) n s cs ≡ ok π → r ≡ W (model-in m) (condition q (root q)) n s π) f

@@ -5,7 +5,7 @@ use Prim.Native.Nat.{ℕ, zero, suc, _+_, _*_, _≤_, _<_}
 use native.Mathlib.Omega.{arith}
 use native.Mathlib.Nat.{le-refl, min-eq-right}
 use mathlib.Core.Path.{_≡_, refl, sym, ap, ap₂, subst, _∙_}
-use mathlib.Core.Bool.{Bool, true, false, not, cond, _&&_, _||_}
+use mathlib.Core.Bool.{Bool, true, false, not, cond, _||_}
 use mathlib.Core.List.{List, [], _∷_, map}
 use mathlib.Core.Option.{none, some}
 use lib.Dec.{eqb, leb, ltb}
@@ -24,7 +24,7 @@ use Rattle.logic.specs.promises.Extension.{first-plan}
 use Rattle.logic.specs.Verdict.{plan-goal, goal, shown, Verdict, announced, verdict, yes, no, yes-plan, is-equal}
 use Rattle.logic.specs.Accepted.{Accepted}
 use Rattle.logic.specs.Limits.{plan-total, every-plan, limits}
-use Rattle.logic.proofs.Tests.{not-true, none≢some, every-at, and-left, and-right}
+use Rattle.logic.proofs.Tests.{not-true, none≢some, every-at}
 use Rattle.logic.proofs.Checked.{guard-passed}
 use Rattle.logic.proofs.Sums.{naturals-additive, reversed-additive, sum-reversed}
 use Rattle.logic.proofs.PathWeights.{W-total}
@@ -34,12 +34,9 @@ use Rattle.logic.proofs.Search.{most, fewest, greater-shown, greater-none, less
 use Rattle.logic.proofs.Shown.{sat-shown}
 use Rattle.logic.proofs.Dictionary.{plan-count}
 use Rattle.blocks.specs.Bytes.{Bytes, within}
-use Rattle.models.specs.Layout.{state-count, action-count, prop-count, denominator-of}
+use Rattle.models.specs.Layout.{state-count, action-count, prop-count}
 use Rattle.prepared.specs.promises.Rows.{model-in}
-use Rattle.models.specs.Grounds.{sizes-right}
-use Rattle.models.proofs.Passed.{passed-all}
-use Rattle.models.proofs.Held as held
-use Rattle.models.proofs.Laws.{at-least}
+use Rattle.prepared.proofs.Laws.{states-are}
 use Rattle.questions.specs.Layout.{node-count, node-of, formulas-of}
 use Rattle.questions.proofs.Laws.{by-operator}
 use Rattle.questions.proofs.Accepted as questions
@@ -233,29 +230,24 @@ plan-bounded {m} {q} {j} b =
       range = r;
     }
 
-module _ {m q : Bytes} {used : List ℕ} (given : Given m q used) where
+module _ {m q : Bytes} (given : Given m q) where
   abbrev asks : questions.Accepted (state-count m) (action-count m) (prop-count m) q
   asks = given-question given
 
   pub plan-here : (j : ℕ) → j < node-count q → (node-of q j) .operator ≡ 8 → Planned q j
   plan-here j h o =
-      plan-bounded (record { model-accepted = given .model-accepted; question-accepted = given .question-accepted; node = h; is-plan = o })
+      plan-bounded (record { prepared = given .prepared; question-accepted = given .question-accepted; node = h; is-plan = o })
 
   -- ---- the model
 
   pub given-model : Accepted (model-in m)
-  given-model = held.accepted m (passed-all m (given .model-accepted))
+  given-model = given .prepared .accepted
 
   pub given-states : length (model-in m .states) ≡ state-count m
-  given-states = held.states-held m
+  given-states = states-are m
 
   pub given-weight : 0 < model-in m .denominator
-  unfolding sizes-right
-  given-weight =
-      let e = passed-all m (given .model-accepted) .sizes in
-      let three : Bool = within 1 32 (state-count m) && within 1 8 (action-count m) && within 1 32 (prop-count m) in
-      subst (λ d. 0 < d) (sym (held.denominator-held m))
-      (at-least 1 100 (denominator-of m) (and-right three (within 1 100 (denominator-of m)) (and-left (three && within 1 100 (denominator-of m)) _ e)))
+  given-weight = given .prepared .accepted .divides
 
   module _ (j s : ℕ) (h : j < node-count q) (o : (node-of q j) .operator ≡ 8) where
     abbrev node : Node
@@ -353,7 +345,7 @@ module _ {m q : Bytes} {used : List ℕ} (given : Given m q used) where
 
 -- ---- the limits
 
-module _ {m q : Bytes} {used counts depths : List ℕ} (asked : Asked m q used counts depths) (j s : ℕ) (h : j < node-count q)
+module _ {m q : Bytes} {counts depths : List ℕ} (asked : Asked m q counts depths) (j s : ℕ) (h : j < node-count q)
     (o : (node-of q j) .operator ≡ 8) (e : (node-of q j) .right ≡ 2) (inside : s < state-count m) where
   inside-model : s < length (model-in m .states)
   inside-model = subst (λ k. s < k) (sym (given-states (asked .given))) inside

@@ -7,11 +7,9 @@ use mathlib.Core.Path.{_≡_, refl, sym, ap, ap₂, subst, _∙_}
 use mathlib.Core.Bool.{Bool, true, false}
 use mathlib.Core.List.{List, []}
 use lib.Dec.{eqb, ltb}
-use lib.IntN.{ℤ}
 use lib.ListN.{getD, length, length-map}
 use lib.Pow.{pow-add}
 use borrow.Author.Tests.{le-ltb, eqb-true, eqb-false}
-use Rattle.logic.specs.promises.Refusal.{refusal}
 use Rattle.logic.specs.Formula.{depth, sat, nonnegative}
 use Rattle.logic.specs.Quantity.{naturals}
 use Rattle.logic.specs.Plan.{plans, choices}
@@ -21,14 +19,11 @@ use Rattle.logic.proofs.Dictionary.{plan-count}
 use Rattle.blocks.specs.Bytes.{Bytes}
 use Rattle.models.specs.Layout.{state-count, action-count, prop-count, denominator-of}
 use Rattle.prepared.specs.promises.Rows.{model-in}
-use Rattle.models.specs.Grounds.{read-model}
-use Rattle.models.proofs.Passed.{passed-all, passed-sized}
-use Rattle.models.proofs.Held.{denominator-held}
+use Rattle.prepared.proofs.Laws.{denominator-is}
 use Rattle.questions.specs.Layout.{node-count, node-of, formulas-of}
 use Rattle.questions.specs.promises.Tables.{table}
 use Rattle.questions.proofs.Accepted as questions
 use Rattle.evaluation.specs.promises.Reached.{formula, Cone, root-of, Ready}
-use Rattle.lanes.specs.promises.Lanes.{Rewards, Sums}
 use Rattle.bounds.specs.promises.Bounded.{Bounded, meets-at, Exactly}
 use Rattle.bounds.proofs.Meeting.{small}
 use Rattle.bounds.proofs.Powers.{power-le}
@@ -38,7 +33,7 @@ use Rattle.equal.specs.promises.Listing as listing
 use Rattle.tables.specs.promises.Need.{Given}
 use Rattle.tables.proofs.Marks.{given-question}
 use Rattle.evaluation.proofs.Knowing.{depth-in}
-use Rattle.judging.specs.promises.Asked.{Asked, Equipped}
+use Rattle.judging.specs.promises.Asked.{Asked}
 use Rattle.judging.specs.promises.Truth.{Told}
 use Rattle.judging.specs.declared.plans.Decision.{Decision}
 use Rattle.judging.specs.declared.conditions.Peeled.{Peeled}
@@ -48,7 +43,7 @@ use Rattle.judging.proofs.Deciding.{Planned, plan-bounded, plan-here, a
 use Rattle.judging.proofs.Remembering.{same-best, never-best, best-small}
 use Rattle.judging.proofs.Remembering as remembering
 
-pub posed-at : {m q : Bytes} {used counts depths truth : List ℕ} {j s : ℕ} → Asked m q used counts depths → j < node-count q → (node-of q j) .operator ≡ 8
+pub posed-at : {m q : Bytes} {counts depths truth : List ℕ} {j s : ℕ} → Asked m q counts depths → j < node-count q → (node-of q j) .operator ≡ 8
     → s < state-count m → Told m q truth ((node-of q j) .left) s → Posed m q truth j s
 posed-at a h o l t = record { node = h; is-plan = o; state = l; told = t }
 
@@ -78,7 +73,7 @@ module _ {m q : Bytes} {j : ℕ} (b : Bounded m q j) where
   lengthened {e = e} {v = v} deep steps base power l =
       let z = power ∙ ap₂ (λ k d. e ^ (k - d)) steps deep ∙ ap (λ e. e ^ ((node-of q j) .n - depth (condition q j))) base in
       record {
-        weighs = ap (λ x. x * v) (z ∙ ap (λ e. e ^ ((node-of q j) .n - depth (condition q j))) (sym (denominator-held m)));
+        weighs = ap (λ x. x * v) (z ∙ ap (λ e. e ^ ((node-of q j) .n - depth (condition q j))) (sym (denominator-is m)));
         small = subst (λ x. x * v ≤ denominator-of m ^ (node-of q j) .n) (sym z)
             (le-trans (mul-le-mul-left (denominator-of m ^ ((node-of q j) .n - depth (condition q j))) l) (le-of-eq (power-sum (denominator-of m) (plan-bounded b .deep))));
       }
@@ -86,17 +81,17 @@ module _ {m q : Bytes} {j : ℕ} (b : Bounded m q j) where
       power-sum : (D : ℕ) {d n : ℕ} → d ≤ n → D ^ (n - d) * D ^ d ≡ D ^ n
       power-sum D {d} {n} l = let f : n - d + d ≡ n = omega arith in sym (pow-add D (n - d) d) ∙ ap (λ i. D ^ i) f
 
-pub depth-there : {m q : Bytes} {used counts depths : List ℕ} {j : ℕ} → Asked m q used counts depths → j < node-count q → (node-of q j) .operator ≡ 8
+pub depth-there : {m q : Bytes} {counts depths : List ℕ} {j : ℕ} → Asked m q counts depths → j < node-count q → (node-of q j) .operator ≡ 8
     → {c d : ℕ} → c ≡ (node-of q j) .left → d ≡ getD depths c 0 → d ≡ depth (condition q j)
 depth-there a h o e f =
-    looks-there (record { model-accepted = a .given .model-accepted; question-accepted = a .given .question-accepted; node = h; is-plan = o }) (a .deep) e f
+    looks-there (record { prepared = a .given .prepared; question-accepted = a .given .question-accepted; node = h; is-plan = o }) (a .deep) e f
 
-module _ {m q : Bytes} {used truth : List ℕ} {j s : ℕ} (given : Given m q used) (posed : Posed m q truth j s) where
+module _ {m q : Bytes} {truth : List ℕ} {j s : ℕ} (given : Given m q) (posed : Posed m q truth j s) where
   pub planned : Planned q j
   planned = plan-here given j (posed .node) (posed .is-plan)
 
   pub bounded : Bounded m q j
-  bounded = record { model-accepted = given .model-accepted; question-accepted = given .question-accepted; node = posed .node; is-plan = posed .is-plan }
+  bounded = record { prepared = given .prepared; question-accepted = given .question-accepted; node = posed .node; is-plan = posed .is-plan }
 
   -- The condition stands before the node, among at most 40.
   pub before : ((node-of q j) .left < node-count q) × ((node-of q j) .left < 40)
@@ -213,12 +208,3 @@ module _ {m q : Bytes} {used truth : List ℕ} {j s : ℕ} (given : Given m q us
 
   pub placed-truth : {r : Decision} → (node-of q j) .right ≡ 2 → Placed m q j s r → r .met ≡ sat (model-in m) (formula q j) s []
   placed-truth e p = p .bounds ∙ sym (equal-truth given j s (posed .node) (posed .is-plan) e (p .first))
-
--- ---- what searches work with
-
-pub equipped : {m : Bytes} {rewards : List ℤ} {sums scratch : List ℕ} → Rewards m rewards → Sums m sums → 4095 ≤ length scratch → Equipped m rewards sums scratch
-equipped r t l = record { rewarded = r; summed = t; roomy = l }
-
--- The tables for the last step have room for an accepted model.
-pub table-sizes : (m : Bytes) → refusal (read-model m) ≡ 0 → (state-count m ≤ 32) × (action-count m ≤ 8)
-table-sizes m h = let z = passed-sized m (passed-all m h) in (z .states, z .actions)

@@ -18,14 +18,14 @@ use Rattle.logic.proofs.Recursion.{best-plan-total}
 use Rattle.blocks.specs.Bytes.{Bytes}
 use Rattle.models.specs.Layout.{state-count, denominator-of}
 use Rattle.prepared.specs.promises.Rows.{model-in}
-use Rattle.models.proofs.Held.{denominator-held}
+use Rattle.prepared.proofs.Laws.{denominator-is}
 use Rattle.questions.specs.Layout.{node-count, formulas-of}
 use Rattle.questions.specs.promises.Tables.{table}
 use Rattle.evaluation.specs.promises.Reached.{formula, Reached, Cone, root-of, Ready}
 use Rattle.evaluation.proofs.Knowing.{depth-in}
 use Rattle.evaluation.proofs.Values.{one-if-small}
 use Rattle.tables.specs.promises.Need.{Given}
-use Rattle.tables.proofs.Marks.{given-readable, given-question}
+use Rattle.tables.proofs.Marks.{given-question}
 use Rattle.search.specs.declared.Found.{Found}
 use Rattle.search.specs.promises.Greatest.{Finds}
 use Rattle.search.proofs.Orders.{additive}
@@ -61,14 +61,14 @@ one-if-same false false e = refl
 
 -- ---- what a search is handed, and what it finds
 
-module _ {m q : Bytes} {used truth : List ℕ} {c s : ℕ} (given : Given m q used) (h : Stands m q truth c s) where
+module _ {m q : Bytes} {truth : List ℕ} {c s : ℕ} (given : Given m q) (h : Stands m q truth c s) where
   pub looks : {depths : List ℕ} {d : ℕ} → depths ≡ table depth (formulas-of q) → d ≡ getD depths c 0 → d ≡ depth (formula q c)
   looks {depths} deep e = e ∙ depth-in q depths deep c (omega (arith, h .node, given-question given .few-nodes))
 
   pub ready : {depths l : List ℕ} → depths ≡ table depth (formulas-of q) → Cone q l → root-of l ≡ c → Ready m q s depths truth l
   ready deep cone e =
       record {
-        model-accepted = given .model-accepted;
+        prepared = given .prepared;
         question-accepted = given .question-accepted;
         state = h .state;
         depths-right = deep;
@@ -84,21 +84,21 @@ module _ {m q : Bytes} {used truth : List ℕ} {c s : ℕ} (given : Given m q us
         chosen = f .chosen ∙ ap₂ (λ i k. choices k (best (model-in m) (formula q i) k s least)) top e;
       }
 
-module _ {m q : Bytes} {used truth : List ℕ} {c s : ℕ} (given : Given m q used) (h : Stands m q truth c s) (least : Bool) where
+module _ {m q : Bytes} {truth : List ℕ} {c s : ℕ} (given : Given m q) (h : Stands m q truth c s) (least : Bool) where
   pub best-small : best-total m q c s least ≤ denominator-of m ^ depth (formula q c)
   best-small =
-      subst (λ D. best-total m q c s least ≤ D ^ depth (formula q c)) (denominator-held m)
+      subst (λ D. best-total m q c s least ≤ D ^ depth (formula q c)) (denominator-is m)
       (greatest-small least (model-in m) (given-model given) (depth (formula q c)) s (value-of (model-in m) (formula q c) s)
       (subst (λ k. s < k) (sym (given-states given)) (h .state)) (λ r. one-if-small _))
 
   pub best-fits : depth (formula q c) ≤ 6 → best-total m q c s least ≤ 100 ^ 6
   best-fits l =
-      value-small m (given .model-accepted) least (depth (formula q c)) 6 s (value-of (model-in m) (formula q c) s) (h .state) l (λ r. one-if-small _)
+      value-small m (given .prepared) least (depth (formula q c)) 6 s (value-of (model-in m) (formula q c) s) (h .state) l (λ r. one-if-small _)
 
   -- ---- what is remembered
 
   pub place-in : memo-place c s least < 2560
-  place-in = omega (arith, one-if-small least, h .node, h .state, given-question given .few-nodes, given-readable given .states)
+  place-in = omega (arith, one-if-small least, h .node, h .state, given-question given .few-nodes, given .prepared .states)
 
   pub recalled : {memo : List ℕ} {k x : ℕ} → Remembers m q memo → k ≡ memo-place c s least → x ≡ getD memo k 0 → (x ≡ 0 → ⊥) → x - 1 ≡ best-total m q c s least
   recalled {memo} {k} {x} r e f n =
@@ -118,7 +118,7 @@ module _ {m q : Bytes} {used truth : List ℕ} {c s : ℕ} (given : Given m q us
       go c′ s′ least′ l w n (yes p) =
           let a = one-if-small least in
           let b = one-if-small least′ in
-          let t = given-readable given .states in
+          let t = given .prepared .states in
           let u = h .state in
           let ec : c ≡ c′ = omega arith in
           let es : s ≡ s′ = omega arith in

@@ -1,6 +1,6 @@
 -- The truth of a state formula in a state is that of its operator on its children's, which stand in the table before it; what a needed pair
 -- turns on is needed and stands before it too.
-use Prim.Native.Nat.{ℕ, _+_, _*_, _-_, _/_, _%_, _^_, _≤_, _<_}
+use Prim.Native.Nat.{ℕ, _+_, _*_, _-_, _/_, _%_, _≤_, _<_}
 use native.Mathlib.Omega.{arith}
 use native.Mathlib.Nat.{le-max-left, le-max-right}
 use borrow.Author.Count.{below-more}
@@ -14,11 +14,8 @@ use Rattle.logic.specs.Model.{prop-in}
 use Rattle.logic.specs.Formula.{Formula, sat, depth}
 use Rattle.logic.specs.promises.Total.{one-if, value-of}
 use Rattle.blocks.specs.Bytes.{Bytes}
-use Rattle.models.specs.Layout.{state-count, action-count, prop-count, state-mask}
+use Rattle.models.specs.Layout.{state-count, action-count, prop-count}
 use Rattle.prepared.specs.promises.Rows.{model-in}
-use Rattle.models.proofs.Laws.{sizes}
-use Rattle.models.proofs.Passed.{passed-all}
-use Rattle.models.proofs.Held.{mask-held}
 use Rattle.questions.specs.Layout.{start-of, node-count, node-of}
 use Rattle.questions.proofs.Laws.{by-operator}
 use Rattle.questions.proofs.Accepted as questions
@@ -26,15 +23,11 @@ use Rattle.evaluation.specs.promises.Reached.{formula, Reached, itself, under-n
 use Rattle.evaluation.proofs.Meaning.{flipped, joined}
 use Rattle.tables.specs.promises.Need.{Given, Marked, Needs}
 use Rattle.judging.specs.promises.Truth.{Told, Supplied, Right}
-use Rattle.tables.proofs.Marks.{given-readable, given-question, first-inside, reached-marked}
+use Rattle.tables.proofs.Marks.{given-question, first-inside, reached-marked}
 
-pub prop-held : (m : Bytes) (s i : ℕ) → s < state-count m → eqb (state-mask m s / 2 ^ i % 2) 1 ≡ prop-in (model-in m) s i
-unfolding prop-in
-prop-held m s i h = ap (λ v. eqb (v / 2 ^ i % 2) 1) (sym (mask-held m s h))
-
-module _ {m q : Bytes} {used : List ℕ} (given : Given m q used) where
+module _ {m q : Bytes} (given : Given m q) where
   pub props-few : prop-count m ≤ 32
-  props-few = sizes m (passed-all m (given .model-accepted) .sizes) .props
+  props-few = given .prepared .props
 
   -- ---- by the operator
 
@@ -123,7 +116,7 @@ module _ {m q : Bytes} {used : List ℕ} (given : Given m q used) where
           right = λ j t r d.
               let w = reached-marked given needs e l r in
               let b = reached-before h r in
-              let z = given-readable given .states in
+              let z = given .prepared .states in
               let u : t < state-count m = w .1 in
               at-pair j t (omega arith) (omega arith) (w .0) d;
         }

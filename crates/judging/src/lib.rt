@@ -15,7 +15,6 @@ ghost use Rattle.tables.specs.promises.Need.{Given};
 ghost use Rattle.judging.specs.promises.Asked.{Asked, Served};
 ghost use Rattle.judging.specs.promises.Truth.{Supplied};
 ghost use Rattle.judging.specs.promises.Decided.{Posed, Decided};
-ghost use Rattle.judging.specs.promises.Conditions.{Remembers};
 ghost use Rattle.judging.specs.promises.Announced.{root, root-verdict, Announces, Weighs};
 
 mod conditions;
@@ -24,12 +23,11 @@ mod truth;
 
 use crate::plans::Decision;
 use crate::plans::decide;
-use crate::truth::truth_at;
+use crate::truth::plain_truth;
 use crate::truth::truth_table;
 use evaluation::depth_at;
 use extension::extend;
 use limits::plan_totals;
-use nodes::nodes;
 use questions::asks_equal;
 use questions::depth_table;
 use questions::left;
@@ -38,6 +36,7 @@ use questions::operator;
 use questions::start;
 use questions::steps;
 use ranking::nth;
+use sharing::shared;
 use tables::cone;
 use tables::needed;
 use weighing::plan_weight;
@@ -79,19 +78,12 @@ fn with_plan(weight: u64, steps: u8, count: u32) -> Outcome
 }
 
 // The truth that the root in the start state turns on.
-fn root_truth(
-    m: &[u16; 8704],
-    q: &[u8],
-    counts: &[u64; 224],
-    depths: &[u32],
-    scratch: &mut [u8],
-    memo: &mut [u64; 2560],
-) -> [u8; 1280]
-    requires { ⌜ Asked (now m) (now q) (now counts) (now depths) × (4095 ≤ length (now scratch)) × Remembers (now m) (now q) (now memo) ⌝ }
-    ensures { λ r. ⌜ Supplied (now (m .entry)) (now (q .entry)) r (root (now (q .entry))) (start-of (now (q .entry))) × Remembers (now (m .entry)) (now (q .entry)) (now (memo .exit)) ⌝ }
+fn root_truth(m: &[u16; 8704], q: &[u8], counts: &[u64; 224], depths: &[u32]) -> [u8; 1280]
+    requires { ⌜ Asked (now m) (now q) (now counts) (now depths) ⌝ }
+    ensures { λ r. ⌜ Supplied (now (m .entry)) (now (q .entry)) r (root (now (q .entry))) (start-of (now (q .entry))) ⌝ }
 {
     let need = needed(m, q);
-    truth_table(m, q, counts, depths, &need, scratch, memo)
+    truth_table(m, q, counts, depths, &need)
 }
 
 // Writes the choices of the plan that a search found for node j in s, and tells of it.
@@ -129,81 +121,39 @@ fn at_node(
     counts: &[u64; 224],
     depths: &[u32],
     truth: &[u8],
-    scratch: &mut [u8],
-    memo: &mut [u64; 2560],
     choices: &mut [u8],
     j: u8,
     s: u8,
 ) -> Outcome
     requires { ⌜ Asked (now m) (now q) (now counts) (now depths) × (j < node-count (now q)) × (s < state-count (now m)) ⌝ }
-    requires { ⌜ Supplied (now m) (now q) (now truth) j s × (depth (formula (now q) j) ≡ 0) ⌝ }
-    requires { ⌜ (4095 ≤ length (now scratch)) × Remembers (now m) (now q) (now memo) × (1365 ≤ length (now choices)) ⌝ }
+    requires { ⌜ Supplied (now m) (now q) (now truth) j s × (depth (formula (now q) j) ≡ 0) × (1365 ≤ length (now choices)) ⌝ }
     ensures { λ r. ⌜ Announces (verdict (model-in (now (m .entry))) s (formula (now (q .entry)) j)) r (now (choices .entry)) (now (choices .exit)) ⌝ }
 {
     if operator(q, j) != 8 {
-        let x = truth_at(m, q, counts, depths, truth, scratch, memo, j, s);
+        let x = plain_truth(m, q, truth, j, s);
         return plain(x == 1, 0);
     }
-    let r = decide(m, q, counts, depths, truth, scratch, j, s);
+    let mut scratch = [0u8; 4095];
+    let r = decide(m, q, counts, depths, truth, &mut scratch, j, s);
     let met = r.met;
     let place = r.place;
     if met {
-        return show(m, q, counts, depths, scratch, choices, j, s, r);
+        return show(m, q, counts, depths, &scratch, choices, j, s, r);
     }
     plain(false, place as u32)
 }
 
-// The verdict on the root in the start state.
-fn at_root(
-    m: &[u16; 8704],
-    q: &[u8],
-    counts: &[u64; 224],
-    depths: &[u32],
-    truth: &[u8],
-    scratch: &mut [u8],
-    memo: &mut [u64; 2560],
-    choices: &mut [u8],
-) -> Outcome
-    requires { ⌜ Asked (now m) (now q) (now counts) (now depths) × Supplied (now m) (now q) (now truth) (root (now q)) (start-of (now q)) ⌝ }
-    requires { ⌜ (4095 ≤ length (now scratch)) × Remembers (now m) (now q) (now memo) × (1365 ≤ length (now choices)) ⌝ }
-    ensures { λ r. ⌜ Announces (root-verdict (now (m .entry)) (now (q .entry))) r (now (choices .entry)) (now (choices .exit)) ⌝ }
-{
-    let j = node_count(q) - 1;
-    at_node(
-        m,
-        q,
-        counts,
-        depths,
-        truth,
-        scratch,
-        memo,
-        choices,
-        j,
-        start(q),
-    )
-}
-
-// The verdict on a question, by tables made for it.
-fn judged_as_shared(m: &[u16; 8704], q: &[u8], choices: &mut [u8]) -> Outcome
+// The verdict on the root of a question in its start state, by tables made for it.
+fn at_root(m: &[u16; 8704], q: &[u8], choices: &mut [u8]) -> Outcome
     requires { ⌜ Served (now m) (now q) ⌝ }
     requires { ⌜ 1365 ≤ length (now choices) ⌝ }
-    ensures { λ r. ⌜ Announces (root-verdict (now (m .entry)) (now (q .entry))) r (now (choices .entry)) (now (choices .exit)) ⌝ }
+    ensures { λ r. ⌜ Announces (root-verdict (model-in (now (m .entry))) (now (q .entry))) r (now (choices .entry)) (now (choices .exit)) ⌝ }
 {
     let counts = plan_totals(m);
     let depths = depth_table(q);
-    let mut scratch = [0u8; 4095];
-    let mut memo = [0u64; 2560];
-    let truth = root_truth(m, q, &counts, &depths, &mut scratch, &mut memo);
-    at_root(
-        m,
-        q,
-        &counts,
-        &depths,
-        &truth,
-        &mut scratch,
-        &mut memo,
-        choices,
-    )
+    let truth = root_truth(m, q, &counts, &depths);
+    let j = node_count(q) - 1;
+    at_node(m, q, &counts, &depths, &truth, choices, j, start(q))
 }
 
 // Judges a question: the verdict, and the choices of a shown plan from the beginning of `choices` on. Every "and" of a node with itself is
@@ -211,17 +161,17 @@ fn judged_as_shared(m: &[u16; 8704], q: &[u8], choices: &mut [u8]) -> Outcome
 pub fn judged(m: &[u16; 8704], q: &[u8], choices: &mut [u8]) -> Outcome
     requires { ⌜ Served (now m) (now q) ⌝ }
     requires { ⌜ 1365 ≤ length (now choices) ⌝ }
-    ensures { λ r. ⌜ Announces (root-verdict (now (m .entry)) (now (q .entry))) r (now (choices .entry)) (now (choices .exit)) ⌝ }
+    ensures { λ r. ⌜ Announces (root-verdict (model-in (now (m .entry))) (now (q .entry))) r (now (choices .entry)) (now (choices .exit)) ⌝ }
 {
-    let alike = nodes(q);
-    judged_as_shared(m, &alike, choices)
+    let alike = shared(q);
+    at_root(m, &alike, choices)
 }
 
 // The total of the plan with these choices, by the tables.
 fn root_weight(m: &[u16; 8704], q: &[u8], depths: &[u32], truth: &[u8], choices: &[u8]) -> u64
     requires { ⌜ Given (now m) (now q) × (now depths ≡ table depth (formulas-of (now q))) ⌝ }
     requires { ⌜ Posed (now m) (now q) (now truth) (root (now q)) (start-of (now q)) ⌝ }
-    ensures { λ r. ⌜ Weighs (now (m .entry)) (now (q .entry)) (now (choices .entry)) r ⌝ }
+    ensures { λ r. ⌜ Weighs (model-in (now (m .entry))) (now (q .entry)) (now (choices .entry)) r ⌝ }
 {
     let j = node_count(q) - 1;
     let mut nodes = [0u8; 40];
@@ -241,12 +191,10 @@ fn root_weight(m: &[u16; 8704], q: &[u8], depths: &[u32], truth: &[u8], choices:
 // The total of the plan with these choices, for the condition of the root, which is a "plan".
 pub fn sheet_weight(m: &[u16; 8704], q: &[u8], choices: &[u8]) -> u64
     requires { ⌜ Served (now m) (now q) × (node-of (now q) (root (now q)) .operator ≡ 8) ⌝ }
-    ensures { λ r. ⌜ Weighs (now (m .entry)) (now (q .entry)) (now (choices .entry)) r ⌝ }
+    ensures { λ r. ⌜ Weighs (model-in (now (m .entry))) (now (q .entry)) (now (choices .entry)) r ⌝ }
 {
     let counts = plan_totals(m);
     let depths = depth_table(q);
-    let mut scratch = [0u8; 4095];
-    let mut memo = [0u64; 2560];
-    let truth = root_truth(m, q, &counts, &depths, &mut scratch, &mut memo);
+    let truth = root_truth(m, q, &counts, &depths);
     root_weight(m, q, &depths, &truth, choices)
 }

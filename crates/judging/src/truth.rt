@@ -9,7 +9,7 @@ ghost use Rattle.models.specs.Layout.{state-count};
 ghost use Rattle.prepared.specs.promises.Rows.{model-in};
 ghost use Rattle.questions.specs.Layout as question;
 ghost use Rattle.evaluation.specs.promises.Reached.{formula};
-ghost use Rattle.tables.specs.promises.Need.{Needs};
+ghost use Rattle.tables.specs.promises.Need.{Given, Needs};
 ghost use Rattle.judging.specs.promises.Asked.{Asked};
 ghost use Rattle.judging.specs.promises.Truth.{Supplied, Right};
 ghost use Rattle.judging.specs.promises.Conditions.{Remembers};
@@ -23,8 +23,23 @@ use questions::operator;
 use questions::right;
 use tables::place;
 
-// The truth of node j in s, from that of its children; of a path formula, nothing is said.
-pub fn truth_at(
+// The truth of node j, which is no "plan", in s, from that of its children; of a path formula, nothing is said.
+pub fn plain_truth(m: &[u16; 8704], q: &[u8], truth: &[u8], j: u8, s: u8) -> u8
+    requires { ⌜ Given (now m) (now q) × (j < question.node-count (now q)) × (s < state-count (now m)) ⌝ }
+    requires { ⌜ Supplied (now m) (now q) (now truth) j s × (question.node-of (now q) j .operator ≡ 8 → ⊥) ⌝ }
+    ensures { λ r. ⌜ (depth (formula (now (q .entry)) j) ≡ 0 → r ≡ value-of (model-in (now (m .entry))) (formula (now (q .entry)) j) s []) ⌝ }
+{
+    let op = operator(q, j);
+    match op {
+        2 => bit(holds(m, s as usize, left(q, j))),
+        3 => bit(byte(truth, place(left(q, j), s)) == 0),
+        4 => byte(truth, place(left(q, j), s)) & byte(truth, place(right(q, j), s)),
+        _ => 0,
+    }
+}
+
+// The truth of node j in s.
+fn truth_at(
     m: &[u16; 8704],
     q: &[u8],
     counts: &[u64; 224],
@@ -39,14 +54,10 @@ pub fn truth_at(
     requires { ⌜ Supplied (now m) (now q) (now truth) j s × (4095 ≤ length (now scratch)) × Remembers (now m) (now q) (now memo) ⌝ }
     ensures { λ r. ⌜ (depth (formula (now (q .entry)) j) ≡ 0 → r ≡ value-of (model-in (now (m .entry))) (formula (now (q .entry)) j) s []) × Remembers (now (m .entry)) (now (q .entry)) (now (memo .exit)) ⌝ }
 {
-    let op = operator(q, j);
-    match op {
-        2 => bit(holds(m, s as usize, left(q, j))),
-        3 => bit(byte(truth, place(left(q, j), s)) == 0),
-        4 => byte(truth, place(left(q, j), s)) & byte(truth, place(right(q, j), s)),
-        8 => bit(plan_true(m, q, counts, depths, truth, scratch, memo, j, s)),
-        _ => 0,
+    if operator(q, j) == 8 {
+        return bit(plan_true(m, q, counts, depths, truth, scratch, memo, j, s));
     }
+    plain_truth(m, q, truth, j, s)
 }
 
 // The truth at a place of the table, if it is needed.
@@ -88,17 +99,27 @@ pub fn truth_table(
     counts: &[u64; 224],
     depths: &[u32],
     need: &[u8],
-    scratch: &mut [u8],
-    memo: &mut [u64; 2560],
 ) -> [u8; 1280]
-    requires { ⌜ Asked (now m) (now q) (now counts) (now depths) × Needs (now m) (now q) (now need) × (4095 ≤ length (now scratch)) × Remembers (now m) (now q) (now memo) ⌝ }
-    ensures { λ r. ⌜ Right (now (m .entry)) (now (q .entry)) (now (need .entry)) r (32 * (question.node-count (now (q .entry)) - 1)) × Remembers (now (m .entry)) (now (q .entry)) (now (memo .exit)) ⌝ }
+    requires { ⌜ Asked (now m) (now q) (now counts) (now depths) × Needs (now m) (now q) (now need) ⌝ }
+    ensures { λ r. ⌜ Right (now (m .entry)) (now (q .entry)) (now (need .entry)) r (32 * (question.node-count (now (q .entry)) - 1)) ⌝ }
 {
     let end = place(node_count(q) - 1, 0);
+    let mut scratch = [0u8; 4095];
+    let mut memo = [0u64; 2560];
     let mut truth = [0u8; 1280];
     let mut k: usize = 0;
     while k < end {
-        let x = truth_if(m, q, counts, depths, need, &truth, scratch, memo, k);
+        let x = truth_if(
+            m,
+            q,
+            counts,
+            depths,
+            need,
+            &truth,
+            &mut scratch,
+            &mut memo,
+            k,
+        );
         truth[k] = x;
         k += 1;
     }

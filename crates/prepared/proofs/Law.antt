@@ -18,7 +18,7 @@ use Rattle.blocks.specs.Bytes.{Bytes, byte, u16, u32, i16, signed, within}
 use Rattle.blocks.specs.Block.{sum-below}
 use Rattle.models.specs.Grounds.{sizes-right, outcome-in-range, read-model}
 use Rattle.models.specs.Layout.{state-count, action-count, prop-count, denominator-of, literals, state-mask, pre-of, post-count, post-of, cell-at, outcome-of, entries, model-of}
-use Rattle.models.proofs.Laws.{at-most, entries-inside, entries-small}
+use Rattle.models.proofs.Laws.{at-most, sizes, entries-inside, entries-small}
 use Rattle.models.proofs.Passed.{Passed, passed-all, passed-sized, some-post, outcome-passed}
 use Rattle.models.proofs.Rows.{outcomes-are}
 use Rattle.models.proofs.Held.{enabled-entries, accepted}
@@ -247,6 +247,7 @@ module _ (b : Bytes) (e : refusal (read-model b) ≡ 0) (m : List ℕ) (small : 
         head = small;
         states = omega (arith, states);
         actions = omega (arith, actions);
+        props = rw (head 4 (omega arith)) (sizes b (passed .sizes) .props);
         parts = rw (head 5 (omega arith)) (denominator-most b (passed .sizes));
         choices = λ s h. rw same (enabled-entries b passed s (omega arith)) ∙ listed-is s (omega arith);
         few-choices = λ s h. few-choices s (omega arith);

@@ -3,31 +3,29 @@ use Prim.Native.Nat.{ℕ, _+_, _*_}
 use native.Mathlib.Omega.{arith}
 use mathlib.Core.Path.{_≡_, _∙_}
 use lib.ListN.{getD, length-replicate}
-use borrow.Author.Needs.{needs}
 use Rattle.logic.specs.Limits.{plan-total}
-use Rattle.models.specs.Layout.{model-of}
+use Rattle.prepared.specs.promises.Rows.{model-in}
 use Rattle.equal.proofs.Writing.{state-small}
+use borrow.Author.Needs.{needs}
 use Rattle.equal.proofs.first_equal.Statement.{statement}
 use Rattle.equal.proofs.first_equal.Tie as tie
 
 -- The table's number of plans is their number.
 number : (S : tie.Start) {all : ℕ} → all ≡ getD (S .args .table .now) (32 * S .args .n + S .args .s) 0
-    → all ≡ plan-total (model-of (S .args .m .now)) (S .args .n) (S .args .s)
+    → all ≡ plan-total (model-in (S .args .m .now)) (S .args .n) (S .args .s)
 number S e = let G = S .pre .0 in
     e ∙ G .counts .right (S .args .n) (S .args .s) (S .pre .1 .1) (G .ready .state) (S .pre .1 .2)
 
 plans-counted-requires : tie.Need-plans-counted-requires
-plans-counted-requires c κs = let S = c .before .before .before .before .before in
-    (S .pre .1 .1, state-small (S .pre .0) (S .pre .0 .ready .state))
+plans-counted-requires c κs = let S = c .before .before .before .before in (S .pre .1 .1, state-small (S .pre .0) (S .pre .0 .ready .state))
 
 slice-aggregate-first-within : tie.Need-slice-aggregate-first-within
 slice-aggregate-first-within c = search needs
 
 first-within-requires : tie.Need-first-within-requires
-first-within-requires c κs = let N = c .before .before in
-    let S = N .before .before .before .before .before .before in
+first-within-requires c κs = let S = c .before .before .before .before .before .before .before in
     let P = S .pre .1 in
-    (S .pre .0, (P .0, P .1, P .2, omega (arith, number S (N .plans-counted .ensures), length-replicate {A = ℕ} 1306 0)))
+    (S .pre .0, (P .0, P .1, P .2, omega (arith, number S (c .before .before .plans-counted .ensures), length-replicate {A = ℕ} 1306 0)))
 
 returns : tie.Need-returns
 returns c = search needs
@@ -36,10 +34,9 @@ slice-aggregate-first-within-2 : tie.Need-slice-aggregate-first-within-2
 slice-aggregate-first-within-2 c = search needs
 
 first-within-requires-2 : tie.Need-first-within-requires-2
-first-within-requires-2 c κs = let N = c .before .before .before in
-    let S = N .before .before .before .before .before .before in
+first-within-requires-2 c κs = let S = c .before .before .before .before .before .before .before .before in
     let P = S .pre .1 in
-    (S .pre .0, (P .0, P .1, P .2, omega (arith, number S (N .plans-counted .ensures), length-replicate {A = ℕ} 8474 0)))
+    (S .pre .0, (P .0, P .1, P .2, omega (arith, number S (c .before .before .before .plans-counted .ensures), length-replicate {A = ℕ} 8474 0)))
 
 returns-2 : tie.Need-returns-2
 returns-2 c = search needs
@@ -48,9 +45,9 @@ slice-aggregate-first-within-3 : tie.Need-slice-aggregate-first-within-3
 slice-aggregate-first-within-3 c = search needs
 
 first-within-requires-3 : tie.Need-first-within-requires-3
-first-within-requires-3 c κs = let S = c .before .before .before .before .before .before .before .before .before in
+first-within-requires-3 c κs = let S = c .before .before .before .before .before .before .before .before in
     let P = S .pre .1 in
-    (S .pre .0, (P .0, P .1, P .2, omega (arith, P .2, length-replicate {A = ℕ} 65818 0)))
+    (S .pre .0, (P .0, P .1, P .2, omega (arith, number S (c .before .before .before .plans-counted .ensures), length-replicate {A = ℕ} 65818 0)))
 
 returns-3 : tie.Need-returns-3
 returns-3 c = search needs

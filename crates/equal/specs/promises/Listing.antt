@@ -6,24 +6,23 @@ use lib.IntN.{ℤ}
 use lib.ListN.{getD, length, take}
 use Rattle.logic.specs.Formula.{depth}
 use Rattle.logic.specs.Limits.{plan-total}
-use Rattle.blocks.specs.Bytes.{Bytes, byte}
-use Rattle.models.specs.Layout.{state-count, model-of, outcome-of}
-use Rattle.models.specs.promises.Used.{Used}
+use Rattle.blocks.specs.Bytes.{Bytes}
+use Rattle.models.specs.Layout.{state-count, denominator-of}
+use Rattle.prepared.specs.promises.Rows.{step-in, model-in}
 use Rattle.evaluation.specs.promises.Path.{state-after}
 use Rattle.evaluation.specs.promises.Reached.{formula, root-of, Ready}
 use Rattle.evaluation.specs.promises.Learnt.{known}
-use Rattle.evaluation.specs.promises.Known.{Knows, Roomy, Back}
+use Rattle.evaluation.specs.promises.Known.{Knows, Back}
 use Rattle.equal.specs.promises.Totals.{part}
 use Rattle.equal.specs.promises.Room.{Room}
 
 -- A table of the numbers of plans, 32 states for each number of steps, right where they are served.
 pub record Counts (m : Bytes) (table : List ℕ) : Type 0 where
-  pub right : (n s : ℕ) → n ≤ 6 → s < state-count m → plan-total (model-of m) n s ≤ 65536 → getD table (32 * n + s) 0 ≡ plan-total (model-of m) n s
+  pub right : (n s : ℕ) → n ≤ 6 → s < state-count m → plan-total (model-in m) n s ≤ 65536 → getD table (32 * n + s) 0 ≡ plan-total (model-in m) n s
 
 -- The tables for a search from the start for the condition at the cone's root, which looks d steps ahead.
-pub record Given (m q : Bytes) (start d : ℕ) (depths truth cone used table : List ℕ) : Type 0 where
+pub record Given (m q : Bytes) (start d : ℕ) (depths truth cone table : List ℕ) : Type 0 where
   pub ready : Ready m q start depths truth cone
-  pub uses : Used m used
   pub counts : Counts m table
   pub looks : d ≡ depth (formula q (root-of cone))
 
@@ -32,8 +31,8 @@ pub record Here (m q : Bytes) (start d : ℕ) (cone trail : List ℕ) (gains : L
   pub steps : h + k ≤ 6
   pub deep : d ≤ h + k
   pub inside : s < state-count m
+  pub whole : length (take h trail) ≡ h
   pub state : state-after m start (take h trail) ≡ s
-  pub roomy : Roomy trail gains v
   pub knows : Knows m q start cone (take h trail) gains v
 
 -- The list xs was written at `at`, r numbers; what stands before it stayed, and the path's first h steps with what is known of them.
@@ -43,17 +42,17 @@ pub record Written (xs : List ℕ) (m q : Bytes) (start : ℕ) (cone : List ℕ)
   pub count : r ≡ length xs
   pub listed : take (at + length xs) buf′ ≡ take at buf ++ xs
 
--- Of the outcomes of an action, one with the most plans of k steps below it.
-pub record Longest (m : Bytes) (table : List ℕ) (s a c k j : ℕ) : Type 0 where
+-- Of the outcomes of the choice at place i, one with the most plans of k steps below it.
+pub record Longest (m : Bytes) (table : List ℕ) (s i c k j : ℕ) : Type 0 where
   pub inside : j < c
-  pub most : (o : ℕ) → o < c → getD table (32 * k + (outcome-of m s a o) .target) 0 ≤ getD table (32 * k + (outcome-of m s a j) .target) 0
+  pub most : (o : ℕ) → o < c → getD table (32 * k + (step-in m s i o) .target) 0 ≤ getD table (32 * k + (step-in m s i j) .target) 0
 
 -- Where the condition is decided: its value stands at the root's first place, and the list fits.
 pub record Decides (m cone v table buf : List ℕ) (s k at : ℕ) : Type 0 where
   pub some : 0 < length cone
   pub steps : k ≤ 6
   pub state : s < 32
-  pub part-of : byte m 5 ≤ 100
+  pub part-of : denominator-of m ≤ 100
   pub truth : known v (root-of cone) 0 ≤ 1
   pub room : at + getD table (32 * k + s) 0 ≤ length buf
 

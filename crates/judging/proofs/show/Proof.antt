@@ -5,7 +5,6 @@ use mathlib.Core.Path.{sym, ap, subst}
 use Rattle.logic.specs.Plan.{choices}
 use Rattle.logic.specs.Limits.{plan-total}
 use Rattle.prepared.specs.promises.Rows.{model-in}
-use Rattle.tables.proofs.Marks.{given-readable}
 use Rattle.judging.specs.promises.Decided.{plan-at}
 use Rattle.judging.proofs.Deciding.{plan-here}
 use Rattle.judging.proofs.Posing.{asked-equal, asked-other, depth-there}

@@ -4,12 +4,12 @@ use mathlib.Core.Path.{_≡_}
 use mathlib.Core.Bool.{true, false}
 use mathlib.Core.List.{List, []}
 use Rattle.logic.specs.Checked.{ok}
+use Rattle.logic.specs.Model.{Model}
 use Rattle.logic.specs.Plan.{Plan}
 use Rattle.logic.specs.Choices.{plan-of}
 use Rattle.logic.specs.Formula.{W, nonnegative}
 use Rattle.logic.specs.Verdict.{Verdict, no, yes, yes-plan, verdict}
 use Rattle.blocks.specs.Bytes.{Bytes}
-use Rattle.prepared.specs.promises.Rows.{model-in}
 use Rattle.questions.specs.Layout.{start-of, node-count, node-of}
 use Rattle.evaluation.specs.promises.Reached.{formula}
 use Rattle.blocks.specs.Splice.{splice}
@@ -20,8 +20,8 @@ use Rattle.judging.specs.declared.Outcome.{Outcome}
 abbrev pub root : Bytes → ℕ
 root q = node-count q - 1
 
-abbrev pub root-verdict : (m q : Bytes) → Verdict
-root-verdict m q = verdict (model-in m) (start-of q) (formula q (root q))
+abbrev pub root-verdict : Model → Bytes → Verdict
+root-verdict M q = verdict M (start-of q) (formula q (root q))
 
 unfoldable pub told : Verdict → Outcome
 told (no x) = record { yes = false; plan = false; weight = 0; steps = 0; count = x .count }
@@ -38,7 +38,7 @@ abbrev pub Announces : Verdict → Outcome → (before after : List ℕ) → Typ
 Announces v r before after = (r ≡ told v) × (after ≡ splice before 0 (shown-choices v))
 
 -- The number is the total of the plan with these choices, if they are those of a plan, for the condition of the root, which is a "plan".
-abbrev pub Weighs : (m q choices : Bytes) → ℕ → Type 0
-Weighs m q choices r =
-    (π : Plan ((node-of q (root q)) .n)) → plan-of (model-in m) ((node-of q (root q)) .n) (start-of q) choices ≡ ok π
-    → r ≡ W (model-in m) (condition q (root q)) ((node-of q (root q)) .n) (start-of q) π
+abbrev pub Weighs : Model → (q choices : Bytes) → ℕ → Type 0
+Weighs M q choices r =
+    (π : Plan ((node-of q (root q)) .n)) → plan-of M ((node-of q (root q)) .n) (start-of q) choices ≡ ok π
+    → r ≡ W M (condition q (root q)) ((node-of q (root q)) .n) (start-of q) π

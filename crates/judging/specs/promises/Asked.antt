@@ -1,5 +1,5 @@
 -- What a judge is given: an accepted question for an accepted model, with the tables made for them.
-use Prim.Native.Nat.{ℕ, _≤_}
+use Prim.Native.Nat.{ℕ}
 use mathlib.Core.Path.{_≡_}
 use mathlib.Core.Bool.{true}
 use mathlib.Core.List.{List}

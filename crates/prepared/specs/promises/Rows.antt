@@ -13,7 +13,7 @@ use Rattle.logic.specs.Model.{Model, Step, true-of, enabled, outcomes}
 use Rattle.logic.specs.Accepted.{Accepted}
 use Rattle.blocks.specs.Bytes.{signed}
 use Rattle.blocks.specs.Block.{sum-below}
-use Rattle.models.specs.Layout.{state-count, action-count, denominator-of, pre-of, state-mask, model-of}
+use Rattle.models.specs.Layout.{state-count, action-count, prop-count, denominator-of, pre-of, state-mask, model-of}
 
 -- ---- a state's row
 
@@ -81,6 +81,7 @@ pub record Prepared (m : List ℕ) : Type 0 where
   pub head : (k : ℕ) → k < 512 → getD m k 0 < 256
   pub states : state-count m ≤ 32
   pub actions : action-count m ≤ 8
+  pub props : prop-count m ≤ 32
   pub parts : denominator-of m ≤ 100
   pub choices : (s : ℕ) → s < state-count m → enabled (model-in m) s ≡ tabulate (choices-in m s) (choice-in m s)
   pub few-choices : (s : ℕ) → s < state-count m → choices-in m s ≤ 8

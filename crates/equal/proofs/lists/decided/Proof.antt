@@ -1,10 +1,10 @@
 -- `lists::decided`: the value, 0 or 1, times the denominator to the k fits, and is written as often as the table says.
 use Prim.Native.Nat.{_*_, _^_}
-use mathlib.Core.Path.{refl, ap, ap₂, _∙_}
+use mathlib.Core.Path.{ap, ap₂, _∙_}
 use lib.ListN.{replicate}
-use borrow.Author.Needs.{needs}
 use Rattle.blocks.specs.Splice.{splice}
 use Rattle.equal.proofs.Accepting.{value-fits}
+use borrow.Author.Needs.{needs}
 use Rattle.equal.proofs.lists.decided.Statement.{statement}
 use Rattle.equal.proofs.lists.decided.Tie as tie
 
@@ -23,16 +23,15 @@ known-requires c κs = search needs
 cast-x : tie.Need-cast-x
 cast-x c = search needs
 
-wide-requires : tie.Need-wide-requires
-wide-requires c κs = search needs
+denominator-requires : tie.Need-denominator-requires
+denominator-requires c κs = search needs
 
 power-requires : tie.Need-power-requires
 power-requires c κs = search needs
 
 mul-x : tie.Need-mul-x
-mul-x c = let S = c .before .before .before .before .before .before .before .before .before in
-    let D = S .pre in
-    record { fits = value-fits (c .before .before .known .ensures ∙ refl) (D .truth) (c .power .ensures ∙ ap (λ z. z ^ S .args .k) (c .before .wide .ensures .0)) (D .part-of) (D .steps) }
+mul-x c = let D = c .before .before .before .before .before .before .before .before .pre in
+    record { fits = value-fits (c .before .before .known .ensures) (D .truth) (c .power .ensures ∙ ap (λ z. z ^ c .before .before .before .before .before .before .before .before .args .k) (c .before .denominator .ensures)) (D .part-of) (D .steps) }
 
 fill-requires : tie.Need-fill-requires
 fill-requires c κs = search needs
@@ -41,12 +40,9 @@ same-length : tie.Need-same-length
 same-length c = search needs
 
 returns : tie.Need-returns
-returns c = let S = c .before .before .before .before .before .before .before .before .before .before .before .before .before in
-    let n = c .before .before .before .before .before .before .before .before .plans-counted in
-    let x = c .before .before .before .before .before .before .known in
-    let w = c .before .before .before .before .before .wide in
-    let p = c .before .before .before .before .power in
-    (n .ensures, c .before .before .fill .ensures ∙ ap₂ (λ i y. splice (S .args .buf .now) (S .args .at) (replicate i y)) (n .ensures) (ap₂ _*_ (x .ensures) (p .ensures ∙ ap (λ z. z ^ S .args .k) (w .ensures .0))))
+returns c = let S = c .before .before .before .before .before .before .before .before .before .before .before .before in
+    let n = c .before .before .before .before .before .before .before .before .before .plans-counted in
+    (n .ensures, c .before .before .fill .ensures ∙ ap₂ (λ i y. splice (S .args .buf .now) (S .args .at) (replicate i y)) (n .ensures) (ap₂ _*_ (c .before .before .before .before .before .before .known .ensures) (c .before .before .before .before .power .ensures ∙ ap (λ z. z ^ S .args .k) (c .before .before .before .before .before .denominator .ensures))))
 
 pub decided-spec : {M : Type 1} → statement M
 decided-spec =
@@ -57,7 +53,7 @@ decided-spec =
     shared-slice-read-known
     known-requires
     cast-x
-    wide-requires
+    denominator-requires
     power-requires
     mul-x
     fill-requires

@@ -11,7 +11,6 @@ use Rattle.prepared.specs.promises.Rows.{model-in}
 use Rattle.questions.specs.Layout.{node-of}
 use Rattle.evaluation.specs.promises.Reached.{formula}
 use Rattle.equal.proofs.Serving.{counts-right}
-use Rattle.tables.proofs.Marks.{given-readable}
 use Rattle.tables.proofs.Cones.{given-ordered}
 use Rattle.judging.proofs.Deciding.{few-plans, counted-plans}
 use Rattle.judging.proofs.Posing.{planned, bounded, before, looks, ready, placed-never, placed-at}
@@ -31,7 +30,7 @@ steps-requires c κs = search needs
 
 plans-counted-requires : tie.Need-plans-counted-requires
 plans-counted-requires c κs = let P = c .before .before .before .before .before .pre .0 in
-    (omega (arith, planned (P .0 .given) (P .1) .few, c .steps .ensures), omega (arith, P .1 .state, given-readable (P .0 .given) .states))
+    (omega (arith, planned (P .0 .given) (P .1) .few, c .steps .ensures), omega (arith, P .1 .state, P .0 .given .prepared .states))
 
 exact-total-requires : tie.Need-exact-total-requires
 exact-total-requires c κs = let P = c .before .before .before .before .before .before .pre .0 in bounded (P .0 .given) (P .1)
