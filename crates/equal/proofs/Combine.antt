@@ -1,4 +1,4 @@
--- One turn of combining the lists of an action's outcomes: the list of a further outcome is made behind the product, and joined on.
+-- One turn of combining the lists of a choice's outcomes: the list of a further outcome is made behind the product, and joined on.
 use Prim.Native.Nat.{ℕ, suc, _+_, _-_, _*_, _^_, _≤_, _<_, min, max}
 use native.Mathlib.Nat.{le-mul-of-pos-right, mul-comm, zero-add}
 use native.Mathlib.Omega.{arith}

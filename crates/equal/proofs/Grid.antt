@@ -1,4 +1,4 @@
--- Laws of `grid` and `combined`: combining is associative with 0 alone as its unit, so that the lists of an action's outcomes may be
+-- Laws of `grid` and `combined`: combining is associative with 0 alone as its unit, so that the lists of a choice's outcomes may be
 -- combined from any outcome on, to the left and to the right.
 use Prim.Native.Nat.{ℕ, _+_, _*_}
 use native.Mathlib.Nat.{add-assoc, zero-add, add-zero, suc-mul, zero-mul}
