@@ -16,7 +16,7 @@ use Rattle.questions.proofs.Laws.{by-operator}
 use Rattle.evaluation.specs.promises.Reached.{formula, reads-left, Earlier, Cone, root-of}
 use Rattle.tables.specs.promises.Need.{Given, Grown}
 use Rattle.tables.specs.promises.Chosen.{Ordered, Entered, Chosen, Listed}
-use Rattle.tables.proofs.Marks.{grown-mark, grown-then, blank, one-size, one-there, one-only, given-question}
+use Rattle.tables.proofs.Marks.{grown-mark, grown-then, blank, one-there, one-only, given-question}
 
 pub reads-cases : (op : ℕ) → reads-left op ≡ true → ((op ≡ 3) ⊎ (op ≡ 6)) ⊎ (op ≡ 4)
 unfolding reads-left
@@ -102,7 +102,6 @@ module _ (q : Bytes) (j : ℕ) (marks : List ℕ) (o : Ordered q) (h : j < node-
 
 -- The marked nodes from j on have been entered.
 pub record Choosing (q : Bytes) (c : ℕ) (marks : List ℕ) (j : ℕ) : Type 0 where
-  pub size : length marks ≡ 40
   pub top : getD marks c 0 ≡ 1
   pub last : (x : ℕ) → getD marks x 0 ≡ 1 → x ≤ c
   pub entered : (x : ℕ) → j ≤ x → getD marks x 0 ≡ 1 → Entered q marks x
@@ -110,17 +109,15 @@ pub record Choosing (q : Bytes) (c : ℕ) (marks : List ℕ) (j : ℕ) : Type 0 
 pub choosing-start : (q : Bytes) (c : ℕ) → c < 40 → Choosing q c (set (blank 40) c 1) (c + 1)
 choosing-start q c h =
     record {
-      size = one-size 40 c h;
       top = one-there 40 c h;
       last = λ x e. omega (arith, one-only 40 c h x e);
       entered = λ x l e. absurd (omega (arith, one-only 40 c h x e));
     }
 
-pub choosing-more : {q : Bytes} {c : ℕ} {marks marks′ : List ℕ} (j : ℕ) → Choosing q c marks (suc j) → j ≤ c → length marks′ ≡ length marks
+pub choosing-more : {q : Bytes} {c : ℕ} {marks marks′ : List ℕ} (j : ℕ) → Choosing q c marks (suc j) → j ≤ c
     → Grown 32 j marks marks′ → (getD marks j 0 ≡ 1 → Entered q marks′ j) → Choosing q c marks′ j
-choosing-more {q} {c} {marks} {marks′} j p h z g f =
+choosing-more {q} {c} {marks} {marks′} j p h g f =
     record {
-      size = z ∙ p .size;
       top = g .stays c (p .top);
       last = λ x e. ⊎-elim (λ w. p .last x w) (λ v. omega (arith, v .0)) (g .new x e);
       entered = λ x l e. each x l (before x l e) (ℕ-discrete x j);

@@ -56,9 +56,6 @@ module _ (n c : ℕ) (h : c < n) where
   inside : c < length (blank n)
   inside = subst (λ k. c < k) (sym (length-replicate {A = ℕ} n 0)) h
 
-  pub one-size : length (set (blank n) c 1) ≡ n
-  one-size = length-set (blank n) c 1 ∙ length-replicate {A = ℕ} n 0
-
   pub one-there : getD (set (blank n) c 1) c 0 ≡ 1
   one-there = getD-set-same (blank n) c 1 0 inside
 
@@ -78,7 +75,7 @@ module _ {m : List ℕ} (w : Prepared m) (need : List ℕ) (child s i o : ℕ) (
   abbrev target-of : ℕ
   target-of = (step-in m s i o) .target
 
-  pub target-small : target-of < 32
+  target-small : target-of < 32
   target-small = omega (arith, w .inside s i o hs u, w .states)
 
   pub outcome-marked : {t : ℕ} {need′ : List ℕ} → t ≡ target-of → need′ ≡ set need (32 * child + t) 1
@@ -156,7 +153,7 @@ module _ {m q : Bytes} (given : Given m q) where
   pub given-question : questions.Accepted (state-count m) (action-count m) (prop-count m) q
   given-question = questions.accepted (state-count m) (action-count m) (prop-count m) q (given .question-accepted)
 
-  module _ (need : List ℕ) (k : ℕ) (z : length need ≡ 1280) (h : k < 32 * node-count q) (state : k % 32 < state-count m) where
+  module _ (need : List ℕ) (k : ℕ) (h : k < 32 * node-count q) (state : k % 32 < state-count m) where
     abbrev node : Node
     node = node-of q (k / 32)
 
@@ -172,13 +169,13 @@ module _ {m q : Bytes} (given : Given m q) where
     child-marked : (l : List ℕ) (c : ℕ) → length l ≡ 1280 → c < k / 32 → Marked (set l (32 * c + k % 32) 1) c (k % 32)
     child-marked l c e g = let few = given-question .few-nodes in getD-set-same l (32 * c + k % 32) 1 0 (omega arith)
 
-    pub left-marked : (node .operator ≡ 3) ⊎ (node .operator ≡ 8) → Pair-done m q need k (set need (32 * node .left + k % 32) 1)
-    left-marked o =
+    pub left-marked : length need ≡ 1280 → (node .operator ≡ 3) ⊎ (node .operator ≡ 8) → Pair-done m q need k (set need (32 * node .left + k % 32) 1)
+    left-marked z o =
         let b : node .left < k / 32 = ⊎-elim (λ e. range .of-neg e) (λ e. (range .of-plan e) .child) o in
         (child-grown need (node .left) z b, λ _. passed-left o (child-marked need (node .left) z b))
 
-    pub both-marked : node .operator ≡ 4 → Pair-done m q need k (set (set need (32 * node .left + k % 32) 1) (32 * node .right + k % 32) 1)
-    both-marked o =
+    pub both-marked : length need ≡ 1280 → node .operator ≡ 4 → Pair-done m q need k (set (set need (32 * node .left + k % 32) 1) (32 * node .right + k % 32) 1)
+    both-marked z o =
         let w = range .of-both o in
         let l : List ℕ = set need (32 * node .left + k % 32) 1 in
         let e : length l ≡ 1280 = length-set need (32 * node .left + k % 32) 1 ∙ z in
@@ -198,7 +195,6 @@ module _ {m q : Bytes} (given : Given m q) where
 
 -- The pairs from place k on have passed their marks on.
 pub record Passing (m q : Bytes) (need : List ℕ) (k : ℕ) : Type 0 where
-  pub size : length need ≡ 1280
   pub root : Marked need (node-count q - 1) (start-of q)
   pub inside : (x : ℕ) → getD need x 0 ≡ 1 → (x < 32 * node-count q) × (x % 32 < state-count m)
   pub closed : (x : ℕ) → k ≤ x → getD need x 0 ≡ 1 → Passed-on m q need (x / 32) (x % 32)
@@ -220,17 +216,15 @@ module _ {m q : Bytes} (given : Given m q) where
   passing-start =
       let f = first-inside in
       record {
-        size = one-size 1280 first (f .0);
         root = one-there 1280 first (f .0);
         inside = λ x e. subst (λ y. (y < 32 * node-count q) × (y % 32 < state-count m)) (sym (one-only 1280 first (f .0) x e)) (f .1, subst (λ y. y < state-count m) (sym (f .2)) (f .3));
         closed = λ x h e. absurd (omega (arith, one-only 1280 first (f .0) x e, f .1));
       }
 
-pub passing-more : {m q : Bytes} {need need′ : List ℕ} (k : ℕ) → Passing m q need (suc k) → k < 32 * node-count q → length need′ ≡ length need
+pub passing-more : {m q : Bytes} {need need′ : List ℕ} (k : ℕ) → Passing m q need (suc k) → k < 32 * node-count q
     → Grown (state-count m) (32 * (k / 32)) need need′ → (getD need k 0 ≡ 1 → Passed-on m q need′ (k / 32) (k % 32)) → Passing m q need′ k
-passing-more {m} {q} {need} {need′} k p h z g f =
+passing-more {m} {q} {need} {need′} k p h g f =
     record {
-      size = z ∙ p .size;
       root = g .stays _ (p .root);
       inside = λ x e. ⊎-elim (λ w. p .inside x w) (λ v. (omega (arith, v .0), v .1)) (g .new x e);
       closed = λ x l e. each x l (before x l e) (ℕ-discrete x k);

@@ -40,8 +40,8 @@ fn mark(need: &mut [u8], j: u8, s: u8)
 }
 
 // Marks the child of "next" in the targets of the outcomes of choice i.
-fn mark_outcomes(m: &[u16; 8704], need: &mut [u8], child: u8, s: u8, i: usize)
-    requires { ⌜ Prepared (now m) × (length (now need) ≡ 1280) × (child < 40) ⌝ }
+fn mark_outcomes(m: &[u16; 8704], need: &mut [u8; 1280], child: u8, s: u8, i: usize)
+    requires { ⌜ Prepared (now m) × (child < 40) ⌝ }
     requires { ⌜ (s < state-count (now m)) × (i < choices-in (now m) s) ⌝ }
     ensures { λ _. ⌜ Grown (state-count (now (m .entry))) (32 * child + 32) (now (need .entry)) (now (need .exit)) × ((o : ℕ) → o < outcomes-in (now (m .entry)) s i → Marked (now (need .exit)) child (step-in (now (m .entry)) s i o .target)) ⌝ }
 {
@@ -54,8 +54,8 @@ fn mark_outcomes(m: &[u16; 8704], need: &mut [u8], child: u8, s: u8, i: usize)
 }
 
 // Marks the child of "next" wherever a step from s can lead.
-fn mark_next(m: &[u16; 8704], need: &mut [u8], child: u8, s: u8)
-    requires { ⌜ Prepared (now m) × (length (now need) ≡ 1280) × (child < 40) × (s < state-count (now m)) ⌝ }
+fn mark_next(m: &[u16; 8704], need: &mut [u8; 1280], child: u8, s: u8)
+    requires { ⌜ Prepared (now m) × (child < 40) × (s < state-count (now m)) ⌝ }
     ensures { λ _. ⌜ Grown (state-count (now (m .entry))) (32 * child + 32) (now (need .entry)) (now (need .exit)) × ((i o : ℕ) → Offers (now (m .entry)) s i o → Marked (now (need .exit)) child (step-in (now (m .entry)) s i o .target)) ⌝ }
 {
     let n = choices(m, s as usize);
@@ -67,8 +67,8 @@ fn mark_next(m: &[u16; 8704], need: &mut [u8], child: u8, s: u8)
 }
 
 // Marks what the pair at a place of the table turns on, if it is marked.
-fn pass_on(m: &[u16; 8704], q: &[u8], need: &mut [u8], k: usize)
-    requires { ⌜ Given (now m) (now q) × (length (now need) ≡ 1280) × (k < 32 * question.node-count (now q)) ⌝ }
+fn pass_on(m: &[u16; 8704], q: &[u8], need: &mut [u8; 1280], k: usize)
+    requires { ⌜ Given (now m) (now q) × (k < 32 * question.node-count (now q)) ⌝ }
     requires { ⌜ (getD (now need) k 0 ≡ 1 → k % 32 < state-count (now m)) ⌝ }
     ensures { λ _. ⌜ Grown (state-count (now (m .entry))) (32 * (k / 32)) (now (need .entry)) (now (need .exit)) × (getD (now (need .entry)) k 0 ≡ 1 → Passed-on (now (m .entry)) (now (q .entry)) (now (need .exit)) (k / 32) (k % 32)) ⌝ }
 {
@@ -109,8 +109,8 @@ pub fn needed(m: &[u16; 8704], q: &[u8]) -> [u8; 1280]
 // ---- the nodes of a condition
 
 // Marks the children of node j, if it is marked and no state formula.
-fn enter(q: &[u8], depths: &[u32], marks: &mut [u8], j: u8)
-    requires { ⌜ Ordered (now q) × (now depths ≡ table depth (formulas-of (now q))) × (length (now marks) ≡ 40) × (j < question.node-count (now q)) ⌝ }
+fn enter(q: &[u8], depths: &[u32], marks: &mut [u8; 40], j: u8)
+    requires { ⌜ Ordered (now q) × (now depths ≡ table depth (formulas-of (now q))) × (j < question.node-count (now q)) ⌝ }
     ensures { λ _. ⌜ Grown 32 j (now (marks .entry)) (now (marks .exit)) × (getD (now (marks .entry)) j 0 ≡ 1 → Entered (now (q .entry)) (now (marks .exit)) j) ⌝ }
 {
     if byte(marks, j as usize) != 1 {

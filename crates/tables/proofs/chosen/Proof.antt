@@ -1,7 +1,7 @@
 -- The invariant: the marked nodes from j on have been entered.
 use Prim.Native.Nat.{_+_, _-_, _≤_}
 use native.Mathlib.Omega.{arith}
-use mathlib.Core.Path.{sym, subst}
+use mathlib.Core.Path.{subst}
 use Rattle.tables.proofs.Cones.{Choosing, choosing-start, choosing-more, choosing-end}
 use Rattle.tables.proofs.chosen.Statement.{statement}
 use Rattle.tables.proofs.chosen.Tie as tie
@@ -24,22 +24,22 @@ loop-holds c = (omega arith, choosing-start (c .before .before .args .q .now) (c
 sub-j : tie.Need-sub-j Inv-loop μ-loop
 sub-j c = omega arith
 
-slice-aggregate-enter : tie.Need-slice-aggregate-enter Inv-loop μ-loop
-slice-aggregate-enter c = sym ((c .before .before .loop .inv .1) .size)
-
 enter-requires : tie.Need-enter-requires Inv-loop μ-loop
-enter-requires c κs = (c .before .before .before .before .before .pre .0, c .before .before .before .before .before .pre .1, (c .before .before .loop .inv .1) .size, omega arith)
+enter-requires c κs = let S = c .before .before .before .before .before in (S .pre .0, S .pre .1, omega arith)
 
 loop-less : tie.Need-loop-less Inv-loop μ-loop
 loop-less c = omega arith
 
 loop-again : tie.Need-loop-again Inv-loop μ-loop
-loop-again c = let L = c .before .before .before .before .loop in
-    let n = c .before .enter in
-    (omega arith, choosing-more (L .j - 1) (subst (Choosing (c .before .before .before .before .before .before .before .args .q .now) (c .before .before .before .before .before .before .before .args .c) (L .marks)) (omega arith) (L .inv .1)) (omega arith) (n .kept .1 .1 .0) (n .ensures .0) (n .ensures .1))
+loop-again c = let S = c .before .before .before .before .before .before in
+    let L = c .before .before .before .loop in
+    let n = c .enter in
+    (omega arith, choosing-more (L .j - 1) (subst (Choosing (S .args .q .now) (S .args .c) (L .marks)) (omega arith) (L .inv .1)) (omega arith) (n .ensures .0) (n .ensures .1))
 
 returns : tie.Need-returns Inv-loop μ-loop
-returns c = let L = c .before .loop in choosing-end (subst (Choosing (c .before .before .before .before .args .q .now) (c .before .before .before .before .args .c) (L .marks)) (omega arith) (L .inv .1))
+returns c = let S = c .before .before .before .before in
+    let L = c .before .loop in
+    choosing-end (subst (Choosing (S .args .q .now) (S .args .c) (L .marks)) (omega arith) (L .inv .1))
 
 pub chosen-spec : {M : Type 1} → statement M
 chosen-spec =
@@ -51,7 +51,6 @@ chosen-spec =
     add-j
     loop-holds
     sub-j
-    slice-aggregate-enter
     enter-requires
     loop-less
     loop-again

@@ -5,27 +5,21 @@ use mathlib.Core.Path.{sym, ap, ap₂, subst, _∙_}
 use mathlib.Core.Logic.{inl, inr, ⊎-elim}
 use mathlib.Core.List.{List}
 use lib.ListN.{set}
-use borrow.Author.Needs.{needs}
 use Rattle.tables.proofs.Marks.{grown-none}
 use Rattle.evaluation.proofs.Knowing.{depth-in}
 use Rattle.tables.proofs.Cones.{Node-done, entered-flat, entered-none, left-entered, both-entered}
+use borrow.Author.Needs.{needs}
 use Rattle.tables.proofs.enter.Statement.{statement}
 use Rattle.tables.proofs.enter.Tie as tie
 
 byte-requires : tie.Need-byte-requires
 byte-requires c κs = search needs
 
-same-length : tie.Need-same-length
-same-length c = search needs
-
 returns : tie.Need-returns
 returns c = (grown-none _ _ (c .before .before .before .before .before .before .args .marks .now), λ e. absurd (c .if1 .taken (c .before .byte .ensures ∙ e)))
 
 depth-at-requires : tie.Need-depth-at-requires
 depth-at-requires c κs = search needs
-
-same-length-2 : tie.Need-same-length-2
-same-length-2 c = search needs
 
 returns-2 : tie.Need-returns-2
 returns-2 c = let S = c .before .before .before .before .before .before .before .before in
@@ -62,28 +56,19 @@ cast-store-3 c = search needs
 store-requires-3 : tie.Need-store-requires-3
 store-requires-3 c κs = search needs
 
-same-length-3 : tie.Need-same-length-3
-same-length-3 c = search needs
-
 returns-3 : tie.Need-returns-3
-returns-3 c = let S = c .before .before .before .before .before .before .before .before .before .before .before .before .before .before .before in
+returns-3 c = let S = c .before .before .before .before .before .before .before .before .before .before .before .before .before in
     let marks = S .args .marks .now in
-    let e = c .before .before .before .before .before .before .operator .ensures in
-    subst (Node-done (S .args .q .now) (S .args .j) marks) (sym (c .before .before .store .ensures ∙ ap (λ (l : ℕ). set marks l 1) (c .before .before .before .left .ensures)))
-    (left-entered (S .args .q .now) (S .args .j) marks (S .pre .0) (S .pre .3) (S .pre .2) (⊎-elim (λ x. inl (sym e ∙ x)) (λ x. inr (sym e ∙ x)) (c .before .before .before .before .before .match .keys1)))
-
-same-length-4 : tie.Need-same-length-4
-same-length-4 c = search needs
+    let e = c .before .before .before .before .operator .ensures in
+    subst (Node-done (S .args .q .now) (S .args .j) marks) (sym (c .store .ensures ∙ ap (λ (l : ℕ). set marks l 1) (c .before .left .ensures)))
+    (left-entered (S .args .q .now) (S .args .j) marks (S .pre .0) (S .pre .2) (c .before .before .store-arg .given .0 .1) (⊎-elim (λ x. inl (sym e ∙ x)) (λ x. inr (sym e ∙ x)) (c .before .before .before .match .keys1)))
 
 returns-4 : tie.Need-returns-4
-returns-4 c = let S = c .before .before .before .before .before .before .before .before .before .before .before .before .before .before .before .before .before .before .before .before in
+returns-4 c = let S = c .before .before .before .before .before .before .before .before .before .before .before .before .before .before .before .before in
     let marks = S .args .marks .now in
     subst (Node-done (S .args .q .now) (S .args .j) marks)
-    (sym (c .before .before .store3 .ensures ∙ ap₂ (λ (n : List ℕ) (r : ℕ). set n r 1) (c .before .before .before .before .before .before .before .store2 .ensures ∙ ap (λ (l : ℕ). set marks l 1) (c .before .before .before .before .before .before .before .before .left2 .ensures)) (c .before .before .before .right .ensures)))
-    (both-entered (S .args .q .now) (S .args .j) marks (S .pre .0) (S .pre .3) (S .pre .2) (sym (c .before .before .before .before .before .before .before .before .before .before .before .operator .ensures) ∙ c .before .before .before .before .before .before .before .before .before .before .match .keys2))
-
-same-length-5 : tie.Need-same-length-5
-same-length-5 c = search needs
+    (sym (c .store3 .ensures ∙ ap₂ (λ (n : List ℕ) (r : ℕ). set n r 1) (c .before .before .before .store2 .ensures ∙ ap (λ (l : ℕ). set marks l 1) (c .before .before .before .before .left2 .ensures)) (c .before .right .ensures)))
+    (both-entered (S .args .q .now) (S .args .j) marks (S .pre .0) (S .pre .2) (c .before .before .before .before .before .store-arg2 .given .0 .1) (sym (c .before .before .before .before .before .before .before .operator .ensures) ∙ c .before .before .before .before .before .before .match .keys2))
 
 returns-5 : tie.Need-returns-5
 returns-5 c = let n = c .match .rest in
@@ -95,10 +80,8 @@ enter-spec =
     tie.close
     (tie.spec
     byte-requires
-    same-length
     returns
     depth-at-requires
-    same-length-2
     returns-2
     operator-requires
     left-requires
@@ -110,9 +93,6 @@ enter-spec =
     right-requires
     cast-store-3
     store-requires-3
-    same-length-3
     returns-3
-    same-length-4
     returns-4
-    same-length-5
     returns-5)

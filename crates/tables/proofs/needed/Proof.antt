@@ -51,24 +51,22 @@ loop-holds c = let G = c .before .before .before .before .before .pre in
 sub-k : tie.Need-sub-k Inv-loop μ-loop
 sub-k c = omega arith
 
-slice-aggregate-pass-on : tie.Need-slice-aggregate-pass-on Inv-loop μ-loop
-slice-aggregate-pass-on c = sym ((c .before .before .loop .inv .1) .size)
-
 pass-on-requires : tie.Need-pass-on-requires Inv-loop μ-loop
-pass-on-requires c κs = ((c .before .before .before .before .before .before .before .before .pre, (c .before .before .loop .inv .1) .size, omega arith), λ e. (c .before .before .loop .inv .1) .inside _ e .1)
+pass-on-requires c κs = ((c .before .before .before .before .before .before .before .before .pre, omega arith), λ e. c .before .before .loop .inv .1 .inside _ e .1)
 
 loop-less : tie.Need-loop-less Inv-loop μ-loop
 loop-less c = omega arith
 
 loop-again : tie.Need-loop-again Inv-loop μ-loop
-loop-again c = let m = c .before .before .before .before .before .before .before .before .before .before .args .m .now in
-    let q = c .before .before .before .before .before .before .before .before .before .before .args .q .now in
-    let L = c .before .before .before .before .loop in
-    let n = c .before .pass-on in
-    (omega arith, passing-more (L .k - 1) (subst (Passing m q (L .need)) (omega arith) (L .inv .1)) (omega arith) (n .kept .1 .1 .0) (n .ensures .0) (n .ensures .1))
+loop-again c = let S = c .before .before .before .before .before .before .before .before .before in
+    let L = c .before .before .before .loop in
+    let n = c .pass-on in
+    (omega arith, passing-more (L .k - 1) (subst (Passing (S .args .m .now) (S .args .q .now) (L .need)) (omega arith) (L .inv .1)) (omega arith) (n .ensures .0) (n .ensures .1))
 
 returns : tie.Need-returns Inv-loop μ-loop
-returns c = let L = c .before .loop in passing-end (subst (Passing (c .before .before .before .before .before .before .before .args .m .now) (c .before .before .before .before .before .before .before .args .q .now) (L .need)) (omega arith) (L .inv .1))
+returns c = let S = c .before .before .before .before .before .before .before in
+    let L = c .before .loop in
+    passing-end (subst (Passing (S .args .m .now) (S .args .q .now) (L .need)) (omega arith) (L .inv .1))
 
 pub needed-spec : {M : Type 1} → statement M
 needed-spec =
@@ -85,7 +83,6 @@ needed-spec =
     add-k
     loop-holds
     sub-k
-    slice-aggregate-pass-on
     pass-on-requires
     loop-less
     loop-again
