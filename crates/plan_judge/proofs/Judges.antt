@@ -48,10 +48,6 @@ choices-told (logic.yes-plan x) =
 -- ---- each return
 
 module _ (d : Desk) where
-  -- A refusal leaves the desk.
-  abbrev pub turned-away : ℕ → Judging
-  turned-away k = record { answer = Refused k; choices = replicate 1365 0; desk = d }
-
   -- A verdict is answered and held, with its choices beside it.
   abbrev pub announced : Bytes → Verdict → Judging
   announced cs v =

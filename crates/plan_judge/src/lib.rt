@@ -4,25 +4,29 @@ ghost use mathlib.Core.Path.{_≡_};
 ghost use Prim.Native.Nat.{_*_, _-_, _≤_, _<_, min};
 ghost use lib.Dec.{eqb};
 ghost use lib.ListN.{length, take};
+ghost use Rattle.logic.specs.Checked.{refused};
 ghost use Rattle.logic.specs.promises.Refusal.{refusal};
-ghost use Rattle.logic.specs.Limits.{limits};
 ghost use Rattle.logic.specs.Choices.{read-plan};
 ghost use Rattle.blocks.specs.Bytes.{byte};
-ghost use Rattle.models.specs.Layout.{state-count, action-count, prop-count, model-of};
+ghost use Rattle.models.specs.Layout.{state-count, model-of};
+ghost use Rattle.prepared.specs.promises.Rows.{model-in};
 ghost use Rattle.models.specs.Grounds.{read-model};
 ghost use Rattle.questions.specs.Layout.{start-of, node-of, node-count, question-of};
 ghost use Rattle.questions.specs.Grounds.{read-question};
 ghost use Rattle.sheets.specs.Layout.{blocks-for, sheet-of};
 ghost use Rattle.sheets.specs.promises.Reader.{Blocks};
-ghost use Rattle.calls.specs.promises.Chains.{do-judge, check-on};
+ghost use Rattle.calls.specs.promises.Chains.{check-on};
 ghost use Rattle.judging.specs.promises.Asked.{Served};
 ghost use Rattle.judging.specs.promises.Announced.{Weighs};
 ghost use Rattle.plan_judge.specs.View.{choices-in, view};
 ghost use Rattle.plan_judge.specs.promises.State.{held-size};
-ghost use Rattle.plan_judge.specs.promises.Values.{unjudged, nothing, loaded-by, put-by, judged-by, written-by, filled-by, checking, checked-by};
+ghost use Rattle.plan_judge.specs.promises.Values.{unjudged, nothing, loaded-by, put-by, judging, judged-by, written-by, filled-by, checking, checked-by};
 ghost use Rattle.plan_judge.specs.promises.State.{held-both, held-goal, plan-size, size-in, shown-size, shown-weight, PlanRoot, plan-on, verdict-from};
 
 pub mod c_call;
+
+use limits::limit_refusal;
+use prepared::prepare;
 
 // The record of a shown plan: its total W, its steps, and its place in dictionary order for "equal", else 0.
 pub struct PlanRecord {
@@ -228,30 +232,6 @@ fn state_ground(d: Desk) -> u32
     0
 }
 
-// The ground, 24 or 25, on which a question is not judged on a model; 0 where there is none.
-fn limit_ground(m: &[u8], q: &[u8]) -> u32
-    requires { ⌜ refusal (read-model (now m)) ≡ 0 ⌝ }
-    requires { ⌜ refusal (read-question (state-count (now m)) (action-count (now m)) (prop-count (now m)) (now q)) ≡ 0 ⌝ }
-    ensures { λ r. ⌜ r ≡ refusal (limits (model-of (now (m .entry))) ((question-of (now (q .entry))) .nodes)) ⌝ }
-{
-    let used = models::used_entries(m);
-    limits::limit_refusal(m, &used, q)
-}
-
-// The first ground on which judge is refused: no model, no question, too many paths, too many plans; 0 where there is none.
-fn judge_ground(d: Desk) -> u32
-    ensures { λ r. ⌜ r ≡ refusal (do-judge (view d)) ⌝ }
-{
-    let k = state_ground(d);
-    if k != 0 {
-        return k;
-    }
-    let m = d.model;
-    let q = d.question;
-    let n = blocks_end(6144, d.blocks);
-    limit_ground(&m[..n], &q)
-}
-
 // The verdict that an outcome tells.
 fn verdict_of(o: judging::Outcome) -> Verdict
     ensures { λ r. ⌜ r ≡ verdict-from o ⌝ }
@@ -269,23 +249,36 @@ fn verdict_of(o: judging::Outcome) -> Verdict
     })
 }
 
+// The answer where judging is refused: the desk stays.
+fn turned_away(d: Desk, k: u32) -> Judging
+    ensures { λ r. ⌜ r ≡ judging d (refused k) ⌝ }
+{
+    let choices = [0u8; 1365];
+    Judging {
+        answer: Judgement::Refused(k),
+        choices: choices,
+        desk: d,
+    }
+}
+
 // Judges the question that is held and sets the verdict; or refuses by grounds 20, 21, 24, 25.
 pub fn judge(d: Desk) -> Judging
     ensures { λ r. ⌜ r ≡ judged-by d ⌝ }
 {
-    let ground = judge_ground(d);
-    let mut choices = [0u8; 1365];
-    if ground != 0 {
-        return Judging {
-            answer: Judgement::Refused(ground),
-            choices: choices,
-            desk: d,
-        };
+    let k = state_ground(d);
+    if k != 0 {
+        return turned_away(d, k);
     }
     let m = d.model;
     let q = d.question;
     let n = blocks_end(6144, d.blocks);
-    let o = judging::judged(&m[..n], &q, &mut choices);
+    let model = prepare(&m[..n]);
+    let l = limit_refusal(&model, &q);
+    if l != 0 {
+        return turned_away(d, l);
+    }
+    let mut choices = [0u8; 1365];
+    let o = judging::judged(&model, &q, &mut choices);
     let v = verdict_of(o);
     Judging {
         answer: Judgement::Judged(v),
@@ -454,9 +447,9 @@ fn sheet_ground(m: &[u8], q: &[u8], b: &[u8]) -> u32
 }
 
 // The total of the plan on a sheet, for a question with a "plan" root.
-fn sheet_weight(m: &[u8], q: &[u8], b: &[u8]) -> u64
-    requires { ⌜ Served (now m) (now q) × PlanRoot (now m) (now q) × Blocks 6 (now b) ⌝ }
-    ensures { λ r. ⌜ Weighs (now (m .entry)) (now (q .entry)) ((sheet-of (now (b .entry))) .choices) r ⌝ }
+fn sheet_weight(m: &[u16; 8704], q: &[u8], b: &[u8]) -> u64
+    requires { ⌜ Served (now m) (now q) × (node-of (now q) (node-count (now q) - 1) .operator ≡ 8) × Blocks 6 (now b) ⌝ }
+    ensures { λ r. ⌜ Weighs (model-in (now (m .entry))) (now (q .entry)) ((sheet-of (now (b .entry))) .choices) r ⌝ }
 {
     let mut choices = [0u8; 1470];
     let count = sheets::gather(b, &mut choices);
@@ -468,7 +461,8 @@ fn check_on(m: &[u8], q: &[u8], b: &[u8]) -> Checking
     requires { ⌜ PlanRoot (now m) (now q) ⌝ }
     ensures { λ r. ⌜ r ≡ checking (check-on (model-of (now (m .entry))) (question-of (now (q .entry))) (now (b .entry))) ⌝ }
 {
-    let l = limit_ground(m, q);
+    let model = prepare(m);
+    let l = limit_refusal(&model, q);
     if l != 0 {
         return Checking::Refused(l);
     }
@@ -476,12 +470,12 @@ fn check_on(m: &[u8], q: &[u8], b: &[u8]) -> Checking
     if k != 0 {
         return Checking::Refused(k);
     }
-    let w = sheet_weight(m, q, b);
+    let w = sheet_weight(&model, q, b);
     if sheets::weight_at(b, 0) != w {
         return Checking::Refused(11);
     }
     Checking::Accepted(Report {
-        met: bounds::meets(m, q, root(q), w),
+        met: bounds::meets(&model, q, root(q), w),
     })
 }
 

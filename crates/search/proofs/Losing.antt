@@ -1,5 +1,5 @@
--- An action that cannot win any more: what its outcomes left come to is at most what they weigh times D to the number of steps after them,
--- so where even that does not win, neither does all that the action comes to.
+-- A choice that cannot win any more: what its outcomes left come to is at most what they weigh times D to the number of steps after them,
+-- so where even that does not win, neither does all that the choice comes to.
 use Prim.Native.Nat.{ℕ, zero, suc, _+_, _*_, _-_, _^_, _≤_, _<_}
 use native.Mathlib.Omega.{arith}
 use native.Mathlib.Nat.{le-refl, add-zero, add-mul, mul-le-mul, mul-le-mul-left}
@@ -7,28 +7,21 @@ use native.Mathlib.Numerals.{add-one}
 use mathlib.Core.Path.{_≡_, refl, sym, ap, subst, _∙_}
 use mathlib.Core.Bool.{Bool, true, false, not}
 use mathlib.Core.List.{List, _∷_}
-use lib.Dec.{eqb}
 use borrow.Author.Tests.{le-leb}
-use Rattle.logic.specs.Lists.{tabulate, every}
-use Rattle.logic.specs.promises.Refusal.{refusal}
-use Rattle.logic.specs.Model.{Model, Step, true-of, outcomes}
+use Rattle.logic.specs.Lists.{tabulate}
+use Rattle.logic.specs.Model.{Model, Step}
 use Rattle.logic.specs.promises.Orders.{weights, order}
 use Rattle.logic.specs.promises.Recursion.{greatest}
-use Rattle.logic.proofs.Tests.{T→true, true→T, and-both, eqb-eq, ne-eqb, tabulate-more}
-use Rattle.blocks.specs.Bytes.{Bytes}
+use Rattle.logic.proofs.Tests.{T→true, true→T, tabulate-more}
 use Rattle.blocks.specs.Block.{sum-below}
-use Rattle.models.specs.Layout.{state-count, denominator-of, state-mask, post-of, outcome-of, entries, model-of}
-use Rattle.models.specs.Grounds.{read-model, cell-consistent}
-use Rattle.models.proofs.Passed.{passed-all, cell-passed}
-use Rattle.models.proofs.Held.{states-held, denominator-held, accepted}
-use Rattle.models.proofs.Readable.{readable}
-use Rattle.models.proofs.Rows.{outcomes-are, entries-few}
+use Rattle.models.specs.Layout.{state-count, denominator-of}
+use Rattle.prepared.specs.promises.Rows.{choices-in, outcomes-in, step-in, row-in, model-in, Prepared}
+use Rattle.prepared.proofs.Laws.{states-are, denominator-is, weights-sum}
 use Rattle.bounds.proofs.Powers.{power-le}
-use Rattle.evaluation.proofs.Trails.{fair}
 use Rattle.search.specs.promises.Greatest.{worth, best-left}
 use Rattle.search.specs.promises.Buffers.{wins}
 use Rattle.search.proofs.Orders.{ordered}
-use Rattle.search.proofs.Bounds.{greatest-small, denominator-most}
+use Rattle.search.proofs.Bounds.{greatest-small}
 use Rattle.search.proofs.Walking.{worth-more}
 
 -- What is no better than what does not win does not win.
@@ -54,65 +47,54 @@ unfolding sum-below
 below-on f i zero = rw (add-zero i) (le-refl _)
 below-on f i (suc j) = let q : i + suc j ≡ suc (i + j) = omega arith in rw q (omega (arith, below-on f i j))
 
--- What the first i outcomes of an action weigh.
-abbrev pub weighed : (m : Bytes) (s a i : ℕ) → ℕ
-weighed m s a i = sum-below i (λ o. (outcome-of m s a o) .weight)
+-- What the first i outcomes of the choice at place a weigh.
+abbrev pub weighed : (m : List ℕ) (s a i : ℕ) → ℕ
+weighed m s a i = sum-below i (λ o. (step-in m s a o) .weight)
 
-pub weighed-none : (m : Bytes) (s a : ℕ) → weighed m s a 0 ≡ 0
+pub weighed-none : (m : List ℕ) (s a : ℕ) → weighed m s a 0 ≡ 0
 unfolding sum-below
 weighed-none m s a = refl
 
-module _ (m : Bytes) (passed : refusal (read-model m) ≡ 0) (s a : ℕ) (here : s < state-count m) where
-  -- All of them weigh D.
-  weighed-all : 0 < entries m s a → weighed m s a (entries m s a) ≡ denominator-of m
-  unfolding cell-consistent
-  weighed-all some =
-      let n = entries m s a in
-      let f : ℕ → Bool = λ i. true-of (post-of m a i) (state-mask m ((outcome-of m s a i) .target)) in
-      let e = and-both (every n f) _ (cell-passed m (passed-all m passed) s a here (fair m passed s a 0 here some .action)) .1 in
-      let z : eqb n 0 ≡ false = ne-eqb n 0 (λ q. omega arith) in
-      eqb-eq _ _ (rw z at e)
-
+module _ {m : List ℕ} (w : Prepared m) (s a : ℕ) (here : s < state-count m) (place : a < choices-in m s) where
   -- Those up to one and that one weigh no more.
-  weighed-most : (i : ℕ) → i < entries m s a → weighed m s a i + (outcome-of m s a i) .weight ≤ denominator-of m
+  weighed-most : (i : ℕ) → i < outcomes-in m s a → weighed m s a i + (step-in m s a i) .weight ≤ denominator-of m
   unfolding sum-below
   weighed-most i u =
-      let n = entries m s a in
+      let n = outcomes-in m s a in
       let j : suc i + (n - suc i) ≡ n = omega arith in
-      omega (arith, below-on (λ o. (outcome-of m s a o) .weight) (suc i) (n - suc i), ap (weighed m s a) j, weighed-all (omega arith))
+      omega (arith, below-on (λ o. (step-in m s a o) .weight) (suc i) (n - suc i), ap (weighed m s a) j, weights-sum w s here a place)
 
   -- What is left weighs, one outcome further, as much less as that one weighs.
-  pub rest-less : (i rest w : ℕ) → i < entries m s a → rest + weighed m s a i ≡ denominator-of m → w ≡ (outcome-of m s a i) .weight
-      → (w ≤ rest) × (rest - w + weighed m s a (i + 1) ≡ denominator-of m)
+  pub rest-less : (i rest x : ℕ) → i < outcomes-in m s a → rest + weighed m s a i ≡ denominator-of m → x ≡ (step-in m s a i) .weight
+      → (x ≤ rest) × (rest - x + weighed m s a (i + 1) ≡ denominator-of m)
   unfolding sum-below
-  rest-less i rest w u left e =
+  rest-less i rest x u left e =
       let h = weighed-most i u in
       (omega (arith, h), omega (arith, h, ap (weighed m s a) (add-one i)))
 
   module _ (least : Bool) (k : ℕ) (f : List Step → ℕ) (bits : (r : List Step) → f r ≤ 1) where
     abbrev M : Model
-    M = model-of m
+    M = model-in m
 
     abbrev all-after : ℕ
     all-after = denominator-of m ^ k
 
     -- What the first i outcomes come to.
     abbrev come : ℕ → ℕ
-    come i = worth least M k f (tabulate i (outcome-of m s a))
+    come i = worth least M k f (tabulate i (step-in m s a))
 
     -- One more.
-    come-more : (i : ℕ) → i < entries m s a → (come i ≤ come (suc i)) × (come (suc i) ≤ come i + (outcome-of m s a i) .weight * all-after)
+    come-more : (i : ℕ) → i < outcomes-in m s a → (come i ≤ come (suc i)) × (come (suc i) ≤ come i + (step-in m s a i) .weight * all-after)
     come-more i u =
-        let o : Step = outcome-of m s a i in
-        let F = fair m passed s a i here u in
+        let o : Step = step-in m s a i in
         let g : greatest (weights (order least)) M k (o .target) (λ r. f (o ∷ r)) ≤ all-after =
-        subst (λ d. greatest (weights (order least)) M k (o .target) (λ r. f (o ∷ r)) ≤ d ^ k) (denominator-held m)
-        (greatest-small least M (accepted m (passed-all m passed)) k (o .target) (λ r. f (o ∷ r)) (rw (states-held m) (F .reaches)) (λ r. bits (o ∷ r))) in
-        let e = ap (worth least M k f) (tabulate-more (outcome-of m s a) i) ∙ worth-more least M k f (tabulate i (outcome-of m s a)) o in
+        subst (λ d. greatest (weights (order least)) M k (o .target) (λ r. f (o ∷ r)) ≤ d ^ k) (denominator-is m)
+        (greatest-small least M (w .accepted) k (o .target) (λ r. f (o ∷ r)) (rw (states-are m) (w .inside s a i here (place, u))) (λ r. bits (o ∷ r))) in
+        let e = ap (worth least M k f) (tabulate-more (step-in m s a) i) ∙ worth-more least M k f (tabulate i (step-in m s a)) o in
         (omega (arith, e), omega (arith, e, mul-le-mul-left (o .weight) g))
 
     -- And j more: at most what they weigh, times D to the k.
-    come-on : (i j : ℕ) → i + j ≤ entries m s a
+    come-on : (i j : ℕ) → i + j ≤ outcomes-in m s a
         → (come i ≤ come (i + j)) × (come (i + j) + weighed m s a i * all-after ≤ come i + weighed m s a (i + j) * all-after)
     unfolding sum-below
     come-on i zero h = rw (add-zero i) (le-refl _, le-refl _)
@@ -120,37 +102,36 @@ module _ (m : Bytes) (passed : refusal (read-model m) ≡ 0) (s a : ℕ) (here :
         let q : i + suc j ≡ suc (i + j) = omega arith in
         let n = come-on i j (omega arith) in
         let e = come-more (i + j) (omega arith) in
-        let z = add-mul (weighed m s a (i + j)) ((outcome-of m s a (i + j)) .weight) all-after in
+        let z = add-mul (weighed m s a (i + j)) ((step-in m s a (i + j)) .weight) all-after in
         rw q (omega (arith, n .0, e .0), omega (arith, n .1, e .1, z))
 
     -- After i outcomes: `rest` is what those left weigh.
-    module _ (i sum rest : ℕ) (u : i < entries m s a) (e : sum ≡ come i) (left : rest + weighed m s a i ≡ denominator-of m) where
+    module _ (i sum rest : ℕ) (u : i < outcomes-in m s a) (e : sum ≡ come i) (left : rest + weighed m s a i ≡ denominator-of m) where
       abbrev limit : ℕ
       limit = best-left least (denominator-of m) k sum rest
 
       abbrev all : ℕ
-      all = worth least M k f (outcomes M s a)
+      all = worth least M k f (row-in m s a)
 
       -- The limit fits its type.
       pub limit-fits : k ≤ 5 → sum ≤ i * 100 ^ 6 → (denominator-of m ≤ 100) × (sum + rest * all-after < 2 ^ 64)
       limit-fits few small =
-          let d = denominator-most m (passed-all m passed .sizes) in
+          let d = w .parts in
           let r : rest ≤ 100 = omega arith in
           let p : rest * all-after ≤ 100 * 100 ^ 5 = mul-le-mul r (power-le (denominator-of m) k 5 d few) in
-          (d, omega (arith, entries-few m (readable m passed) s a))
+          (d, omega (arith, w .few-outcomes s a here place))
 
       -- All of them come to `sum` and more, and to no more than those left can add.
       between : (sum ≤ all) × (all ≤ sum + rest * all-after)
       between =
-          let n = entries m s a in
+          let n = outcomes-in m s a in
           let j : i + (n - i) ≡ n = omega arith in
           let g = come-on i (n - i) (omega arith) in
-          let z = ap (λ x. x * all-after) (left ∙ sym (weighed-all (omega arith))) in
+          let z = ap (λ x. x * all-after) (left ∙ sym (weights-sum w s here a place)) in
           let y = add-mul rest (weighed m s a i) all-after in
-          let x : all ≡ come n = ap (worth least M k f) (outcomes-are m s a) in
           let c : come (i + (n - i)) ≡ come n = ap come j in
-          let w : weighed m s a (i + (n - i)) ≡ weighed m s a n = ap (weighed m s a) j in
-          (omega (arith, x, c, e, g .0), omega (arith, x, c, e, g .1, y, z, ap (λ x. x * all-after) w))
+          let x : weighed m s a (i + (n - i)) ≡ weighed m s a n = ap (weighed m s a) j in
+          (omega (arith, c, e, g .0), omega (arith, c, e, g .1, y, z, ap (λ x. x * all-after) x))
 
       -- Where the limit does not win, neither do they, nor those walked so far.
       pub limit-lost : (found : Bool) (other : ℕ) → wins found other limit least ≡ false → (wins found other all least ≡ false) × (wins found other sum least ≡ false)

@@ -1,25 +1,19 @@
 -- The choices tried so far: with one more, the best is the better of the two, and it stands at the bottom of the stack.
-use Prim.Native.Nat.{ℕ, suc, _+_, _≤_, _<_, zero-le}
+use Prim.Native.Nat.{ℕ, zero, suc, _+_, _≤_, _<_, zero-le}
 use native.Mathlib.Omega.{arith}
 use native.Mathlib.Numerals.{add-one}
-use native.Mathlib.Nat.{pos-of-ne-zero}
 use mathlib.Core.Path.{_≡_, refl, sym, ap, ap₂, subst, _∙_}
 use mathlib.Core.Bool.{Bool, true, false, not, cond, _||_, false≢true}
-use mathlib.Core.List.{List, [], _∷_, _++_, append-nil}
-use lib.Dec.{ltb}
+use mathlib.Core.List.{List, [], _∷_, _++_}
 use lib.ListN.{length, set}
-use borrow.Author.Tests.{lt-ltb, le-ltb}
-use Rattle.logic.specs.Lists.{keep, is-empty, count-from}
-use Rattle.logic.specs.promises.Refusal.{refusal}
-use Rattle.logic.specs.Model.{Model, Step, enabled}
+use Rattle.logic.specs.Lists.{is-empty, count-from, tabulate}
+use Rattle.logic.specs.Model.{Model, Step, enabled, outcomes}
 use Rattle.logic.specs.promises.Orders.{weights, order}
 use Rattle.logic.specs.promises.Recursion.{first-best, best-choice}
-use Rattle.logic.proofs.Tests.{keep-append, count-more}
-use Rattle.blocks.specs.Bytes.{Bytes}
-use Rattle.models.specs.Layout.{state-count, action-count, entries, model-of}
-use Rattle.models.specs.Grounds.{read-model}
-use Rattle.models.proofs.Passed.{passed-all, passed-sized}
-use Rattle.models.proofs.Held.{states-held, enabled-entries, accepted}
+use Rattle.logic.proofs.Tests.{tabulate-more}
+use Rattle.models.specs.Layout.{state-count}
+use Rattle.prepared.specs.promises.Rows.{choices-in, choice-in, row-in, model-in, Prepared}
+use Rattle.prepared.proofs.Laws.{some-choice}
 use Rattle.extension.specs.promises.Choices.{room}
 use Rattle.search.specs.promises.Buffers.{Wrote, Keeps, wins, Picked, Candidate, walked, lost}
 use Rattle.search.specs.declared.Best.{Best}
@@ -28,16 +22,6 @@ use Rattle.search.proofs.Orders.{ordered, better, first-best-more}
 use Rattle.search.proofs.Stack.{wrote-none, wrote-choice, wrote-inside, wrote-both, wrote-first, wrote-over}
 use Rattle.search.proofs.Bounds.{plan-few}
 use Rattle.search.proofs.Steps.{worth-of, plan-from, best-of, greatest-step, choices-step}
-
--- One number more is tested.
-pub kept-more : (f : ℕ → Bool) (n : ℕ) → keep f (count-from 0 (n + 1)) ≡ keep f (count-from 0 n) ++ cond (f n) (n ∷ []) []
-unfolding keep
-kept-more f n =
-    let z : 0 + n ≡ n = omega arith in
-    ap (λ i. keep f (count-from 0 i)) (add-one n)
-    ∙ ap (keep f) (count-more 0 n)
-    ∙ keep-append f (count-from 0 n) ((0 + n) ∷ [])
-    ∙ ap (λ i. keep f (count-from 0 n) ++ cond (f i) (i ∷ []) []) z
 
 pub more-some : (l : List ℕ) (a : ℕ) → is-empty (l ++ (a ∷ [])) ≡ false
 unfolding is-empty
@@ -135,95 +119,77 @@ module _ (least : Bool) (M : Model) (k s : ℕ) (f : List Step → ℕ) where
             (best-more least M k s f l a (b .found) (b .value) (w .value) (T .found) (T .value) v true e) e
         go false e = tried-lost (plan-from least M k s f a) W (subst (λ z. wins (b .found) (b .value) z least ≡ false) v e) e
 
--- ---- the loop over the actions
+-- ---- the loop over the choices
 
--- The enabled actions below n.
-abbrev pub enabled-below : Bytes → ℕ → ℕ → List ℕ
-enabled-below m s n = keep (λ a. ltb 0 (entries m s a)) (count-from 0 n)
+-- The first n choices of a state.
+abbrev pub first : List ℕ → ℕ → ℕ → List ℕ
+first m s n = tabulate n (choice-in m s)
 
-module _ (m : Bytes) (s a : ℕ) where
-  pub enabled-skip : entries m s a ≡ 0 → enabled-below m s (a + 1) ≡ enabled-below m s a
-  enabled-skip e =
-      kept-more (λ a. ltb 0 (entries m s a)) a
-      ∙ ap (λ t. enabled-below m s a ++ cond t (a ∷ []) []) (le-ltb 0 (entries m s a) (omega arith))
-      ∙ append-nil (enabled-below m s a)
+module _ (m : List ℕ) (s : ℕ) where
+  pub first-more : (n : ℕ) → first m s (n + 1) ≡ first m s n ++ (choice-in m s n ∷ [])
+  first-more n = ap (first m s) (add-one n) ∙ tabulate-more (choice-in m s) n
 
-  pub enabled-one : (entries m s a ≡ 0 → ⊥) → enabled-below m s (a + 1) ≡ enabled-below m s a ++ (a ∷ [])
-  enabled-one z =
-      kept-more (λ a. ltb 0 (entries m s a)) a
-      ∙ ap (λ t. enabled-below m s a ++ cond t (a ∷ []) []) (lt-ltb 0 (entries m s a) (omega (arith, pos-of-ne-zero z)))
+  pub first-some : (n : ℕ) → 0 < n → is-empty (first m s n) ≡ false
+  first-some zero h = absurd (omega arith)
+  first-some (suc n) h = ap is-empty (tabulate-more (choice-in m s) n) ∙ more-some (first m s n) (choice-in m s n)
 
--- The state and its actions are in the tables.
-module _ (m : Bytes) (passed : refusal (read-model m) ≡ 0) {s : ℕ} (here : s < state-count m) where
-  pub sizes-in : (s < 32) × (action-count m ≤ 8)
-  sizes-in = let z = passed-sized m (passed-all m passed) in omega (arith, here, z .states, z .actions)
+module _ (least : Bool) (m : List ℕ) (f : List Step → ℕ) (s k : ℕ) where
+  pub tried-start : (at : ℕ) (c : List ℕ) → Tried least (model-in m) k s f (first m s 0) at c c (record { found = false; value = 0; end = at })
+  unfolding tabulate count-from
+  tried-start at c = tried-none least (model-in m) k s f at c
 
-  -- Some action is enabled.
-  pub enabled-some : is-empty (enabled-below m s (action-count m)) ≡ false
-  unfolding is-empty
-  enabled-some =
-      let p = passed-all m passed in
-      let some = (accepted m p) .some-choice s (rw (states-held m) here) in
-      ap is-empty (sym (enabled-entries m p s here) ∙ some .2)
+  module _ (w : Prepared m) (here : s < state-count m) where
+    -- The choice at place i, walked.
+    module _ (i : ℕ) (place : i < choices-in m s) (at : ℕ) (c0 c1 c2 : List ℕ) (b : Best) (x : Walked) (inside : at ≤ length c0) (room-here : b .end < length c1)
+        (T : Tried least (model-in m) k s f (first m s i) at c0 c1 b)
+        (W : Candidate (b .found) (b .value) least m f (row-in m s i) k (b .end + 1) (set c1 (b .end) (choice-in m s i)) c2 x) where
+      abbrev a : ℕ
+      a = choice-in m s i
 
-module _ (least : Bool) (m : Bytes) (f : List Step → ℕ) (s k : ℕ) where
-  pub tried-start : (at : ℕ) (c : List ℕ) → Tried least (model-of m) k s f (enabled-below m s 0) at c c (record { found = false; value = 0; end = at })
-  unfolding keep count-from
-  tried-start at c = tried-none least (model-of m) k s f at c
+      -- What the walk wrote stands behind the best, with the choice before it.
+      placed : (y : List ℕ) → Wrote y (b .end + 1) (set c1 (b .end) a) c2 (x .end) → Wrote (a ∷ y) (b .end) c1 c2 (x .end)
+      placed y h = wrote-both (wrote-choice a (b .end) c1 room-here) h
 
-  -- The action a is not enabled.
-  pub turn-skipped : (a at : ℕ) (c0 c : List ℕ) (b : Best) → entries m s a ≡ 0
-      → Tried least (model-of m) k s f (enabled-below m s a) at c0 c b → Tried least (model-of m) k s f (enabled-below m s (a + 1)) at c0 c b
-  turn-skipped a at c0 c b e T = subst (λ l. Tried least (model-of m) k s f l at c0 c b) (sym (enabled-skip m s a e)) T
+      behind : {l : List Step} → Candidate (b .found) (b .value) least m f l k (b .end + 1) (set c1 (b .end) a) c2 x → (y : List ℕ) × Wrote (a ∷ y) (b .end) c1 c2 (x .end)
+      behind (walked h) = (_, placed _ (h .wrote))
+      behind (lost e g y h) = (y, placed y h)
 
-  module _ (a at : ℕ) (c0 c1 c2 : List ℕ) (b : Best) (w : Walked) (inside : at ≤ length c0) (room-here : b .end < length c1)
-      (T : Tried least (model-of m) k s f (enabled-below m s a) at c0 c1 b)
-      (W : Candidate (b .found) (b .value) least m f s a k (b .end + 1) (set c1 (b .end) a) c2 w) where
-    -- What the walk wrote stands behind the best, with the choice before it.
-    placed : (x : List ℕ) → Wrote x (b .end + 1) (set c1 (b .end) a) c2 (w .end) → Wrote (a ∷ x) (b .end) c1 c2 (w .end)
-    placed x h = wrote-both (wrote-choice a (b .end) c1 room-here) h
+      pub keeps-inside : (at ≤ b .end) × (b .end ≤ x .end) × (x .end ≤ length c2)
+      keeps-inside = let p = behind W .1 in (omega (arith, T .wrote .next), omega (arith, p .next), wrote-inside (omega arith) p)
 
-    behind : Candidate (b .found) (b .value) least m f s a k (b .end + 1) (set c1 (b .end) a) c2 w → (x : List ℕ) × Wrote (a ∷ x) (b .end) c1 c2 (w .end)
-    behind (walked h) = (_, placed _ (h .wrote))
-    behind (lost e g x h) = (x, placed x h)
+      pub turn-taken : (c3 : List ℕ) (r : Best) → Keeps b x at least c2 c3 r → Tried least (model-in m) k s f (first m s (i + 1)) at c0 c3 r
+      turn-taken c3 r K =
+          subst (λ l. Tried least (model-in m) k s f l at c0 c3 r) (sym (first-more m s i))
+          (go (subst (λ l. Candidate (b .found) (b .value) least m f l k (b .end + 1) (set c1 (b .end) a) c2 x) (sym (w .rows s i here place)) W))
+        where
+          go : Candidate (b .found) (b .value) least m f (outcomes (model-in m) s a) k (b .end + 1) (set c1 (b .end) a) c2 x
+              → Tried least (model-in m) k s f (first m s i ++ (a ∷ [])) at c0 c3 r
+          go (walked h) = tried-more least (model-in m) k s f (first m s i) a at c0 c1 c2 c3 b r x inside T K (h .value) (placed _ (h .wrote))
+          go (lost e g y h) = tried-lost least (model-in m) k s f (first m s i) a at c0 c1 c2 c3 b r x inside T K (a ∷ y) (placed y h) e g
 
-    pub keeps-inside : (at ≤ b .end) × (b .end ≤ w .end) × (w .end ≤ length c2)
-    keeps-inside = let p = behind W .1 in (omega (arith, T .wrote .next), omega (arith, p .next), wrote-inside (omega arith) p)
+    module _ (at : ℕ) (c0 c : List ℕ) (b : Best) where
+      -- The best takes no more room than a plan.
+      pub tried-room : (l : List ℕ) → Tried least (model-in m) k s f l at c0 c b → b .end ≤ at + room (suc k)
+      unfolding so-far
+      tried-room l T = omega (arith, T .wrote .next, go (is-empty l))
+        where
+          go : (e : Bool) → length (cond e [] (plan-from least (model-in m) k s f (best-of least (model-in m) k s f l))) ≤ room (suc k)
+          go true = zero-le
+          go false = plan-few w least k s f _
 
-    pub turn-taken : (c3 : List ℕ) (r : Best) → (entries m s a ≡ 0 → ⊥) → Keeps b w at least c2 c3 r
-        → Tried least (model-of m) k s f (enabled-below m s (a + 1)) at c0 c3 r
-    turn-taken c3 r z K = subst (λ l. Tried least (model-of m) k s f l at c0 c3 r) (sym (enabled-one m s a z)) (go W)
-      where
-        go : Candidate (b .found) (b .value) least m f s a k (b .end + 1) (set c1 (b .end) a) c2 w
-            → Tried least (model-of m) k s f (enabled-below m s a ++ (a ∷ [])) at c0 c3 r
-        go (walked h) = tried-more least (model-of m) k s f (enabled-below m s a) a at c0 c1 c2 c3 b r w inside T K (h .value) (placed _ (h .wrote))
-        go (lost e g x h) = tried-lost least (model-of m) k s f (enabled-below m s a) a at c0 c1 c2 c3 b r w inside T K (a ∷ x) (placed x h) e g
-
-  module _ (passed : refusal (read-model m) ≡ 0) (at : ℕ) (c0 c : List ℕ) (b : Best) where
-    -- The best takes no more room than a plan.
-    pub tried-room : (l : List ℕ) → Tried least (model-of m) k s f l at c0 c b → b .end ≤ at + room (suc k)
-    unfolding so-far
-    tried-room l T = omega (arith, T .wrote .next, go (is-empty l))
-      where
-        go : (e : Bool) → length (cond e [] (plan-from least (model-of m) k s f (best-of least (model-of m) k s f l))) ≤ room (suc k)
-        go true = zero-le
-        go false = plan-few m passed least k s f _
-
-    -- The best of all enabled choices.
-    module _ (here : s < state-count m) where
-      pub picked-best : (a : ℕ) → a ≡ best-of least (model-of m) k s f (enabled-below m s (action-count m))
-          → b .value ≡ worth-of least (model-of m) k s f a → Wrote (plan-from least (model-of m) k s f a) at c0 c (b .end) → Picked least m f s (suc k) at c0 c b
-      picked-best a e v w =
-          let h : a ≡ best-of least (model-of m) k s f (enabled (model-of m) s) =
-          e ∙ ap (best-of least (model-of m) k s f) (sym (enabled-entries m (passed-all m passed) s here)) in
+      -- The best of all choices.
+      pub picked-best : (a : ℕ) → a ≡ best-of least (model-in m) k s f (first m s (choices-in m s))
+          → b .value ≡ worth-of least (model-in m) k s f a → Wrote (plan-from least (model-in m) k s f a) at c0 c (b .end) → Picked least m f s (suc k) at c0 c b
+      picked-best a e v h =
+          let g : a ≡ best-of least (model-in m) k s f (enabled (model-in m) s) = e ∙ ap (best-of least (model-in m) k s f) (sym (w .choices s here)) in
           record {
-            value = v ∙ ap (worth-of least (model-of m) k s f) h ∙ sym (greatest-step least (model-of m) k s f);
-            wrote = subst (λ l. Wrote l at c0 c (b .end)) (ap (plan-from least (model-of m) k s f) h ∙ sym (choices-step least (model-of m) k s f)) w;
+            value = v ∙ ap (worth-of least (model-in m) k s f) g ∙ sym (greatest-step least (model-in m) k s f);
+            wrote = subst (λ l. Wrote l at c0 c (b .end)) (ap (plan-from least (model-in m) k s f) g ∙ sym (choices-step least (model-in m) k s f)) h;
           }
 
-      pub picked-all : Tried least (model-of m) k s f (enabled-below m s (action-count m)) at c0 c b → Picked least m f s (suc k) at c0 c b
+      pub picked-all : Tried least (model-in m) k s f (first m s (choices-in m s)) at c0 c b → Picked least m f s (suc k) at c0 c b
       unfolding so-far
       picked-all T =
-          let z : ℕ = best-of least (model-of m) k s f (enabled-below m s (action-count m)) in
-          picked-best z refl (T .value (enabled-some m passed here))
-          (subst (λ t. Wrote (cond t [] (plan-from least (model-of m) k s f z)) at c0 c (b .end)) (enabled-some m passed here) (T .wrote))
+          let z : ℕ = best-of least (model-in m) k s f (first m s (choices-in m s)) in
+          let some = first-some m s (choices-in m s) (some-choice w s here) in
+          picked-best z refl (T .value some) (subst (λ t. Wrote (cond t [] (plan-from least (model-in m) k s f z)) at c0 c (b .end)) some (T .wrote))

@@ -4,23 +4,18 @@ ghost use mathlib.Core.Path.{_≡_};
 ghost use mathlib.Core.Bool.{not};
 ghost use mathlib.Core.List.{_++_};
 ghost use Prim.Native.Nat.{_+_, _*_, _<_, _≤_, _^_};
-ghost use lib.ListN.{length, take, drop, getD};
-ghost use Rattle.logic.specs.promises.Refusal.{refusal};
+ghost use lib.ListN.{length, take, drop};
 ghost use Rattle.logic.specs.Formula.{depth};
 ghost use Rattle.logic.specs.promises.Orders.{order};
-ghost use Rattle.models.specs.Grounds.{read-model};
 ghost use Rattle.models.specs.Layout.{state-count, denominator-of};
-ghost use Rattle.models.specs.promises.Used.{Used};
+ghost use Rattle.prepared.specs.promises.Rows.{choices-in, row-in, Prepared};
 ghost use Rattle.extension.specs.promises.Choices.{room};
 ghost use Rattle.evaluation.specs.promises.Learnt as learnt;
 ghost use Rattle.evaluation.specs.promises.Reached.{formula, root-of, on-path, Ready};
 ghost use Rattle.evaluation.specs.promises.Known.{Back};
-ghost use Rattle.lanes.specs.promises.Lanes.{Rewards, Sums};
 ghost use Rattle.search.specs.promises.Greatest.{Finds, best-left};
 ghost use Rattle.search.specs.promises.Buffers.{Keeps, Setting, Picked, Candidate, Ends};
 ghost use Rattle.search.specs.promises.Buffers as spec;
-use blocks::byte;
-use blocks::wide;
 use bounds::power;
 use evaluation::known;
 use evaluation::learn;
@@ -28,7 +23,21 @@ use evaluation::step;
 use lanes::total;
 use last::late;
 use last::masks::mask;
-use models::weight;
+use prepared::choice;
+use prepared::denominator;
+use prepared::outcomes;
+use prepared::weight;
+
+// Where a search stands: h steps led from the start to the state s, and k are left; choices are written from `at` on. And whether the least
+// total is looked for.
+pub struct Spot {
+    start: u8,
+    h: u8,
+    s: u8,
+    k: u8,
+    at: usize,
+    least: bool,
+}
 
 // What was found: the best plan's total, and the number of its choices.
 pub struct Found {
@@ -69,15 +78,20 @@ fn wins(found: bool, other: u64, value: u64, least: bool) -> bool
     true
 }
 
-// Whether an action cannot win any more: its outcomes walked so far come to `sum`, and `rest` is what those left weigh.
-fn hopeless(m: &[u8], found: bool, other: u64, sum: u64, rest: u64, k: u8, least: bool) -> bool
+// Whether a choice cannot win any more: its outcomes walked so far come to `sum`, and `rest` is what those left weigh.
+fn hopeless(m: &[u16; 8704], best: Best, sum: u64, rest: u64, k: u8, least: bool) -> bool
     requires { ⌜ (denominator-of (now m) ≤ 100) × (k ≤ 6) × (sum + rest * denominator-of (now m) ^ k < 2 ^ 64) ⌝ }
-    ensures { λ r. ⌜ r ≡ not (spec.wins found other (best-left least (denominator-of (now (m .entry))) k sum rest) least) ⌝ }
+    ensures { λ r. ⌜ r ≡ not (spec.wins (best .found) (best .value) (best-left least (denominator-of (now (m .entry))) k sum rest) least) ⌝ }
 {
     if least {
-        return !wins(found, other, sum, least);
+        return !wins(best.found, best.value, sum, least);
     }
-    !wins(found, other, sum + rest * power(wide(m, 5), k), least)
+    !wins(
+        best.found,
+        best.value,
+        sum + rest * power(denominator(m), k),
+        least,
+    )
 }
 
 // Moves n bytes down to a place, which they may overlap.
@@ -111,11 +125,11 @@ fn keep(choices: &mut [u8], b: Best, w: Walked, at: usize, least: bool) -> Best
     b
 }
 
-fn add_mul(sum: u64, w: usize, v: u64) -> u64
+fn add_mul(sum: u64, w: u64, v: u64) -> u64
     requires { ⌜ sum + w * v < 2 ^ 64 ⌝ }
     ensures { λ r. ⌜ r ≡ sum + w * v ⌝ }
 {
-    sum + w as u64 * v
+    sum + w * v
 }
 
 // The condition's own node, the last of its cone.
@@ -124,15 +138,6 @@ fn root(cone: &[u8]) -> u8
     ensures { λ r. ⌜ r ≡ root-of (now (cone .entry)) ⌝ }
 {
     cone[cone.len() - 1]
-}
-
-// How many outcomes an action has in a state; 0 where it is not enabled. `models::used_outcomes` for an action known to be below 8: this is
-// the innermost loop.
-fn count(used: &[u8; 264], s: u8, a: u8) -> u8
-    requires { ⌜ (s < 32) × (a < 8) ⌝ }
-    ensures { λ r. ⌜ r ≡ getD (now (used .entry)) (8 * s + a) 0 ⌝ }
-{
-    used[8 * s as usize + a as usize]
 }
 
 // What is found where no step is left: the condition's value, which is known there.
@@ -147,37 +152,31 @@ fn leaf(cone: &[u8], v: &[u8], at: usize) -> Best
     }
 }
 
-// Tries the actions of a state from which one step is left: x has, in the lane of each outcome, the condition's value on its path.
+// Tries the choices of a state from which one step is left: x has, in the lane of each outcome, the condition's value on its path.
 fn last_choice(
-    m: &[u8],
-    used: &[u8; 264],
-    sums: &[u16; 4096],
+    m: &[u16; 8704],
     choices: &mut [u8],
     x: u32,
-    s: u8,
+    s: usize,
     at: usize,
     least: bool,
 ) -> Best
-    requires { ⌜ (refusal (read-model (now m)) ≡ 0) × Used (now m) (now used) × (s < state-count (now m)) × (at + 3 ≤ length (now choices)) × Sums (now m) (now sums) ⌝ }
+    requires { ⌜ Prepared (now m) × (s < state-count (now m)) × (at + 3 ≤ length (now choices)) ⌝ }
     ensures { λ r. ⌜ Ends least (now (m .entry)) s x at (now (choices .entry)) (now (choices .exit)) r ⌝ }
 {
-    let n = byte(m, 3);
-    let mut found = false;
-    let mut value: u64 = 0;
-    let mut action: u8 = 0;
-    let mut a: u8 = 0;
-    while a < n {
-        if count(used, s, a) != 0 {
-            let v = total(m, sums, x, s, a);
-            if wins(found, value, v, least) {
-                found = true;
-                value = v;
-                action = a;
-            }
+    let n = prepared::choices(m, s);
+    let mut value = total(m, x, s, 0);
+    let mut place: usize = 0;
+    let mut i: usize = 1;
+    while i < n {
+        let v = total(m, x, s, i);
+        if exceeds(v, value, least) {
+            value = v;
+            place = i;
         }
-        a += 1;
+        i += 1;
     }
-    choices[at] = action;
+    choices[at] = choice(m, s, place);
     Best {
         found: true,
         value: value,
@@ -187,28 +186,21 @@ fn last_choice(
 
 // Picks the best choice where one step is left, for all outcomes at once. Its one call is in `walk`, into which it is built for speed.
 fn pick_last(
-    m: &[u8],
-    used: &[u8; 264],
+    m: &[u16; 8704],
     q: &[u8],
     depths: &[u32],
     truth: &[u8],
     cone: &[u8],
     late: &[u8; 40],
-    rewards: &[i32; 1024],
-    sums: &[u16; 4096],
-    trail: &[u8],
-    gains: &[i32],
-    v: &[u8],
+    trail: &[u16; 6],
+    gains: &[i32; 7],
+    v: &[u8; 280],
     choices: &mut [u8],
-    start: u8,
-    h: u8,
-    s: u8,
-    at: usize,
-    least: bool,
+    spot: Spot,
 ) -> Best
-    requires { ⌜ Setting (now m) (now used) (now q) (now depths) (now truth) (now cone) (now late) (now rewards) (now sums) start (now trail) (now gains) (now v) h s 1 ⌝ }
-    requires { ⌜ at + 3 * room 1 ≤ length (now choices) ⌝ }
-    ensures { λ r. ⌜ Picked least (now (m .entry)) (on-path (now (m .entry)) (now (q .entry)) start (now (cone .entry)) (take h (now (trail .entry)))) s 1 at (now (choices .entry)) (now (choices .exit)) r ⌝ }
+    requires { ⌜ Setting (now m) (now q) (now depths) (now truth) (now cone) (now late) (spot .start) (now trail) (now gains) (now v) (spot .h) (spot .s) 1 ⌝ }
+    requires { ⌜ spot .at + 3 * room 1 ≤ length (now choices) ⌝ }
+    ensures { λ r. ⌜ Picked (spot .least) (now (m .entry)) (on-path (now (m .entry)) (now (q .entry)) (spot .start) (now (cone .entry)) (take (spot .h) (now (trail .entry)))) (spot .s) 1 (spot .at) (now (choices .entry)) (now (choices .exit)) r ⌝ }
 {
     let x = mask(
         m,
@@ -217,128 +209,110 @@ fn pick_last(
         truth,
         cone,
         late,
-        rewards,
         trail,
         gains,
         v,
-        start,
-        h,
-        s,
+        spot.start,
+        spot.h,
+        spot.s,
     );
-    last_choice(m, used, sums, choices, x, s, at, least)
+    last_choice(m, choices, x, spot.s as usize, spot.at, spot.least)
 }
 
-// Picks the best choice in the state s, with k steps left, and writes its plan's choices from `at` on.
+// Picks the best choice in the state where a search stands, and writes its plan's choices.
 fn pick(
-    m: &[u8],
-    used: &[u8; 264],
+    m: &[u16; 8704],
     q: &[u8],
     depths: &[u32],
     truth: &[u8],
     cone: &[u8],
     late: &[u8; 40],
-    rewards: &[i32; 1024],
-    sums: &[u16; 4096],
-    trail: &mut [u8],
-    gains: &mut [i32],
-    v: &mut [u8],
+    trail: &mut [u16; 6],
+    gains: &mut [i32; 7],
+    v: &mut [u8; 280],
     choices: &mut [u8],
-    start: u8,
-    h: u8,
-    s: u8,
-    k: u8,
-    at: usize,
-    least: bool,
+    spot: Spot,
 ) -> Best
-    requires { ⌜ Setting (now m) (now used) (now q) (now depths) (now truth) (now cone) (now late) (now rewards) (now sums) start (now trail) (now gains) (now v) h s k ⌝ }
-    requires { ⌜ at + 3 * room k ≤ length (now choices) ⌝ }
-    ensures { λ r. ⌜ Picked least (now (m .entry)) (on-path (now (m .entry)) (now (q .entry)) start (now (cone .entry)) (take h (now (trail .entry)))) s k at (now (choices .entry)) (now (choices .exit)) r ⌝ }
-    ensures { λ r. ⌜ Back (now (m .entry)) (now (q .entry)) start (now (cone .entry)) h (now (trail .entry)) (now (trail .exit)) (now (gains .exit)) (now (v .exit)) ⌝ }
+    requires { ⌜ Setting (now m) (now q) (now depths) (now truth) (now cone) (now late) (spot .start) (now trail) (now gains) (now v) (spot .h) (spot .s) (spot .k) ⌝ }
+    requires { ⌜ spot .at + 3 * room (spot .k) ≤ length (now choices) ⌝ }
+    ensures { λ r. ⌜ Picked (spot .least) (now (m .entry)) (on-path (now (m .entry)) (now (q .entry)) (spot .start) (now (cone .entry)) (take (spot .h) (now (trail .entry)))) (spot .s) (spot .k) (spot .at) (now (choices .entry)) (now (choices .exit)) r ⌝ }
+    ensures { λ r. ⌜ Back (now (m .entry)) (now (q .entry)) (spot .start) (now (cone .entry)) (spot .h) (now (trail .entry)) (now (trail .exit)) (now (gains .exit)) (now (v .exit)) ⌝ }
 {
-    if k == 0 {
-        return leaf(cone, v, at);
+    if spot.k == 0 {
+        return leaf(cone, v, spot.at);
     }
-    let n = byte(m, 3);
+    let s = spot.s as usize;
+    let n = prepared::choices(m, s) as u8;
     let mut best = Best {
         found: false,
         value: 0,
-        end: at,
+        end: spot.at,
     };
-    let mut a: u8 = 0;
-    while a < n {
-        if count(used, s, a) != 0 {
-            let from = best.end;
-            choices[from] = a;
-            let w = walk(
-                m,
-                used,
-                q,
-                depths,
-                truth,
-                cone,
-                late,
-                rewards,
-                sums,
-                trail,
-                gains,
-                v,
-                choices,
-                start,
-                h,
-                s,
-                a,
-                k - 1,
-                from + 1,
-                least,
-                best.found,
-                best.value,
-            );
-            best = keep(choices, best, w, at, least);
-        }
-        a += 1;
+    let mut i: u8 = 0;
+    while i < n {
+        let from = best.end;
+        choices[from] = choice(m, s, i as usize);
+        let below = Spot {
+            start: spot.start,
+            h: spot.h,
+            s: spot.s,
+            k: spot.k - 1,
+            at: from + 1,
+            least: spot.least,
+        };
+        let w = walk(
+            m,
+            q,
+            depths,
+            truth,
+            cone,
+            late,
+            trail,
+            gains,
+            v,
+            choices,
+            below,
+            i,
+            best,
+        );
+        best = keep(choices, best, w, spot.at, spot.least);
+        i += 1;
     }
     best
 }
 
-// Walks the outcomes of an action, with k steps left after it: sums their weights times the best totals below, and writes the choices there.
-// Gives up where the action cannot win any more over the best so far, which it does not ask where one step is left: there it costs more than
-// it saves.
+// Walks the outcomes of the choice at place i, with k steps left after it: sums their weights times the best totals below, and writes the
+// choices there. Gives up where the choice cannot win any more over the best so far, which it does not ask where one step is left: there it
+// costs more than it saves.
 fn walk(
-    m: &[u8],
-    used: &[u8; 264],
+    m: &[u16; 8704],
     q: &[u8],
     depths: &[u32],
     truth: &[u8],
     cone: &[u8],
     late: &[u8; 40],
-    rewards: &[i32; 1024],
-    sums: &[u16; 4096],
-    trail: &mut [u8],
-    gains: &mut [i32],
-    v: &mut [u8],
+    trail: &mut [u16; 6],
+    gains: &mut [i32; 7],
+    v: &mut [u8; 280],
     choices: &mut [u8],
-    start: u8,
-    h: u8,
-    s: u8,
-    a: u8,
-    k: u8,
-    at: usize,
-    least: bool,
-    found: bool,
-    other: u64,
+    spot: Spot,
+    i: u8,
+    best: Best,
 ) -> Walked
-    requires { ⌜ Setting (now m) (now used) (now q) (now depths) (now truth) (now cone) (now late) (now rewards) (now sums) start (now trail) (now gains) (now v) h s (k + 1) ⌝ }
-    requires { ⌜ (a < 8) × (at + 6 * room k ≤ length (now choices)) ⌝ }
-    ensures { λ r. ⌜ Candidate found other least (now (m .entry)) (on-path (now (m .entry)) (now (q .entry)) start (now (cone .entry)) (take h (now (trail .entry)))) s a k at (now (choices .entry)) (now (choices .exit)) r ⌝ }
-    ensures { λ r. ⌜ Back (now (m .entry)) (now (q .entry)) start (now (cone .entry)) h (now (trail .entry)) (now (trail .exit)) (now (gains .exit)) (now (v .exit)) ⌝ }
+    requires { ⌜ Setting (now m) (now q) (now depths) (now truth) (now cone) (now late) (spot .start) (now trail) (now gains) (now v) (spot .h) (spot .s) (spot .k + 1) ⌝ }
+    requires { ⌜ (i < choices-in (now m) (spot .s)) × (spot .at + 6 * room (spot .k) ≤ length (now choices)) ⌝ }
+    ensures { λ r. ⌜ Candidate (best .found) (best .value) (spot .least) (now (m .entry)) (on-path (now (m .entry)) (now (q .entry)) (spot .start) (now (cone .entry)) (take (spot .h) (now (trail .entry)))) (row-in (now (m .entry)) (spot .s) i) (spot .k) (spot .at) (now (choices .entry)) (now (choices .exit)) r ⌝ }
+    ensures { λ r. ⌜ Back (now (m .entry)) (now (q .entry)) (spot .start) (now (cone .entry)) (spot .h) (now (trail .entry)) (now (trail .exit)) (now (gains .exit)) (now (v .exit)) ⌝ }
 {
-    let n = count(used, s, a);
+    let k = spot.k;
+    let s = spot.s as usize;
+    let n = outcomes(m, s, i as usize) as u8;
     let mut sum: u64 = 0;
-    let mut rest = wide(m, 5) as u64;
-    let mut end = at;
+    let mut rest = denominator(m) as u64;
+    let mut end = spot.at;
     let mut o: u8 = 0;
     while o < n {
-        if k > 1 && hopeless(m, found, other, sum, rest, k, least) {
+        if k > 1 && hopeless(m, best, sum, rest, k, spot.least) {
             return Walked {
                 value: sum,
                 end: end,
@@ -353,59 +327,52 @@ fn walk(
             trail,
             gains,
             v,
-            start,
-            h,
-            s,
-            a,
+            spot.start,
+            spot.h,
+            spot.s,
+            i,
             o,
         );
+        let below = Spot {
+            start: spot.start,
+            h: spot.h + 1,
+            s: t,
+            k: k,
+            at: end,
+            least: spot.least,
+        };
         let b = if k == 1 {
             pick_last(
                 m,
-                used,
                 q,
                 depths,
                 truth,
                 cone,
                 late,
-                rewards,
-                sums,
                 trail,
                 gains,
                 v,
                 choices,
-                start,
-                h + 1,
-                t,
-                end,
-                least,
+                below,
             )
         } else {
             pick(
                 m,
-                used,
                 q,
                 depths,
                 truth,
                 cone,
                 late,
-                rewards,
-                sums,
                 trail,
                 gains,
                 v,
                 choices,
-                start,
-                h + 1,
-                t,
-                k,
-                end,
-                least,
+                below,
             )
         };
-        let w = weight(m, s as usize, a as usize, o as usize);
+        let w = weight(m, s, i as usize, o as usize);
         sum = add_mul(sum, w, b.value);
-        rest -= w as u64;
+        rest -= w;
         end = b.end;
         o += 1;
     }
@@ -417,48 +384,45 @@ fn walk(
 
 // Finds the plan of d steps, as many as the condition looks ahead, that has the greatest weight, or the least.
 pub fn find(
-    m: &[u8],
-    used: &[u8; 264],
+    m: &[u16; 8704],
     q: &[u8],
     depths: &[u32],
     truth: &[u8],
     cone: &[u8],
-    rewards: &[i32; 1024],
-    sums: &[u16; 4096],
     choices: &mut [u8],
     start: u8,
     d: u8,
     least: bool,
 ) -> Found
-    requires { ⌜ Ready (now m) (now q) start (now depths) (now truth) (now cone) × Used (now m) (now used) × Rewards (now m) (now rewards) × Sums (now m) (now sums) ⌝ }
+    requires { ⌜ Ready (now m) (now q) start (now depths) (now truth) (now cone) ⌝ }
     requires { ⌜ (d ≡ depth (formula (now q) (root-of (now cone)))) × (d ≤ 6) × (4095 ≤ length (now choices)) ⌝ }
     ensures { λ r. ⌜ Finds least (now (m .entry)) (now (q .entry)) start (now (cone .entry)) d (now (choices .exit)) r ⌝ }
 {
     let marks = late(q, depths, cone);
-    let mut trail = [0u8; 6];
+    let mut trail = [0u16; 6];
     let mut gains = [0i32; 7];
     let mut v = [0u8; 280];
     learn(q, depths, truth, &trail, &gains, cone, &mut v, 0, start);
+    let spot = Spot {
+        start: start,
+        h: 0,
+        s: start,
+        k: d,
+        at: 0,
+        least: least,
+    };
     let b = pick(
         m,
-        used,
         q,
         depths,
         truth,
         cone,
         &marks,
-        rewards,
-        sums,
         &mut trail,
         &mut gains,
         &mut v,
         choices,
-        start,
-        0,
-        start,
-        d,
-        0,
-        least,
+        spot,
     );
     Found {
         value: b.value,

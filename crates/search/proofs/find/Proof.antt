@@ -8,7 +8,7 @@ use Rattle.search.proofs.find.Statement.{statement}
 use Rattle.search.proofs.find.Tie as tie
 
 late-requires : tie.Need-late-requires
-late-requires c κs = late-asked (c .before .before .before .before .before .before .pre .0 .0)
+late-requires c κs = late-asked (c .before .before .before .before .before .pre .0)
 
 slice-aggregate-learn : tie.Need-slice-aggregate-learn
 slice-aggregate-learn c = search needs
@@ -22,28 +22,16 @@ slice-aggregate-learn-3 c = search needs
 learn-requires : tie.Need-learn-requires
 learn-requires c κs = search needs
 
-slice-aggregate-pick : tie.Need-slice-aggregate-pick
-slice-aggregate-pick c = search needs
-
-slice-aggregate-pick-2 : tie.Need-slice-aggregate-pick-2
-slice-aggregate-pick-2 c = search needs
-
-slice-aggregate-pick-3 : tie.Need-slice-aggregate-pick-3
-slice-aggregate-pick-3 c = search needs
-
 pick-requires : tie.Need-pick-requires
-pick-requires c κs = let S = c .before .before .before .before .before .before .before .before .before .before .before .before .before .before .before .before .before in
-    let n = c .before .before .before .before .before .before .learn in (
-      setting-start (S .pre .0 .0) (S .pre .0 .1) (c .before .before .before .before .before .before .before .before .before .before .late .ensures) (S .pre .0 .2) (S .pre .0 .3) (S .pre .1 .0) (S .pre .1 .1) (record { steps = omega arith; sums = omega arith; places = omega arith }) (n .kept .1 .1 .1 .1 .1 .1 .0) refl (n .ensures),
-      omega (arith, S .pre .1 .2, room-most (S .args .d) (S .pre .1 .1)),
-    )
+pick-requires c κs = let S = c .before .before .before .before .before .before .before .before .before .before .before .before .before .before .before .before in
+    (setting-start (S .pre .0) (c .before .before .before .before .before .before .before .before .before .before .late .ensures) _ (S .pre .1 .0) (S .pre .1 .1) (omega arith) refl (c .before .before .before .before .before .before .learn .ensures), omega (arith, S .pre .1 .2, room-most (S .args .d) (S .pre .1 .1)))
 
 same-length : tie.Need-same-length
 same-length c = search needs
 
 returns : tie.Need-returns
-returns c = let S = c .before .before .before .before .before .before .before .before .before .before .before .before .before .before .before .before .before .before .before .before .before .before .before in
-    found ((S .pre .0 .0) .model-accepted) (S .pre .1 .1) (c .before .before .before .before .before .pick .ensures .0)
+returns c = let S = c .before .before .before .before .before .before .before .before .before .before .before .before .before .before .before .before .before .before .before in
+    found ((S .pre .0) .prepared) (S .pre .1 .1) (c .before .before .pick .ensures .0)
 
 pub find-spec : {M : Type 1} → statement M
 find-spec =
@@ -54,9 +42,6 @@ find-spec =
     slice-aggregate-learn-2
     slice-aggregate-learn-3
     learn-requires
-    slice-aggregate-pick
-    slice-aggregate-pick-2
-    slice-aggregate-pick-3
     pick-requires
     same-length
     returns)

@@ -10,39 +10,46 @@ use borrow.Author.Needs.{needs}
 use Rattle.search.proofs.hopeless.Statement.{statement}
 use Rattle.search.proofs.hopeless.Tie as tie
 
-abbrev start : tie.After-power → tie.Start
-start c = c .before .before .before .before
-
-power-is : (c : tie.After-power) → c .power .result ≡ denominator-of (start c .args .m .now) ^ start c .args .k
-power-is c = c .power .ensures ∙ ap (λ d. d ^ start c .args .k) (c .before .wide .ensures .0)
+power-is : (c : tie.After-power) → c .power .result ≡ denominator-of (c .before .before .before .args .m .now) ^ c .before .before .before .args .k
+power-is c = c .power .ensures ∙ ap (λ d. d ^ c .before .before .before .args .k) (c .before .denominator .ensures)
 
 wins-requires : tie.Need-wins-requires
 wins-requires c κs = search needs
 
 returns : tie.Need-returns
 unfolding best-left
-returns c = let S = c .before .before .before .args in
-    ap not (c .wins .ensures ∙ ap (λ t. wins (S .found) (S .other) (cond t (S .sum) (S .sum + S .rest * denominator-of (S .m .now) ^ S .k)) (S .least)) (sym (c .before .if1 .taken)))
+returns c = let S = c .before .before .args in
+    ap not (c .wins .ensures ∙ ap (λ t. wins (S .best .found) (S .best .value) (cond t (S .sum) (S .sum + S .rest * denominator-of (S .m .now) ^ S .k)) (S .least)) (sym (c .before .if1 .taken)))
 
-wide-requires : tie.Need-wide-requires
-wide-requires c κs = search needs
+denominator-requires : tie.Need-denominator-requires
+denominator-requires c κs = search needs
 
 power-requires : tie.Need-power-requires
 power-requires c κs = search needs
 
 mul-wins : tie.Need-mul-wins
-mul-wins c = record { fits = rw (power-is c) (let p = start c .pre in omega (arith, p .2)) }
+mul-wins c = record { fits = rw (power-is c) (let p = c .before .before .before .pre in omega (arith, p .2)) }
 
 add-wins : tie.Need-add-wins
-add-wins c = record { fits = rw (power-is c) (start c .pre .2) }
+add-wins c = record { fits = rw (power-is c) (c .before .before .before .pre .2) }
 
 wins-requires-2 : tie.Need-wins-requires-2
 wins-requires-2 c κs = search needs
 
 returns-2 : tie.Need-returns-2
 unfolding best-left
-returns-2 c = let S = start (c .before) .args in
-    ap not (c .wins2 .ensures ∙ ap₂ (λ p t. wins (S .found) (S .other) (cond t (S .sum) (S .sum + S .rest * p)) (S .least)) (power-is (c .before)) (sym (c .before .before .before .if1 .left)))
+returns-2 c = let S = c .before .before .before .before .args in
+    ap not (c .wins2 .ensures ∙ ap₂ (λ p t. wins (S .best .found) (S .best .value) (cond t (S .sum) (S .sum + S .rest * p)) (S .least)) (power-is (c .before)) (sym (c .before .before .before .if1 .left)))
 
 pub hopeless-spec : {M : Type 1} → statement M
-hopeless-spec = tie.close (tie.spec wins-requires returns wide-requires power-requires mul-wins add-wins wins-requires-2 returns-2)
+hopeless-spec =
+    tie.close
+    (tie.spec
+    wins-requires
+    returns
+    denominator-requires
+    power-requires
+    mul-wins
+    add-wins
+    wins-requires-2
+    returns-2)

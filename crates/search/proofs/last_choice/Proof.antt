@@ -1,80 +1,78 @@
--- `last_choice`: the best of the actions tried so far (`Ending`).
-use Prim.Native.Nat.{_+_, _-_, _≤_, _<_}
+-- `last_choice`: the best of the choices tried so far (`Ending`).
+use Prim.Native.Nat.{_-_, _≤_, _<_}
 use native.Mathlib.Omega.{arith}
 use mathlib.Core.Path.{_≡_, sym, _∙_}
 use mathlib.Core.Logic.{⊎-elim}
 use borrow.Author.Needs.{needs}
-use Rattle.models.specs.Layout.{action-count}
-use Rattle.models.proofs.Table.{used-at}
-use Rattle.search.proofs.Trying.{sizes-in}
-use Rattle.search.proofs.Ending.{Ending, ending-none, ending-skipped, ending-won, ending-lost, ending-all}
+use Rattle.prepared.specs.promises.Rows.{choices-in}
+use Rattle.prepared.proofs.Laws.{some-choice}
+use Rattle.search.proofs.Ending.{Ending, ending-first, ending-won, ending-lost, ending-all}
 use Rattle.search.proofs.last_choice.Statement.{statement}
 use Rattle.search.proofs.last_choice.Tie as tie
 
 abbrev Inv-loop : tie.InvT-loop
-Inv-loop m used sums choices x s at least n found₀ value₀ action₀ a₀ found value action a =
-    (n ≡ action-count m) × (a ≤ n) × Ending least m s x a found value action
+Inv-loop m choices x s at least n value₀ place₀ i₀ value place i = (n ≡ choices-in m s) × (i ≤ n) × Ending least m s x i value place
 
 abbrev μ-loop : tie.MeasureT-loop
-μ-loop m used sums choices x s at least n found₀ value₀ action₀ a₀ found value action a = n - a
+μ-loop m choices x s at least n value₀ place₀ i₀ value place i = n - i
 
-byte-requires : tie.Need-byte-requires Inv-loop μ-loop
-byte-requires c κs = search needs
-
-loop-holds : tie.Need-loop-holds Inv-loop μ-loop
-loop-holds c = (c .byte .ensures, omega arith, ending-none)
-
-count-requires : tie.Need-count-requires Inv-loop μ-loop
-count-requires c κs = let S = c .before .before .before .before .before in
-    let L = c .before .loop in
-    let z = sizes-in (S .args .m .now) (S .pre .0) (S .pre .2) in
-    (z .0, omega (arith, z .1, L .inv .0, c .loop-test .taken))
+choices-requires : tie.Need-choices-requires Inv-loop μ-loop
+choices-requires c κs = omega (arith, c .before .pre .0 .states, c .before .pre .1)
 
 total-requires : tie.Need-total-requires Inv-loop μ-loop
-total-requires c κs = let S = c .before .before .before .before .before .before .before in
-    let L = c .before .before .before .loop in
-    let z = sizes-in (S .args .m .now) (S .pre .0) (S .pre .2) in
-    let inside : L .a < action-count (S .args .m .now) = omega (arith, L .inv .0, c .before .before .loop-test .taken) in
-    (S .pre .0, S .pre .2, z .0, inside, omega (arith, z .1, inside), S .pre .4)
+total-requires c κs = let S = c .before .before in
+    (S .pre .0, S .pre .1, some-choice (S .pre .0) (S .args .s) (S .pre .1))
 
-wins-requires : tie.Need-wins-requires Inv-loop μ-loop
-wins-requires c κs = search needs
+loop-holds : tie.Need-loop-holds Inv-loop μ-loop
+loop-holds c = let S = c .before .before .before in
+    let some = some-choice (S .pre .0) (S .args .s) (S .pre .1) in
+    (c .before .choices .ensures, omega (arith, c .before .choices .ensures), ending-first (S .args .least) (S .pre .0) (S .pre .1) some (c .total .ensures))
 
-add-a : tie.Need-add-a Inv-loop μ-loop
-add-a c = search needs
+total-requires-2 : tie.Need-total-requires-2 Inv-loop μ-loop
+total-requires-2 c κs = let S = c .before .before .before .before .before in
+    (S .pre .0, S .pre .1, omega (arith, c .before .loop .inv .0, c .loop-test .taken))
+
+exceeds-requires : tie.Need-exceeds-requires Inv-loop μ-loop
+exceeds-requires c κs = search needs
+
+add-i : tie.Need-add-i Inv-loop μ-loop
+add-i c = search needs
 
 loop-less : tie.Need-loop-less Inv-loop μ-loop
 loop-less c = search needs
 
 loop-again : tie.Need-loop-again Inv-loop μ-loop
-loop-again c = let S = c .before .before .before .before .before .before .before in
-    let L = c .before .before .before .loop in
-    let less : L .a < 8 = omega (arith, sizes-in (S .args .m .now) (S .pre .0) (S .pre .2) .1, L .inv .0, c .before .before .loop-test .taken) in
-    let n = c .before .count .ensures ∙ used-at (S .args .m .now) (S .pre .1) (S .args .s) (L .a) (sizes-in (S .args .m .now) (S .pre .0) (S .pre .2) .0) less in
-    let more : L .a + 1 ≤ c .before .before .before .before .byte .result = omega (arith, c .before .before .loop-test .taken) in (
+loop-again c = let S = c .before .before .before .before .before .before .before .before in
+    let L = c .before .before .before .before .loop in
+    let l : L .i < choices-in (S .args .m .now) (S .args .s) = omega (arith, L .inv .0, c .before .before .before .loop-test .taken) in
+    let v = c .before .before .total2 .ensures in
+    let e = sym (c .before .exceeds .ensures) in (
       L .inv .0,
-      more,
+      omega (arith, c .before .before .before .loop-test .taken),
       ⊎-elim
-          (λ w. rw (w .4, w .5, w .6) (ending-won (L .inv .2) (λ e. w .0 .taken (n ∙ e)) (w .1 .ensures) (sym (w .2 .ensures) ∙ w .3 .taken)))
-          (⊎-elim
-          (λ w. rw (w .4, w .5, w .6) (ending-lost (L .inv .2) (λ e. w .0 .taken (n ∙ e)) (w .1 .ensures) (sym (w .2 .ensures) ∙ w .3 .left)))
-          (λ w. rw (w .1, w .2, w .3) (ending-skipped (L .inv .2) (sym n ∙ w .0 .left))))
+          (λ w. rw (w .1, w .2) (ending-won (S .args .least) (S .pre .0) (S .pre .1) (L .inv .2) l v (e ∙ w .0 .taken)))
+          (λ w. rw (w .1, w .2) (ending-lost (S .args .least) (S .pre .0) (S .pre .1) (L .inv .2) l v (e ∙ w .0 .left)))
           (c .if1 .came),
     )
+
+choice-requires : tie.Need-choice-requires Inv-loop μ-loop
+choice-requires c κs = let S = c .before .before .before .before .before in
+    let L = c .before .loop in
+    (S .pre .0, S .pre .1, omega (arith, L .inv .0, L .inv .1, L .inv .2 .inside))
 
 slice-write-choices : tie.Need-slice-write-choices Inv-loop μ-loop
 slice-write-choices c = search needs
 
-add-t19 : tie.Need-add-t19 Inv-loop μ-loop
-add-t19 c = search needs
+add-t16 : tie.Need-add-t16 Inv-loop μ-loop
+add-t16 c = search needs
 
 same-length : tie.Need-same-length Inv-loop μ-loop
 same-length c = search needs
 
 returns : tie.Need-returns Inv-loop μ-loop
-returns c = let S = c .before .before .before .before .before in
-    let L = c .before .loop in
-    ending-all (L .inv .2) (S .pre .0) (S .pre .2) (omega (arith, L .inv .0)) (omega (arith, S .pre .3))
+returns c = let S = c .before .before .before .before .before .before in
+    let L = c .before .before .loop in
+    rw (c .choice .ensures) (ending-all (S .args .least) (S .pre .0) (S .pre .1) (L .inv .2) (omega (arith, L .inv .0, L .inv .1, c .before .loop-test .left)) (omega (arith, S .pre .2)))
 
 pub last-choice-spec : {M : Type 1} → statement M
 last-choice-spec =
@@ -82,15 +80,16 @@ last-choice-spec =
     (tie.spec
     Inv-loop
     μ-loop
-    byte-requires
-    loop-holds
-    count-requires
+    choices-requires
     total-requires
-    wins-requires
-    add-a
+    loop-holds
+    total-requires-2
+    exceeds-requires
+    add-i
     loop-less
     loop-again
+    choice-requires
     slice-write-choices
-    add-t19
+    add-t16
     same-length
     returns)

@@ -1,23 +1,29 @@
 -- `pick_last`: the lanes have the values of the last step.
-use borrow.Author.Needs.{needs}
+use native.Mathlib.Omega.{arith}
 use Rattle.extension.specs.promises.Choices.{room}
 use Rattle.search.proofs.Paths.{state-here}
+use borrow.Author.Needs.{needs}
 use Rattle.search.proofs.pick_last.Statement.{statement}
 use Rattle.search.proofs.pick_last.Tie as tie
 
 mask-requires : tie.Need-mask-requires
-mask-requires c κs = search needs
+mask-requires c κs = let P = c .before .before .before .before .before .before .before .before .pre .0 in
+    record { ready = P .ready; marked = P .marked; whole = P .whole; room = c .before .mask-arg2 .given .0; knows = P .knows; state = P .state; deep = P .deep; few = omega (arith, P .few) }
+
+cast-last-choice : tie.Need-cast-last-choice
+cast-last-choice c = search needs
 
 last-choice-requires : tie.Need-last-choice-requires
 unfolding room
-last-choice-requires c κs = let S = c .before .before .before .before .before .before .before .before .before .before .pre in
-    (S .0 .ready .model-accepted, S .0 .counted, state-here (S .0), S .1, S .0 .summed)
+last-choice-requires c κs = let P = c .before .before .before .before .before .before .before .before .before .before .before .pre in
+    (P .0 .ready .prepared, state-here (P .0), P .1)
 
 same-length : tie.Need-same-length
 same-length c = search needs
 
 returns : tie.Need-returns
-returns c = c .before .before .last-choice .ensures .picked _ (c .before .before .before .before .mask .ensures)
+returns c = c .before .before .last-choice .ensures .picked _ (c .before .before .before .before .before .mask .ensures)
 
 pub pick-last-spec : {M : Type 1} → statement M
-pick-last-spec = tie.close (tie.spec mask-requires last-choice-requires same-length returns)
+pick-last-spec =
+    tie.close (tie.spec mask-requires cast-last-choice last-choice-requires same-length returns)

@@ -7,16 +7,15 @@ use mathlib.Core.List.{List, [], _∷_, _++_}
 use lib.IntN.{ℤ}
 use lib.ListN.{length, take, drop}
 use Rattle.logic.specs.Formula.{depth}
-use Rattle.logic.specs.Model.{Step, outcomes}
+use Rattle.logic.specs.Model.{Step}
 use Rattle.logic.specs.promises.Orders.{weights, order}
 use Rattle.logic.specs.promises.Recursion.{greatest}
 use Rattle.blocks.specs.Bytes.{Bytes}
-use Rattle.models.specs.Layout.{outcome-of, model-of}
-use Rattle.models.specs.promises.Used.{Used}
+use Rattle.prepared.specs.promises.Rows.{step-in, model-in}
 use Rattle.evaluation.specs.promises.Path.{state-after}
 use Rattle.evaluation.specs.promises.Reached.{formula, root-of, Ready}
-use Rattle.evaluation.specs.promises.Known.{Knows, Roomy}
-use Rattle.lanes.specs.promises.Lanes.{Laned, Rewards, Sums}
+use Rattle.evaluation.specs.promises.Known.{Knows}
+use Rattle.lanes.specs.promises.Lanes.{Laned}
 use Rattle.last.specs.promises.Late.{Late}
 use Rattle.search.specs.promises.Greatest.{worth, below, best-choices}
 use Rattle.search.specs.declared.Best.{Best}
@@ -38,15 +37,11 @@ pub record Keeps (b : Best) (w : Walked) (at : ℕ) (least : Bool) (before after
       × (take (at + (w .end - b .end)) after ≡ take at before ++ take (w .end - b .end) (drop (b .end) before))
   pub left : wins (b .found) (b .value) (w .value) least ≡ false → (r ≡ b) × (after ≡ before)
 
--- A search of k steps goes on in the state s, where the first h bytes of the trail lead.
-pub record Setting (m used q : Bytes) (depths truth cone late : List ℕ) (rewards : List ℤ) (sums : List ℕ) (start : ℕ) (trail : List ℕ) (gains : List ℤ) (v : List ℕ)
-    (h s k : ℕ) : Type 0 where
+-- A search of k steps goes on in the state s, where the first h numbers of the trail lead.
+pub record Setting (m q : Bytes) (depths truth cone late : List ℕ) (start : ℕ) (trail : List ℕ) (gains : List ℤ) (v : List ℕ) (h s k : ℕ) : Type 0 where
   pub ready : Ready m q start depths truth cone
-  pub counted : Used m used
   pub marked : Late q cone late
-  pub rewarded : Rewards m rewards
-  pub summed : Sums m sums
-  pub roomy : Roomy trail gains v
+  pub whole : length (take h trail) ≡ h
   pub knows : Knows m q start cone (take h trail) gains v
   pub state : state-after m start (take h trail) ≡ s
   pub deep : depth (formula q (root-of cone)) ≡ h + k
@@ -54,21 +49,21 @@ pub record Setting (m used q : Bytes) (depths truth cone late : List ℕ) (rewar
 
 -- The best plan of k steps from s, where f is the value of its steps, its choices written from `at` on.
 pub record Picked (least : Bool) (m : Bytes) (f : List Step → ℕ) (s k at : ℕ) (before after : List ℕ) (b : Best) : Type 0 where
-  pub value : b .value ≡ greatest (weights (order least)) (model-of m) k s f
-  pub wrote : Wrote (best-choices least (model-of m) k s f) at before after (b .end)
+  pub value : b .value ≡ greatest (weights (order least)) (model-in m) k s f
+  pub wrote : Wrote (best-choices least (model-in m) k s f) at before after (b .end)
 
--- The best plans of k steps below the outcomes of the choice a.
-pub record Walks (least : Bool) (m : Bytes) (f : List Step → ℕ) (s a k at : ℕ) (before after : List ℕ) (w : Walked) : Type 0 where
-  pub value : w .value ≡ worth least (model-of m) k f (outcomes (model-of m) s a)
-  pub wrote : Wrote (below least (model-of m) k f (outcomes (model-of m) s a)) at before after (w .end)
+-- The best plans of k steps below the outcomes l of a choice.
+pub record Walks (least : Bool) (m : Bytes) (f : List Step → ℕ) (l : List Step) (k at : ℕ) (before after : List ℕ) (w : Walked) : Type 0 where
+  pub value : w .value ≡ worth least (model-in m) k f l
+  pub wrote : Wrote (below least (model-in m) k f l) at before after (w .end)
 
--- What the walk of the choice a comes to, where `other` is the best so far, if one is found: the best plans below its outcomes, or, given up,
+-- What the walk of these outcomes comes to, where `other` is the best so far, if one is found: the best plans below them, or, given up,
 -- something of no use, since the choice does not win.
-pub data Candidate (found : Bool) (other : ℕ) (least : Bool) (m : Bytes) (f : List Step → ℕ) (s a k at : ℕ) (before after : List ℕ) (w : Walked) : Type 0 where
-  walked : Walks least m f s a k at before after w → Candidate found other least m f s a k at before after w
-  lost : wins found other (worth least (model-of m) k f (outcomes (model-of m) s a)) least ≡ false → wins found other (w .value) least ≡ false
-      → (x : List ℕ) → Wrote x at before after (w .end) → Candidate found other least m f s a k at before after w
+pub data Candidate (found : Bool) (other : ℕ) (least : Bool) (m : Bytes) (f : List Step → ℕ) (l : List Step) (k at : ℕ) (before after : List ℕ) (w : Walked) : Type 0 where
+  walked : Walks least m f l k at before after w → Candidate found other least m f l k at before after w
+  lost : wins found other (worth least (model-in m) k f l) least ≡ false → wins found other (w .value) least ≡ false
+      → (x : List ℕ) → Wrote x at before after (w .end) → Candidate found other least m f l k at before after w
 
 -- The best plan of the last step from s, for any value of that step that x has in its lanes.
 pub record Ends (least : Bool) (m : Bytes) (s x at : ℕ) (before after : List ℕ) (b : Best) : Type 0 where
-  pub picked : (f : List Step → ℕ) → Laned m s (λ a o. f (outcome-of m s a o ∷ [])) x → Picked least m f s 1 at before after b
+  pub picked : (f : List Step → ℕ) → Laned m s (λ i o. f (step-in m s i o ∷ [])) x → Picked least m f s 1 at before after b

@@ -11,7 +11,7 @@ use Rattle.logic.specs.Plan.{choices}
 use Rattle.logic.specs.promises.Recursion.{greatest, best-plan}
 use Rattle.logic.specs.promises.Total.{value-of}
 use Rattle.blocks.specs.Bytes.{Bytes}
-use Rattle.models.specs.Layout.{model-of}
+use Rattle.prepared.specs.promises.Rows.{model-in}
 use Rattle.evaluation.specs.promises.Reached.{formula, root-of}
 use Rattle.search.specs.declared.Found.{Found}
 
@@ -28,13 +28,13 @@ module _ (least : Bool) (M : Model) (k : ℕ) where
     unfoldable pub below : List Step → List ℕ
     below l = flatMap (λ o. best-choices (o .target) (λ r. f (o ∷ r))) l
 
--- What an action can come to at best: its outcomes walked so far come to `sum`; those left weigh `rest`, and the best total below one of them
+-- What a choice can come to at best: its outcomes walked so far come to `sum`; those left weigh `rest`, and the best total below one of them
 -- is anything from 0 to D to the k, the weights of k steps.
 unfoldable pub best-left : (least : Bool) (D k sum rest : ℕ) → ℕ
 best-left least D k sum rest = cond least sum (sum + rest * D ^ k)
 
 -- What is found for the condition at the cone's root: the greatest total of d steps, or the least, and the choices of the first plan that has it.
 pub record Finds (least : Bool) (m q : Bytes) (start : ℕ) (cone : List ℕ) (d : ℕ) (after : List ℕ) (r : Found) : Type 0 where
-  pub value : r .value ≡ greatest (weights (order least)) (model-of m) d start (value-of (model-of m) (formula q (root-of cone)) start)
-  pub chosen : take (r .count) after ≡ choices d (best-plan (weights (order least)) (model-of m) d start (value-of (model-of m) (formula q (root-of cone)) start))
+  pub value : r .value ≡ greatest (weights (order least)) (model-in m) d start (value-of (model-in m) (formula q (root-of cone)) start)
+  pub chosen : take (r .count) after ≡ choices d (best-plan (weights (order least)) (model-in m) d start (value-of (model-in m) (formula q (root-of cone)) start))
   pub few : r .count ≤ 1365
