@@ -14,7 +14,7 @@ use Rattle.logic.specs.promises.Recursion.{first-best, best-choice, greatest}
 use Rattle.logic.proofs.Tests.{tabulate-more}
 use Rattle.blocks.specs.Block.{sum-below}
 use Rattle.models.specs.Layout.{state-count}
-use Rattle.prepared.specs.promises.Rows.{choices-in, choice-in, outcomes-in, step-in, row-in, lane, model-in, Prepared}
+use Rattle.prepared.specs.promises.Rows.{choices-in, choice-in, outcomes-in, step-in, lane, model-in, Prepared}
 use Rattle.lanes.specs.promises.Lanes.{Laned}
 use Rattle.search.specs.promises.Greatest.{best-choices, worth, below}
 use Rattle.search.specs.promises.Buffers.{Wrote, wins, Ends}
