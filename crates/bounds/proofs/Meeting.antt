@@ -1,4 +1,4 @@
--- A total against a bound: the numbers of an accepted "plan" node are small, so that the products fit; and a total that equals the bound is
+-- A total against a bound: the numbers of a "plan" node are small, so that the products fit; and a total that equals the bound is
 -- the bound divided by q.
 use Prim.Native.Nat.{ℕ, zero, suc, _*_, _/_, _%_, _^_, _≤_, _<_}
 use native.Mathlib.Omega.{arith}
@@ -13,10 +13,10 @@ use Rattle.logic.specs.Quantity.{naturals, related, equal}
 use Rattle.logic.specs.Formula.{meets, relation, nonnegative}
 use Rattle.logic.proofs.Tests.{same-test}
 use Rattle.blocks.specs.Bytes.{Bytes}
-use Rattle.models.specs.Layout.{state-count, action-count, prop-count, denominator-of, model-of}
+use Rattle.models.specs.Layout.{denominator-of, model-of}
 use Rattle.prepared.specs.promises.Rows.{model-in}
 use Rattle.questions.specs.Layout.{node-of}
-use Rattle.questions.proofs.Accepted.{PlanRange, accepted}
+use Rattle.questions.specs.promises.Formed.{PlanRange}
 use Rattle.bounds.specs.promises.Bounded.{Bounded, meets-as, meets-at, Exactly}
 use Rattle.bounds.proofs.Powers.{power-le}
 
@@ -65,7 +65,10 @@ module _ (m q : Bytes) (j : ℕ) (b : Bounded m q j) where
   small = b .prepared .parts
 
   pub range : PlanRange j (node-of q j)
-  range = accepted (state-count m) (action-count m) (prop-count m) q (b .question-accepted) .in-range j (b .node) .of-plan (b .is-plan)
+  range = b .nodes .formed .in-range j (b .node) .of-plan (b .is-plan)
+
+  pub few : j < 40
+  few = omega (arith, b .node, b .nodes .formed .few-nodes)
 
   -- A number up to D to the n, times one up to a million.
   pub product-fits : (x y : ℕ) → x ≤ denominator-of m ^ ((node-of q j) .n) → y ≤ 1000000 → x * y < 2 ^ 64

@@ -35,22 +35,22 @@ fn related(kind: u8, a: u64, b: u64) -> bool
 }
 
 // The denominator to the steps of node j, a "plan", times its p.
-fn bound(m: &[u16; 8704], q: &[u8], j: u8) -> u64
+fn bound(m: &[u16; 8704], q: &[u8; 552], j: u8) -> u64
     requires { ⌜ Bounded (now m) (now q) j ⌝ }
     ensures { λ r. ⌜ r ≡ denominator-of (now (m .entry)) ^ (node-of (now (q .entry)) j .n) * nonnegative (node-of (now (q .entry)) j .p) ⌝ }
 {
-    power(denominator(m), questions::steps(q, j)) * questions::p(q, j) as u64
+    power(denominator(m), nodes::steps(q, j)) * nodes::bound(q, j) as u64
 }
 
 // Whether a total meets the bound of node j, a "plan".
-pub fn meets(m: &[u16; 8704], q: &[u8], j: u8, w: u64) -> bool
+pub fn meets(m: &[u16; 8704], q: &[u8; 552], j: u8, w: u64) -> bool
     requires { ⌜ Bounded (now m) (now q) j ⌝ }
     requires { ⌜ w ≤ denominator-of (now m) ^ (node-of (now q) j .n) ⌝ }
     ensures { λ r. ⌜ r ≡ meets-at (now (m .entry)) (now (q .entry)) j w ⌝ }
 {
     related(
-        questions::right(q, j),
-        questions::q(q, j) as u64 * w,
+        nodes::right(q, j),
+        nodes::parts(q, j) as u64 * w,
         bound(m, q, j),
     )
 }
@@ -62,12 +62,12 @@ pub struct Exact {
 }
 
 // What a total of node j, a "plan", would have to be to be equal to the bound.
-pub fn exact_total(m: &[u16; 8704], q: &[u8], j: u8) -> Exact
+pub fn exact_total(m: &[u16; 8704], q: &[u8; 552], j: u8) -> Exact
     requires { ⌜ Bounded (now m) (now q) j ⌝ }
     ensures { λ r. ⌜ Exactly (now (m .entry)) (now (q .entry)) j (r .whole) (r .total) ⌝ }
 {
     let all = bound(m, q, j);
-    let parts = questions::q(q, j) as u64;
+    let parts = nodes::parts(q, j) as u64;
     Exact {
         whole: all % parts == 0,
         total: all / parts,

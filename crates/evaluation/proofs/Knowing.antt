@@ -13,33 +13,23 @@ use Rattle.logic.specs.Formula.{depth}
 use Rattle.logic.specs.promises.Total.{one-if, value-of}
 use Rattle.logic.specs.Quantity.{sum}
 use Rattle.logic.proofs.Depth.{sat-same}
-use Rattle.logic.proofs.Tests.{getD-tabulate}
 use Rattle.blocks.specs.Bytes.{Bytes}
-use Rattle.models.specs.Layout.{state-count, action-count, prop-count}
 use Rattle.prepared.specs.promises.Rows.{model-in}
-use Rattle.questions.specs.Layout.{formulas-of}
-use Rattle.questions.specs.promises.Tables.{table}
-use Rattle.questions.proofs.Accepted as questions
+use Rattle.nodes.specs.promises.Nodes.{formula, depth-in}
 use Rattle.evaluation.specs.promises.Path.{step-of, steps-of, state-after, Trail, gain-of}
-use Rattle.evaluation.specs.promises.Reached.{formula, Reached, root-of, Ready}
-use Rattle.evaluation.specs.promises.Learnt.{known, value-at, learn-node, learnt}
+use Rattle.evaluation.specs.promises.Reached.{Reached, root-of, Ready}
+use Rattle.evaluation.specs.promises.Learnt.{known, value-at, learn-node, learnt, Below-40}
 use Rattle.evaluation.specs.promises.Known.{Known, Gained, Knows}
 use Rattle.evaluation.proofs.Values.{learn-now, learn-later, learnt-more, learnt-length}
 use Rattle.evaluation.proofs.Trails.{steps-length, steps-append, trail-shorter}
 use Rattle.evaluation.proofs.Meaning.{gain-append, Needed, meaning, of-node}
 
-pub depth-in : (q : Bytes) (depths : List ℕ) → depths ≡ table depth (formulas-of q) → (j : ℕ) → j < 40 → getD depths j 0 ≡ depth (formula q j)
-unfolding table
-depth-in q depths e j l = ap (λ d. getD d j 0) e ∙ getD-tabulate (λ i. depth (formula q i)) 40 0 l
+module _ {m q : Bytes} {s : ℕ} {truth cone : List ℕ} (ready : Ready m q s truth cone) where
+  pub cone-node : Below-40 cone
+  cone-node i l = omega (arith, ready .nodes .formed .few-nodes, ready .ordered .nodes i l)
 
-module _ {m q : Bytes} {s : ℕ} {depths truth cone : List ℕ} (ready : Ready m q s depths truth cone) where
-  pub cone-node : (i : ℕ) → i < length cone → getD cone i 0 < 40
-  cone-node i l =
-      let a = questions.accepted (state-count m) (action-count m) (prop-count m) q (ready .question-accepted) in
-      omega (arith, a .few-nodes, ready .ordered .nodes i l)
-
-  pub depth-is : (j : ℕ) → j < 40 → depth (formula q j) ≡ getD depths j 0
-  depth-is j l = sym (depth-in q depths (ready .depths-right) j l)
+  pub depth-is : (i : ℕ) → i < length cone → depth (formula q (getD cone i 0)) ≡ depth-in q (getD cone i 0)
+  depth-is i l = sym (ready .nodes .deep (getD cone i 0) (ready .ordered .nodes i l))
 
   module _ (t trail : List ℕ) (prefix : t ≡ take (length t) trail) (few : length t ≤ 6) (gains : List ℤ) (followed : Trail m s t) (summed : Gained m s t gains) where
     abbrev node : ℕ → ℕ
@@ -49,7 +39,7 @@ module _ {m q : Bytes} {s : ℕ} {depths truth cone : List ℕ} (ready : Ready m
     deep i = depth (formula q (node i))
 
     abbrev learn-one : ℕ → List ℕ → List ℕ
-    learn-one j v = learn-node q depths truth trail gains (length t) (state-after m s t) j v
+    learn-one j v = learn-node q truth trail gains (length t) (state-after m s t) j v
 
     -- One node more of the cone.
     known-more : (i : ℕ) (v : List ℕ) → i < length cone → 280 ≤ length v → Known m q s cone t i v → Known m q s cone t (suc i) (learn-one (node i) v)
@@ -59,7 +49,7 @@ module _ {m q : Bytes} {s : ℕ} {depths truth cone : List ℕ} (ready : Ready m
         go (yes g) =
             record {
               right = λ e k a b c r.
-                  ap (λ w. known w (node e) k) (learn-later q depths truth trail gains (length t) (state-after m s t) (node i) (deep i) v (depth-is (node i) (cone-node i l)) g)
+                  ap (λ w. known w (node e) k) (learn-later q truth trail gains (length t) (state-after m s t) (node i) (deep i) v (depth-is i l) g)
                   ∙ K .right e k a b (λ z. earlier e k b c z (ℕ-discrete e i)) r;
             }
           where
@@ -69,7 +59,7 @@ module _ {m q : Bytes} {s : ℕ} {depths truth cone : List ℕ} (ready : Ready m
         go (no g) =
             record {
               right = λ e k a b c r.
-                  ap (λ w. known w (node e) k) (learn-now q depths truth trail gains (length t) (state-after m s t) (node i) (deep i) v (depth-is (node i) (cone-node i l)) (omega arith))
+                  ap (λ w. known w (node e) k) (learn-now q truth trail gains (length t) (state-after m s t) (node i) (deep i) v (depth-is i l) (omega arith))
                   ∙ at-index e k a b c r (ℕ-discrete (7 * node e + k) (7 * node i + (length t - deep i)));
             }
           where
@@ -97,14 +87,14 @@ module _ {m q : Bytes} {s : ℕ} {depths truth cone : List ℕ} (ready : Ready m
                 earlier z (no p) = omega (arith, c z)
 
     abbrev learn-all : List ℕ → List ℕ → List ℕ
-    learn-all l v = learnt q depths truth trail gains (length t) (state-after m s t) l v
+    learn-all l v = learnt q truth trail gains (length t) (state-after m s t) l v
 
     known-up-to : (i : ℕ) → i ≤ length cone → (v : List ℕ) → 280 ≤ length v → Known m q s cone t 0 v → Known m q s cone t i (learn-all (take i cone) v)
     unfolding learnt
     known-up-to zero l v room K = K
     known-up-to (suc i) l v room K =
-        let n = learnt-length q depths truth trail gains (length t) (state-after m s t) (take i cone) v in
-        let e = learnt-more q depths truth trail gains (length t) (state-after m s t) cone i (learn-all (take i cone) v) v (learn-one (node i) (learn-all (take i cone) v)) l refl refl in
+        let n = learnt-length q truth trail gains (length t) (state-after m s t) (take i cone) v in
+        let e = learnt-more q truth trail gains (length t) (state-after m s t) cone i (learn-all (take i cone) v) v (learn-one (node i) (learn-all (take i cone) v)) l refl refl in
         subst (Known m q s cone t (suc i)) (e ∙ ap (λ k. learn-all (take k cone) v) (add-one i))
         (known-more i (learn-all (take i cone) v) l (omega arith) (known-up-to i (omega arith) v room K))
 
@@ -195,7 +185,13 @@ module _ (m q : Bytes) (s : ℕ) (cone t : List ℕ) (b : ℕ) where
 
   pub knows-shorter : (gains : List ℤ) (v : List ℕ) → Knows m q s cone on gains v → Knows m q s cone t gains v
   knows-shorter gains v K =
-      record { followed = trail-shorter m s t (b ∷ []) (K .followed); gained = gained-shorter gains (K .gained); values = known-shorter (length cone) v (K .values) }
+      record {
+        followed = trail-shorter m s t (b ∷ []) (K .followed);
+        gained = gained-shorter gains (K .gained);
+        values = known-shorter (length cone) v (K .values);
+        sums = K .sums;
+        places = K .places;
+      }
 
 -- Nothing is known by earlier steps where there is none.
 pub known-none : (m q : Bytes) (s : ℕ) (cone v : List ℕ) → Known m q s cone [] 0 v

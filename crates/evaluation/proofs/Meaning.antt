@@ -21,9 +21,11 @@ use Rattle.models.specs.Layout.{state-count, action-count, prop-count}
 use Rattle.prepared.specs.promises.Rows.{model-in}
 use Rattle.questions.specs.Layout.{node-count, node-of}
 use Rattle.questions.proofs.Laws.{by-operator}
+use Rattle.questions.specs.promises.Formed.{Formed}
 use Rattle.questions.proofs.Accepted as questions
+use Rattle.nodes.specs.promises.Nodes.{formula, reads-left}
 use Rattle.evaluation.specs.promises.Path.{step-of, steps-of, state-after, Trail, gain-of}
-use Rattle.evaluation.specs.promises.Reached.{formula, Reached, under-not, and-left, and-right, under-next, reads-left, Earlier, root-of, Ready}
+use Rattle.evaluation.specs.promises.Reached.{Reached, under-not, and-left, and-right, under-next, Earlier, root-of, Ready}
 use Rattle.evaluation.specs.promises.Learnt.{known, gained, value-by, value-at}
 use Rattle.evaluation.specs.promises.Known.{Known, Gained}
 use Rattle.evaluation.proofs.Integers.{rest-of-sum}
@@ -47,7 +49,7 @@ unfolding sum
 gain-append [] l = sym (+ℤ-idl (gain-of l))
 gain-append (o ∷ r) l = ap (λ z. o .reward +ℤ z) (gain-append r l) ∙ sym (+ℤ-assoc (o .reward) (gain-of r) (gain-of l))
 
-module _ {m q : Bytes} {s : ℕ} {depths truth cone : List ℕ} (ready : Ready m q s depths truth cone) (t : List ℕ) where
+module _ {m q : Bytes} {s : ℕ} {truth cone : List ℕ} (ready : Ready m q s truth cone) (t : List ℕ) where
   -- The state at a place of the path, the steps from it on, and a node's value there.
   abbrev at : ℕ → ℕ
   at k = state-after m s (take k t)
@@ -77,8 +79,8 @@ module _ {m q : Bytes} {s : ℕ} {depths truth cone : List ℕ} (ready : Ready m
       subst (λ x. k + depth (formula q x) ≤ length t → Needed x k → known v x k ≡ meaning x k) (e .2)
       (λ d r. K .right (e .0) k (omega (arith, e .1)) d (λ z. e .1) r) d r
 
-  asked : questions.Accepted (state-count m) (action-count m) (prop-count m) q
-  asked = questions.accepted (state-count m) (action-count m) (prop-count m) q (ready .question-accepted)
+  abbrev asked : Formed (state-count m) (action-count m) (prop-count m) q
+  asked = ready .nodes .formed
 
   module _ (trail : List ℕ) (prefix : t ≡ take (length t) trail) (gains : List ℤ) (followed : Trail m s t) (summed : Gained m s t gains) where
     -- Node j at the place where the last step makes its value known, by its operator and its children's values.

@@ -1,12 +1,12 @@
--- A step taken: its number names the outcome, the sum of rewards goes on, and what `learn` adds is all that the step makes known.
-use Prim.Native.Nat.{ℕ, suc, _+_, _-_, _/_, _%_, _≤_, _<_}
+-- A step taken: its byte names the outcome, the sum of rewards goes on, and what `learn` adds is all that the step makes known.
+use Prim.Native.Nat.{ℕ, suc, _+_, _*_, _-_, _/_, _%_, _≤_, _<_}
 use native.Mathlib.Omega.{arith}
 use native.Mathlib.Numerals.{add-one}
 use mathlib.Core.Path.{_≡_, refl, sym, ap, ap₂, subst, _∙_, fun-ext}
 use mathlib.Core.List.{List, [], _∷_, _++_, append-assoc}
 use lib.IntN.{ℤ, pos, _+ℤ_}
-use lib.ListN.{length, getD, set, take, length-append}
-use lib.Seq.{take-suc-set, take-append-le}
+use lib.ListN.{length, getD, set, take, length-append, length-set}
+use lib.Seq.{take-suc-set, take-append-le, length-take-le}
 use Rattle.logic.specs.Model.{Step}
 use Rattle.logic.specs.Formula.{depth}
 use Rattle.logic.specs.Quantity.{sum}
@@ -15,14 +15,16 @@ use Rattle.logic.proofs.Depth.{sat-same}
 use Rattle.blocks.specs.Bytes.{Bytes}
 use Rattle.models.specs.Layout.{state-count}
 use Rattle.prepared.specs.promises.Rows.{choice-in, step-in, model-in}
+use Rattle.nodes.specs.promises.Nodes.{formula}
 use Rattle.evaluation.specs.promises.Path.{number-of, step-of, steps-of, state-after, Takes, Trail, stop}
-use Rattle.evaluation.specs.promises.Reached.{formula, root-of, on-path, itself, Ready}
+use Rattle.evaluation.specs.promises.Reached.{root-of, on-path, itself, Ready}
 use Rattle.evaluation.specs.promises.Learnt.{known, learnt}
 use Rattle.evaluation.specs.promises.Known.{Known, Gained, Knows, Offered, Stepped}
+use Rattle.evaluation.proofs.Values.{learnt-length}
 use Rattle.evaluation.proofs.Trails.{state-inside, trail-longer, state-append, steps-append, steps-length}
 use Rattle.evaluation.proofs.Knowing.{known-all, known-none, known-longer, gained-longer}
 
-module _ {m q : Bytes} {start : ℕ} {depths truth cone : List ℕ} (ready : Ready m q start depths truth cone) where
+module _ {m q : Bytes} {start : ℕ} {truth cone : List ℕ} (ready : Ready m q start truth cone) where
   -- A path leads to a state of the model.
   pub state-reached : {t : List ℕ} {gains : List ℤ} {v : List ℕ} {s : ℕ} → Knows m q start cone t gains v → state-after m start t ≡ s → s < state-count m
   state-reached knows e = subst (λ x. x < state-count m) e (state-inside (ready .prepared) (knows .followed) (ready .state))
@@ -87,37 +89,46 @@ module _ {m q : Bytes} {start : ℕ} {depths truth cone : List ℕ} (ready : Rea
       pub followed-on : Trail m start (T ++ (b ∷ []))
       followed-on = trail-longer m (knows .followed) b (subst (λ z. Takes m z b) (sym (offered .state)) takes)
 
-      pub gained-on : length gains ≡ 7 → (gains′ : List ℤ) → gains′ ≡ set gains (h + 1) (getD gains h (pos 0) +ℤ (step-in m s i o) .reward) → Gained m start (T ++ (b ∷ [])) gains′
-      gained-on sums gains′ eg =
+      pub gained-on : (gains′ : List ℤ) → gains′ ≡ set gains (h + 1) (getD gains h (pos 0) +ℤ (step-in m s i o) .reward) → Gained m start (T ++ (b ∷ [])) gains′
+      gained-on gains′ eg =
           let g : set gains (suc (length T)) (getD gains (length T) (pos 0) +ℤ (step-of m (state-after m start T) b) .reward) ≡ gains′ =
           ap₂ (λ n z. set gains n z) (ap suc whole ∙ sym (add-one h)) (ap₂ (λ n z. getD gains n (pos 0) +ℤ z) whole (ap (λ z. z .reward) the-step)) ∙ sym eg in
-          subst (λ x. Gained m start (T ++ (b ∷ [])) x) g (gained-longer m q start cone T b gains (omega (arith, whole, offered .steps)) (knows .gained))
+          subst (λ x. Gained m start (T ++ (b ∷ [])) x) g (gained-longer m q start cone T b gains (omega (arith, whole, offered .steps, knows .sums)) (knows .gained))
 
-      pub stepped : length trail ≡ 6 → length gains ≡ 7 → length v ≡ 280 → (t : ℕ) (trail′ : List ℕ) (gains′ : List ℤ) (v′ : List ℕ) → t ≡ (step-in m s i o) .target
+      pub stepped : length trail ≡ 6 → (t : ℕ) (trail′ : List ℕ) (gains′ : List ℤ) (v′ : List ℕ) → t ≡ (step-in m s i o) .target
           → trail′ ≡ set trail h b → gains′ ≡ set gains (h + 1) (getD gains h (pos 0) +ℤ (step-in m s i o) .reward)
-          → v′ ≡ learnt q depths truth trail′ gains′ (h + 1) t cone v → Stepped m q start cone h s i o trail trail′ gains′ v′ t
-      stepped steps sums places t trail′ gains′ v′ et el eg ev =
+          → v′ ≡ learnt q truth trail′ gains′ (h + 1) t cone v → Stepped m q start cone h s i o trail trail′ gains′ v′ t
+      stepped steps t trail′ gains′ v′ et el eg ev =
           let on = T ++ (b ∷ []) in
-          let gained = gained-on sums gains′ eg in
+          let gained = gained-on gains′ eg in
           let longer : take (h + 1) trail′ ≡ on =
           ap₂ take (add-one h) el ∙ take-suc-set trail h b (omega (arith, offered .steps)) in
           let p : on ≡ take (length on) trail′ = sym (ap (λ n. take n trail′) on-length ∙ longer) in
-          let K = known-all ready on trail′ p (omega (arith, on-length, offered .steps)) gains′ followed-on gained v (omega arith) (known-longer m q start cone T b v (knows .values)) in
-          let e : learnt q depths truth trail′ gains′ (length on) (state-after m start on) cone v ≡ v′ =
-          ap₂ (λ n z. learnt q depths truth trail′ gains′ n z cone v) on-length (state-on ∙ sym et) ∙ sym ev in
-          let N : Knows m q start cone on gains′ v′ = record { followed = followed-on; gained = gained; values = subst (Known m q start cone on (length cone)) e K } in
+          let K = known-all ready on trail′ p (omega (arith, on-length, offered .steps)) gains′ followed-on gained v (omega (arith, knows .places)) (known-longer m q start cone T b v (knows .values)) in
+          let e : learnt q truth trail′ gains′ (length on) (state-after m start on) cone v ≡ v′ =
+          ap₂ (λ n z. learnt q truth trail′ gains′ n z cone v) on-length (state-on ∙ sym et) ∙ sym ev in
+          let N : Knows m q start cone on gains′ v′ =
+          record {
+            followed = followed-on;
+            gained = gained;
+            values = subst (Known m q start cone on (length cone)) e K;
+            sums = ap length eg ∙ length-set gains (h + 1) _ ∙ knows .sums;
+            places = ap length ev ∙ learnt-length q truth trail′ gains′ (h + 1) t cone v ∙ knows .places;
+          } in
           record { whole = whole; longer = longer; state = et; knows = subst (λ l. Knows m q start cone l gains′ v′) (sym longer) N }
 
   -- At the start, before any step.
-  pub begun : (trail : List ℕ) (gains : List ℤ) (v v′ : List ℕ) → getD gains 0 (pos 0) ≡ pos 0 → 280 ≤ length v
-      → v′ ≡ learnt q depths truth trail gains 0 start cone v → Knows m q start cone [] gains v′
+  pub begun : (trail : List ℕ) (gains : List ℤ) (v v′ : List ℕ) → getD gains 0 (pos 0) ≡ pos 0 → length gains ≡ 7 → length v ≡ 280
+      → v′ ≡ learnt q truth trail gains 0 start cone v → Knows m q start cone [] gains v′
   unfolding state-after steps-of sum
-  begun trail gains v v′ g room e =
+  begun trail gains v v′ g sums room e =
       let gained : Gained m start [] gains = record { right = λ k h. let z : k ≡ 0 = omega arith in rw z g } in
       record {
         followed = stop;
         gained = gained;
-        values = subst (Known m q start cone [] (length cone)) (sym e) (known-all ready [] trail refl (omega arith) gains stop gained v room (known-none m q start cone v));
+        values = subst (Known m q start cone [] (length cone)) (sym e) (known-all ready [] trail refl (omega arith) gains stop gained v (omega arith) (known-none m q start cone v));
+        sums = sums;
+        places = ap length e ∙ learnt-length q truth trail gains 0 start cone v ∙ room;
       }
 
   -- Where as many steps are taken as the condition looks ahead, its value at the first place is its value on the path, however that goes on.

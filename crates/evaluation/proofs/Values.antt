@@ -13,6 +13,7 @@ use borrow.Author.Tests.{eq-eqb, ne-eqb, le-leb, lt-leb}
 use Rattle.logic.specs.promises.Total.{one-if}
 use Rattle.blocks.specs.Bytes.{Bytes, byte}
 use Rattle.questions.specs.Layout.{node-of}
+use Rattle.nodes.specs.promises.Nodes.{depth-in}
 use Rattle.evaluation.specs.promises.Learnt.{value-by, value-at, learn-node, learnt}
 
 -- A value is 0 or 1.
@@ -48,39 +49,39 @@ pub path-value : (q truth trail : Bytes) (gains : List ℤ) (h s d j : ℕ) (v :
 unfolding value-at
 path-value q truth trail gains h s d j v n = rw (ne-eqb d 0 n) refl
 
-module _ (q : Bytes) (depths : List ℕ) (truth trail : Bytes) (gains : List ℤ) (h s : ℕ) where
+module _ (q truth trail : Bytes) (gains : List ℤ) (h s : ℕ) where
   -- A node is learnt where it looks no further ahead than the path goes.
-  pub learn-now : (j d : ℕ) (v : List ℕ) → d ≡ getD depths j 0 → d ≤ h
-      → learn-node q depths truth trail gains h s j v ≡ set v (7 * j + (h - d)) (value-at q truth trail gains h s d j v)
+  pub learn-now : (j d : ℕ) (v : List ℕ) → d ≡ depth-in q j → d ≤ h
+      → learn-node q truth trail gains h s j v ≡ set v (7 * j + (h - d)) (value-at q truth trail gains h s d j v)
   unfolding learn-node
   learn-now j d v e l = rw (← e, le-leb d h l) refl
 
-  pub learn-later : (j d : ℕ) (v : List ℕ) → d ≡ getD depths j 0 → h < d → learn-node q depths truth trail gains h s j v ≡ v
+  pub learn-later : (j d : ℕ) (v : List ℕ) → d ≡ depth-in q j → h < d → learn-node q truth trail gains h s j v ≡ v
   unfolding learn-node
   learn-later j d v e l = rw (← e, lt-leb d h l) refl
 
   learnt-append : (l : List ℕ) (j : ℕ) (v : List ℕ)
-      → learnt q depths truth trail gains h s (l ++ (j ∷ [])) v ≡ learn-node q depths truth trail gains h s j (learnt q depths truth trail gains h s l v)
+      → learnt q truth trail gains h s (l ++ (j ∷ [])) v ≡ learn-node q truth trail gains h s j (learnt q truth trail gains h s l v)
   unfolding learnt
   learnt-append [] j v = refl
-  learnt-append (i ∷ l) j v = learnt-append l j (learn-node q depths truth trail gains h s i v)
+  learnt-append (i ∷ l) j v = learnt-append l j (learn-node q truth trail gains h s i v)
 
   -- One node more.
-  pub learnt-more : (cone : List ℕ) (i : ℕ) (v v₀ v₁ : List ℕ) → i < length cone → v ≡ learnt q depths truth trail gains h s (take i cone) v₀
-      → v₁ ≡ learn-node q depths truth trail gains h s (getD cone i 0) v → v₁ ≡ learnt q depths truth trail gains h s (take (i + 1) cone) v₀
+  pub learnt-more : (cone : List ℕ) (i : ℕ) (v v₀ v₁ : List ℕ) → i < length cone → v ≡ learnt q truth trail gains h s (take i cone) v₀
+      → v₁ ≡ learn-node q truth trail gains h s (getD cone i 0) v → v₁ ≡ learnt q truth trail gains h s (take (i + 1) cone) v₀
   learnt-more cone i v v₀ v₁ l e g =
-      g ∙ ap (learn-node q depths truth trail gains h s (getD cone i 0)) e ∙ sym (learnt-append (take i cone) (getD cone i 0) v₀)
-      ∙ ap (λ c. learnt q depths truth trail gains h s c v₀) (sym (ap (λ n. take n cone) (add-one i) ∙ take-suc cone i 0 l))
+      g ∙ ap (learn-node q truth trail gains h s (getD cone i 0)) e ∙ sym (learnt-append (take i cone) (getD cone i 0) v₀)
+      ∙ ap (λ c. learnt q truth trail gains h s c v₀) (sym (ap (λ n. take n cone) (add-one i) ∙ take-suc cone i 0 l))
 
-  node-length : (j : ℕ) (v : List ℕ) → length (learn-node q depths truth trail gains h s j v) ≡ length v
+  node-length : (j : ℕ) (v : List ℕ) → length (learn-node q truth trail gains h s j v) ≡ length v
   unfolding learn-node
-  node-length j v = go (leb (getD depths j 0) h) (7 * j + (h - getD depths j 0)) (value-at q truth trail gains h s (getD depths j 0) j v)
+  node-length j v = go (leb (depth-in q j) h) (7 * j + (h - depth-in q j)) (value-at q truth trail gains h s (depth-in q j) j v)
     where
       go : (t : Bool) (i x : ℕ) → length (cond t (set v i x) v) ≡ length v
       go true i x = length-set v i x
       go false i x = refl
 
-  pub learnt-length : (cone v : List ℕ) → length (learnt q depths truth trail gains h s cone v) ≡ length v
+  pub learnt-length : (cone v : List ℕ) → length (learnt q truth trail gains h s cone v) ≡ length v
   unfolding learnt
   learnt-length [] v = refl
-  learnt-length (j ∷ cone) v = learnt-length cone (learn-node q depths truth trail gains h s j v) ∙ node-length j v
+  learnt-length (j ∷ cone) v = learnt-length cone (learn-node q truth trail gains h s j v) ∙ node-length j v

@@ -1,25 +1,33 @@
 // The values of a condition's nodes along a path, each computed once, with the step that makes it known.
 ghost use mathlib.Core.Path.{_≡_};
-ghost use Prim.Native.Nat.{_+_, _*_, _-_, _<_, _≤_};
-ghost use lib.IntN.{_-ℤ_, pos};
-ghost use lib.ListN.{getD, set, take};
+ghost use Prim.Native.Nat.{_<_};
+ghost use lib.IntN.{pos};
+ghost use lib.ListN.{length, getD, set, take};
 ghost use Rattle.logic.specs.Quantity.{integers};
 ghost use Rattle.logic.specs.Quantity as quantity;
 ghost use Rattle.logic.specs.Formula.{relation};
 ghost use Rattle.logic.specs.promises.Total.{one-if};
-ghost use Rattle.evaluation.specs.promises.Learnt.{value-by, value-at, learn-node, learnt};
+ghost use Rattle.evaluation.specs.promises.Learnt.{value-by, learn-node, learnt, Below-40};
 ghost use Rattle.evaluation.specs.promises.Learnt as spec;
 ghost use Rattle.evaluation.specs.promises.Reached.{Ready};
 ghost use Rattle.evaluation.specs.promises.Known.{Knows, Offered, Stepped};
 ghost use Rattle.questions.specs.Layout.{node-of};
 use blocks::byte;
+use nodes::bound;
+use nodes::depth;
+use nodes::left;
+use nodes::operator;
+use nodes::right;
 use prepared::choice;
 use prepared::reward;
 use prepared::target;
-use questions::left;
-use questions::operator;
-use questions::p;
-use questions::right;
+
+// A place of a path: where it starts, how many steps were taken, and the state that they led to.
+pub struct Place {
+    pub start: u8,
+    pub h: u8,
+    pub s: u8,
+}
 
 pub fn bit(t: bool) -> u8
     ensures { λ r. ⌜ r ≡ one-if t ⌝ }
@@ -31,21 +39,19 @@ pub fn bit(t: bool) -> u8
 }
 
 // The value of node j at place k.
-pub fn known(v: &[u8], j: u8, k: u8) -> u8
+pub fn known(v: &[u8; 280], j: u8, k: u8) -> u8
     ensures { λ r. ⌜ r ≡ spec.known (now (v .entry)) j k ⌝ }
 {
     byte(v, 7 * j as usize + k as usize)
 }
 
-// The gain after k steps; 0 past the end.
-pub fn gain_at(gains: &[i32], k: u8) -> i32
+// The gain after k steps.
+pub fn gain_at(gains: &[i32; 7], k: u8) -> i32
+    requires { ⌜ k < 7 ⌝ }
     ensures { λ r. ⌜ r ≡ getD (now (gains .entry)) k (pos 0) ⌝ }
 {
     let i = k as usize;
-    if i < gains.len() {
-        return gains[i];
-    }
-    0
+    gains[i]
 }
 
 // Whether a gain stands in the relation of this number to a bound.
@@ -60,70 +66,36 @@ pub fn related(kind: u8, gain: i64, bound: i64) -> bool
 }
 
 // Whether node j, a "gain", is true at place k.
-fn gained(q: &[u8], gains: &[i32], h: u8, k: u8, j: u8) -> bool
+fn gained(q: &[u8; 552], gains: &[i32; 7], h: u8, k: u8, j: u8) -> bool
+    requires { ⌜ (j < 40) × (h < 7) × (k < 7) ⌝ }
     ensures { λ r. ⌜ r ≡ spec.gained (now (q .entry)) (now (gains .entry)) h k j ⌝ }
 {
     let gain = gain_at(gains, h) as i64 - gain_at(gains, k) as i64;
-    related(right(q, j), gain, p(q, j) as i64)
-}
-
-// The number of step k; 0 past the end.
-fn number_at(trail: &[u16], k: u8) -> u16
-    ensures { λ r. ⌜ r ≡ getD (now (trail .entry)) k 0 ⌝ }
-{
-    let i = k as usize;
-    if i < trail.len() {
-        return trail[i];
-    }
-    0
+    related(right(q, j), gain, bound(q, j) as i64)
 }
 
 // The value at place k of node j, which looks at steps: each arm has its operator's meaning.
-fn value_by(q: &[u8], trail: &[u16], gains: &[i32], v: &[u8], h: u8, k: u8, j: u8) -> u8
-    requires { ⌜ k < 255 ⌝ }
+fn value_by(
+    q: &[u8; 552],
+    trail: &[u16; 6],
+    gains: &[i32; 7],
+    v: &[u8; 280],
+    h: u8,
+    k: u8,
+    j: u8,
+) -> u8
+    requires { ⌜ (j < 40) × (k < h) × (h < 7) ⌝ }
     ensures { λ r. ⌜ r ≡ value-by (now (q .entry)) (now (trail .entry)) (now (gains .entry)) h k j (node-of (now (q .entry)) j .operator) (now (v .entry)) ⌝ }
 {
     let op = operator(q, j);
     match op {
         3 => bit(known(v, left(q, j), k) == 0),
         4 => known(v, left(q, j), k) & known(v, right(q, j), k),
-        5 => bit(number_at(trail, k) / 32 == left(q, j) as u16),
+        5 => bit(trail[k as usize] / 32 == left(q, j) as u16),
         6 => known(v, left(q, j), k + 1),
         7 => bit(gained(q, gains, h, k, j)),
         _ => 0,
     }
-}
-
-// The depth of node j; 0 past the end.
-pub fn depth_at(depths: &[u32], j: u8) -> u32
-    ensures { λ r. ⌜ r ≡ getD (now (depths .entry)) j 0 ⌝ }
-{
-    let i = j as usize;
-    if i < depths.len() {
-        return depths[i];
-    }
-    0
-}
-
-// The value of node j, of depth d, where it becomes known after h steps.
-fn value_at(
-    q: &[u8],
-    truth: &[u8],
-    trail: &[u16],
-    gains: &[i32],
-    v: &[u8],
-    h: u8,
-    s: u8,
-    d: u32,
-    j: u8,
-) -> u8
-    requires { ⌜ d ≤ h ⌝ }
-    ensures { λ r. ⌜ r ≡ value-at (now (q .entry)) (now (truth .entry)) (now (trail .entry)) (now (gains .entry)) h s d j (now (v .entry)) ⌝ }
-{
-    if d == 0 {
-        return byte(truth, 32 * j as usize + s as usize);
-    }
-    value_by(q, trail, gains, v, h, h - d as u8, j)
 }
 
 pub fn store(v: &mut [u8], i: usize, x: u8)
@@ -134,87 +106,91 @@ pub fn store(v: &mut [u8], i: usize, x: u8)
     }
 }
 
+// The value of node j where it becomes known after h steps, the last of which led to the state s.
 fn learn_node(
-    q: &[u8],
-    depths: &[u32],
-    truth: &[u8],
-    trail: &[u16],
-    gains: &[i32],
-    v: &mut [u8],
+    q: &[u8; 552],
+    truth: &[u8; 1280],
+    trail: &[u16; 6],
+    gains: &[i32; 7],
+    v: &mut [u8; 280],
     h: u8,
     s: u8,
     j: u8,
 )
-    ensures { λ _. ⌜ now (v .exit) ≡ learn-node (now (q .entry)) (now (depths .entry)) (now (truth .entry)) (now (trail .entry)) (now (gains .entry)) h s j (now (v .entry)) ⌝ }
+    requires { ⌜ (j < 40) × (s < 32) × (h < 7) ⌝ }
+    ensures { λ _. ⌜ now (v .exit) ≡ learn-node (now (q .entry)) (now (truth .entry)) (now (trail .entry)) (now (gains .entry)) h s j (now (v .entry)) ⌝ }
 {
-    let d = depth_at(depths, j);
-    if d <= h as u32 {
-        let x = value_at(q, truth, trail, gains, v, h, s, d, j);
-        store(v, 7 * j as usize + (h - d as u8) as usize, x);
+    let d = depth(q, j);
+    if d > h {
+        return;
     }
+    let k = h - d;
+    let at = 7 * j as usize + k as usize;
+    if d == 0 {
+        v[at] = truth[32 * j as usize + s as usize];
+        return;
+    }
+    v[at] = value_by(q, trail, gains, v, h, k, j);
 }
 
 // What the last of h steps, which led to the state s, makes known of the nodes of a cone.
 pub fn learn(
-    q: &[u8],
-    depths: &[u32],
-    truth: &[u8],
-    trail: &[u16],
-    gains: &[i32],
+    q: &[u8; 552],
+    truth: &[u8; 1280],
+    trail: &[u16; 6],
+    gains: &[i32; 7],
     cone: &[u8],
-    v: &mut [u8],
+    v: &mut [u8; 280],
     h: u8,
     s: u8,
 )
-    ensures { λ _. ⌜ now (v .exit) ≡ learnt (now (q .entry)) (now (depths .entry)) (now (truth .entry)) (now (trail .entry)) (now (gains .entry)) h s (now (cone .entry)) (now (v .entry)) ⌝ }
+    requires { ⌜ Below-40 (now cone) × (s < 32) × (h < 7) ⌝ }
+    ensures { λ _. ⌜ now (v .exit) ≡ learnt (now (q .entry)) (now (truth .entry)) (now (trail .entry)) (now (gains .entry)) h s (now (cone .entry)) (now (v .entry)) ⌝ }
 {
     let mut i: usize = 0;
     while i < cone.len() {
-        learn_node(q, depths, truth, trail, gains, v, h, s, cone[i]);
+        learn_node(q, truth, trail, gains, v, h, s, cone[i]);
         i += 1;
     }
 }
 
 fn put(trail: &mut [u16], i: usize, x: u16)
+    requires { ⌜ i < length (now trail) ⌝ }
     ensures { λ _. ⌜ now (trail .exit) ≡ set (now (trail .entry)) i x ⌝ }
 {
-    if i < trail.len() {
-        trail[i] = x;
-    }
+    trail[i] = x;
 }
 
-// Takes a step: the outcome o of the choice at place i of the state s, which the first h steps led to from the start. Gives the state reached.
+// Takes a step: the outcome o of the choice at place i of the state there. Gives the state reached.
 pub fn step(
     m: &[u16; 8704],
-    q: &[u8],
-    depths: &[u32],
-    truth: &[u8],
+    q: &[u8; 552],
+    truth: &[u8; 1280],
     cone: &[u8],
     trail: &mut [u16; 6],
     gains: &mut [i32; 7],
     v: &mut [u8; 280],
-    start: u8,
-    h: u8,
-    s: u8,
+    at: Place,
     i: u8,
     o: u8,
 ) -> u8
-    requires { ⌜ Ready (now m) (now q) start (now depths) (now truth) (now cone) ⌝ }
-    requires { ⌜ Offered (now m) start (now trail) h s i o ⌝ }
-    requires { ⌜ Knows (now m) (now q) start (now cone) (take h (now trail)) (now gains) (now v) ⌝ }
-    ensures { λ r. ⌜ Stepped (now (m .entry)) (now (q .entry)) start (now (cone .entry)) h s i o (now (trail .entry)) (now (trail .exit)) (now (gains .exit)) (now (v .exit)) r ⌝ }
+    requires { ⌜ Ready (now m) (now q) (at .start) (now truth) (now cone) ⌝ }
+    requires { ⌜ Offered (now m) (at .start) (now trail) (at .h) (at .s) i o ⌝ }
+    requires { ⌜ Knows (now m) (now q) (at .start) (now cone) (take (at .h) (now trail)) (now gains) (now v) ⌝ }
+    ensures { λ r. ⌜ Stepped (now (m .entry)) (now (q .entry)) (at .start) (now (cone .entry)) (at .h) (at .s) i o (now (trail .entry)) (now (trail .exit)) (now (gains .exit)) (now (v .exit)) r ⌝ }
 {
+    let h = at.h;
     let n = h as usize;
-    let state = s as usize;
-    let place = i as usize;
-    let outcome = o as usize;
+    let s = at.s as usize;
+    let c = i as usize;
+    let e = o as usize;
     put(
         trail,
         n,
-        32 * choice(m, state, place) as u16 + 4 * i as u16 + o as u16,
+        32 * choice(m, s, c) as u16 + 4 * i as u16 + o as u16,
     );
-    gains[n + 1] = gain_at(gains, h) + reward(m, state, place, outcome);
-    let t = target(m, state, place, outcome) as u8;
-    learn(q, depths, truth, trail, gains, cone, v, h + 1, t);
+    gains[n + 1] = gain_at(gains, h) + reward(m, s, c, e);
+    let t = target(m, s, c, e) as u8;
+    learn(q, truth, trail, gains, cone, v, h + 1, t);
     t
 }

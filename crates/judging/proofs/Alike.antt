@@ -6,10 +6,10 @@ use Rattle.blocks.specs.Bytes.{Bytes}
 use Rattle.models.specs.Layout.{state-count, action-count, prop-count}
 use Rattle.prepared.specs.promises.Rows.{model-in}
 use Rattle.questions.specs.Layout.{question-of}
-use Rattle.sharing.specs.promises.Shared.{Shared}
-use Rattle.sharing.specs.promises.Replaced.{Ordered}
-use Rattle.sharing.proofs.Nodes.{ordered}
-use Rattle.sharing.proofs.Judged.{same-verdict, same-limits}
+use Rattle.nodes.specs.promises.Shared.{Shared}
+use Rattle.nodes.specs.promises.Replaced.{Ordered}
+use Rattle.nodes.proofs.Children.{ordered}
+use Rattle.nodes.proofs.Judged.{same-verdict, same-limits}
 use Rattle.judging.specs.promises.Asked.{Served}
 use Rattle.judging.specs.declared.Outcome.{Outcome}
 use Rattle.judging.specs.promises.Announced.{root-verdict, Announces}

@@ -17,8 +17,9 @@ use Rattle.blocks.specs.Bytes.{Bytes, byte}
 use Rattle.models.specs.Layout.{state-count}
 use Rattle.prepared.specs.promises.Rows.{choice-in, step-in, Offers, lane, model-in}
 use Rattle.questions.specs.Layout.{node-count, node-of}
+use Rattle.nodes.specs.promises.Nodes.{formula, depth-in, reads-left}
 use Rattle.evaluation.specs.promises.Path.{number-of, steps-of, state-after, Trail}
-use Rattle.evaluation.specs.promises.Reached.{formula, Reached, itself, under-not, and-left, and-right, reads-left, Earlier, root-of}
+use Rattle.evaluation.specs.promises.Reached.{Reached, itself, under-not, and-left, and-right, Earlier, root-of}
 use Rattle.evaluation.specs.promises.Learnt.{known, gained}
 use Rattle.evaluation.specs.promises.Known.{Known, Gained, Offered}
 use Rattle.evaluation.proofs.Trails.{steps-length, steps-append}
@@ -27,7 +28,7 @@ use Rattle.evaluation.proofs.Knowing.{depth-is, cone-node, known-longer}
 use Rattle.evaluation.proofs.Stepping as stepping
 use Rattle.lanes.specs.promises.Lanes.{Lanes, Laned}
 use Rattle.last.specs.promises.Late.{Passed-on}
-use Rattle.last.specs.promises.Masks.{Before-last, Worded, Masked, Ended}
+use Rattle.last.specs.promises.Masks.{Before-last, Part, Worded, Masked, Ended}
 
 -- A value is 1 where it is not 0.
 a-bit : (t : Bool) → one-if (not (eqb (one-if t) 0)) ≡ one-if t
@@ -38,8 +39,8 @@ a-bit false = refl
 sum-last : (x y z : ℤ) → (x +ℤ z) -ℤ y ≡ (x -ℤ y) +ℤ z
 sum-last x y z = +ℤ-assoc x z (negℤ y) ∙ ap (λ w. x +ℤ w) (+ℤ-comm z (negℤ y)) ∙ sym (+ℤ-assoc x (negℤ y) z)
 
-module _ {m q : Bytes} {start : ℕ} {depths truth cone late trail : List ℕ} {gains : List ℤ} {v : List ℕ} {h s : ℕ}
-    (B : Before-last m q start depths truth cone late trail gains v h s) where
+module _ {m q : Bytes} {start : ℕ} {truth cone late trail : List ℕ} {gains : List ℤ} {v : List ℕ} {h s : ℕ}
+    (B : Before-last m q start truth cone late trail gains v h s) where
   abbrev T : List ℕ
   T = take h trail
 
@@ -48,6 +49,9 @@ module _ {m q : Bytes} {start : ℕ} {depths truth cone late trail : List ℕ} {
 
   pub state-here : s < state-count m
   state-here = stepping.state-reached (B .ready) (B .knows) (B .state)
+
+  pub root-small : root-of cone < 40
+  root-small = cone-node (B .ready) (length cone - 1) (omega (arith, B .ready .ordered .some))
 
   -- The path that an outcome o of the choice at place a ends.
   module _ (a o : ℕ) (offers : Offers m s a o) where
@@ -76,7 +80,7 @@ module _ {m q : Bytes} {start : ℕ} {depths truth cone late trail : List ℕ} {
     sums = set gains (h + 1) (getD gains h (pos 0) +ℤ (step-in m s a o) .reward)
 
     summed : Gained m start on sums
-    summed = stepping.gained-on (B .ready) offered (B .knows) (B .whole) (B .room) sums refl
+    summed = stepping.gained-on (B .ready) offered (B .knows) (B .whole) sums refl
 
     known-before : Known m q start cone on 0 v
     known-before = known-longer m q start cone T (number-of m s a o) v (B .knows .values)
@@ -96,7 +100,7 @@ module _ {m q : Bytes} {start : ℕ} {depths truth cone late trail : List ℕ} {
         ap (λ z. one-if (not (eqb z 0))) g ∙ a-bit (sat (model-in m) (formula q c) (state-after m start (take k on)) (drop k (steps-of m start on)))
 
   -- The node at place i of the cone, with the words of those before it.
-  module _ {i : ℕ} {masks : List ℕ} (M : Masked m q start cone late T s i masks) (l : i < length cone) (marked : getD late (node i) 0 ≡ 1) (path : depth (formula q (node i)) ≡ 0 → ⊥) where
+  module _ {i : ℕ} {masks : List ℕ} (M : Masked m q start cone late T s i masks) (l : i < length cone) (marked : getD late (node i) 0 ≡ 1) (deep : depth-in q (node i) ≡ 0 → ⊥) where
     abbrev x : Node
     x = node-of q (node i)
 
@@ -109,8 +113,20 @@ module _ {m q : Bytes} {start : ℕ} {depths truth cone late trail : List ℕ} {
     passed : Passed-on q late (node i)
     passed = B .marked .closed i l marked
 
+    small : {c : ℕ} → Earlier cone i c → c < 40
+    small e = subst (λ z. z < 40) (e .2) (cone-node (B .ready) (e .0) (omega (arith, e .1)))
+
+    path : depth (formula q (node i)) ≡ 0 → ⊥
+    path z = deep (sym (depth-is (B .ready) i l) ∙ z)
+
     left : (op : ℕ) → x .operator ≡ op → reads-left op ≡ true → Earlier cone i (x .left)
     left op e h = B .ready .ordered .lefts i l path (ap reads-left e ∙ h)
+
+    pub left-small : (op : ℕ) → x .operator ≡ op → reads-left op ≡ true → x .left < 40
+    left-small op e h = small (left op e h)
+
+    pub right-small : x .operator ≡ 4 → x .right < 40
+    right-small e = small (B .ready .ordered .rights i l path e)
 
     level-on : (k a o : ℕ) (u : Offers m s a o) → k + depth (formula q (node i)) ≡ length T + 1 → k + depth (formula q (node i)) ≡ length (on a o u)
     level-on k a o u d = omega (arith, B .whole, on-length a o u)
@@ -134,51 +150,46 @@ module _ {m q : Bytes} {start : ℕ} {depths truth cone late trail : List ℕ} {
               let c = not-level (B .ready) (on a o u) (on a o u) p (sums a o u) f g (node i) k inside z e in
               R .right (4 * a + o) (lane-small a o u)
               ∙ not-means (B .ready) (on a o u) (on a o u) p (sums a o u) f g (node i) k inside z e (lane (word (x .left)) (4 * a + o))
-              (child k (x .left) a o u (left 3 e refl) (passed .under-not path e) c (under-not n e));
+              (child k (x .left) a o u (left 3 e refl) (passed .under-not deep e) c (under-not n e));
         }
 
-    -- A child of "and": its own word where it looks as far ahead, its value before the last step elsewhere.
-    pub record Part (k c y : ℕ) : Type 0 where
-      pub own : getD depths c 0 ≡ depth (formula q (node i)) → y ≡ word c
-      pub earlier : (getD depths c 0 ≡ depth (formula q (node i)) → ⊥) → Lanes (λ _. one-if (not (eqb (known v c k) 0))) y
-
-    of-part : (k c y a o : ℕ) (u : Offers m s a o) → Earlier cone i c → (depth (formula q c) ≡ depth (formula q (node i)) → getD late c 0 ≡ 1)
-        → k + depth (formula q (node i)) ≡ length (on a o u) → k + depth (formula q c) ≤ length (on a o u) → Needed a o u c k → Part k c y
+    of-part : (d k c y a o : ℕ) (u : Offers m s a o) → d ≡ depth-in q (node i) → Earlier cone i c → (depth-in q c ≡ depth-in q (node i) → getD late c 0 ≡ 1)
+        → k + depth (formula q (node i)) ≡ length (on a o u) → k + depth (formula q c) ≤ length (on a o u) → Needed a o u c k → Part q v masks d k c y
         → lane y (4 * a + o) ≡ meaning a o u c k
-    of-part k c y a o u e too z d r P = go (ℕ-discrete (getD depths c 0) (depth (formula q (node i))))
+    of-part d k c y a o u f e too z b r P = go (ℕ-discrete (depth-in q c) d)
       where
-        known-depth : depth (formula q c) ≡ getD depths c 0
-        known-depth = subst (λ z. depth (formula q z) ≡ getD depths z 0) (e .2) (depth-is (B .ready) (node (e .0)) (cone-node (B .ready) (e .0) (omega (arith, e .1))))
+        known-depth : depth (formula q c) ≡ depth-in q c
+        known-depth = subst (λ z. depth (formula q z) ≡ depth-in q z) (e .2) (depth-is (B .ready) (e .0) (omega (arith, e .1)))
 
-        go : Dec (getD depths c 0 ≡ depth (formula q (node i))) → lane y (4 * a + o) ≡ meaning a o u c k
+        go : Dec (depth-in q c ≡ d) → lane y (4 * a + o) ≡ meaning a o u c k
         go (yes w) =
             ap (λ n. lane n (4 * a + o)) (P .own w)
-            ∙ child k c a o u e (too (known-depth ∙ w)) (omega (arith, known-depth)) r
+            ∙ child k c a o u e (too (w ∙ f)) (omega (arith, known-depth, depth-is (B .ready) i l)) r
         go (no w) =
             P .earlier w .right (4 * a + o) (lane-small a o u)
             ∙ before a o u i k c l e (below (ℕ-discrete (k + depth (formula q c)) (length (on a o u)))) r
           where
             below : Dec (k + depth (formula q c) ≡ length (on a o u)) → k + depth (formula q c) ≤ h
-            below (yes n) = absurd (w (omega (arith, known-depth)))
+            below (yes n) = absurd (w (omega (arith, known-depth, depth-is (B .ready) i l)))
             below (no n) = omega (arith, on-length a o u)
 
-    pub and-word : (r k y z : ℕ) → x .operator ≡ 4 → k + depth (formula q (node i)) ≡ h + 1 → Part k (x .left) y → Part k (x .right) z
+    pub and-word : (r d k y z : ℕ) → x .operator ≡ 4 → d ≡ depth-in q (node i) → k + d ≡ h + 1 → Part q v masks d k (x .left) y → Part q v masks d k (x .right) z
         → Lanes (λ n. bitAnd (lane y n) (lane z n)) r → Worded m q start cone T s (node i) r
     unfolding reads-left
-    and-word r k y z e d P Q R =
+    and-word r d k y z e f g P Q R =
         record {
           right = λ k′ a o u d′ n.
-              let same : k′ ≡ k = omega (arith, B .whole) in
+              let same : k′ ≡ k = omega (arith, B .whole, depth-is (B .ready) i l) in
               let n′ = subst (λ w. Needed a o u (node i) w) same n in
-              let w : k + depth (formula q (node i)) ≡ length (on a o u) = omega (arith, on-length a o u) in
+              let w : k + depth (formula q (node i)) ≡ length (on a o u) = omega (arith, on-length a o u, depth-is (B .ready) i l) in
               let p = prefix a o u in
-              let f = followed a o u in
-              let g = summed a o u in
-              let c = and-level (B .ready) (on a o u) (on a o u) p (sums a o u) f g (node i) k inside w e in
+              let F = followed a o u in
+              let G = summed a o u in
+              let c = and-level (B .ready) (on a o u) (on a o u) p (sums a o u) F G (node i) k inside w e in
               R .right (4 * a + o) (lane-small a o u)
-              ∙ and-means (B .ready) (on a o u) (on a o u) p (sums a o u) f g (node i) k inside w e (lane y (4 * a + o)) (lane z (4 * a + o))
-              (of-part k (x .left) y a o u (left 4 e refl) (passed .and-left path e) w (c .0) (and-left n′ e) P)
-              (of-part k (x .right) z a o u (B .ready .ordered .rights i l path e) (passed .and-right path e) w (c .1) (and-right n′ e) Q)
+              ∙ and-means (B .ready) (on a o u) (on a o u) p (sums a o u) F G (node i) k inside w e (lane y (4 * a + o)) (lane z (4 * a + o))
+              (of-part d k (x .left) y a o u f (left 4 e refl) (passed .and-left deep e) w (c .0) (and-left n′ e) P)
+              (of-part d k (x .right) z a o u f (B .ready .ordered .rights i l path e) (passed .and-right deep e) w (c .1) (and-right n′ e) Q)
               ∙ ap (meaning a o u (node i)) (sym same);
         }
 
@@ -213,28 +224,28 @@ module _ {m q : Bytes} {start : ℕ} {depths truth cone late trail : List ℕ} {
               let c = next-level (B .ready) (on a o u) (on a o u) p (sums a o u) f g (node i) k inside z e in
               let n′ = next-needed (B .ready) (on a o u) (on a o u) p (sums a o u) f g (node i) k inside z e n in
               next-means (B .ready) (on a o u) (on a o u) p (sums a o u) f g (node i) k inside z e (lane (word (x .left)) (4 * a + o))
-              (child (suc k) (x .left) a o u (left 6 e refl) (passed .under-next path e) (c .1) n′);
+              (child (suc k) (x .left) a o u (left 6 e refl) (passed .under-next deep e) (c .1) n′);
         }
 
-    pub gain-word : (r k : ℕ) → x .operator ≡ 7 → k + depth (formula q (node i)) ≡ h + 1
+    pub gain-word : (r d k : ℕ) → x .operator ≡ 7 → d ≡ depth-in q (node i) → k + d ≡ h + 1
         → Laned m s (λ a o. one-if (related integers (relation (x .right)) ((getD gains h (pos 0) -ℤ getD gains k (pos 0)) +ℤ (step-in m s a o) .reward) (x .p))) r
         → Worded m q start cone T s (node i) r
     unfolding gained
-    gain-word r k e d R =
+    gain-word r d k e f w R =
         record {
           right = λ k′ a o u d′ n.
-              let same : k′ ≡ k = omega (arith, B .whole) in
-              let w : k + depth (formula q (node i)) ≡ length (on a o u) = omega (arith, on-length a o u) in
-              let room : h + 1 < length gains = omega (arith, B .room, B .few) in
+              let same : k′ ≡ k = omega (arith, B .whole, depth-is (B .ready) i l) in
+              let z : k + depth (formula q (node i)) ≡ length (on a o u) = omega (arith, on-length a o u, depth-is (B .ready) i l) in
+              let room : h + 1 < length gains = omega (arith, B .knows .sums, B .few) in
               let all : getD (sums a o u) (length (on a o u)) (pos 0) ≡ getD gains h (pos 0) +ℤ (step-in m s a o) .reward =
               ap (λ n. getD (sums a o u) n (pos 0)) (on-length a o u) ∙ getD-set-same gains (h + 1) (getD gains h (pos 0) +ℤ (step-in m s a o) .reward) (pos 0) room in
               let some : getD (sums a o u) k (pos 0) ≡ getD gains k (pos 0) =
-              getD-set-other gains (h + 1) k (getD gains h (pos 0) +ℤ (step-in m s a o) .reward) (pos 0) (λ n. path (omega arith)) in
+              getD-set-other gains (h + 1) k (getD gains h (pos 0) +ℤ (step-in m s a o) .reward) (pos 0) (λ n. path (omega (arith, depth-is (B .ready) i l))) in
               let g : getD (sums a o u) (length (on a o u)) (pos 0) -ℤ getD (sums a o u) k (pos 0) ≡ (getD gains h (pos 0) -ℤ getD gains k (pos 0)) +ℤ (step-in m s a o) .reward =
               ap₂ _-ℤ_ all some ∙ sum-last (getD gains h (pos 0)) (getD gains k (pos 0)) ((step-in m s a o) .reward) in
               R .right a o u
               ∙ ap (λ y. one-if (related integers (relation (x .right)) y (x .p))) (sym g)
-              ∙ gain-means (B .ready) (on a o u) (on a o u) (prefix a o u) (sums a o u) (followed a o u) (summed a o u) (node i) k inside w e
+              ∙ gain-means (B .ready) (on a o u) (on a o u) (prefix a o u) (sums a o u) (followed a o u) (summed a o u) (node i) k inside z e
               ∙ ap (meaning a o u (node i)) (sym same);
         }
 

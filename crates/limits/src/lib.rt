@@ -11,13 +11,12 @@ ghost use Rattle.logic.specs.Limits.{every-plan, limits};
 ghost use Rattle.models.specs.Layout.{state-count, action-count, prop-count};
 ghost use Rattle.prepared.specs.promises.Rows.{choices-in, choice-in, model-in, Prepared};
 ghost use Rattle.questions.specs.Layout.{node-of, formulas-of, question-of};
-ghost use Rattle.questions.specs.Grounds.{read-question};
+ghost use Rattle.nodes.specs.promises.Nodes.{Nodes};
 ghost use Rattle.limits.specs.promises.Totals.{gather, step-total, Totals, fits, node-fits, Numbered};
 ghost use Rattle.limits.specs.promises.Totals as spec;
-use questions::asks_equal;
-use questions::node_count;
-use questions::operator;
-use questions::steps;
+use nodes::asks_equal;
+use nodes::operator;
+use nodes::steps;
 
 // The most that is served: plans, or else paths.
 fn limit(plans: bool) -> u64
@@ -141,7 +140,8 @@ fn row_fits(table: &[u64; 224], n: usize, states: usize, plans: bool) -> bool
 }
 
 // Whether a limit is set to node i: it is a "plan" node, and where plans are counted its relation is "equal".
-fn bounded(q: &[u8], i: u8, plans: bool) -> bool
+fn bounded(q: &[u8; 552], i: u8, plans: bool) -> bool
+    requires { ⌜ i < 40 ⌝ }
     ensures { λ r. ⌜ r ≡ spec.bounded plans (node-of (now (q .entry)) i) ⌝ }
 {
     if operator(q, i) != 8 {
@@ -150,8 +150,8 @@ fn bounded(q: &[u8], i: u8, plans: bool) -> bool
     !plans || asks_equal(q, i)
 }
 
-fn node_fits(m: &[u16; 8704], q: &[u8], table: &[u64; 224], plans: bool, i: u8) -> bool
-    requires { ⌜ Prepared (now m) × Totals plans (model-in (now m)) (now table) × Numbered (node-of (now q) i) ⌝ }
+fn node_fits(m: &[u16; 8704], q: &[u8; 552], table: &[u64; 224], plans: bool, i: u8) -> bool
+    requires { ⌜ Prepared (now m) × Totals plans (model-in (now m)) (now table) × (i < 40) × Numbered (node-of (now q) i) ⌝ }
     ensures { λ r. ⌜ r ≡ node-fits plans (model-in (now (m .entry))) (node-of (now (q .entry)) i) ⌝ }
 {
     if !bounded(q, i, plans) {
@@ -161,13 +161,12 @@ fn node_fits(m: &[u16; 8704], q: &[u8], table: &[u64; 224], plans: bool, i: u8) 
 }
 
 // All nodes are checked, used or not.
-fn nodes_fit(m: &[u16; 8704], q: &[u8], plans: bool) -> bool
-    requires { ⌜ Prepared (now m) ⌝ }
-    requires { ⌜ refusal (read-question (state-count (now m)) (action-count (now m)) (prop-count (now m)) (now q)) ≡ 0 ⌝ }
+fn nodes_fit(m: &[u16; 8704], q: &[u8; 552], plans: bool) -> bool
+    requires { ⌜ Prepared (now m) × Nodes (state-count (now m)) (action-count (now m)) (prop-count (now m)) (now q) ⌝ }
     ensures { λ r. ⌜ r ≡ every-plan (fits plans (model-in (now (m .entry)))) (model-in (now (m .entry))) (formulas-of (now (q .entry))) ⌝ }
 {
     let table = totals(m, plans);
-    let n = node_count(q);
+    let n = nodes::count(q);
     let mut right = true;
     let mut i: u8 = 0;
     while i < n {
@@ -178,27 +177,24 @@ fn nodes_fit(m: &[u16; 8704], q: &[u8], plans: bool) -> bool
 }
 
 // The test of ground 24: no "plan" node has too many paths.
-pub fn paths_fit(m: &[u16; 8704], q: &[u8]) -> bool
-    requires { ⌜ Prepared (now m) ⌝ }
-    requires { ⌜ refusal (read-question (state-count (now m)) (action-count (now m)) (prop-count (now m)) (now q)) ≡ 0 ⌝ }
+pub fn paths_fit(m: &[u16; 8704], q: &[u8; 552]) -> bool
+    requires { ⌜ Prepared (now m) × Nodes (state-count (now m)) (action-count (now m)) (prop-count (now m)) (now q) ⌝ }
     ensures { λ r. ⌜ r ≡ every-plan (fits false (model-in (now (m .entry)))) (model-in (now (m .entry))) (formulas-of (now (q .entry))) ⌝ }
 {
     nodes_fit(m, q, false)
 }
 
 // The test of ground 25: no "plan" node whose relation is "equal" has too many plans.
-pub fn plans_fit(m: &[u16; 8704], q: &[u8]) -> bool
-    requires { ⌜ Prepared (now m) ⌝ }
-    requires { ⌜ refusal (read-question (state-count (now m)) (action-count (now m)) (prop-count (now m)) (now q)) ≡ 0 ⌝ }
+pub fn plans_fit(m: &[u16; 8704], q: &[u8; 552]) -> bool
+    requires { ⌜ Prepared (now m) × Nodes (state-count (now m)) (action-count (now m)) (prop-count (now m)) (now q) ⌝ }
     ensures { λ r. ⌜ r ≡ every-plan (fits true (model-in (now (m .entry)))) (model-in (now (m .entry))) (formulas-of (now (q .entry))) ⌝ }
 {
     nodes_fit(m, q, true)
 }
 
-// The ground, 24 or 25, on which an accepted question is not judged on an accepted model; 0 where there is none.
-pub fn limit_refusal(m: &[u16; 8704], q: &[u8]) -> u32
-    requires { ⌜ Prepared (now m) ⌝ }
-    requires { ⌜ refusal (read-question (state-count (now m)) (action-count (now m)) (prop-count (now m)) (now q)) ≡ 0 ⌝ }
+// The ground, 24 or 25, on which a prepared question is not judged on a prepared model; 0 where there is none.
+pub fn limit_refusal(m: &[u16; 8704], q: &[u8; 552]) -> u32
+    requires { ⌜ Prepared (now m) × Nodes (state-count (now m)) (action-count (now m)) (prop-count (now m)) (now q) ⌝ }
     ensures { λ r. ⌜ r ≡ refusal (limits (model-in (now (m .entry))) ((question-of (now (q .entry))) .nodes)) ⌝ }
 {
     if !paths_fit(m, q) {

@@ -3,7 +3,7 @@
 use Prim.Native.Nat.{ℕ, _≤_, _<_}
 use native.Mathlib.Omega.{arith}
 use mathlib.Core.Path.{_≡_, refl, sym, ap, ap₂, _∙_}
-use mathlib.Core.Bool.{true, false, not, _&&_, false≢true}
+use mathlib.Core.Bool.{true, not, _&&_, false≢true}
 use lib.Dec.{eqb, ltb}
 use lib.IntN.{ℤ, pos, negsuc}
 use lib.ListN.{length, getD, take}
@@ -18,42 +18,12 @@ use Rattle.blocks.specs.Bytes.{Bytes, within}
 use Rattle.blocks.specs.Block.{whole-blocks, sums-right, headed}
 use Rattle.questions.specs.Layout.{start-of, node-count, node-of, formulas-of, question-of}
 use Rattle.questions.specs.Grounds.{compares, gain-bound, plan-bound, plan-in-range, node-in-range, spare-zero, formed, read-question}
+use Rattle.questions.specs.promises.Formed.{Compares, GainRange, PlanRange, InRange, Formed}
 use Rattle.questions.specs.promises.Tables.{formulas-before}
 use Rattle.questions.proofs.Laws.{passed, within-least, within-most, one-block, by-operator, all-before, before-take, before-at, formula-here}
 use Rattle.questions.proofs.Rows.{row-1, row-2, row-3, row-4, row-5, row-6, row-7, row-8, all-shallow}
 
 -- ---- a node's fields
-
--- The steps and the relation of a "gain" or a "plan".
-pub record Compares (x : Node) : Type 0 where
-  pub some-step : 1 ≤ x .n
-  pub few-steps : x .n ≤ 6
-  pub relation-from : 1 ≤ x .right
-  pub relation-to : x .right ≤ 3
-
-pub record GainRange (x : Node) : Type 0 where
-  pub compares : Compares x
-  pub bound : mag (x .p) ≤ 6000
-  pub whole : x .q ≡ 1
-
-pub record PlanRange (i : ℕ) (x : Node) : Type 0 where
-  pub compares : Compares x
-  pub child : x .left < i
-  pub some-part : 1 ≤ x .q
-  pub few-parts : x .q ≤ 1000000
-  pub whole : x .p ≡ pos (nonnegative (x .p))
-  pub bound : nonnegative (x .p) ≤ x .q
-
-pub record InRange (A N i : ℕ) (x : Node) : Type 0 where
-  pub operator-from : 1 ≤ x .operator
-  pub operator-to : x .operator ≤ 8
-  pub of-prop : x .operator ≡ 2 → x .left < N
-  pub of-neg : x .operator ≡ 3 → x .left < i
-  pub of-both : x .operator ≡ 4 → (x .left < i) × (x .right < i)
-  pub of-does : x .operator ≡ 5 → x .left < A
-  pub of-next : x .operator ≡ 6 → x .left < i
-  pub of-gain : x .operator ≡ 7 → GainRange x
-  pub of-plan : x .operator ≡ 8 → PlanRange i x
 
 compares-facts : (x : Node) → compares x ≡ true → Compares x
 unfolding compares
@@ -149,13 +119,8 @@ in-range-facts A N i x e =
 pub record Accepted (S A N : ℕ) (b : Bytes) : Type 0 where
   pub size : length b ≡ 512
   pub read : read-question S A N b ≡ ok (question-of b)
-  pub starts : start-of b < S
-  pub some-node : 1 ≤ node-count b
-  pub few-nodes : node-count b ≤ 40
-  pub in-range : (i : ℕ) → i < node-count b → InRange A N i (node-of b i)
-  pub formed : formed (question-of b) ≡ true
-  pub root-state : is-path (question-of b .root) ≡ false
-  pub shallow : (i : ℕ) → i < node-count b → shallow (getD (formulas-of b) i never) ≡ true
+  pub ground-9 : formed (question-of b) ≡ true
+  pub formed : Formed S A N b
 
 pub accepted : (S A N : ℕ) (b : Bytes) → refusal (read-question S A N b) ≡ 0 → Accepted S A N b
 unfolding read-question formed question-of
@@ -172,14 +137,17 @@ accepted S A N b e =
     record {
       size = one-block b (g1 .0);
       read = rw (g1 .0, g2 .0, g3 .0, g4 .0, g5 .0, g6 .0, g9 .0) refl;
-      starts = ltb-true (start-of b) S (and-left (ltb (start-of b) S) (within 1 40 (node-count b)) (g4 .0));
-      some-node = within-least 1 40 (node-count b) n;
-      few-nodes = within-most 1 40 (node-count b) n;
-      in-range = λ i h. in-range-facts A N i (node-of b i) (every-at (λ i. node-in-range A N i (node-of b i)) (node-count b) (g5 .0) h);
-      formed = g9 .0;
-      root-state = root;
-      shallow = λ i h. every-at (λ i. shallow (getD (formulas-of b) i never)) (node-count b)
-          (sym (all-shallow b) ∙ and-right (not (is-path (question-of b .root))) (all shallow (formulas-of b)) (g9 .0)) h;
+      ground-9 = g9 .0;
+      formed =
+          record {
+            starts = ltb-true (start-of b) S (and-left (ltb (start-of b) S) (within 1 40 (node-count b)) (g4 .0));
+            some-node = within-least 1 40 (node-count b) n;
+            few-nodes = within-most 1 40 (node-count b) n;
+            in-range = λ i h. in-range-facts A N i (node-of b i) (every-at (λ i. node-in-range A N i (node-of b i)) (node-count b) (g5 .0) h);
+            root-state = root;
+            shallow = λ i h. every-at (λ i. shallow (getD (formulas-of b) i never)) (node-count b)
+                (sym (all-shallow b) ∙ and-right (not (is-path (question-of b .root))) (all shallow (formulas-of b)) (g9 .0)) h;
+          };
     }
 
 -- ---- the formulas
@@ -193,7 +161,7 @@ child-same : (b : Bytes) (i j : ℕ) → i < node-count b → j < i → getD (fo
 child-same b i j h l = before-at b j i l ∙ sym (formula-here b j (omega arith))
 
 -- By the operator of node i, what its formula is.
-module _ (S A N : ℕ) (b : Bytes) (a : Accepted S A N b) (i : ℕ) (h : i < node-count b) where
+module _ (S A N : ℕ) (b : Bytes) (a : Formed S A N b) (i : ℕ) (h : i < node-count b) where
   pub at-never : node-of b i .operator ≡ 1 → getD (formulas-of b) i never ≡ never
   at-never o = formula-here b i h ∙ row-1 (formulas-before b i) (node-of b i) o
 

@@ -24,8 +24,8 @@ use Rattle.search.specs.promises.Buffers.{Wrote, Setting, Picked}
 use Rattle.search.specs.declared.Best.{Best}
 use Rattle.search.proofs.Stack.{wrote-none}
 
-module _ {m q : Bytes} {depths truth cone late : List ℕ} {start : ℕ} {trail : List ℕ} {gains : List ℤ} {v : List ℕ} {h s k : ℕ}
-    (S : Setting m q depths truth cone late start trail gains v h s k) where
+module _ {m q : Bytes} {truth cone late : List ℕ} {start : ℕ} {trail : List ℕ} {gains : List ℤ} {v : List ℕ} {h s k : ℕ}
+    (S : Setting m q truth cone late start trail gains v h s k) where
   pub state-here : s < state-count m
   state-here = state-reached (S .ready) (S .knows) (S .state)
 
@@ -52,8 +52,8 @@ pub record Kept (m q : Bytes) (start : ℕ) (cone : List ℕ) (h : ℕ) (trail :
   pub back : Back m q start cone h trail trail′ gains′ v′
   pub room : length choices′ ≡ length choices
 
-module _ {m q : Bytes} {depths truth cone late : List ℕ} {start : ℕ} {trail : List ℕ} {gains : List ℤ} {v : List ℕ} {h s k : ℕ}
-    (S : Setting m q depths truth cone late start trail gains v h s k) where
+module _ {m q : Bytes} {truth cone late : List ℕ} {start : ℕ} {trail : List ℕ} {gains : List ℤ} {v : List ℕ} {h s k : ℕ}
+    (S : Setting m q truth cone late start trail gains v h s k) where
   pub back-none : Back m q start cone h trail trail gains v
   back-none = record { kept = refl; knows = S .knows }
 
@@ -61,7 +61,7 @@ module _ {m q : Bytes} {depths truth cone late : List ℕ} {start : ℕ} {trail 
   kept-none choices = record { back = back-none; room = refl }
 
   pub setting-kept : {choices trail′ : List ℕ} {gains′ : List ℤ} {v′ choices′ : List ℕ} → Kept m q start cone h trail gains v choices trail′ gains′ v′ choices′
-      → Setting m q depths truth cone late start trail′ gains′ v′ h s k
+      → Setting m q truth cone late start trail′ gains′ v′ h s k
   setting-kept K =
       record {
         ready = S .ready;
@@ -80,13 +80,13 @@ kept-kept K B e = record { back = back-same (K .back .kept) B; room = e ∙ K .r
 
 -- ---- a step
 
-module _ {m q : Bytes} {depths truth cone late : List ℕ} {start : ℕ} {trail : List ℕ} {gains : List ℤ} {v : List ℕ} {h s : ℕ} (k : ℕ)
-    (S : Setting m q depths truth cone late start trail gains v h s (k + 1)) (a o : ℕ) (offers : Offers m s a o) where
+module _ {m q : Bytes} {truth cone late : List ℕ} {start : ℕ} {trail : List ℕ} {gains : List ℤ} {v : List ℕ} {h s : ℕ} (k : ℕ)
+    (S : Setting m q truth cone late start trail gains v h s (k + 1)) (a o : ℕ) (offers : Offers m s a o) where
   pub offered : Offered m start trail h s a o
   offered = record { steps = omega (arith, S .few); state = S .state; offers = offers }
 
   module _ {trail′ : List ℕ} {gains′ : List ℤ} {v′ : List ℕ} {t : ℕ} (T : Stepped m q start cone h s a o trail trail′ gains′ v′ t) where
-    pub setting-on : Setting m q depths truth cone late start trail′ gains′ v′ (h + 1) t k
+    pub setting-on : Setting m q truth cone late start trail′ gains′ v′ (h + 1) t k
     setting-on =
         record {
           ready = S .ready;

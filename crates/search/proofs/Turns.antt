@@ -10,20 +10,18 @@ use lib.ListN.{length, getD, take, set, length-set}
 use Rattle.logic.specs.Formula.{depth}
 use Rattle.logic.specs.Model.{Step}
 use Rattle.blocks.specs.Bytes.{Bytes}
-use Rattle.models.specs.Layout.{state-count, action-count, prop-count, denominator-of}
+use Rattle.models.specs.Layout.{denominator-of}
 use Rattle.prepared.specs.promises.Rows.{choices-in, choice-in, outcomes-in, step-in, row-in, Offers, model-in, Prepared}
-use Rattle.questions.specs.Layout.{node-count, formulas-of}
-use Rattle.questions.specs.promises.Tables.{table}
-use Rattle.questions.proofs.Accepted.{accepted}
+use Rattle.nodes.specs.promises.Nodes.{formula}
 use Rattle.extension.specs.promises.Choices.{room}
 use Rattle.extension.proofs.Laws.{room-step, room-most}
 use Rattle.evaluation.specs.promises.Path.{steps-of, state-after}
-use Rattle.evaluation.specs.promises.Reached.{formula, root-of, on-path, Cone, Ready}
+use Rattle.evaluation.specs.promises.Reached.{root-of, on-path, Cone, Ready}
 use Rattle.evaluation.specs.promises.Learnt.{learnt}
 use Rattle.evaluation.specs.promises.Known.{Knows, Offered, Stepped, Back}
 use Rattle.evaluation.proofs.Values.{one-if-small}
 use Rattle.evaluation.proofs.Stepping.{begun}
-use Rattle.last.specs.promises.Late.{Late}
+use Rattle.last.specs.promises.Late.{Late, Deep}
 use Rattle.search.specs.promises.Greatest.{best-choices, best-left, Finds}
 use Rattle.search.specs.promises.Buffers.{Setting, wins, Keeps, Picked, Candidate, walked, lost}
 use Rattle.search.specs.declared.Best.{Best}
@@ -51,11 +49,11 @@ pub record Below (least : Bool) (m q : Bytes) (start : ℕ) (cone : List ℕ) (h
   pub picked : Picked least m (on-path m q start cone (take h trail)) s k at choices choices′ b
   pub kept : Kept m q start cone h trail gains v choices trail′ gains′ v′ choices′
 
-module _ {m q : Bytes} {depths truth cone late : List ℕ} {start : ℕ} {trail₀ : List ℕ} {gains₀ : List ℤ} {v₀ choices₀ : List ℕ} {h s : ℕ} (k : ℕ)
-    (S : Setting m q depths truth cone late start trail₀ gains₀ v₀ h s (k + 1)) {least : Bool} {a o at sum end : ℕ} {trail : List ℕ} {gains : List ℤ}
+module _ {m q : Bytes} {truth cone late : List ℕ} {start : ℕ} {trail₀ : List ℕ} {gains₀ : List ℤ} {v₀ choices₀ : List ℕ} {h s : ℕ} (k : ℕ)
+    (S : Setting m q truth cone late start trail₀ gains₀ v₀ h s (k + 1)) {least : Bool} {a o at sum end : ℕ} {trail : List ℕ} {gains : List ℤ}
     {v choices : List ℕ} (K : Kept m q start cone h trail₀ gains₀ v₀ choices₀ trail gains v choices)
     (W : Walking least m s a k (on-path m q start cone (take h trail₀)) o at choices₀ choices sum end) (here : Offers m s a o) where
-  pub step-asked : Ready m q start depths truth cone × Offered m start trail h s a o × Knows m q start cone (take h trail) gains v
+  pub step-asked : Ready m q start truth cone × Offered m start trail h s a o × Knows m q start cone (take h trail) gains v
   step-asked = let N = setting-kept S K in (N .ready, offered k N a o here, N .knows)
 
   pub pick-room : at + 6 * room k ≤ length choices₀ → end + 3 * room k ≤ length choices
@@ -86,11 +84,11 @@ module _ {m q : Bytes} {depths truth cone late : List ℕ} {start : ℕ} {trail�
   last-room e r = subst (λ j. end + 3 * room j ≤ length choices) e (pick-room r)
 
   module _ {trail′ : List ℕ} {gains′ : List ℤ} {v′ : List ℕ} {t : ℕ} (T : Stepped m q start cone h s a o trail trail′ gains′ v′ t) where
-    pub pick-setting : Setting m q depths truth cone late start trail′ gains′ v′ (h + 1) t k
+    pub pick-setting : Setting m q truth cone late start trail′ gains′ v′ (h + 1) t k
     pick-setting = setting-on k (setting-kept S K) a o here T
 
-    pub last-setting : k ≡ 1 → Setting m q depths truth cone late start trail′ gains′ v′ (h + 1) t 1
-    last-setting e = subst (Setting m q depths truth cone late start trail′ gains′ v′ (h + 1) t) e pick-setting
+    pub last-setting : k ≡ 1 → Setting m q truth cone late start trail′ gains′ v′ (h + 1) t 1
+    last-setting e = subst (Setting m q truth cone late start trail′ gains′ v′ (h + 1) t) e pick-setting
 
     -- Where one step was left, only the choices changed.
     pub below-last : {choices″ : List ℕ} {b : Best} → k ≡ 1 → Picked least m (on-path m q start cone (take (h + 1) trail′)) t 1 end choices choices″ b
@@ -103,7 +101,7 @@ module _ {m q : Bytes} {depths truth cone late : List ℕ} {start : ℕ} {trail�
 
     module _ {trail″ : List ℕ} {gains″ : List ℤ} {v″ choices″ : List ℕ} {b : Best}
         (P : Below least m q start cone (h + 1) t k end trail′ gains′ v′ choices trail″ gains″ v″ choices″ b) where
-      abbrev N : Setting m q depths truth cone late start trail gains v h s (k + 1)
+      abbrev N : Setting m q truth cone late start trail gains v h s (k + 1)
       N = setting-kept S K
 
       module _ (w : ℕ) (e : w ≡ (step-in m s a o) .weight) where
@@ -138,14 +136,14 @@ pub record Turned (least : Bool) (m q : Bytes) (start : ℕ) (cone : List ℕ) (
   pub tried : Tried least (model-in m) (k - 1) s (on-path m q start cone (take h trail₀)) (first m s a) at choices₀ choices b
   pub kept : Kept m q start cone h trail₀ gains₀ v₀ choices₀ trail gains v choices
 
-module _ {m q : Bytes} {depths truth cone late : List ℕ} {start : ℕ} {trail₀ : List ℕ} {gains₀ : List ℤ} {v₀ : List ℕ} {h s k : ℕ}
-    (S : Setting m q depths truth cone late start trail₀ gains₀ v₀ h s k) where
+module _ {m q : Bytes} {truth cone late : List ℕ} {start : ℕ} {trail₀ : List ℕ} {gains₀ : List ℤ} {v₀ : List ℕ} {h s k : ℕ}
+    (S : Setting m q truth cone late start trail₀ gains₀ v₀ h s k) where
   pub turned-none : {least : Bool} (at : ℕ) (choices : List ℕ)
       → Turned least m q start cone h s k at trail₀ gains₀ v₀ choices 0 trail₀ gains₀ v₀ choices (record { found = false; value = 0; end = at })
   turned-none {least} at choices = record { tried = tried-start least m (on-path m q start cone (take h trail₀)) s (k - 1) at choices; kept = kept-none S choices }
 
-module _ {m q : Bytes} {depths truth cone late : List ℕ} {start : ℕ} {trail₀ : List ℕ} {gains₀ : List ℤ} {v₀ choices₀ : List ℕ} {h s k : ℕ}
-    (S : Setting m q depths truth cone late start trail₀ gains₀ v₀ h s k) (some : k ≡ 0 → ⊥) {least : Bool} {a at : ℕ} {trail : List ℕ} {gains : List ℤ}
+module _ {m q : Bytes} {truth cone late : List ℕ} {start : ℕ} {trail₀ : List ℕ} {gains₀ : List ℤ} {v₀ choices₀ : List ℕ} {h s k : ℕ}
+    (S : Setting m q truth cone late start trail₀ gains₀ v₀ h s k) (some : k ≡ 0 → ⊥) {least : Bool} {a at : ℕ} {trail : List ℕ} {gains : List ℤ}
     {v choices : List ℕ} {b : Best} (U : Turned least m q start cone h s k at trail₀ gains₀ v₀ choices₀ a trail gains v choices b) where
   abbrev f : List Step → ℕ
   f = on-path m q start cone (take h trail₀)
@@ -161,7 +159,7 @@ module _ {m q : Bytes} {depths truth cone late : List ℕ} {start : ℕ} {trail�
       let z = room-step k some in
       (omega (arith, U .kept .room), omega (arith, U .kept .room))
 
-  pub walk-setting : Setting m q depths truth cone late start trail gains v h s (k - 1 + 1)
+  pub walk-setting : Setting m q truth cone late start trail gains v h s (k - 1 + 1)
   walk-setting = let e : k - 1 + 1 ≡ k = omega (arith, one-less) in rw e (setting-kept S (U .kept))
 
   -- All are tried.
@@ -196,20 +194,19 @@ module _ {m q : Bytes} {depths truth cone late : List ℕ} {start : ℕ} {trail�
 -- ---- from the start
 
 -- What the marks of the last step ask.
-pub late-asked : {m q : Bytes} {start : ℕ} {depths truth cone : List ℕ} → Ready m q start depths truth cone
-    → Cone q cone × (depths ≡ table depth (formulas-of q)) × (node-count q ≤ 40)
-late-asked {m} {q} R = (R .ordered, R .depths-right, (accepted (state-count m) (action-count m) (prop-count m) q (R .question-accepted)) .few-nodes)
+pub late-asked : {m q : Bytes} {start : ℕ} {truth cone : List ℕ} → Ready m q start truth cone → Deep q × Cone q cone
+late-asked R = (record { few = R .nodes .formed .few-nodes; deep = R .nodes .deep }, R .ordered)
 
-pub setting-start : {m q : Bytes} {depths truth cone late : List ℕ} {start d : ℕ} {trail : List ℕ} {gains : List ℤ} {v′ : List ℕ}
-    → Ready m q start depths truth cone → Late q cone late → (v : List ℕ) → d ≡ depth (formula q (root-of cone)) → d ≤ 6 → 280 ≤ length v → getD gains 0 (pos 0) ≡ pos 0
-    → v′ ≡ learnt q depths truth trail gains 0 start cone v → Setting m q depths truth cone late start trail gains v′ 0 start d
+pub setting-start : {m q : Bytes} {truth cone late : List ℕ} {start d : ℕ} {trail : List ℕ} {gains : List ℤ} {v′ : List ℕ}
+    → Ready m q start truth cone → Late q cone late → (v : List ℕ) → d ≡ depth (formula q (root-of cone)) → d ≤ 6 → length gains ≡ 7 → length v ≡ 280 → getD gains 0 (pos 0) ≡ pos 0
+    → v′ ≡ learnt q truth trail gains 0 start cone v → Setting m q truth cone late start trail gains v′ 0 start d
 unfolding state-after
-setting-start {trail = trail} {gains} {v′} R L v e h n g k =
+setting-start {trail = trail} {gains} {v′} R L v e h z n g k =
     record {
       ready = R;
       marked = L;
       whole = refl;
-      knows = begun R trail gains v v′ g n k;
+      knows = begun R trail gains v v′ g z n k;
       state = refl;
       deep = omega arith;
       few = omega arith;

@@ -9,14 +9,16 @@ ghost use Rattle.logic.specs.Formula.{depth};
 ghost use Rattle.logic.specs.promises.Orders.{order};
 ghost use Rattle.models.specs.Layout.{state-count, denominator-of};
 ghost use Rattle.prepared.specs.promises.Rows.{choices-in, row-in, Prepared};
+ghost use Rattle.nodes.specs.promises.Nodes.{formula};
 ghost use Rattle.extension.specs.promises.Choices.{room};
 ghost use Rattle.evaluation.specs.promises.Learnt as learnt;
-ghost use Rattle.evaluation.specs.promises.Reached.{formula, root-of, on-path, Ready};
+ghost use Rattle.evaluation.specs.promises.Reached.{root-of, on-path, Ready};
 ghost use Rattle.evaluation.specs.promises.Known.{Back};
 ghost use Rattle.search.specs.promises.Greatest.{Finds, best-left};
 ghost use Rattle.search.specs.promises.Buffers.{Keeps, Setting, Picked, Candidate, Ends};
 ghost use Rattle.search.specs.promises.Buffers as spec;
 use bounds::power;
+use evaluation::Place;
 use evaluation::known;
 use evaluation::learn;
 use evaluation::step;
@@ -141,7 +143,7 @@ fn root(cone: &[u8]) -> u8
 }
 
 // What is found where no step is left: the condition's value, which is known there.
-fn leaf(cone: &[u8], v: &[u8], at: usize) -> Best
+fn leaf(cone: &[u8], v: &[u8; 280], at: usize) -> Best
     requires { ⌜ 0 < length (now cone) ⌝ }
     ensures { λ r. ⌜ (r .value ≡ learnt.known (now (v .entry)) (root-of (now (cone .entry))) 0) × (r .end ≡ at) ⌝ }
 {
@@ -187,9 +189,8 @@ fn last_choice(
 // Picks the best choice where one step is left, for all outcomes at once. Its one call is in `walk`, into which it is built for speed.
 fn pick_last(
     m: &[u16; 8704],
-    q: &[u8],
-    depths: &[u32],
-    truth: &[u8],
+    q: &[u8; 552],
+    truth: &[u8; 1280],
     cone: &[u8],
     late: &[u8; 40],
     trail: &[u16; 6],
@@ -198,33 +199,24 @@ fn pick_last(
     choices: &mut [u8],
     spot: Spot,
 ) -> Best
-    requires { ⌜ Setting (now m) (now q) (now depths) (now truth) (now cone) (now late) (spot .start) (now trail) (now gains) (now v) (spot .h) (spot .s) 1 ⌝ }
+    requires { ⌜ Setting (now m) (now q) (now truth) (now cone) (now late) (spot .start) (now trail) (now gains) (now v) (spot .h) (spot .s) 1 ⌝ }
     requires { ⌜ spot .at + 3 * room 1 ≤ length (now choices) ⌝ }
     ensures { λ r. ⌜ Picked (spot .least) (now (m .entry)) (on-path (now (m .entry)) (now (q .entry)) (spot .start) (now (cone .entry)) (take (spot .h) (now (trail .entry)))) (spot .s) 1 (spot .at) (now (choices .entry)) (now (choices .exit)) r ⌝ }
 {
-    let x = mask(
-        m,
-        q,
-        depths,
-        truth,
-        cone,
-        late,
-        trail,
-        gains,
-        v,
-        spot.start,
-        spot.h,
-        spot.s,
-    );
+    let here = Place {
+        start: spot.start,
+        h: spot.h,
+        s: spot.s,
+    };
+    let x = mask(m, q, truth, cone, late, trail, gains, v, here);
     last_choice(m, choices, x, spot.s as usize, spot.at, spot.least)
 }
 
 // Picks the best choice in the state where a search stands, and writes its plan's choices.
 fn pick(
     m: &[u16; 8704],
-    q: &[u8],
-    depths: &[u32],
-    truth: &[u8],
+    q: &[u8; 552],
+    truth: &[u8; 1280],
     cone: &[u8],
     late: &[u8; 40],
     trail: &mut [u16; 6],
@@ -233,7 +225,7 @@ fn pick(
     choices: &mut [u8],
     spot: Spot,
 ) -> Best
-    requires { ⌜ Setting (now m) (now q) (now depths) (now truth) (now cone) (now late) (spot .start) (now trail) (now gains) (now v) (spot .h) (spot .s) (spot .k) ⌝ }
+    requires { ⌜ Setting (now m) (now q) (now truth) (now cone) (now late) (spot .start) (now trail) (now gains) (now v) (spot .h) (spot .s) (spot .k) ⌝ }
     requires { ⌜ spot .at + 3 * room (spot .k) ≤ length (now choices) ⌝ }
     ensures { λ r. ⌜ Picked (spot .least) (now (m .entry)) (on-path (now (m .entry)) (now (q .entry)) (spot .start) (now (cone .entry)) (take (spot .h) (now (trail .entry)))) (spot .s) (spot .k) (spot .at) (now (choices .entry)) (now (choices .exit)) r ⌝ }
     ensures { λ r. ⌜ Back (now (m .entry)) (now (q .entry)) (spot .start) (now (cone .entry)) (spot .h) (now (trail .entry)) (now (trail .exit)) (now (gains .exit)) (now (v .exit)) ⌝ }
@@ -263,7 +255,6 @@ fn pick(
         let w = walk(
             m,
             q,
-            depths,
             truth,
             cone,
             late,
@@ -286,9 +277,8 @@ fn pick(
 // costs more than it saves.
 fn walk(
     m: &[u16; 8704],
-    q: &[u8],
-    depths: &[u32],
-    truth: &[u8],
+    q: &[u8; 552],
+    truth: &[u8; 1280],
     cone: &[u8],
     late: &[u8; 40],
     trail: &mut [u16; 6],
@@ -299,7 +289,7 @@ fn walk(
     i: u8,
     best: Best,
 ) -> Walked
-    requires { ⌜ Setting (now m) (now q) (now depths) (now truth) (now cone) (now late) (spot .start) (now trail) (now gains) (now v) (spot .h) (spot .s) (spot .k + 1) ⌝ }
+    requires { ⌜ Setting (now m) (now q) (now truth) (now cone) (now late) (spot .start) (now trail) (now gains) (now v) (spot .h) (spot .s) (spot .k + 1) ⌝ }
     requires { ⌜ (i < choices-in (now m) (spot .s)) × (spot .at + 6 * room (spot .k) ≤ length (now choices)) ⌝ }
     ensures { λ r. ⌜ Candidate (best .found) (best .value) (spot .least) (now (m .entry)) (on-path (now (m .entry)) (now (q .entry)) (spot .start) (now (cone .entry)) (take (spot .h) (now (trail .entry)))) (row-in (now (m .entry)) (spot .s) i) (spot .k) (spot .at) (now (choices .entry)) (now (choices .exit)) r ⌝ }
     ensures { λ r. ⌜ Back (now (m .entry)) (now (q .entry)) (spot .start) (now (cone .entry)) (spot .h) (now (trail .entry)) (now (trail .exit)) (now (gains .exit)) (now (v .exit)) ⌝ }
@@ -318,21 +308,12 @@ fn walk(
                 end: end,
             };
         }
-        let t = step(
-            m,
-            q,
-            depths,
-            truth,
-            cone,
-            trail,
-            gains,
-            v,
-            spot.start,
-            spot.h,
-            spot.s,
-            i,
-            o,
-        );
+        let here = Place {
+            start: spot.start,
+            h: spot.h,
+            s: spot.s,
+        };
+        let t = step(m, q, truth, cone, trail, gains, v, here, i, o);
         let below = Spot {
             start: spot.start,
             h: spot.h + 1,
@@ -342,33 +323,9 @@ fn walk(
             least: spot.least,
         };
         let b = if k == 1 {
-            pick_last(
-                m,
-                q,
-                depths,
-                truth,
-                cone,
-                late,
-                trail,
-                gains,
-                v,
-                choices,
-                below,
-            )
+            pick_last(m, q, truth, cone, late, trail, gains, v, choices, below)
         } else {
-            pick(
-                m,
-                q,
-                depths,
-                truth,
-                cone,
-                late,
-                trail,
-                gains,
-                v,
-                choices,
-                below,
-            )
+            pick(m, q, truth, cone, late, trail, gains, v, choices, below)
         };
         let w = weight(m, s, i as usize, o as usize);
         sum = add_mul(sum, w, b.value);
@@ -385,24 +342,23 @@ fn walk(
 // Finds the plan of d steps, as many as the condition looks ahead, that has the greatest weight, or the least.
 pub fn find(
     m: &[u16; 8704],
-    q: &[u8],
-    depths: &[u32],
-    truth: &[u8],
+    q: &[u8; 552],
+    truth: &[u8; 1280],
     cone: &[u8],
     choices: &mut [u8],
     start: u8,
     d: u8,
     least: bool,
 ) -> Found
-    requires { ⌜ Ready (now m) (now q) start (now depths) (now truth) (now cone) ⌝ }
+    requires { ⌜ Ready (now m) (now q) start (now truth) (now cone) ⌝ }
     requires { ⌜ (d ≡ depth (formula (now q) (root-of (now cone)))) × (d ≤ 6) × (4095 ≤ length (now choices)) ⌝ }
     ensures { λ r. ⌜ Finds least (now (m .entry)) (now (q .entry)) start (now (cone .entry)) d (now (choices .exit)) r ⌝ }
 {
-    let marks = late(q, depths, cone);
+    let marks = late(q, cone);
     let mut trail = [0u16; 6];
     let mut gains = [0i32; 7];
     let mut v = [0u8; 280];
-    learn(q, depths, truth, &trail, &gains, cone, &mut v, 0, start);
+    learn(q, truth, &trail, &gains, cone, &mut v, 0, start);
     let spot = Spot {
         start: start,
         h: 0,
@@ -414,7 +370,6 @@ pub fn find(
     let b = pick(
         m,
         q,
-        depths,
         truth,
         cone,
         &marks,

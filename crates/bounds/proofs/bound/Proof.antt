@@ -9,20 +9,20 @@ use mir.Syntax.{w32}
 use mir.Val.{toZ, ofZ}
 use Rattle.logic.specs.Formula.{nonnegative}
 use Rattle.questions.specs.Layout.{node-of}
-use Rattle.bounds.proofs.Meeting.{small, range, product-fits}
+use Rattle.bounds.proofs.Meeting.{small, range, few, product-fits}
 use borrow.Author.Needs.{needs}
 use Rattle.bounds.proofs.bound.Statement.{statement}
 use Rattle.bounds.proofs.bound.Tie as tie
 
-abbrev start : tie.After-p → tie.Start
-start c = c .before .before .before .before .before
+abbrev start : tie.After-bound → tie.Start
+start c = c .before .before .before .before
 
-p-is : (c : tie.After-p) → toZ w32 (ofZ w32 (c .p .result)) ≡ pos (nonnegative ((node-of (start c .args .q .now) (start c .args .j)) .p))
+p-is : (c : tie.After-bound) → toZ w32 (ofZ w32 (c .bound .result)) ≡ pos (nonnegative ((node-of (start c .args .q .now) (start c .args .j)) .p))
 p-is c = let S = start c in
-    let z : toZ w32 (ofZ w32 (c .p .result)) ≡ c .p .result = search needs in
-    z ∙ c .p .ensures ∙ range (S .args .m .now) (S .args .q .now) (S .args .j) (S .pre) .whole
+    let z : toZ w32 (ofZ w32 (c .bound .result)) ≡ c .bound .result = search needs in
+    z ∙ c .bound .ensures ∙ range (S .args .m .now) (S .args .q .now) (S .args .j) (S .pre) .whole
 
-product-is : (c : tie.After-p) → c .before .power .result * natAbs (toZ w32 (ofZ w32 (c .p .result)))
+product-is : (c : tie.After-bound) → c .before .power .result * natAbs (toZ w32 (ofZ w32 (c .bound .result)))
     ≡ denominator-of (start c .args .m .now) ^ ((node-of (start c .args .q .now) (start c .args .j)) .n) * nonnegative ((node-of (start c .args .q .now) (start c .args .j)) .p)
 product-is c =
     ap₂ (λ x z. x * natAbs z)
@@ -33,15 +33,15 @@ denominator-requires : tie.Need-denominator-requires
 denominator-requires c κs = search needs
 
 steps-requires : tie.Need-steps-requires
-steps-requires c κs = search needs
+steps-requires c κs = let S = c .before in few (S .args .m .now) (S .args .q .now) (S .args .j) (S .pre)
 
 power-requires : tie.Need-power-requires
-power-requires c κs = let S = c .before .before .before in
+power-requires c κs = let S = c .before .before in
     let b = S .pre in
     (omega (arith, c .before .denominator .ensures, small (S .args .m .now) (S .args .q .now) (S .args .j) b), omega (arith, c .steps .ensures, range (S .args .m .now) (S .args .q .now) (S .args .j) b .compares .few-steps))
 
-p-requires : tie.Need-p-requires
-p-requires c κs = search needs
+bound-requires : tie.Need-bound-requires
+bound-requires c κs = let S = c .before .before .before in few (S .args .m .now) (S .args .q .now) (S .args .j) (S .pre)
 
 cast-result : tie.Need-cast-result
 cast-result c = let S = start c in
@@ -64,7 +64,7 @@ bound-spec =
     denominator-requires
     steps-requires
     power-requires
-    p-requires
+    bound-requires
     cast-result
     mul-result
     returns)

@@ -3,19 +3,18 @@ use Prim.Native.Nat.{ℕ, _<_}
 use mathlib.Core.Path.{_≡_}
 use mathlib.Core.Bool.{Bool, true, false}
 use lib.Dec.{eqb}
-use Rattle.logic.specs.promises.Refusal.{refusal}
 use Rattle.logic.specs.Quantity.{naturals, Relation, equal}
 use Rattle.logic.specs.Formula.{meets, relation, nonnegative}
 use Rattle.blocks.specs.Bytes.{Bytes}
 use Rattle.models.specs.Layout.{state-count, action-count, prop-count}
 use Rattle.prepared.specs.promises.Rows.{model-in, Prepared}
 use Rattle.questions.specs.Layout.{node-count, node-of}
-use Rattle.questions.specs.Grounds.{read-question}
+use Rattle.nodes.specs.promises.Nodes.{Nodes}
 
--- Node j of a question accepted for the prepared model m is a "plan".
+-- Node j of a question prepared for the prepared model m is a "plan".
 pub record Bounded (m q : Bytes) (j : ℕ) : Type 0 where
   pub prepared : Prepared m
-  pub question-accepted : refusal (read-question (state-count m) (action-count m) (prop-count m) q) ≡ 0
+  pub nodes : Nodes (state-count m) (action-count m) (prop-count m) q
   pub node : j < node-count q
   pub is-plan : (node-of q j) .operator ≡ 8
 

@@ -28,11 +28,11 @@ sub-gain c = let x = c .before .gain-at in
 right-requires : tie.Need-right-requires
 right-requires c κs = search needs
 
-p-requires : tie.Need-p-requires
-p-requires c κs = search needs
+bound-requires : tie.Need-bound-requires
+bound-requires c κs = search needs
 
 cast-related : tie.Need-cast-related
-cast-related c = wider (c .p .result) (c .p .ok)
+cast-related c = wider (c .bound .result) (c .bound .ok)
 
 related-requires : tie.Need-related-requires
 related-requires c κs = search needs
@@ -41,7 +41,7 @@ returns : tie.Need-returns
 unfolding gained
 returns c = let x = c .before .before .before .before .gain-at in
     let y = c .before .before .before .gain-at2 in
-    let b = c .before .p in
+    let b = c .before .bound in
     c .related .ensures
     ∙ rw (widened (x .result) (x .ok), widened (y .result) (y .ok), widened (b .result) (b .ok), toZ-ofZ w64 (x .result -ℤ y .result) (difference-fits (x .result) (y .result) (x .ok) (y .ok)))
     (rw (x .ensures, y .ensures, b .ensures, c .before .before .right .ensures) refl)
@@ -56,7 +56,7 @@ gained-spec =
     cast-gain-2
     sub-gain
     right-requires
-    p-requires
+    bound-requires
     cast-related
     related-requires
     returns)

@@ -9,38 +9,51 @@ use Rattle.prepared.specs.promises.Rows.{step-in}
 use Rattle.evaluation.specs.promises.Reached.{Ready}
 use Rattle.evaluation.proofs.Integers.{fits32, sum32, mag-add}
 use Rattle.evaluation.proofs.Trails.{gain-small}
+use Rattle.evaluation.proofs.Knowing.{cone-node}
 use Rattle.evaluation.proofs.Stepping.{state-small, sizes-small, stepped}
 use borrow.Author.Needs.{needs}
 use Rattle.evaluation.proofs.step.Statement.{statement}
 use Rattle.evaluation.proofs.step.Tie as tie
 
 -- What the contract asks, by name.
-abbrev P : (S : tie.Start) → Ready (S .args .m .now) (S .args .q .now) (S .args .start) (S .args .depths .now) (S .args .truth .now) (S .args .cone .now)
+abbrev P : (S : tie.Start) → Ready (S .args .m .now) (S .args .q .now) (S .args .at .start) (S .args .truth .now) (S .args .cone .now)
 P S = S .pre .0
 
-sizes : (S : tie.Start) → (S .args .s < 32) × (S .args .i < 8) × (S .args .o < 4)
+sizes : (S : tie.Start) → (S .args .at .s < 32) × (S .args .i < 8) × (S .args .o < 4)
 sizes S = sizes-small (P S) (S .pre .1 .0) (S .pre .1 .1)
 
 abbrev reward-of : tie.Start → ℤ
-reward-of S = (step-in (S .args .m .now) (S .args .s) (S .args .i) (S .args .o)) .reward
+reward-of S = (step-in (S .args .m .now) (S .args .at .s) (S .args .i) (S .args .o)) .reward
 
-whole : (S : tie.Start) → length (S .args .trail .now) ≡ 6 → length (take (S .args .h) (S .args .trail .now)) ≡ S .args .h
-whole S e = length-take-le (S .args .h) (S .args .trail .now) (omega (arith, S .pre .1 .0 .steps))
+reached : (S : tie.Start) → (step-in (S .args .m .now) (S .args .at .s) (S .args .i) (S .args .o)) .target < 32
+reached S =
+    let w = P S .prepared in
+    let O = S .pre .1 .0 in
+    omega (arith, w .inside (S .args .at .s) (S .args .i) (S .args .o) (state-small (P S) O (S .pre .1 .1)) (O .offers), w .states)
+
+whole : (S : tie.Start) → length (S .args .trail .now) ≡ 6 → length (take (S .args .at .h) (S .args .trail .now)) ≡ S .args .at .h
+whole S e = length-take-le (S .args .at .h) (S .args .trail .now) (omega (arith, S .pre .1 .0 .steps))
 
 -- The sum of the rewards so far is small, and so it stays.
-sum-fits : (S : tie.Start) → length (S .args .trail .now) ≡ 6 → mag (getD (S .args .gains .now) (S .args .h) (pos 0) +ℤ reward-of S) < 2 ^ 31
+sum-fits : (S : tie.Start) → length (S .args .trail .now) ≡ 6 → mag (getD (S .args .gains .now) (S .args .at .h) (pos 0) +ℤ reward-of S) < 2 ^ 31
 sum-fits S e =
     let K = S .pre .1 .1 in
     let O = S .pre .1 .0 in
-    let so-far = getD (S .args .gains .now) (S .args .h) (pos 0) in
+    let h = S .args .at .h in
+    let so-far = getD (S .args .gains .now) h (pos 0) in
     let n = whole S e in
-    let g = gain-small (P S .prepared) (K .followed) (P S .state) (S .args .h) in
-    let r = P S .prepared .modest (S .args .s) (S .args .i) (S .args .o) (state-small (P S) O K) (O .offers) in
-    omega (arith, mag-add so-far (reward-of S), ap mag (K .gained .right (S .args .h) (omega arith)), O .steps)
+    let g = gain-small (P S .prepared) (K .followed) (P S .state) h in
+    let r = P S .prepared .modest (S .args .at .s) (S .args .i) (S .args .o) (state-small (P S) O K) (O .offers) in
+    omega (arith, mag-add so-far (reward-of S), ap mag (K .gained .right h (omega arith)), O .steps)
+
+cast-n : tie.Need-cast-n
+cast-n c = search needs
+
+cast-s : tie.Need-cast-s
+cast-s c = search needs
 
 choice-requires : tie.Need-choice-requires
-choice-requires c κs = let S = c .before .before .before .before .before in
-    (P S .prepared, state-small (P S) (S .pre .1 .0) (S .pre .1 .1), S .pre .1 .0 .offers .0)
+choice-requires c κs = let S = c .before .before .before in (P S .prepared, state-small (P S) (S .pre .1 .0) (S .pre .1 .1), S .pre .1 .0 .offers .0)
 
 cast-put : tie.Need-cast-put
 cast-put c = search needs
@@ -64,50 +77,51 @@ gain-at-requires : tie.Need-gain-at-requires
 gain-at-requires c κs = search needs
 
 reward-requires : tie.Need-reward-requires
-reward-requires c κs = sizes (c .before .before .before .before .before .before .before .before .before .before)
+reward-requires c κs = sizes (c .before .before .before .before .before .before .before)
 
 add-gains : tie.Need-add-gains
-add-gains c = let S = c .before .before .before .before .before .before .before .before .before .before .before in
+add-gains c = let S = c .before .before .before .before .before .before .before .before in
     let g = c .before .gain-at in
-    rw (fits32 (g .result) (g .ok), fits32 (c .reward .result) (c .reward .ok)) (record { sfits = rw (g .ensures, c .reward .ensures) (sum-fits S (c .before .before .before .before .before .before .put-arg .given .0 .1)) })
+    rw (fits32 (g .result) (g .ok), fits32 (c .reward .result) (c .reward .ok)) (record { sfits = rw (g .ensures, c .reward .ensures) (sum-fits S (c .before .before .before .before .before .put-arg .given .0 .1)) })
 
-add-t35 : tie.Need-add-t35
-add-t35 c = search needs
+add-t32 : tie.Need-add-t32
+add-t32 c = search needs
 
-mul-t36 : tie.Need-mul-t36
-mul-t36 c = search needs
+mul-t33 : tie.Need-mul-t33
+mul-t33 c = search needs
 
 element-set-from-gains : tie.Need-element-set-from-gains
 element-set-from-gains c = search needs
 
 target-requires : tie.Need-target-requires
-target-requires c κs = sizes (c .before .before .before .before .before .before .before .before .before .before .before)
+target-requires c κs = sizes (c .before .before .before .before .before .before .before .before)
 
 cast-t : tie.Need-cast-t
-cast-t c = let S = c .before .before .before .before .before .before .before .before .before .before .before .before in
-    record { fits = omega (arith, c .target .ensures, P S .prepared .inside (S .args .s) (S .args .i) (S .args .o) (state-small (P S) (S .pre .1 .0) (S .pre .1 .1)) (S .pre .1 .0 .offers), P S .prepared .states) }
+cast-t c = record { fits = omega (arith, c .target .ensures, reached (c .before .before .before .before .before .before .before .before .before)) }
 
 add-learn : tie.Need-add-learn
 add-learn c = search needs
 
 learn-requires : tie.Need-learn-requires
-learn-requires c κs = search needs
+learn-requires c κs = let S = c .before .before .before .before .before .before .before .before .before .before .before .before in (cone-node (P S), omega (arith, c .before .before .before .target .ensures, reached S), omega (arith, S .pre .1 .0 .steps))
 
 returns : tie.Need-returns
-returns c = let S = c .before .before .before .before .before .before .before .before .before .before .before .before .before .before .before .before .before .before in
-    let g = c .before .before .before .before .before .before .before .before .gain-at in
-    let r = c .before .before .before .before .before .before .before .reward in
-    let n = c .before .before .before .before .before .before .before .before .before .before .before .before .before .put-arg .given .0 .1 in
-    stepped (P S) (S .pre .1 .0) (S .pre .1 .1) (whole S n) n (c .before .before .before .before .before .before .before .before .before .gain-at-arg2 .given .0) (c .before .learn-arg5 .given .0 .1) _ _ _ _
-    (c .before .before .before .before .before .before .target .ensures)
-    (c .before .before .before .before .before .before .before .before .before .before .before .put .ensures ∙ ap (λ a. set (S .args .trail .now) (S .args .h) (32 * a + 4 * S .args .i + S .args .o)) (c .before .before .before .before .before .before .before .before .before .before .before .before .choice .ensures))
-    (ap (set (S .args .gains .now) (S .args .h + 1)) (sum32 (g .result) (r .result) (g .ok) (r .ok) (rw (g .ensures, r .ensures) (sum-fits S n)) ∙ ap₂ _+ℤ_ (g .ensures) (r .ensures)))
+returns c = let S = c .before .before .before .before .before .before .before .before .before .before .before .before .before in
+    let n = c .before .before .before .before .before .before .before .before .before .before .put-arg .given .0 .1 in
+    let g = c .before .before .before .before .before .before .gain-at in
+    let r = c .before .before .before .before .before .reward in
+    stepped (P S) (S .pre .1 .0) (S .pre .1 .1) (whole S n) n _ _ _ _
+    (c .before .before .before .before .target .ensures)
+    (c .before .before .before .before .before .before .before .before .put .ensures ∙ ap (λ a. set (S .args .trail .now) (S .args .at .h) (32 * a + 4 * S .args .i + S .args .o)) (c .before .before .before .before .before .before .before .before .before .choice .ensures))
+    (ap (set (S .args .gains .now) (S .args .at .h + 1)) (sum32 (g .result) (r .result) (g .ok) (r .ok) (rw (g .ensures, r .ensures) (sum-fits S n)) ∙ ap₂ _+ℤ_ (g .ensures) (r .ensures)))
     (c .learn .ensures)
 
 pub step-spec : {M : Type 1} → statement M
 step-spec =
     tie.close
     (tie.spec
+    cast-n
+    cast-s
     choice-requires
     cast-put
     mul-put
@@ -118,8 +132,8 @@ step-spec =
     gain-at-requires
     reward-requires
     add-gains
-    add-t35
-    mul-t36
+    add-t32
+    mul-t33
     element-set-from-gains
     target-requires
     cast-t

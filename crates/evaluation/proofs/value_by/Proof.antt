@@ -2,6 +2,7 @@ use mathlib.Core.Path.{_≡_, sym, ap, ap₂, _∙_}
 use Prim.Native.Nat.{ℕ, _+_, _/_}
 use lib.Bits.{bitAnd}
 use lib.Dec.{eqb}
+use lib.ListN.{getD}
 use Rattle.logic.specs.promises.Total.{one-if}
 use Rattle.questions.specs.Layout.{node-of}
 use Rattle.evaluation.specs.promises.Learnt.{value-by, known}
@@ -44,8 +45,11 @@ right-requires c κs = search needs
 known-requires-3 : tie.Need-known-requires-3
 known-requires-3 c κs = search needs
 
-number-at-requires : tie.Need-number-at-requires
-number-at-requires c κs = search needs
+mul-bit : tie.Need-mul-bit
+mul-bit c = search needs
+
+element-copy-out-bit : tie.Need-element-copy-out-bit
+element-copy-out-bit c = search needs
 
 left-requires-3 : tie.Need-left-requires-3
 left-requires-3 c κs = search needs
@@ -73,32 +77,32 @@ bit-requires-3 c κs = search needs
 
 returns : tie.Need-returns
 unfolding value-by
-returns c = by-op (c .before .before .before .before .before .before .before .before) 3 (c .before .before .before .before .operator .ensures) (c .before .before .before .match .keys1)
-    (c .bit .ensures ∙ ap (λ (x : ℕ). one-if (eqb x 0)) (c .before .known .ensures ∙ ap (λ (l : ℕ). known (c .before .before .before .before .before .before .before .before .args .v .now) l (c .before .before .before .before .before .before .before .before .args .k)) (c .before .before .left .ensures)))
+returns c = by-op (c .before .before .before .before .before) 3 (c .before .before .before .before .operator .ensures) (c .before .before .before .match .keys1)
+    (c .bit .ensures ∙ ap (λ (x : ℕ). one-if (eqb x 0)) (c .before .known .ensures ∙ ap (λ (l : ℕ). known (c .before .before .before .before .before .args .v .now) l (c .before .before .before .before .before .args .k)) (c .before .before .left .ensures)))
 
 returns-2 : tie.Need-returns-2
 unfolding value-by
-returns-2 c = by-op (c .before .before .before .before .before .before .before .before .before) 4 (c .before .before .before .before .before .operator .ensures) (c .before .before .before .before .match .keys2)
-    (ap₂ bitAnd (c .before .before .known2 .ensures ∙ ap (λ (l : ℕ). known (c .before .before .before .before .before .before .before .before .before .args .v .now) l (c .before .before .before .before .before .before .before .before .before .args .k)) (c .before .before .before .left2 .ensures))
-    (c .known3 .ensures ∙ ap (λ (l : ℕ). known (c .before .before .before .before .before .before .before .before .before .args .v .now) l (c .before .before .before .before .before .before .before .before .before .args .k)) (c .before .right .ensures)))
+returns-2 c = by-op (c .before .before .before .before .before .before) 4 (c .before .before .before .before .before .operator .ensures) (c .before .before .before .before .match .keys2)
+    (ap₂ bitAnd (c .before .before .known2 .ensures ∙ ap (λ (l : ℕ). known (c .before .before .before .before .before .before .args .v .now) l (c .before .before .before .before .before .before .args .k)) (c .before .before .before .left2 .ensures))
+    (c .known3 .ensures ∙ ap (λ (l : ℕ). known (c .before .before .before .before .before .before .args .v .now) l (c .before .before .before .before .before .before .args .k)) (c .before .right .ensures)))
 
 returns-3 : tie.Need-returns-3
 unfolding value-by
-returns-3 c = by-op (c .before .before .before .before .before .before .before .before) 5 (c .before .before .before .before .operator .ensures) (c .before .before .before .match .keys3)
-    (c .bit2 .ensures ∙ ap₂ (λ (x l : ℕ). one-if (eqb (x / 32) l)) (c .before .before .number-at .ensures) (c .before .left3 .ensures))
+returns-3 c = by-op (c .before .before .before .before .before) 5 (c .before .before .before .before .operator .ensures) (c .before .before .before .match .keys3)
+    (c .bit2 .ensures ∙ ap (λ (l : ℕ). one-if (eqb (getD (c .before .before .before .before .before .args .trail .now) (c .before .before .before .before .before .args .k) 0 / 32) l)) (c .before .left3 .ensures))
 
 returns-4 : tie.Need-returns-4
 unfolding value-by
-returns-4 c = by-op (c .before .before .before .before .before .before .before) 6 (c .before .before .before .operator .ensures) (c .before .before .match .keys4)
-    (c .known4 .ensures ∙ ap (λ (l : ℕ). known (c .before .before .before .before .before .before .before .args .v .now) l (c .before .before .before .before .before .before .before .args .k + 1)) (c .before .left4 .ensures))
+returns-4 c = by-op (c .before .before .before .before) 6 (c .before .before .before .operator .ensures) (c .before .before .match .keys4)
+    (c .known4 .ensures ∙ ap (λ (l : ℕ). known (c .before .before .before .before .args .v .now) l (c .before .before .before .before .args .k + 1)) (c .before .left4 .ensures))
 
 returns-5 : tie.Need-returns-5
 unfolding value-by
-returns-5 c = by-op (c .before .before .before .before .before .before .before) 7 (c .before .before .before .operator .ensures) (c .before .before .match .keys5)
+returns-5 c = by-op (c .before .before .before .before) 7 (c .before .before .before .operator .ensures) (c .before .before .match .keys5)
     (c .bit3 .ensures ∙ ap one-if (c .before .gained .ensures))
 
 returns-6 : tie.Need-returns-6
-returns-6 c = let S = c .before .before .before .before .before in
+returns-6 c = let S = c .before .before in
     let n = c .match .rest in
     let e = c .before .operator .ensures in
     sym (other-value (S .args .q .now) (S .args .trail .now) (S .args .gains .now) (S .args .h) (S .args .k) (S .args .j) (operator-of S) (S .args .v .now)
@@ -116,7 +120,8 @@ value-by-spec =
     known-requires-2
     right-requires
     known-requires-3
-    number-at-requires
+    mul-bit
+    element-copy-out-bit
     left-requires-3
     cast-bit
     bit-requires-2

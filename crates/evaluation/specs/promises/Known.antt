@@ -9,8 +9,9 @@ use Rattle.logic.specs.Formula.{depth}
 use Rattle.logic.specs.promises.Total.{value-of}
 use Rattle.blocks.specs.Bytes.{Bytes}
 use Rattle.prepared.specs.promises.Rows.{step-in, Offers, model-in}
+use Rattle.nodes.specs.promises.Nodes.{formula}
 use Rattle.evaluation.specs.promises.Path.{number-of, steps-of, state-after, Trail, gain-of}
-use Rattle.evaluation.specs.promises.Reached.{formula, Reached, root-of}
+use Rattle.evaluation.specs.promises.Reached.{Reached, root-of}
 use Rattle.evaluation.specs.promises.Learnt.{known}
 
 -- The values that an earlier step made known, and of those that the last one does the first i nodes'.
@@ -27,6 +28,8 @@ pub record Knows (m q : Bytes) (s : ℕ) (cone t : List ℕ) (gains : List ℤ) 
   pub followed : Trail m s t
   pub gained : Gained m s t gains
   pub values : Known m q s cone t (length cone) v
+  pub sums : length gains ≡ 7
+  pub places : length v ≡ 280
 
 -- The first h numbers of a trail lead from the start to the state s, where a choice stands at place i and has this outcome.
 pub record Offered (m : Bytes) (start : ℕ) (trail : List ℕ) (h s i o : ℕ) : Type 0 where

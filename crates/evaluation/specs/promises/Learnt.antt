@@ -1,9 +1,9 @@
 -- What `learn` computes: a value, 0 or 1, of each node of a cone at the one place of a path where it becomes known with the last step,
 -- as many steps back as the node looks ahead. The values stand 7 places a node, a place of the path each.
-use Prim.Native.Nat.{ℕ, _+_, _*_, _-_, _/_}
+use Prim.Native.Nat.{ℕ, _+_, _*_, _-_, _/_, _<_}
 use mathlib.Core.Bool.{Bool, cond}
 use mathlib.Core.List.{List, [], _∷_}
-use lib.ListN.{getD, set}
+use lib.ListN.{getD, length, set}
 use lib.Bits.{bitAnd}
 use lib.Dec.{eqb, leb}
 use lib.IntN.{ℤ, pos, _-ℤ_}
@@ -12,6 +12,7 @@ use Rattle.logic.specs.Quantity.{integers, related}
 use Rattle.logic.specs.promises.Total.{one-if}
 use Rattle.blocks.specs.Bytes.{Bytes, byte}
 use Rattle.questions.specs.Layout.{node-of}
+use Rattle.nodes.specs.promises.Nodes.{depth-in}
 
 -- The value of node j at place k.
 abbrev pub known : List ℕ → ℕ → ℕ → ℕ
@@ -43,10 +44,14 @@ value-by q trail gains h k j op v =
 unfoldable pub value-at : (q truth trail : Bytes) → List ℤ → (h s d j : ℕ) → List ℕ → ℕ
 value-at q truth trail gains h s d j v = cond (eqb d 0) (byte truth (32 * j + s)) (value-by q trail gains h (h - d) j ((node-of q j) .operator) v)
 
-module _ (q : Bytes) (depths : List ℕ) (truth trail : Bytes) (gains : List ℤ) (h s : ℕ) where
+module _ (q truth trail : Bytes) (gains : List ℤ) (h s : ℕ) where
   unfoldable pub learn-node : ℕ → List ℕ → List ℕ
-  learn-node j v = let d = getD depths j 0 in cond (leb d h) (set v (7 * j + (h - d)) (value-at q truth trail gains h s d j v)) v
+  learn-node j v = let d = depth-in q j in cond (leb d h) (set v (7 * j + (h - d)) (value-at q truth trail gains h s d j v)) v
 
   unfoldable pub learnt : List ℕ → List ℕ → List ℕ
   learnt [] v = v
   learnt (j ∷ cone) v = learnt cone (learn-node j v)
+
+-- The nodes of a list have their places in the tables.
+abbrev pub Below-40 : List ℕ → Type 0
+Below-40 cone = (i : ℕ) → i < length cone → getD cone i 0 < 40

@@ -1,26 +1,20 @@
 -- What the evaluation of a condition reads: the nodes and states that it can reach, the order of its nodes, and the tables made for it.
 use Prim.Native.Nat.{ℕ, _+_, _*_, _-_, _<_}
 use mathlib.Core.Path.{_≡_}
-use mathlib.Core.Bool.{Bool, true, false}
-use mathlib.Core.List.{List, [], _∷_, _++_}
+use mathlib.Core.Bool.{true}
+use mathlib.Core.List.{List, [], _++_}
 use lib.ListN.{getD, length}
-use Rattle.logic.specs.promises.Refusal.{refusal}
 use Rattle.logic.specs.Model.{Step}
-use Rattle.logic.specs.Formula.{Formula, never, depth}
+use Rattle.logic.specs.Formula.{depth}
 use Rattle.logic.specs.promises.Total.{value-of}
 use Rattle.blocks.specs.Bytes.{Bytes}
 use Rattle.models.specs.Layout.{state-count, action-count, prop-count}
 use Rattle.prepared.specs.promises.Rows.{step-in, Offers, model-in, Prepared}
-use Rattle.questions.specs.Layout.{node-count, node-of, formulas-of}
-use Rattle.questions.specs.Grounds.{read-question}
-use Rattle.questions.specs.promises.Tables.{table}
+use Rattle.questions.specs.Layout.{node-count, node-of}
+use Rattle.nodes.specs.promises.Nodes.{formula, reads-left, Nodes}
 use Rattle.evaluation.specs.promises.Path.{steps-of}
 
--- The formula of node j.
-abbrev pub formula : Bytes → ℕ → Formula
-formula q j = getD (formulas-of q) j never
-
--- `m` is a prepared model here and above. The pairs of a node and a state that the truth of node c in s, on whatever path, can turn on.
+-- `m` is a prepared model here and above, `q` a prepared question. The pairs of a node and a state that the truth of node c in s, on whatever path, can turn on.
 pub data Reached (m q : Bytes) (c s : ℕ) : ℕ → ℕ → Type 0 where
   itself : Reached m q c s c s
   under-not : {j t : ℕ} → Reached m q c s j t → (node-of q j) .operator ≡ 3 → Reached m q c s ((node-of q j) .left) t
@@ -28,10 +22,6 @@ pub data Reached (m q : Bytes) (c s : ℕ) : ℕ → ℕ → Type 0 where
   and-right : {j t : ℕ} → Reached m q c s j t → (node-of q j) .operator ≡ 4 → Reached m q c s ((node-of q j) .right) t
   under-next : {j t : ℕ} (i o : ℕ) → Reached m q c s j t → (node-of q j) .operator ≡ 6 → Offers m t i o
       → Reached m q c s ((node-of q j) .left) ((step-in m t i o) .target)
-
--- "not", "and" and "next" read their child on the path.
-unfoldable pub reads-left : ℕ → Bool
-reads-left op = getD (false ∷ false ∷ false ∷ true ∷ true ∷ false ∷ true ∷ []) op false
 
 -- Node j stands in the list before place i.
 abbrev pub Earlier : List ℕ → ℕ → ℕ → Type 0
@@ -56,11 +46,10 @@ on-path m q start cone t r = value-of (model-in m) (formula q (root-of cone)) st
 
 -- What a search from s for the condition at the root of a cone is handed. `truth` has 32 places a node: 1 where a state formula is true
 -- in a state, and it has to be right only where it is read.
-pub record Ready (m q : Bytes) (s : ℕ) (depths truth cone : List ℕ) : Type 0 where
+pub record Ready (m q : Bytes) (s : ℕ) (truth cone : List ℕ) : Type 0 where
   pub prepared : Prepared m
-  pub question-accepted : refusal (read-question (state-count m) (action-count m) (prop-count m) q) ≡ 0
+  pub nodes : Nodes (state-count m) (action-count m) (prop-count m) q
   pub state : s < state-count m
-  pub depths-right : depths ≡ table depth (formulas-of q)
   pub ordered : Cone q cone
   pub truth-right : (j t : ℕ) → Reached m q (root-of cone) s j t → depth (formula q j) ≡ 0
       → getD truth (32 * j + t) 0 ≡ value-of (model-in m) (formula q j) t []

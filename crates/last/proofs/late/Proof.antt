@@ -1,61 +1,54 @@
 -- The invariant: a marked node has passed its mark on, or stands in the cone before place i.
 use Prim.Native.Nat.{_-_, _≤_}
 use native.Mathlib.Omega.{arith}
-use mathlib.Core.Path.{sym, subst}
+use mathlib.Core.Path.{subst}
 use lib.ListN.{length}
 use Rattle.last.proofs.Marking.{Passing, root-node, cone-placed, passing-start, passing-more, passing-end}
 use Rattle.last.proofs.late.Statement.{statement}
 use Rattle.last.proofs.late.Tie as tie
 
 abbrev Inv-loop : tie.InvT-loop
-Inv-loop q depths cone marks₀ root i₀ marks i = (i ≤ length cone) × Passing q cone marks i
+Inv-loop q cone marks₀ root i₀ marks i = (i ≤ length cone) × Passing q cone marks i
 
 abbrev μ-loop : tie.MeasureT-loop
-μ-loop q depths cone marks₀ root i₀ marks i = i
+μ-loop q cone marks₀ root i₀ marks i = i
 
 sub-root : tie.Need-sub-root Inv-loop μ-loop
-sub-root c = omega arith
+sub-root c = c .before .pre .1 .some
 
 shared-slice-read-root : tie.Need-shared-slice-read-root Inv-loop μ-loop
-shared-slice-read-root c = omega arith
+shared-slice-read-root c = let z = c .before .before .pre .1 .some in omega (arith, z)
 
 cast-root : tie.Need-cast-root Inv-loop μ-loop
-cast-root c = omega (arith, c .shared-slice-known4 .given (length (c .before .before .before .before .args .cone .now) - 1))
+cast-root c = let z = root-node (c .before .before .pre) in omega (arith, z)
 
 array-write-marks : tie.Need-array-write-marks Inv-loop μ-loop
-array-write-marks c = root-node (c .before .before .before .before .pre .0) (c .before .before .before .before .pre .2)
+array-write-marks c = root-node (c .before .before .pre)
 
 loop-holds : tie.Need-loop-holds Inv-loop μ-loop
-loop-holds c = (omega arith, passing-start (c .before .before .before .before .pre .0) (c .before .before .before .before .pre .2))
+loop-holds c = (omega arith, passing-start (c .before .before .pre))
 
 sub-i : tie.Need-sub-i Inv-loop μ-loop
 sub-i c = omega arith
-
-slice-aggregate-pass-on : tie.Need-slice-aggregate-pass-on Inv-loop μ-loop
-slice-aggregate-pass-on c = sym ((c .before .before .loop .inv .1) .size)
 
 shared-slice-read-pass-on : tie.Need-shared-slice-read-pass-on Inv-loop μ-loop
 shared-slice-read-pass-on c = omega arith
 
 pass-on-requires : tie.Need-pass-on-requires Inv-loop μ-loop
-pass-on-requires c κs = let S = c .before .before .before .before .before .before .before .before in
-    let L = c .before .before .before .loop in
-    (cone-placed (S .pre .0) (S .pre .2) (L .i - 1) (omega arith), S .pre .1, (L .inv .1) .size)
+pass-on-requires c κs = let L = c .before .before .before .loop in (cone-placed (c .before .before .before .before .before .before .pre) (L .i - 1) (omega arith), (L .inv .1) .size)
 
 loop-less : tie.Need-loop-less Inv-loop μ-loop
 loop-less c = omega arith
 
 loop-again : tie.Need-loop-again Inv-loop μ-loop
-loop-again c = let S = c .before .before .before .before .before .before .before .before .before .before in
-    let L = c .before .before .before .before .before .loop in
-    let n = c .before .pass-on in (
+loop-again c = let S = c .before .before .before .before .before .before .before in
+    let L = c .before .before .before .before .loop in (
       omega arith,
-      passing-more (S .pre .0) (L .i - 1) (omega arith)
-          (subst (Passing (S .args .q .now) (S .args .cone .now) (L .marks)) (omega arith) (L .inv .1)) (n .kept .1 .1 .0) (n .ensures),
+      passing-more (S .pre) (L .i - 1) (omega arith) (subst (Passing (S .args .q .now) (S .args .cone .now) (L .marks)) (omega arith) (L .inv .1)) (c .pass-on .ensures),
     )
 
 returns : tie.Need-returns Inv-loop μ-loop
-returns c = let S = c .before .before .before .before .before .before in
+returns c = let S = c .before .before .before .before in
     let L = c .before .loop in
     passing-end (subst (Passing (S .args .q .now) (S .args .cone .now) (L .marks)) (omega arith) (L .inv .1))
 
@@ -71,7 +64,6 @@ late-spec =
     array-write-marks
     loop-holds
     sub-i
-    slice-aggregate-pass-on
     shared-slice-read-pass-on
     pass-on-requires
     loop-less

@@ -1,6 +1,7 @@
 -- `find`: the search from the start, where no step is taken and `learn` makes known what needs none.
 use native.Mathlib.Omega.{arith}
 use mathlib.Core.Path.{refl}
+use Rattle.evaluation.proofs.Knowing.{cone-node}
 use Rattle.extension.proofs.Laws.{room-most}
 use Rattle.search.proofs.Turns.{late-asked, setting-start, found}
 use borrow.Author.Needs.{needs}
@@ -8,29 +9,22 @@ use Rattle.search.proofs.find.Statement.{statement}
 use Rattle.search.proofs.find.Tie as tie
 
 late-requires : tie.Need-late-requires
-late-requires c κs = late-asked (c .before .before .before .before .before .pre .0)
-
-slice-aggregate-learn : tie.Need-slice-aggregate-learn
-slice-aggregate-learn c = search needs
-
-slice-aggregate-learn-2 : tie.Need-slice-aggregate-learn-2
-slice-aggregate-learn-2 c = search needs
-
-slice-aggregate-learn-3 : tie.Need-slice-aggregate-learn-3
-slice-aggregate-learn-3 c = search needs
+late-requires c κs = late-asked (c .before .before .pre .0)
 
 learn-requires : tie.Need-learn-requires
-learn-requires c κs = search needs
+learn-requires c κs =
+    let R = c .before .before .before .before .before .before .pre .0 in
+    (cone-node R, omega (arith, R .state, R .prepared .states), omega arith)
 
 pick-requires : tie.Need-pick-requires
-pick-requires c κs = let S = c .before .before .before .before .before .before .before .before .before .before .before .before .before .before .before .before in
-    (setting-start (S .pre .0) (c .before .before .before .before .before .before .before .before .before .before .late .ensures) _ (S .pre .1 .0) (S .pre .1 .1) (omega arith) refl (c .before .before .before .before .before .before .learn .ensures), omega (arith, S .pre .1 .2, room-most (S .args .d) (S .pre .1 .1)))
+pick-requires c κs = let S = c .before .before .before .before .before .before .before .before .before .before .before .before in
+    (setting-start (S .pre .0) (c .before .before .before .before .before .before .before .before .before .late .ensures) _ (S .pre .1 .0) (S .pre .1 .1) refl refl refl (c .before .before .before .before .before .learn .ensures), omega (arith, S .pre .1 .2, room-most (S .args .d) (S .pre .1 .1)))
 
 same-length : tie.Need-same-length
 same-length c = search needs
 
 returns : tie.Need-returns
-returns c = let S = c .before .before .before .before .before .before .before .before .before .before .before .before .before .before .before .before .before .before .before in
+returns c = let S = c .before .before .before .before .before .before .before .before .before .before .before .before .before .before .before in
     found ((S .pre .0) .prepared) (S .pre .1 .1) (c .before .before .pick .ensures .0)
 
 pub find-spec : {M : Type 1} → statement M
@@ -38,9 +32,6 @@ find-spec =
     tie.close
     (tie.spec
     late-requires
-    slice-aggregate-learn
-    slice-aggregate-learn-2
-    slice-aggregate-learn-3
     learn-requires
     pick-requires
     same-length

@@ -7,15 +7,15 @@ use Rattle.search.proofs.pick_last.Statement.{statement}
 use Rattle.search.proofs.pick_last.Tie as tie
 
 mask-requires : tie.Need-mask-requires
-mask-requires c κs = let P = c .before .before .before .before .before .before .before .before .pre .0 in
-    record { ready = P .ready; marked = P .marked; whole = P .whole; room = c .before .mask-arg2 .given .0; knows = P .knows; state = P .state; deep = P .deep; few = omega (arith, P .few) }
+mask-requires c κs = let P = c .before .before .pre .0 in
+    record { ready = P .ready; marked = P .marked; whole = P .whole; knows = P .knows; state = P .state; deep = P .deep; few = omega (arith, P .few) }
 
 cast-last-choice : tie.Need-cast-last-choice
 cast-last-choice c = search needs
 
 last-choice-requires : tie.Need-last-choice-requires
 unfolding room
-last-choice-requires c κs = let P = c .before .before .before .before .before .before .before .before .before .before .before .pre in
+last-choice-requires c κs = let P = c .before .before .before .before .before .pre in
     (P .0 .ready .prepared, state-here (P .0), P .1)
 
 same-length : tie.Need-same-length

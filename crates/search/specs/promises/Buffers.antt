@@ -12,8 +12,9 @@ use Rattle.logic.specs.promises.Orders.{weights, order}
 use Rattle.logic.specs.promises.Recursion.{greatest}
 use Rattle.blocks.specs.Bytes.{Bytes}
 use Rattle.prepared.specs.promises.Rows.{step-in, model-in}
+use Rattle.nodes.specs.promises.Nodes.{formula}
 use Rattle.evaluation.specs.promises.Path.{state-after}
-use Rattle.evaluation.specs.promises.Reached.{formula, root-of, Ready}
+use Rattle.evaluation.specs.promises.Reached.{root-of, Ready}
 use Rattle.evaluation.specs.promises.Known.{Knows}
 use Rattle.lanes.specs.promises.Lanes.{Laned}
 use Rattle.last.specs.promises.Late.{Late}
@@ -38,8 +39,8 @@ pub record Keeps (b : Best) (w : Walked) (at : ℕ) (least : Bool) (before after
   pub left : wins (b .found) (b .value) (w .value) least ≡ false → (r ≡ b) × (after ≡ before)
 
 -- A search of k steps goes on in the state s, where the first h numbers of the trail lead.
-pub record Setting (m q : Bytes) (depths truth cone late : List ℕ) (start : ℕ) (trail : List ℕ) (gains : List ℤ) (v : List ℕ) (h s k : ℕ) : Type 0 where
-  pub ready : Ready m q start depths truth cone
+pub record Setting (m q : Bytes) (truth cone late : List ℕ) (start : ℕ) (trail : List ℕ) (gains : List ℤ) (v : List ℕ) (h s k : ℕ) : Type 0 where
+  pub ready : Ready m q start truth cone
   pub marked : Late q cone late
   pub whole : length (take h trail) ≡ h
   pub knows : Knows m q start cone (take h trail) gains v

@@ -12,7 +12,8 @@ use Rattle.logic.specs.promises.Recursion.{greatest, best-plan}
 use Rattle.logic.specs.promises.Total.{value-of}
 use Rattle.blocks.specs.Bytes.{Bytes}
 use Rattle.prepared.specs.promises.Rows.{model-in}
-use Rattle.evaluation.specs.promises.Reached.{formula, root-of}
+use Rattle.nodes.specs.promises.Nodes.{formula}
+use Rattle.evaluation.specs.promises.Reached.{root-of}
 use Rattle.search.specs.declared.Found.{Found}
 
 module _ (least : Bool) (M : Model) (k : ℕ) where

@@ -1,0 +1,111 @@
+-- A question that is another one node by node has its verdict and its limits: both turn on what each node asks of plans.
+use Prim.Native.Nat.{ℕ, _-_, _≤_}
+use native.Mathlib.Omega.{arith}
+use mathlib.Core.Path.{_≡_, refl, sym, ap, ap₂, _∙_}
+use mathlib.Core.Bool.{Bool, true, not, _&&_, _||_, and-true}
+use mathlib.Core.List.{List, [], _∷_}
+use mathlib.Core.Option.{Option, none, some}
+use lib.Dec.{leb}
+use lib.IntN.{pos}
+use lib.ListN.{length}
+use Rattle.logic.specs.Lists.{all, every, keep}
+use Rattle.logic.specs.Checked.{Checked, ok, refused}
+use Rattle.logic.specs.promises.Refusal.{refusal}
+use Rattle.logic.specs.Grounds.{_unless_, decided}
+use Rattle.logic.specs.Model.{Model}
+use Rattle.logic.specs.Quantity.{Relation, naturals, sum}
+use Rattle.logic.specs.Plan.{Plan, plans, paths, weight}
+use Rattle.logic.specs.Formula.{Formula, never, prop, neg, both, does, next, gain, plan, W, meets}
+use Rattle.logic.specs.Verdict.{Goal, goal, leads, is-equal, verdict, verdict-by}
+use Rattle.logic.specs.Limits.{every-plan, path-total, plan-total, limits}
+use Rattle.blocks.specs.Bytes.{Bytes}
+use Rattle.questions.specs.Layout.{start-of, node-count, formulas-of, question-of}
+use Rattle.questions.proofs.Laws.{all-every, every-same, all-before, before-length}
+use Rattle.nodes.specs.promises.Nodes.{formula}
+use Rattle.nodes.specs.promises.Shared.{Asked, asked, Alike, Shared}
+
+-- ---- by what is asked of plans
+
+module _ (m : Model) (s : ℕ) where
+  abbrev goal-by : Option Asked → Checked Goal
+  goal-by none = refused 22
+  goal-by (some a) =
+      let w : Plan (a .steps) → ℕ = λ π. sum naturals weight (keep (λ t. a .condition m s t) (paths m (a .steps) s π)) in
+      ok (record {
+        steps = a .steps;
+        total = λ π. pos (w π);
+        met = λ π. meets naturals m (a .steps) (a .relation) (a .p) (a .q) (w π);
+        lead = leads naturals w (a .relation) (plans m (a .steps) s);
+        counts = is-equal (a .relation);
+      })
+
+  goal-asked : (φ : Formula) → goal m s φ ≡ goal-by (asked φ)
+  unfolding goal asked W
+  goal-asked never = refl
+  goal-asked (prop i) = refl
+  goal-asked (neg φ) = refl
+  goal-asked (both φ ψ) = refl
+  goal-asked (does a) = refl
+  goal-asked (next φ) = refl
+  goal-asked (gain n b p) = refl
+  goal-asked (plan n φ r p q) = refl
+
+  verdict-alike : {φ ψ : Formula} → Alike φ ψ → verdict m s φ ≡ verdict m s ψ
+  unfolding verdict
+  verdict-alike {φ} {ψ} e = ap₂ (verdict-by m s) (e .same .truths m s []) (goal-asked φ ∙ ap goal-by (e .asks) ∙ sym (goal-asked ψ))
+
+all-first : {A : Type 0} (t : A → Bool) (x : A) (l : List A) → all t (x ∷ l) ≡ (all t (x ∷ []) && all t l)
+unfolding all
+all-first t x l = ap (λ u. u && all t l) (sym (and-true (t x)))
+
+module _ (f : ℕ → Relation → ℕ → Bool) (m : Model) where
+  abbrev test-by : Option Asked → Bool
+  test-by none = true
+  test-by (some a) = every (length (m .states)) (f (a .steps) (a .relation))
+
+  test-asked : (φ : Formula) → every-plan f m (φ ∷ []) ≡ test-by (asked φ)
+  unfolding every-plan all asked
+  test-asked never = refl
+  test-asked (prop i) = refl
+  test-asked (neg φ) = refl
+  test-asked (both φ ψ) = refl
+  test-asked (does a) = refl
+  test-asked (next φ) = refl
+  test-asked (gain n b p) = refl
+  test-asked (plan n φ r p q) = and-true _
+
+  test-first : (φ : Formula) (fs : List Formula) → every-plan f m (φ ∷ fs) ≡ (every-plan f m (φ ∷ []) && every-plan f m fs)
+  unfolding every-plan
+  test-first φ fs = all-first _ φ fs
+
+  test-each : (fs : List Formula) → every-plan f m fs ≡ all (λ φ. test-by (asked φ)) fs
+  unfolding every-plan all
+  test-each [] = refl
+  test-each (φ ∷ fs) = test-first φ fs ∙ ap₂ _&&_ (test-asked φ) (test-each fs)
+
+  test-nodes : (b : Bytes) → every-plan f m (formulas-of b) ≡ every (node-count b) (λ i. test-by (asked (formula b i)))
+  test-nodes b =
+      test-each (formulas-of b) ∙ all-every (λ φ. test-by (asked φ)) never (formulas-of b)
+      ∙ ap (λ k. every k (λ i. test-by (asked (formula b i)))) (ap length (sym (all-before b)) ∙ before-length b (node-count b))
+
+-- ---- the laws for whoever judges
+
+module _ {S A N : ℕ} {q q′ : Bytes} (h : Shared S A N q q′) (m : Model) where
+  pub same-verdict : verdict m (start-of q) (question-of q .root) ≡ verdict m (start-of q′) (question-of q′ .root)
+  unfolding question-of
+  same-verdict =
+      let n : 1 ≤ node-count q′ = h .nodes .formed .some-node in
+      verdict-alike m (start-of q) (h .alike (node-count q - 1) (omega (arith, n, h .count)))
+      ∙ ap₂ (λ s k. verdict m s (formula q′ (k - 1))) (sym (h .start)) (sym (h .count))
+
+  test-same : (f : ℕ → Relation → ℕ → Bool) → every-plan f m (formulas-of q) ≡ every-plan f m (formulas-of q′)
+  test-same f =
+      test-nodes f m q ∙ every-same (node-count q) (λ i l. ap (test-by f m) (h .alike i l .asks))
+      ∙ ap (λ k. every k (λ i. test-by f m (asked (formula q′ i)))) (sym (h .count)) ∙ sym (test-nodes f m q′)
+
+  pub same-limits : refusal (limits m (formulas-of q)) ≡ refusal (limits m (formulas-of q′))
+  unfolding limits
+  same-limits =
+      ap₂ (λ a b. refusal (decided {A = Unit {0}} (24 unless a ∷ 25 unless b ∷ []) tt))
+      (test-same (λ n r s. leb (path-total m n s) 1000000))
+      (test-same (λ n r s. not (is-equal r) || leb (plan-total m n s) 65536))

@@ -1,0 +1,203 @@
+// The question prepared for judging: one array, made once. Its nodes point past every "and" whose two halves are one node (the judge values
+// each node that it meets, and such a node has its half's value), and the depth of each stands behind the block.
+ghost use mathlib.Core.Path.{_≡_};
+ghost use Prim.Native.Nat.{ℕ, _+_, _<_};
+ghost use lib.Dec.{eqb};
+ghost use lib.ListN.{length, getD};
+ghost use Rattle.logic.specs.promises.Refusal.{refusal};
+ghost use Rattle.logic.specs.Formula as formulas;
+ghost use Rattle.questions.specs.Layout.{start-of, node-at, node-of};
+ghost use Rattle.questions.specs.Layout as layout;
+ghost use Rattle.questions.specs.Grounds.{read-question};
+ghost use Rattle.nodes.specs.promises.Nodes.{formula, depth-in};
+ghost use Rattle.nodes.specs.promises.Shared.{Shared};
+ghost use Rattle.nodes.specs.promises.Replaced.{Ordered, Replaces, Replacements, left-for, right-for, Pointed};
+use blocks::byte;
+use questions::node_count;
+
+// ---- reading it
+
+pub fn start(q: &[u8; 552]) -> u8
+    ensures { λ r. ⌜ r ≡ start-of (now (q .entry)) ⌝ }
+{
+    q[2]
+}
+
+pub fn count(q: &[u8; 552]) -> u8
+    ensures { λ r. ⌜ r ≡ layout.node-count (now (q .entry)) ⌝ }
+{
+    q[3]
+}
+
+pub fn operator(q: &[u8; 552], j: u8) -> u8
+    requires { ⌜ j < 40 ⌝ }
+    ensures { λ r. ⌜ r ≡ node-of (now (q .entry)) j .operator ⌝ }
+{
+    q[8 + 12 * j as usize]
+}
+
+// Another byte of node j.
+fn cell(q: &[u8; 552], j: u8, k: usize) -> u8
+    requires { ⌜ (j < 40) × (k < 12) ⌝ }
+    ensures { λ r. ⌜ r ≡ getD (now (q .entry)) (node-at j + k) 0 ⌝ }
+{
+    q[8 + 12 * j as usize + k]
+}
+
+// The n of "gain" or "plan".
+pub fn steps(q: &[u8; 552], j: u8) -> u8
+    requires { ⌜ j < 40 ⌝ }
+    ensures { λ r. ⌜ r ≡ node-of (now (q .entry)) j .n ⌝ }
+{
+    cell(q, j, 1)
+}
+
+pub fn left(q: &[u8; 552], j: u8) -> u8
+    requires { ⌜ j < 40 ⌝ }
+    ensures { λ r. ⌜ r ≡ node-of (now (q .entry)) j .left ⌝ }
+{
+    cell(q, j, 2)
+}
+
+pub fn right(q: &[u8; 552], j: u8) -> u8
+    requires { ⌜ j < 40 ⌝ }
+    ensures { λ r. ⌜ r ≡ node-of (now (q .entry)) j .right ⌝ }
+{
+    cell(q, j, 3)
+}
+
+// The bound of "gain", or the p of the bound of "plan".
+pub fn bound(q: &[u8; 552], j: u8) -> i32
+    requires { ⌜ j < 40 ⌝ }
+    ensures { λ r. ⌜ r ≡ node-of (now (q .entry)) j .p ⌝ }
+{
+    blocks::i32_at(q, 8 + 12 * j as usize + 4)
+}
+
+// The q of the bound of "plan".
+pub fn parts(q: &[u8; 552], j: u8) -> u32
+    requires { ⌜ j < 40 ⌝ }
+    ensures { λ r. ⌜ r ≡ node-of (now (q .entry)) j .q ⌝ }
+{
+    blocks::u32_at(q, 8 + 12 * j as usize + 8)
+}
+
+pub fn depth(q: &[u8; 552], j: u8) -> u8
+    requires { ⌜ j < 40 ⌝ }
+    ensures { λ r. ⌜ r ≡ depth-in (now (q .entry)) j ⌝ }
+{
+    q[512 + j as usize]
+}
+
+// Whether node j, a "gain" or a "plan", asks for less than its bound.
+pub fn asks_less(q: &[u8; 552], j: u8) -> bool
+    requires { ⌜ j < 40 ⌝ }
+    ensures { λ r. ⌜ r ≡ eqb (node-of (now (q .entry)) j .right) 1 ⌝ }
+{
+    right(q, j) == 1
+}
+
+// Whether it asks for just its bound.
+pub fn asks_equal(q: &[u8; 552], j: u8) -> bool
+    requires { ⌜ j < 40 ⌝ }
+    ensures { λ r. ⌜ r ≡ eqb (node-of (now (q .entry)) j .right) 2 ⌝ }
+{
+    right(q, j) == 2
+}
+
+// ---- making it
+
+// The node that stands for node i: of an "and" whose halves come down to one node, that node.
+fn replacement(q: &[u8], reps: &[u8; 40], i: u8) -> u8
+    requires { ⌜ Ordered (now q) × (i < layout.node-count (now q)) × Replacements (now q) i (now reps) ⌝ }
+    ensures { λ r. ⌜ Replaces (now (q .entry)) (now (reps .entry)) i r ⌝ }
+{
+    if questions::operator(q, i) != 4 {
+        return i;
+    }
+    let l = byte(reps, questions::left(q, i) as usize);
+    let r = byte(reps, questions::right(q, i) as usize);
+    if l == r {
+        return l;
+    }
+    i
+}
+
+// The node that stands for each node.
+fn replacements(q: &[u8]) -> [u8; 40]
+    requires { ⌜ Ordered (now q) ⌝ }
+    ensures { λ r. ⌜ Replacements (now (q .entry)) (layout.node-count (now (q .entry))) r ⌝ }
+{
+    let n = node_count(q);
+    let mut reps = [0u8; 40];
+    let mut i: u8 = 0;
+    while i < n {
+        let x = replacement(q, &reps, i);
+        let at = i as usize;
+        reps[at] = x;
+        i += 1;
+    }
+    reps
+}
+
+fn left_for(q: &[u8], reps: &[u8; 40], i: u8) -> u8
+    ensures { λ r. ⌜ r ≡ left-for (now (q .entry)) (now (reps .entry)) i ⌝ }
+{
+    let op = questions::operator(q, i);
+    match op {
+        3 | 4 | 6 | 8 => byte(reps, questions::left(q, i) as usize),
+        _ => questions::left(q, i),
+    }
+}
+
+fn right_for(q: &[u8], reps: &[u8; 40], i: u8) -> u8
+    ensures { λ r. ⌜ r ≡ right-for (now (q .entry)) (now (reps .entry)) i ⌝ }
+{
+    if questions::operator(q, i) == 4 {
+        return byte(reps, questions::right(q, i) as usize);
+    }
+    questions::right(q, i)
+}
+
+// Node i gets its new cells and its depth.
+fn put(q: &[u8], reps: &[u8; 40], out: &mut [u8], i: u8, d: u8)
+    requires { ⌜ Pointed (now q) (now reps) (now out) i × (i < 40) × (d ≡ formulas.depth (formula (now q) i)) ⌝ }
+    ensures { λ _. ⌜ Pointed (now (q .entry)) (now (reps .entry)) (now (out .exit)) (i + 1) ⌝ }
+{
+    let at = 8 + 12 * i as usize;
+    out[at + 2] = left_for(q, reps, i);
+    out[at + 3] = right_for(q, reps, i);
+    out[512 + i as usize] = d;
+}
+
+fn copied(q: &[u8], reps: &[u8; 40]) -> [u8; 552]
+    requires { ⌜ length (now q) ≡ 512 ⌝ }
+    ensures { λ r. ⌜ Pointed (now (q .entry)) (now (reps .entry)) r 0 ⌝ }
+{
+    let mut out = [0u8; 552];
+    let mut i: usize = 0;
+    while i < 512 {
+        out[i] = q[i];
+        i += 1;
+    }
+    out
+}
+
+// The question with every child that is an "and" of one node with itself replaced by that node, and with its depths.
+pub fn nodes(q: &[u8]) -> [u8; 552]
+    requires { ⌜ Ordered (now q) ⌝ }
+    ensures { λ r. ⌜ ((S A N : ℕ) → refusal (read-question S A N (now (q .entry))) ≡ 0 → Shared S A N (now (q .entry)) r) ⌝ }
+{
+    let n = node_count(q);
+    let reps = replacements(q);
+    let depths = questions::depth_table(q);
+    let mut out = copied(q, &reps);
+    let mut i: u8 = 0;
+    while i < n {
+        let at = i as usize;
+        let d = depths[at] as u8;
+        put(q, &reps, &mut out, i, d);
+        i += 1;
+    }
+    out
+}

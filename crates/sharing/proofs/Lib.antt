@@ -1,4 +1,0 @@
-pub mod Meanings
-pub mod Cells
-pub mod Nodes
-pub mod Judged
