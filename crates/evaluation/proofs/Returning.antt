@@ -1,10 +1,10 @@
 -- Back from below a step: the steps before it are as they were, and so is what is known of them.
-use Prim.Native.Nat.{ℕ, _+_, _*_}
+use Prim.Native.Nat.{ℕ, _+_}
 use native.Mathlib.Omega.{arith}
 use mathlib.Core.Path.{_≡_, refl, sym, ap, subst, _∙_}
 use mathlib.Core.List.{List, [], _∷_}
 use lib.IntN.{ℤ}
-use lib.ListN.{length, take}
+use lib.ListN.{take}
 use lib.Seq.{take-take, take-at}
 use Rattle.blocks.specs.Bytes.{Bytes}
 use Rattle.evaluation.specs.promises.Path.{number-of, state-after}

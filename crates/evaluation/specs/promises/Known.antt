@@ -1,6 +1,6 @@
 -- What is known along a path: after the trail t from s, the values of a cone's nodes at all places where as many steps follow as the
 -- node looks ahead.
-use Prim.Native.Nat.{ℕ, _+_, _*_, _≤_, _<_}
+use Prim.Native.Nat.{ℕ, _+_, _≤_, _<_}
 use mathlib.Core.Path.{_≡_}
 use mathlib.Core.List.{List, [], _∷_, _++_}
 use lib.ListN.{getD, length, take, drop}
