@@ -26,6 +26,17 @@ use Rattle.nodes.specs.promises.Shared.{Asked, asked, Alike, Shared}
 
 -- ---- by what is asked of plans
 
+module _ {A B : Type 0} (g : A → B) (other : A) (f : ℕ → Formula → Relation → ℕ → ℕ → A) where
+  on-plan-then : (φ : Formula) → g (on-plan other f φ) ≡ on-plan (g other) (λ n ψ r p q. g (f n ψ r p q)) φ
+  on-plan-then never = refl
+  on-plan-then (prop i) = refl
+  on-plan-then (neg φ) = refl
+  on-plan-then (both φ ψ) = refl
+  on-plan-then (does a) = refl
+  on-plan-then (next φ) = refl
+  on-plan-then (gain n b p) = refl
+  on-plan-then (plan n φ r p q) = refl
+
 module _ (m : Model) (s : ℕ) where
   abbrev goal-by : Option Asked → Checked Goal
   goal-by none = refused 22
@@ -41,14 +52,7 @@ module _ (m : Model) (s : ℕ) where
 
   goal-asked : (φ : Formula) → goal m s φ ≡ goal-by (asked φ)
   unfolding goal asked W
-  goal-asked never = refl
-  goal-asked (prop i) = refl
-  goal-asked (neg φ) = refl
-  goal-asked (both φ ψ) = refl
-  goal-asked (does a) = refl
-  goal-asked (next φ) = refl
-  goal-asked (gain n b p) = refl
-  goal-asked (plan n φ r p q) = refl
+  goal-asked φ = sym (on-plan-then goal-by none _ φ)
 
   verdict-alike : {φ ψ : Formula} → Alike φ ψ → verdict m s φ ≡ verdict m s ψ
   unfolding verdict
@@ -71,14 +75,7 @@ module _ (f : ℕ → Relation → ℕ → Bool) (m : Model) where
 
   test-asked : (φ : Formula) → plan-test φ ≡ test-by (asked φ)
   unfolding asked
-  test-asked never = refl
-  test-asked (prop i) = refl
-  test-asked (neg φ) = refl
-  test-asked (both φ ψ) = refl
-  test-asked (does a) = refl
-  test-asked (next φ) = refl
-  test-asked (gain n b p) = refl
-  test-asked (plan n φ r p q) = refl
+  test-asked φ = sym (on-plan-then test-by none _ φ)
 
   test-alike : {φ ψ : Formula} → Alike φ ψ → plan-test φ ≡ plan-test ψ
   test-alike {φ} {ψ} e = test-asked φ ∙ ap test-by (e .asks) ∙ sym (test-asked ψ)
