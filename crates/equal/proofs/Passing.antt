@@ -35,7 +35,7 @@ pub record Listed (m q : Bytes) (start d : ℕ) (cone : List ℕ) (h s k j at : 
   pub written : Written (flatMap (chosen m q start cone s j (take h trail₀)) (passed m s i)) m q start cone h at trail₀ trail gains v buf₀ buf len
   pub whole : length buf ≡ length buf₀
 
-module _ {m q : Bytes} {start d : ℕ} {depths truth cone table : List ℕ} (G : Given m q start d depths truth cone table) (k j : ℕ) (step : k ≡ suc j) where
+module _ {m q : Bytes} {start d : ℕ} {truth cone table : List ℕ} (G : Given m q start d truth cone table) (k j : ℕ) (step : k ≡ suc j) where
   pub listed-none : {h s at : ℕ} {trail : List ℕ} {gains : List ℤ} {v buf : List ℕ} → Here m q start d cone trail gains v h s k
       → Listed m q start d cone h s k j at trail buf trail gains v buf 0 0
   unfolding tabulate count-from flatMap

@@ -12,7 +12,8 @@ use Rattle.logic.specs.promises.Total.{value-of}
 use Rattle.blocks.specs.Bytes.{Bytes}
 use Rattle.prepared.specs.promises.Rows.{model-in}
 use Rattle.evaluation.specs.promises.Path.{steps-of, state-after}
-use Rattle.evaluation.specs.promises.Reached.{formula, root-of, on-path}
+use Rattle.nodes.specs.promises.Nodes.{formula}
+use Rattle.evaluation.specs.promises.Reached.{root-of, on-path}
 use Rattle.evaluation.specs.promises.Known.{Knows}
 use Rattle.equal.specs.promises.Totals.{totals}
 use Rattle.equal.specs.promises.Listing.{Given, Here, Written, First}
@@ -42,7 +43,7 @@ module _ (buf : List ℕ) (len x : ℕ) (fits : len ≤ length buf) where
 
 -- ---- the start
 
-module _ {m q : Bytes} {start d : ℕ} {depths truth cone table : List ℕ} (G : Given m q start d depths truth cone table) where
+module _ {m q : Bytes} {start d : ℕ} {truth cone table : List ℕ} (G : Given m q start d truth cone table) where
   pub begins : {n : ℕ} (trail : List ℕ) (gains : List ℤ) (v : List ℕ) → d ≤ n → n ≤ 6 → Knows m q start cone [] gains v
       → Here m q start d cone trail gains v 0 start n
   unfolding state-after

@@ -122,7 +122,7 @@ module _ (buf buf₁ : List ℕ) (at len n k : ℕ) (K : Grows buf at len n k) (
 
 -- ---- the outcomes of a choice
 
-module _ {m q : Bytes} {start d : ℕ} {depths truth cone table : List ℕ} (G : Given m q start d depths truth cone table) {s p k : ℕ} (place : Place m s p k) where
+module _ {m q : Bytes} {start d : ℕ} {truth cone table : List ℕ} (G : Given m q start d truth cone table) {s p k : ℕ} (place : Place m s p k) where
   abbrev t : ℕ → ℕ
   t = ways m s p k
 

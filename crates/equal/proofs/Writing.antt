@@ -20,7 +20,7 @@ use Rattle.evaluation.specs.promises.Learnt.{known}
 use Rattle.evaluation.specs.promises.Known.{Knows, Offered, Stepped}
 use Rattle.evaluation.proofs.Values.{one-if-small}
 use Rattle.evaluation.proofs.Returning.{back-none, back-same, knows-back, state-back, step-back}
-use Rattle.evaluation.proofs.Stepping.{leaf-value, state-stepped, on-path-stepped}
+use Rattle.evaluation.proofs.Stepping.{leaf-value, state-stepped, whole-stepped, on-path-stepped}
 use Rattle.equal.specs.promises.Totals.{totals}
 use Rattle.equal.specs.promises.Room.{Room}
 use Rattle.equal.specs.promises.Listing.{Given, Here, Written, Decides}
@@ -73,7 +73,7 @@ module _ {m q : Bytes} {start : ℕ} {cone : List ℕ} {h : ℕ} {trail : List �
         knows = knows-back (W .back);
       }
 
-module _ {m q : Bytes} {start d : ℕ} {depths truth cone table : List ℕ} (G : Given m q start d depths truth cone table) where
+module _ {m q : Bytes} {start d : ℕ} {truth cone table : List ℕ} (G : Given m q start d truth cone table) where
   pub state-small : {s : ℕ} → s < state-count m → s < 32
   state-small h = omega (arith, G .ready .prepared .states)
 
@@ -134,7 +134,7 @@ module _ {m q : Bytes} {start d : ℕ} {depths truth cone table : List ℕ} (G :
             steps = omega (arith, H .steps);
             deep = omega (arith, H .deep);
             inside = rw (S .state) (reached s i o (H .inside) u);
-            whole = ap length (S .longer) ∙ length-append (take h trail) _ ∙ ap (λ n. n + 1) (S .whole);
+            whole = whole-stepped (G .ready) offered (H .knows) S;
             state = state-stepped (G .ready) offered (H .knows) S;
             knows = S .knows;
           }

@@ -4,7 +4,8 @@ ghost use lib.ListN.{length, take};
 ghost use Rattle.logic.specs.Limits.{plan-total};
 ghost use Rattle.logic.specs.promises.Total.{value-of};
 ghost use Rattle.prepared.specs.promises.Rows.{model-in};
-ghost use Rattle.evaluation.specs.promises.Reached.{formula, root-of};
+ghost use Rattle.nodes.specs.promises.Nodes.{formula};
+ghost use Rattle.evaluation.specs.promises.Reached.{root-of};
 ghost use Rattle.equal.specs.promises.Totals.{totals};
 ghost use Rattle.equal.specs.promises.Listing.{Given, First};
 
@@ -34,9 +35,8 @@ fn find(buf: &[u64], len: usize, x: u64) -> usize
 // `first_equal` in a lent buffer, which has room for the list and for what is made beside it.
 fn first_within(
     m: &[u16; 8704],
-    q: &[u8],
-    depths: &[u32],
-    truth: &[u8],
+    q: &[u8; 552],
+    truth: &[u8; 1280],
     cone: &[u8],
     table: &[u64; 224],
     buf: &mut [u64],
@@ -45,14 +45,14 @@ fn first_within(
     n: u8,
     x: u64,
 ) -> usize
-    requires { ⌜ Given (now m) (now q) start d (now depths) (now truth) (now cone) (now table) ⌝ }
+    requires { ⌜ Given (now m) (now q) start d (now truth) (now cone) (now table) ⌝ }
     requires { ⌜ (d ≤ n) × (n ≤ 6) × (plan-total (model-in (now m)) n start ≤ 65536) × (plan-total (model-in (now m)) n start + 282 ≤ length (now buf)) ⌝ }
     ensures { λ r. ⌜ First (totals (model-in (now (m .entry))) n start (value-of (model-in (now (m .entry))) (formula (now (q .entry)) (root-of (now (cone .entry)))) start)) x r ⌝ }
 {
     let mut trail = [0u16; 6];
     let mut gains = [0i32; 7];
     let mut v = [0u8; 280];
-    learn(q, depths, truth, &trail, &gains, cone, &mut v, 0, start);
+    learn(q, truth, &trail, &gains, cone, &mut v, 0, start);
     let spot = Spot {
         start: start,
         d: d,
@@ -64,7 +64,6 @@ fn first_within(
     let len = list(
         m,
         q,
-        depths,
         truth,
         cone,
         table,
@@ -81,9 +80,8 @@ fn first_within(
 // buffer has one of three lengths, by their number and 282 beside: to clear the longest takes longer than to search few plans.
 pub fn first_equal(
     m: &[u16; 8704],
-    q: &[u8],
-    depths: &[u32],
-    truth: &[u8],
+    q: &[u8; 552],
+    truth: &[u8; 1280],
     cone: &[u8],
     table: &[u64; 224],
     s: u8,
@@ -91,19 +89,19 @@ pub fn first_equal(
     n: u8,
     x: u64,
 ) -> usize
-    requires { ⌜ Given (now m) (now q) s d (now depths) (now truth) (now cone) (now table) ⌝ }
+    requires { ⌜ Given (now m) (now q) s d (now truth) (now cone) (now table) ⌝ }
     requires { ⌜ (d ≤ n) × (n ≤ 6) × (plan-total (model-in (now m)) n s ≤ 65536) ⌝ }
     ensures { λ r. ⌜ First (totals (model-in (now (m .entry))) n s (value-of (model-in (now (m .entry))) (formula (now (q .entry)) (root-of (now (cone .entry)))) s)) x r ⌝ }
 {
     let all = plans_counted(table, n, s as usize);
     if all <= 1024 {
         let mut buf = [0u64; 1306];
-        return first_within(m, q, depths, truth, cone, table, &mut buf, s, d, n, x);
+        return first_within(m, q, truth, cone, table, &mut buf, s, d, n, x);
     }
     if all <= 8192 {
         let mut buf = [0u64; 8474];
-        return first_within(m, q, depths, truth, cone, table, &mut buf, s, d, n, x);
+        return first_within(m, q, truth, cone, table, &mut buf, s, d, n, x);
     }
     let mut buf = [0u64; 65818];
-    first_within(m, q, depths, truth, cone, table, &mut buf, s, d, n, x)
+    first_within(m, q, truth, cone, table, &mut buf, s, d, n, x)
 }

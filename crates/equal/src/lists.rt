@@ -18,6 +18,7 @@ use crate::spread::fill;
 use crate::spread::join;
 use crate::spread::shift;
 use bounds::power;
+use evaluation::Place;
 use evaluation::known;
 use evaluation::step;
 use limits::plans_counted;
@@ -36,6 +37,20 @@ pub struct Spot {
     pub s: u8,
     pub k: u8,
     pub at: usize,
+}
+
+// The outcome o of the choice at place i.
+pub struct Outcome {
+    i: usize,
+    o: usize,
+}
+
+// A further outcome to combine a list of `len` totals with, on its right or on its left.
+pub struct Further {
+    i: usize,
+    o: usize,
+    len: usize,
+    right: bool,
 }
 
 // An outcome with the most plans below it: its list is made first, in its place.
@@ -99,9 +114,8 @@ fn decided(
 // Writes the totals of all plans from a spot, and gives their number.
 pub fn list(
     m: &[u16; 8704],
-    q: &[u8],
-    depths: &[u32],
-    truth: &[u8],
+    q: &[u8; 552],
+    truth: &[u8; 1280],
     cone: &[u8],
     table: &[u64; 224],
     trail: &mut [u16; 6],
@@ -110,7 +124,7 @@ pub fn list(
     buf: &mut [u64],
     spot: Spot,
 ) -> usize
-    requires { ⌜ Given (now m) (now q) (spot .start) (spot .d) (now depths) (now truth) (now cone) (now table) ⌝ }
+    requires { ⌜ Given (now m) (now q) (spot .start) (spot .d) (now truth) (now cone) (now table) ⌝ }
     requires { ⌜ Here (now m) (now q) (spot .start) (spot .d) (now cone) (now trail) (now gains) (now v) (spot .h) (spot .s) (spot .k) ⌝ }
     requires { ⌜ Room (spot .k) (plan-total (model-in (now m)) (spot .k) (spot .s)) (spot .at) (length (now buf)) ⌝ }
     ensures { λ r. ⌜ Written (totals (model-in (now (m .entry))) (spot .k) (spot .s) (on-path (now (m .entry)) (now (q .entry)) (spot .start) (now (cone .entry)) (take (spot .h) (now (trail .entry))))) (now (m .entry)) (now (q .entry)) (spot .start) (now (cone .entry)) (spot .h) (spot .at) (now (trail .entry)) (now (trail .exit)) (now (gains .exit)) (now (v .exit)) (now (buf .entry)) (now (buf .exit)) r ⌝ }
@@ -130,20 +144,7 @@ pub fn list(
             k: spot.k - 1,
             at: spot.at + len,
         };
-        len += combine(
-            m,
-            q,
-            depths,
-            truth,
-            cone,
-            table,
-            trail,
-            gains,
-            v,
-            buf,
-            first,
-            i,
-        );
+        len += combine(m, q, truth, cone, table, trail, gains, v, buf, first, i);
         i += 1;
     }
     len
@@ -153,9 +154,8 @@ pub fn list(
 // the longest one on, to the right and then to the left.
 fn combine(
     m: &[u16; 8704],
-    q: &[u8],
-    depths: &[u32],
-    truth: &[u8],
+    q: &[u8; 552],
+    truth: &[u8; 1280],
     cone: &[u8],
     table: &[u64; 224],
     trail: &mut [u16; 6],
@@ -165,7 +165,7 @@ fn combine(
     spot: Spot,
     i: usize,
 ) -> usize
-    requires { ⌜ Given (now m) (now q) (spot .start) (spot .d) (now depths) (now truth) (now cone) (now table) ⌝ }
+    requires { ⌜ Given (now m) (now q) (spot .start) (spot .d) (now truth) (now cone) (now table) ⌝ }
     requires { ⌜ Here (now m) (now q) (spot .start) (spot .d) (now cone) (now trail) (now gains) (now v) (spot .h) (spot .s) (spot .k + 1) × (i < choices-in (now m) (spot .s)) ⌝ }
     requires { ⌜ Room (spot .k + 1) (multiply (λ o. plan-total (model-in (now m)) (spot .k) (o .target)) (outcomes (model-in (now m)) (spot .s) (choice-in (now m) (spot .s) i))) (spot .at) (length (now buf)) ⌝ }
     ensures { λ r. ⌜ Written (combined (weighed (model-in (now (m .entry))) (spot .k) (on-path (now (m .entry)) (now (q .entry)) (spot .start) (now (cone .entry)) (take (spot .h) (now (trail .entry))))) (outcomes (model-in (now (m .entry))) (spot .s) (choice-in (now (m .entry)) (spot .s) i))) (now (m .entry)) (now (q .entry)) (spot .start) (now (cone .entry)) (spot .h) (spot .at) (now (trail .entry)) (now (trail .exit)) (now (gains .exit)) (now (v .exit)) (now (buf .entry)) (now (buf .exit)) r ⌝ }
@@ -174,53 +174,29 @@ fn combine(
     let c = outcomes(m, s, i);
     let mut lo = longest(m, table, s, i, c, spot.k);
     let mut hi = lo + 1;
-    let mut len = below(
-        m,
-        q,
-        depths,
-        truth,
-        cone,
-        table,
-        trail,
-        gains,
-        v,
-        buf,
-        spot,
-        i,
-        lo,
-    );
+    let first = Outcome { i: i, o: lo };
+    let mut len = below(m, q, truth, cone, table, trail, gains, v, buf, spot, first);
     shift(buf, spot.at, spot.at, len, weight(m, s, i, lo), 0);
     while hi - lo < c {
         let o = beside(lo, hi, c);
-        len = grown(
-            m,
-            q,
-            depths,
-            truth,
-            cone,
-            table,
-            trail,
-            gains,
-            v,
-            buf,
-            spot,
-            i,
-            o,
-            len,
-            lo < o,
-        );
+        let more = Further {
+            i: i,
+            o: o,
+            len: len,
+            right: lo < o,
+        };
+        len = grown(m, q, truth, cone, table, trail, gains, v, buf, spot, more);
         lo = least(lo, o);
         hi = most(hi, o + 1);
     }
     len
 }
 
-// Combines the list at `at` with the totals below a further outcome o, which are made behind the product: on its right, or on its left.
+// Combines the list at `at` with the totals below a further outcome, which are made behind the product.
 fn grown(
     m: &[u16; 8704],
-    q: &[u8],
-    depths: &[u32],
-    truth: &[u8],
+    q: &[u8; 552],
+    truth: &[u8; 1280],
     cone: &[u8],
     table: &[u64; 224],
     trail: &mut [u16; 6],
@@ -228,51 +204,44 @@ fn grown(
     v: &mut [u8; 280],
     buf: &mut [u64],
     spot: Spot,
-    i: usize,
-    o: usize,
-    len: usize,
-    right: bool,
+    more: Further,
 ) -> usize
-    requires { ⌜ Given (now m) (now q) (spot .start) (spot .d) (now depths) (now truth) (now cone) (now table) ⌝ }
-    requires { ⌜ Here (now m) (now q) (spot .start) (spot .d) (now cone) (now trail) (now gains) (now v) (spot .h) (spot .s) (spot .k + 1) × Offers (now m) (spot .s) i o ⌝ }
-    requires { ⌜ Grows (now buf) (spot .at) len (plan-total (model-in (now m)) (spot .k) ((step-in (now m) (spot .s) i o) .target)) (spot .k) ⌝ }
-    ensures { λ r. ⌜ Written (joined right (part (now (buf .entry)) (spot .at) len) (weighed (model-in (now (m .entry))) (spot .k) (on-path (now (m .entry)) (now (q .entry)) (spot .start) (now (cone .entry)) (take (spot .h) (now (trail .entry)))) (step-in (now (m .entry)) (spot .s) i o))) (now (m .entry)) (now (q .entry)) (spot .start) (now (cone .entry)) (spot .h) (spot .at) (now (trail .entry)) (now (trail .exit)) (now (gains .exit)) (now (v .exit)) (now (buf .entry)) (now (buf .exit)) r ⌝ }
+    requires { ⌜ Given (now m) (now q) (spot .start) (spot .d) (now truth) (now cone) (now table) ⌝ }
+    requires { ⌜ Here (now m) (now q) (spot .start) (spot .d) (now cone) (now trail) (now gains) (now v) (spot .h) (spot .s) (spot .k + 1) × Offers (now m) (spot .s) (more .i) (more .o) ⌝ }
+    requires { ⌜ Grows (now buf) (spot .at) (more .len) (plan-total (model-in (now m)) (spot .k) ((step-in (now m) (spot .s) (more .i) (more .o)) .target)) (spot .k) ⌝ }
+    ensures { λ r. ⌜ Written (joined (more .right) (part (now (buf .entry)) (spot .at) (more .len)) (weighed (model-in (now (m .entry))) (spot .k) (on-path (now (m .entry)) (now (q .entry)) (spot .start) (now (cone .entry)) (take (spot .h) (now (trail .entry)))) (step-in (now (m .entry)) (spot .s) (more .i) (more .o)))) (now (m .entry)) (now (q .entry)) (spot .start) (now (cone .entry)) (spot .h) (spot .at) (now (trail .entry)) (now (trail .exit)) (now (gains .exit)) (now (v .exit)) (now (buf .entry)) (now (buf .exit)) r ⌝ }
 {
     let s = spot.s as usize;
-    let n = plans_counted(table, spot.k, target(m, s, i, o)) as usize;
+    let n = plans_counted(table, spot.k, target(m, s, more.i, more.o)) as usize;
     let behind = Spot {
         start: spot.start,
         d: spot.d,
         h: spot.h,
         s: spot.s,
         k: spot.k,
-        at: spot.at + len * n,
+        at: spot.at + more.len * n,
     };
-    below(
-        m,
-        q,
-        depths,
-        truth,
-        cone,
-        table,
-        trail,
-        gains,
-        v,
+    let to = Outcome {
+        i: more.i,
+        o: more.o,
+    };
+    below(m, q, truth, cone, table, trail, gains, v, buf, behind, to);
+    join(
         buf,
-        behind,
-        i,
-        o,
+        spot.at,
+        more.len,
+        n,
+        weight(m, s, more.i, more.o),
+        more.right,
     );
-    join(buf, spot.at, len, n, weight(m, s, i, o), right);
-    len * n
+    more.len * n
 }
 
-// Writes the totals of all plans of k steps below the outcome o of the choice at place i.
+// Writes the totals of all plans of k steps below an outcome.
 fn below(
     m: &[u16; 8704],
-    q: &[u8],
-    depths: &[u32],
-    truth: &[u8],
+    q: &[u8; 552],
+    truth: &[u8; 1280],
     cone: &[u8],
     table: &[u64; 224],
     trail: &mut [u16; 6],
@@ -280,28 +249,29 @@ fn below(
     v: &mut [u8; 280],
     buf: &mut [u64],
     spot: Spot,
-    i: usize,
-    o: usize,
+    to: Outcome,
 ) -> usize
-    requires { ⌜ Given (now m) (now q) (spot .start) (spot .d) (now depths) (now truth) (now cone) (now table) ⌝ }
-    requires { ⌜ Here (now m) (now q) (spot .start) (spot .d) (now cone) (now trail) (now gains) (now v) (spot .h) (spot .s) (spot .k + 1) × Offers (now m) (spot .s) i o ⌝ }
-    requires { ⌜ Room (spot .k) (plan-total (model-in (now m)) (spot .k) ((step-in (now m) (spot .s) i o) .target)) (spot .at) (length (now buf)) ⌝ }
-    ensures { λ r. ⌜ Written (totals (model-in (now (m .entry))) (spot .k) ((step-in (now (m .entry)) (spot .s) i o) .target) (λ l. on-path (now (m .entry)) (now (q .entry)) (spot .start) (now (cone .entry)) (take (spot .h) (now (trail .entry))) ((step-in (now (m .entry)) (spot .s) i o) ∷ l))) (now (m .entry)) (now (q .entry)) (spot .start) (now (cone .entry)) (spot .h) (spot .at) (now (trail .entry)) (now (trail .exit)) (now (gains .exit)) (now (v .exit)) (now (buf .entry)) (now (buf .exit)) r ⌝ }
+    requires { ⌜ Given (now m) (now q) (spot .start) (spot .d) (now truth) (now cone) (now table) ⌝ }
+    requires { ⌜ Here (now m) (now q) (spot .start) (spot .d) (now cone) (now trail) (now gains) (now v) (spot .h) (spot .s) (spot .k + 1) × Offers (now m) (spot .s) (to .i) (to .o) ⌝ }
+    requires { ⌜ Room (spot .k) (plan-total (model-in (now m)) (spot .k) ((step-in (now m) (spot .s) (to .i) (to .o)) .target)) (spot .at) (length (now buf)) ⌝ }
+    ensures { λ r. ⌜ Written (totals (model-in (now (m .entry))) (spot .k) ((step-in (now (m .entry)) (spot .s) (to .i) (to .o)) .target) (λ l. on-path (now (m .entry)) (now (q .entry)) (spot .start) (now (cone .entry)) (take (spot .h) (now (trail .entry))) ((step-in (now (m .entry)) (spot .s) (to .i) (to .o)) ∷ l))) (now (m .entry)) (now (q .entry)) (spot .start) (now (cone .entry)) (spot .h) (spot .at) (now (trail .entry)) (now (trail .exit)) (now (gains .exit)) (now (v .exit)) (now (buf .entry)) (now (buf .exit)) r ⌝ }
 {
+    let here = Place {
+        start: spot.start,
+        h: spot.h,
+        s: spot.s,
+    };
     let t = step(
         m,
         q,
-        depths,
         truth,
         cone,
         trail,
         gains,
         v,
-        spot.start,
-        spot.h,
-        spot.s,
-        i as u8,
-        o as u8,
+        here,
+        to.i as u8,
+        to.o as u8,
     );
     let on = Spot {
         start: spot.start,
@@ -311,5 +281,5 @@ fn below(
         k: spot.k,
         at: spot.at,
     };
-    list(m, q, depths, truth, cone, table, trail, gains, v, buf, on)
+    list(m, q, truth, cone, table, trail, gains, v, buf, on)
 }

@@ -1,12 +1,12 @@
 -- A step taken: its byte names the outcome, the sum of rewards goes on, and what `learn` adds is all that the step makes known.
-use Prim.Native.Nat.{ℕ, suc, _+_, _*_, _-_, _/_, _%_, _≤_, _<_}
+use Prim.Native.Nat.{ℕ, suc, _+_, _-_, _/_, _%_, _≤_, _<_}
 use native.Mathlib.Omega.{arith}
 use native.Mathlib.Numerals.{add-one}
 use mathlib.Core.Path.{_≡_, refl, sym, ap, ap₂, subst, _∙_, fun-ext}
 use mathlib.Core.List.{List, [], _∷_, _++_, append-assoc}
 use lib.IntN.{ℤ, pos, _+ℤ_}
 use lib.ListN.{length, getD, set, take, length-append, length-set}
-use lib.Seq.{take-suc-set, take-append-le, length-take-le}
+use lib.Seq.{take-suc-set, take-append-le}
 use Rattle.logic.specs.Model.{Step}
 use Rattle.logic.specs.Formula.{depth}
 use Rattle.logic.specs.Quantity.{sum}

@@ -11,8 +11,9 @@ ghost use Rattle.logic.specs.Limits.{every-plan, limits};
 ghost use Rattle.models.specs.Layout.{state-count, action-count, prop-count};
 ghost use Rattle.prepared.specs.promises.Rows.{choices-in, choice-in, model-in, Prepared};
 ghost use Rattle.questions.specs.Layout.{node-of, formulas-of, question-of};
+ghost use Rattle.questions.specs.promises.Formed.{Compares};
 ghost use Rattle.nodes.specs.promises.Nodes.{Nodes};
-ghost use Rattle.limits.specs.promises.Totals.{gather, step-total, Totals, fits, node-fits, Numbered};
+ghost use Rattle.limits.specs.promises.Totals.{gather, step-total, Totals, fits, node-fits};
 ghost use Rattle.limits.specs.promises.Totals as spec;
 use nodes::asks_equal;
 use nodes::operator;
@@ -151,7 +152,7 @@ fn bounded(q: &[u8; 552], i: u8, plans: bool) -> bool
 }
 
 fn node_fits(m: &[u16; 8704], q: &[u8; 552], table: &[u64; 224], plans: bool, i: u8) -> bool
-    requires { ⌜ Prepared (now m) × Totals plans (model-in (now m)) (now table) × (i < 40) × Numbered (node-of (now q) i) ⌝ }
+    requires { ⌜ Prepared (now m) × Totals plans (model-in (now m)) (now table) × (i < 40) × (node-of (now q) i .operator ≡ 8 → Compares (node-of (now q) i)) ⌝ }
     ensures { λ r. ⌜ r ≡ node-fits plans (model-in (now (m .entry))) (node-of (now (q .entry)) i) ⌝ }
 {
     if !bounded(q, i, plans) {

@@ -3,12 +3,12 @@
 use Prim.Native.Nat.{ℕ, zero, suc, _+_, _*_, _-_, _≤_, _<_}
 use native.Mathlib.Nat.{not-suc-le-zero}
 use native.Mathlib.Omega.{arith}
-use mathlib.Core.Path.{_≡_, sym, ap, ap₂, subst, _∙_}
-use mathlib.Core.Bool.{true, cond}
+use mathlib.Core.Path.{_≡_, refl, sym, ap, ap₂, subst, _∙_}
+use mathlib.Core.Bool.{Bool, true, false, cond, _&&_, false≢true}
 use lib.Dec.{eqb}
-use lib.ListN.{length, getD, set}
-use lib.Seq.{getD-set-same, getD-set-other}
-use borrow.Author.Tests.{ne-eqb}
+use lib.ListN.{getD}
+use borrow.Author.Tests.{eq-eqb, ne-eqb, eqb-true}
+use Rattle.logic.proofs.Tests.{and-left, and-right}
 use Rattle.logic.specs.promises.Refusal.{refusal}
 use Rattle.logic.specs.Formula.{never, both, Node, formula-of, is-path}
 use Rattle.blocks.specs.Bytes.{Bytes, byte, i32, signed}
@@ -21,67 +21,10 @@ use Rattle.questions.proofs.Rows.{row-4}
 use Rattle.questions.proofs.Accepted.{accepted}
 use Rattle.nodes.specs.promises.Nodes.{formula, has-left}
 use Rattle.nodes.specs.promises.Shared.{Same, Alike, Shared, Doubled}
-use Rattle.nodes.specs.promises.Replaced.{Ordered, Replaces, Replacements, left-for, right-for, Pointed}
+use Rattle.nodes.specs.promises.Replaced.{Ordered, doubled, past, left-for, right-for, Pointed}
 use Rattle.nodes.proofs.Children.{one-more}
-use Rattle.nodes.proofs.Meanings.{same-refl, same-then, same-both, node, alike-node}
+use Rattle.nodes.proofs.Meanings.{same-both, node, alike-node}
 use Rattle.nodes.proofs.Cells.{head-same, cell-same, u32-same}
-
--- ---- the node that stands for an "and" whose halves come down to one
-
-module _ (q reps : Bytes) (i : ℕ) (o : Ordered q) (h : i < node-count q) (and : node-of q i .operator ≡ 4) where
-  left-below : node-of q i .left < i
-  unfolding has-left
-  left-below = o .left i h (ap has-left and)
-
-  both-here : formula q i ≡ both (formula q (node-of q i .left)) (formula q (node-of q i .right))
-  both-here =
-      formula-here q i h ∙ row-4 (formulas-before q i) (node-of q i) and
-      ∙ ap₂ both (child (node-of q i .left) left-below) (child (node-of q i .right) (o .right i h and))
-    where
-      child : (j : ℕ) → j < i → getD (formulas-before q i) j never ≡ formula q j
-      child j l = before-at q j i l ∙ sym (formula-here q j (omega arith))
-
-  pub half-replaces : Replacements q i reps → getD reps (node-of q i .left) 0 ≡ getD reps (node-of q i .right) 0
-      → Replaces q reps i (getD reps (node-of q i .left) 0)
-  half-replaces r e =
-      let k = getD reps (node-of q i .left) 0 in
-      let a = r (node-of q i .left) left-below in
-      let b = r (node-of q i .right) (o .right i h and) in
-      record {
-        before = omega (arith, a .before, left-below);
-        same =
-            subst (λ φ. Same φ (formula q k)) (sym both-here)
-            (same-both (a .same) (subst (λ j. Same (formula q (node-of q i .right)) (formula q j)) (sym e) (b .same)));
-        apart = a .apart;
-      }
-
--- Any other node stands for itself.
-pub self-replaces : (q reps : Bytes) (i : ℕ)
-    → (node-of q i .operator ≡ 4 → getD reps (node-of q i .left) 0 ≡ getD reps (node-of q i .right) 0 → ⊥) → Replaces q reps i i
-self-replaces q reps i a = record { before = omega arith; same = same-refl (formula q i); apart = a }
-
--- One node more: it is no child of the nodes up to it.
-module _ (q reps : Bytes) (i x : ℕ) (o : Ordered q) (h : i < node-count q) where
-  apart-kept : (j k : ℕ) → j ≤ i → Replaces q reps j k → Replaces q (set reps i x) j k
-  unfolding has-left
-  apart-kept j k l w =
-      let n : k < node-count q = omega (arith, w .before, h, l) in
-      record {
-        before = w .before;
-        same = w .same;
-        apart = λ e f. w .apart e
-            (sym (kept (node-of q k .left) (omega (arith, w .before, l, o .left k n (ap has-left e)))) ∙ f
-            ∙ kept (node-of q k .right) (omega (arith, w .before, l, o .right k n e)));
-      }
-    where
-      kept : (c : ℕ) → c < i → getD (set reps i x) c 0 ≡ getD reps c 0
-      kept c g = getD-set-other reps i c x 0 (λ e. omega arith)
-
-  pub replacements-more : i < length reps → Replacements q i reps → Replaces q reps i x → Replacements q (suc i) (set reps i x)
-  replacements-more g r w =
-      one-more (λ j. Replaces q (set reps i x) j (getD (set reps i x) j 0)) i
-      (λ j d. subst (Replaces q (set reps i x) j) (sym (getD-set-other reps i j x 0 (λ e. omega arith))) (apart-kept j (getD reps j 0) (omega arith) (r j d)))
-      (subst (Replaces q (set reps i x) i) (sym (getD-set-same reps i x 0 g)) (apart-kept i x (omega arith) w))
 
 -- ---- the fields of one node
 
@@ -123,7 +66,23 @@ module _ (A N i : ℕ) (x : Node) (L R : ℕ) (down : x .left < i → L ≤ x .l
 
 -- ---- node by node
 
-module _ {q reps q′ : Bytes} (o : Ordered q) (reps-right : Replacements q (node-count q) reps) (c : Pointed q reps q′ (node-count q)) where
+doubled-true : (b : Bytes) (c : ℕ) → doubled b c ≡ true → Doubled b c
+unfolding doubled
+doubled-true b c e =
+    let x = node-of b c in (
+      eqb-true (x .operator) 4 (and-left (eqb (x .operator) 4) (eqb (x .left) (x .right)) e),
+      eqb-true (x .left) (x .right) (and-right (eqb (x .operator) 4) (eqb (x .left) (x .right)) e),
+    )
+
+doubled-false : (b : Bytes) (c : ℕ) → doubled b c ≡ false → Doubled b c → ⊥
+unfolding doubled
+doubled-false b c e d = false≢true (sym e ∙ ap₂ _&&_ (eq-eqb (node-of b c .operator) 4 (d .0)) (eq-eqb (node-of b c .left) (node-of b c .right) (d .1)))
+
+past-is : (b : Bytes) (c : ℕ) {t : Bool} → doubled b c ≡ t → past b c ≡ cond t (node-of b c .left) c
+unfolding past
+past-is b c e = ap (λ t. cond t (node-of b c .left) c) e
+
+module _ {q q′ : Bytes} (o : Ordered q) (c : Pointed q q′ (node-count q)) where
   abbrev n : ℕ
   n = node-count q
 
@@ -133,102 +92,119 @@ module _ {q reps q′ : Bytes} (o : Ordered q) (reps-right : Replacements q (nod
   start-same : start-of q′ ≡ start-of q
   start-same = head-same n (o .few) c 2 (omega arith)
 
+  -- What node i and the node that it comes down to have of the old question.
+  record Kept (i : ℕ) : Type 0 where
+    alike : Alike (formula q i) (formula q′ i)
+    before : past q′ i ≤ i
+    same : Same (formula q i) (formula q′ (past q′ i))
+    apart : Doubled q′ (past q′ i) → ⊥
+
   module _ (i : ℕ) (h : i < n) where
     abbrev x : Node
     x = node-of q i
 
-    -- Node i of the new question.
-    abbrev y : Node
-    y =
-        node (x .operator) (x .n) (cond (has-left (x .operator)) (getD reps (x .left) 0) (x .left))
-        (cond (eqb (x .operator) 4) (getD reps (x .right) 0) (x .right)) (x .p) (x .q)
-
     cell : (a k : ℕ) → k ≡ 8 + 12 * i + a → a < 12 → (a ≡ 2 → ⊥) → (a ≡ 3 → ⊥) → byte q′ k ≡ byte q k
     cell a k e l f g = cell-same n (o .few) c i a k e h l f g
-
-    cell-0 : byte q′ (node-at i) ≡ byte q (node-at i)
-    cell-0 = cell 0 (node-at i) (omega arith) (omega arith) (λ w. omega arith) (λ w. omega arith)
 
     word : (a : ℕ) → 4 ≤ a → a ≤ 8 → (k b : ℕ) → k ≡ node-at i + a + b → b < 4 → byte q′ k ≡ byte q k
     word a f g k b e l = cell (a + b) k (omega arith) (omega arith) (λ w. omega arith) (λ w. omega arith)
 
-    node-same : node-of q′ i ≡ y
+    node-same : node-of q′ i ≡ with-children x (past q′ (x .left)) (past q′ (x .right))
     unfolding node-of left-for right-for i32
     node-same =
+        let e₀ = cell 0 (node-at i) (omega arith) (omega arith) (λ w. omega arith) (λ w. omega arith) in
         let e₁ = cell 1 (node-at i + 1) (omega arith) (omega arith) (λ w. omega arith) (λ w. omega arith) in
         let e₄ = u32-same q q′ (node-at i + 4) (word 4 (omega arith) (omega arith)) in
         let e₈ = u32-same q q′ (node-at i + 8) (word 8 (omega arith) (omega arith)) in
-        λ j. node (cell-0 j) (e₁ j) (c .left i h j) (c .right i h j) (signed 31 (e₄ j)) (e₈ j)
+        λ j. node (e₀ j) (e₁ j) (c .left i h j) (c .right i h j) (signed 31 (e₄ j)) (e₈ j)
 
-    -- A child in the range of the nodes, and the node that stands for it.
-    down : (l : ℕ) → l < i → getD reps l 0 ≤ l
-    down l g = reps-right l (omega arith) .before
+    operator-same : node-of q′ i .operator ≡ x .operator
+    operator-same = ap (λ (z : Node). z .operator) node-same
 
-    in-range-same : (A N : ℕ) → InRange A N i x → InRange A N i (node-of q′ i)
-    in-range-same A N e = subst (InRange A N i) (sym node-same) (in-range-node A N i x (getD reps (x .left) 0) (getD reps (x .right) 0) (down (x .left)) (down (x .right)) e)
+    left-cell : has-left (x .operator) ≡ true → node-of q′ i .left ≡ past q′ (x .left)
+    left-cell e = ap (λ (z : Node). z .left) node-same ∙ ap (λ t. cond t (past q′ (x .left)) (x .left)) e
 
-  -- A child of node i in the old question and the one that stands for it in the new one, where the nodes before i are alike.
-  child-same : (i l : ℕ) → i < n → l < i → ((j : ℕ) → j < i → Alike (formula q j) (formula q′ j))
-      → Same (getD (formulas-before q i) l never) (getD (formulas-before q′ i) (getD reps l 0) never)
-  child-same i l h g a =
-      let L = getD reps l 0 in
-      let w = reps-right l (omega arith) in
-      let d : L < i = omega (arith, w .before) in
-      let e : getD (formulas-before q i) l never ≡ formula q l = before-at q l i g ∙ sym (formula-here q l (omega arith)) in
-      let e′ : getD (formulas-before q′ i) L never ≡ formula q′ L =
-      before-at q′ L i d ∙ sym (formula-here q′ L (omega (arith, d, count-same))) in
-      subst (λ φ. Same φ (getD (formulas-before q′ i) L never)) (sym e) (subst (λ φ. Same (formula q l) φ) (sym e′) (same-then (w .same) (a L d .same)))
+    right-cell : x .operator ≡ 4 → node-of q′ i .right ≡ past q′ (x .right)
+    right-cell e = ap (λ (z : Node). z .right) node-same ∙ ap (λ t. cond (eqb t 4) (past q′ (x .right)) (x .right)) e
 
-  alike-next-node : (i : ℕ) → i < n → ((j : ℕ) → j < i → Alike (formula q j) (formula q′ j)) → Alike (formula q i) (formula q′ i)
-  unfolding node-of
-  alike-next-node i h a =
-      let x = node-of q i in
-      let fs = formulas-before q i in
-      let gs = formulas-before q′ i in
-      subst (λ φ. Alike φ (formula q′ i)) (sym (formula-here q i h))
-      (subst (λ φ. Alike (formula-at q i) φ) (sym (formula-here q′ i (omega (arith, h, count-same)) ∙ ap (formula-of gs) (node-same i h)))
-      (alike-node fs gs (x .n) (x .left) (x .right) (getD reps (x .left) 0) (getD reps (x .right) 0) (x .p) (x .q) (x .operator)
-      (λ e. child-same i (x .left) h (o .left i h e) a)
-      (λ e. child-same i (x .right) h (o .right i h e) a)))
+    -- A child of node i and the node that it comes down to, where that is known of the nodes before i.
+    module _ (k : (j : ℕ) → j < i → Kept j) where
+      old : (l : ℕ) → l < i → getD (formulas-before q i) l never ≡ formula q l
+      old l g = before-at q l i g ∙ sym (formula-here q l (omega arith))
 
-  alike-below : (k : ℕ) → k ≤ n → (j : ℕ) → j < k → Alike (formula q j) (formula q′ j)
-  alike-below zero h j l = absurd (not-suc-le-zero l)
-  alike-below (suc k) h j l =
-      one-more (λ j. Alike (formula q j) (formula q′ j)) k (alike-below k (omega arith)) (alike-next-node k h (alike-below k (omega arith))) j l
+      child-same : (l : ℕ) → l < i → Same (getD (formulas-before q i) l never) (getD (formulas-before q′ i) (past q′ l) never)
+      child-same l g =
+          let d : past q′ l < i = omega (arith, k l g .before) in
+          let e : getD (formulas-before q′ i) (past q′ l) never ≡ formula q′ (past q′ l) =
+          before-at q′ (past q′ l) i d ∙ sym (formula-here q′ (past q′ l) (omega (arith, d, count-same))) in
+          subst (λ φ. Same φ (getD (formulas-before q′ i) (past q′ l) never)) (sym (old l g)) (subst (λ φ. Same (formula q l) φ) (sym e) (k l g .same))
 
-  alike : (j : ℕ) → j < n → Alike (formula q j) (formula q′ j)
-  alike j h = alike-below n (omega arith) j h
+      alike-next : Alike (formula q i) (formula q′ i)
+      alike-next =
+          let fs = formulas-before q i in
+          let gs = formulas-before q′ i in
+          subst (λ φ. Alike φ (formula q′ i)) (sym (formula-here q i h))
+          (subst (λ φ. Alike (formula-at q i) φ) (sym (formula-here q′ i (omega (arith, h, count-same)) ∙ ap (formula-of gs) node-same))
+          (alike-node fs gs (x .n) (x .left) (x .right) (past q′ (x .left)) (past q′ (x .right)) (x .p) (x .q) (x .operator)
+          (λ e. child-same (x .left) (o .left i h e))
+          (λ e. child-same (x .right) (o .right i h e))))
 
-  -- ---- no child is an "and" of one node with itself
+      -- The halves of an "and" come down to one node: it stands for the "and" too.
+      halves : Doubled q′ i → past q′ i ≡ node-of q′ i .left → Kept i
+      unfolding has-left
+      halves d e =
+          let and : x .operator ≡ 4 = sym operator-same ∙ d .0 in
+          let l : x .left < i = o .left i h (ap has-left and) in
+          let r : x .right < i = o .right i h and in
+          let f : past q′ i ≡ past q′ (x .left) = e ∙ left-cell (ap has-left and) in
+          let g : past q′ i ≡ past q′ (x .right) = e ∙ d .1 ∙ right-cell and in
+          record {
+            alike = alike-next;
+            before = omega (arith, k (x .left) l .before);
+            same =
+                subst (λ φ. Same φ (formula q′ (past q′ i)))
+                (sym (formula-here q i h ∙ row-4 (formulas-before q i) x and ∙ ap₂ both (old (x .left) l) (old (x .right) r)))
+                (same-both (subst (λ j. Same (formula q (x .left)) (formula q′ j)) (sym f) (k (x .left) l .same))
+                (subst (λ j. Same (formula q (x .right)) (formula q′ j)) (sym g) (k (x .right) r .same)));
+            apart = subst (λ j. Doubled q′ j → ⊥) (sym f) (k (x .left) l .apart);
+          }
 
-  module _ (i : ℕ) (h : i < n) where
-    operator-same : node-of q′ i .operator ≡ node-of q i .operator
-    operator-same = ap (λ (z : Node). z .operator) (node-same i h)
+      kept-next : Kept i
+      kept-next = go (doubled q′ i) refl
+        where
+          go : (t : Bool) → doubled q′ i ≡ t → Kept i
+          go true e = halves (doubled-true q′ i e) (past-is q′ i e)
+          go false e =
+              let f : past q′ i ≡ i = past-is q′ i e in
+              record {
+                alike = alike-next;
+                before = omega arith;
+                same = subst (λ j. Same (formula q i) (formula q′ j)) (sym f) (alike-next .same);
+                apart = subst (λ j. Doubled q′ j → ⊥) (sym f) (doubled-false q′ i e);
+              }
 
-    left-cell : has-left (node-of q i .operator) ≡ true → node-of q′ i .left ≡ getD reps (node-of q i .left) 0
-    left-cell e = ap (λ (z : Node). z .left) (node-same i h) ∙ ap (λ t. cond t (getD reps (node-of q i .left) 0) (node-of q i .left)) e
+  kept-below : (k : ℕ) → k ≤ n → (j : ℕ) → j < k → Kept j
+  kept-below zero h j l = absurd (not-suc-le-zero l)
+  kept-below (suc k) h j l = one-more Kept k (kept-below k (omega arith)) (kept-next k h (kept-below k (omega arith))) j l
 
-    right-cell : node-of q i .operator ≡ 4 → node-of q′ i .right ≡ getD reps (node-of q i .right) 0
-    right-cell e = ap (λ (z : Node). z .right) (node-same i h) ∙ ap (λ t. cond (eqb t 4) (getD reps (node-of q i .right) 0) (node-of q i .right)) e
-
-  -- Node k, which stands for node l.
-  not-doubled : (l k : ℕ) → l < n → k ≡ getD reps l 0 → Doubled q′ k → ⊥
-  unfolding has-left
-  not-doubled l k h e d =
-      let w = subst (Replaces q reps l) (sym e) (reps-right l h) in
-      let g : k < n = omega (arith, h, w .before) in
-      let and : node-of q k .operator ≡ 4 = sym (operator-same k g) ∙ d .0 in
-      w .apart and (sym (left-cell k g (ap has-left and)) ∙ d .1 ∙ right-cell k g and)
+  kept : (j : ℕ) → j < n → Kept j
+  kept = kept-below n (omega arith)
 
   past-left : (j : ℕ) → j < n → has-left (node-of q′ j .operator) ≡ true → Doubled q′ (node-of q′ j .left) → ⊥
   past-left j h e =
       let f : has-left (node-of q j .operator) ≡ true = ap has-left (sym (operator-same j h)) ∙ e in
-      not-doubled (node-of q j .left) (node-of q′ j .left) (omega (arith, h, o .left j h f)) (left-cell j h f)
+      subst (λ k. Doubled q′ k → ⊥) (sym (left-cell j h f)) (kept (node-of q j .left) (omega (arith, h, o .left j h f)) .apart)
 
   past-right : (j : ℕ) → j < n → node-of q′ j .operator ≡ 4 → Doubled q′ (node-of q′ j .right) → ⊥
   past-right j h e =
       let f : node-of q j .operator ≡ 4 = sym (operator-same j h) ∙ e in
-      not-doubled (node-of q j .right) (node-of q′ j .right) (omega (arith, h, o .right j h f)) (right-cell j h f)
+      subst (λ k. Doubled q′ k → ⊥) (sym (right-cell j h f)) (kept (node-of q j .right) (omega (arith, h, o .right j h f)) .apart)
+
+  in-range-same : (A N i : ℕ) → i < n → InRange A N i (node-of q i) → InRange A N i (node-of q′ i)
+  in-range-same A N i h e =
+      let x = node-of q i in
+      subst (InRange A N i) (sym (node-same i h))
+      (in-range-node A N i x (past q′ (x .left)) (past q′ (x .right)) (λ l. kept (x .left) (omega arith) .before) (λ l. kept (x .right) (omega arith) .before) e)
 
   -- ---- the whole
 
@@ -240,10 +216,10 @@ module _ {q reps q′ : Bytes} (o : Ordered q) (reps-right : Replacements q (nod
           starts = rw start-same (f .starts);
           some-node = rw count-same (f .some-node);
           few-nodes = rw count-same (o .few);
-          in-range = λ i h. let l : i < n = omega (arith, h, count-same) in in-range-same i l A N (f .in-range i l);
+          in-range = λ i h. let l : i < n = omega (arith, h, count-same) in in-range-same A N i l (f .in-range i l);
           root-state = ap (λ k. is-path (formula q′ (k - 1))) count-same
-              ∙ sym (alike (n - 1) (omega (arith, f .some-node)) .same .paths) ∙ f .root-state;
-          shallow = λ i h. let l : i < n = omega (arith, h, count-same) in sym (alike i l .ground-9) ∙ f .shallow i l;
+              ∙ sym (kept (n - 1) (omega (arith, f .some-node)) .alike .same .paths) ∙ f .root-state;
+          shallow = λ i h. let l : i < n = omega (arith, h, count-same) in sym (kept i l .alike .ground-9) ∙ f .shallow i l;
         }
 
     -- What `nodes` makes of an accepted question.
@@ -253,11 +229,11 @@ module _ {q reps q′ : Bytes} (o : Ordered q) (reps-right : Replacements q (nod
           nodes =
               record {
                 formed = formed-again (accepted S A N q e .formed);
-                deep = λ j h. let l : j < n = omega (arith, h, count-same) in c .deep j l ∙ alike j l .same .depths;
+                deep = λ j h. let l : j < n = omega (arith, h, count-same) in c .deep j l ∙ kept j l .alike .same .depths;
               };
           count = count-same;
           start = start-same;
-          alike = alike;
+          alike = λ j h. kept j h .alike;
           past-left = past-left;
           past-right = past-right;
         }

@@ -4,7 +4,7 @@ use native.Mathlib.Nat.{eq-or-lt-of-le, le-of-suc-le-suc, not-suc-le-zero}
 use native.Mathlib.Omega.{arith}
 use mathlib.Core.Path.{_≡_, refl, sym, subst}
 use mathlib.Core.Logic.{⊎-elim}
-use mathlib.Core.Bool.{true, false≢true}
+use mathlib.Core.Bool.{true, false, false≢true}
 use Rattle.logic.specs.Formula.{depth}
 use Rattle.logic.specs.promises.Refusal.{refusal}
 use Rattle.blocks.specs.Bytes.{Bytes}
@@ -25,32 +25,16 @@ unfolding has-left
 left-before i l =
     by-operator
     (λ n. (n ≡ 3 → l < i) → (n ≡ 4 → l < i) → (n ≡ 6 → l < i) → (n ≡ 8 → l < i) → has-left n ≡ true → l < i)
-    (λ _ _ _ _ e. absurd (false≢true e))
-    (λ _ _ _ _ e. absurd (false≢true e))
-    (λ _ _ _ _ e. absurd (false≢true e))
-    (λ h _ _ _ e. h refl)
-    (λ _ h _ _ e. h refl)
-    (λ _ _ _ _ e. absurd (false≢true e))
-    (λ _ _ h _ e. h refl)
-    (λ _ _ _ _ e. absurd (false≢true e))
-    (λ _ _ _ h e. h refl)
-    (λ k _ _ _ _ e. absurd (false≢true e))
+    none none none (λ h _ _ _ e. h refl) (λ _ h _ _ e. h refl) none (λ _ _ h _ e. h refl) none (λ _ _ _ h e. h refl) (λ k. none)
+  where
+    none : {A B C D : Type 0} → A → B → C → D → false ≡ true → l < i
+    none _ _ _ _ e = absurd (false≢true e)
 
 pub reads-has : (op : ℕ) → reads-left op ≡ true → has-left op ≡ true
 unfolding has-left reads-left
 reads-has =
-    by-operator
-    (λ n. reads-left n ≡ true → has-left n ≡ true)
-    (λ e. e)
-    (λ e. e)
-    (λ e. e)
-    (λ e. e)
-    (λ e. e)
-    (λ e. e)
-    (λ e. e)
-    (λ e. e)
-    (λ e. refl)
-    (λ k e. e)
+    by-operator (λ n. reads-left n ≡ true → has-left n ≡ true)
+    (λ e. e) (λ e. e) (λ e. e) (λ e. e) (λ e. e) (λ e. e) (λ e. e) (λ e. e) (λ e. refl) (λ k e. e)
 
 module _ {S A N : ℕ} {q : Bytes} (f : Formed S A N q) where
   module _ (i : ℕ) (h : i < node-count q) where

@@ -2,20 +2,20 @@
 use Prim.Native.Nat.{ℕ, _-_, _≤_}
 use native.Mathlib.Omega.{arith}
 use mathlib.Core.Path.{_≡_, refl, sym, ap, ap₂, _∙_}
-use mathlib.Core.Bool.{Bool, true, not, _&&_, _||_, and-true}
-use mathlib.Core.List.{List, [], _∷_}
+use mathlib.Core.Bool.{Bool, true, not, _||_}
+use mathlib.Core.List.{[], _∷_}
 use mathlib.Core.Option.{Option, none, some}
 use lib.Dec.{leb}
 use lib.IntN.{pos}
 use lib.ListN.{length}
-use Rattle.logic.specs.Lists.{all, every, keep}
+use Rattle.logic.specs.Lists.{every, keep}
 use Rattle.logic.specs.Checked.{Checked, ok, refused}
 use Rattle.logic.specs.promises.Refusal.{refusal}
 use Rattle.logic.specs.Grounds.{_unless_, decided}
 use Rattle.logic.specs.Model.{Model}
 use Rattle.logic.specs.Quantity.{Relation, naturals, sum}
 use Rattle.logic.specs.Plan.{Plan, plans, paths, weight}
-use Rattle.logic.specs.Formula.{Formula, never, prop, neg, both, does, next, gain, plan, W, meets}
+use Rattle.logic.specs.Formula.{Formula, never, prop, neg, both, does, next, gain, plan, on-plan, W, meets}
 use Rattle.logic.specs.Verdict.{Goal, goal, leads, is-equal, verdict, verdict-by}
 use Rattle.logic.specs.Limits.{every-plan, path-total, plan-total, limits}
 use Rattle.blocks.specs.Bytes.{Bytes}
@@ -25,6 +25,17 @@ use Rattle.nodes.specs.promises.Nodes.{formula}
 use Rattle.nodes.specs.promises.Shared.{Asked, asked, Alike, Shared}
 
 -- ---- by what is asked of plans
+
+module _ {A B : Type 0} (g : A → B) (other : A) (f : ℕ → Formula → Relation → ℕ → ℕ → A) where
+  on-plan-then : (φ : Formula) → g (on-plan other f φ) ≡ on-plan (g other) (λ n ψ r p q. g (f n ψ r p q)) φ
+  on-plan-then never = refl
+  on-plan-then (prop i) = refl
+  on-plan-then (neg φ) = refl
+  on-plan-then (both φ ψ) = refl
+  on-plan-then (does a) = refl
+  on-plan-then (next φ) = refl
+  on-plan-then (gain n b p) = refl
+  on-plan-then (plan n φ r p q) = refl
 
 module _ (m : Model) (s : ℕ) where
   abbrev goal-by : Option Asked → Checked Goal
@@ -41,52 +52,33 @@ module _ (m : Model) (s : ℕ) where
 
   goal-asked : (φ : Formula) → goal m s φ ≡ goal-by (asked φ)
   unfolding goal asked W
-  goal-asked never = refl
-  goal-asked (prop i) = refl
-  goal-asked (neg φ) = refl
-  goal-asked (both φ ψ) = refl
-  goal-asked (does a) = refl
-  goal-asked (next φ) = refl
-  goal-asked (gain n b p) = refl
-  goal-asked (plan n φ r p q) = refl
+  goal-asked φ = sym (on-plan-then goal-by none _ φ)
 
   verdict-alike : {φ ψ : Formula} → Alike φ ψ → verdict m s φ ≡ verdict m s ψ
   unfolding verdict
   verdict-alike {φ} {ψ} e = ap₂ (verdict-by m s) (e .same .truths m s []) (goal-asked φ ∙ ap goal-by (e .asks) ∙ sym (goal-asked ψ))
 
-all-first : {A : Type 0} (t : A → Bool) (x : A) (l : List A) → all t (x ∷ l) ≡ (all t (x ∷ []) && all t l)
-unfolding all
-all-first t x l = ap (λ u. u && all t l) (sym (and-true (t x)))
-
 module _ (f : ℕ → Relation → ℕ → Bool) (m : Model) where
+  -- What `every-plan` asks of one formula.
+  abbrev pub plan-test : Formula → Bool
+  plan-test = on-plan true (λ n φ r p q. every (length (m .states)) (f n r))
+
+  pub every-node : (b : Bytes) → every-plan f m (formulas-of b) ≡ every (node-count b) (λ i. plan-test (formula b i))
+  unfolding every-plan
+  every-node b =
+      all-every plan-test never (formulas-of b)
+      ∙ ap (λ k. every k (λ i. plan-test (formula b i))) (ap length (sym (all-before b)) ∙ before-length b (node-count b))
+
   abbrev test-by : Option Asked → Bool
   test-by none = true
   test-by (some a) = every (length (m .states)) (f (a .steps) (a .relation))
 
-  test-asked : (φ : Formula) → every-plan f m (φ ∷ []) ≡ test-by (asked φ)
-  unfolding every-plan all asked
-  test-asked never = refl
-  test-asked (prop i) = refl
-  test-asked (neg φ) = refl
-  test-asked (both φ ψ) = refl
-  test-asked (does a) = refl
-  test-asked (next φ) = refl
-  test-asked (gain n b p) = refl
-  test-asked (plan n φ r p q) = and-true _
+  test-asked : (φ : Formula) → plan-test φ ≡ test-by (asked φ)
+  unfolding asked
+  test-asked φ = sym (on-plan-then test-by none _ φ)
 
-  test-first : (φ : Formula) (fs : List Formula) → every-plan f m (φ ∷ fs) ≡ (every-plan f m (φ ∷ []) && every-plan f m fs)
-  unfolding every-plan
-  test-first φ fs = all-first _ φ fs
-
-  test-each : (fs : List Formula) → every-plan f m fs ≡ all (λ φ. test-by (asked φ)) fs
-  unfolding every-plan all
-  test-each [] = refl
-  test-each (φ ∷ fs) = test-first φ fs ∙ ap₂ _&&_ (test-asked φ) (test-each fs)
-
-  test-nodes : (b : Bytes) → every-plan f m (formulas-of b) ≡ every (node-count b) (λ i. test-by (asked (formula b i)))
-  test-nodes b =
-      test-each (formulas-of b) ∙ all-every (λ φ. test-by (asked φ)) never (formulas-of b)
-      ∙ ap (λ k. every k (λ i. test-by (asked (formula b i)))) (ap length (sym (all-before b)) ∙ before-length b (node-count b))
+  test-alike : {φ ψ : Formula} → Alike φ ψ → plan-test φ ≡ plan-test ψ
+  test-alike {φ} {ψ} e = test-asked φ ∙ ap test-by (e .asks) ∙ sym (test-asked ψ)
 
 -- ---- the laws for whoever judges
 
@@ -100,8 +92,8 @@ module _ {S A N : ℕ} {q q′ : Bytes} (h : Shared S A N q q′) (m : Model) wh
 
   test-same : (f : ℕ → Relation → ℕ → Bool) → every-plan f m (formulas-of q) ≡ every-plan f m (formulas-of q′)
   test-same f =
-      test-nodes f m q ∙ every-same (node-count q) (λ i l. ap (test-by f m) (h .alike i l .asks))
-      ∙ ap (λ k. every k (λ i. test-by f m (asked (formula q′ i)))) (sym (h .count)) ∙ sym (test-nodes f m q′)
+      every-node f m q ∙ every-same (node-count q) (λ i l. test-alike f m (h .alike i l))
+      ∙ ap (λ k. every k (λ i. plan-test f m (formula q′ i))) (sym (h .count)) ∙ sym (every-node f m q′)
 
   pub same-limits : refusal (limits m (formulas-of q)) ≡ refusal (limits m (formulas-of q′))
   unfolding limits

@@ -19,13 +19,10 @@ use Rattle.nodes.specs.promises.Shared.{Same, asked, Alike}
 
 -- ---- one meaning
 
-pub same-refl : (φ : Formula) → Same φ φ
+same-refl : (φ : Formula) → Same φ φ
 same-refl φ = record { depths = refl; paths = refl; truths = λ M s r. refl }
 
 module _ {φ ψ : Formula} (e : Same φ ψ) where
-  pub same-then : {χ : Formula} → Same ψ χ → Same φ χ
-  same-then f = record { depths = e .depths ∙ f .depths; paths = e .paths ∙ f .paths; truths = λ M s r. e .truths M s r ∙ f .truths M s r }
-
   truth : (M : Model) → _≡_ {A = ℕ → List Step → Bool} (λ s r. sat M φ s r) (λ s r. sat M ψ s r)
   truth M = fun-ext (λ s. fun-ext (λ r. e .truths M s r))
 

@@ -9,11 +9,10 @@ ghost use Rattle.logic.specs.Formula as formulas;
 ghost use Rattle.questions.specs.Layout.{start-of, node-at, node-of};
 ghost use Rattle.questions.specs.Layout as layout;
 ghost use Rattle.questions.specs.Grounds.{read-question};
-ghost use Rattle.nodes.specs.promises.Nodes.{formula, depth-in};
+ghost use Rattle.nodes.specs.promises.Nodes.{formula, depth-in, has-left};
 ghost use Rattle.nodes.specs.promises.Shared.{Shared};
-ghost use Rattle.nodes.specs.promises.Replaced.{Ordered, Replaces, Replacements, left-for, right-for, Pointed};
-use blocks::byte;
-use questions::node_count;
+ghost use Rattle.nodes.specs.promises.Replaced.{Ordered, left-for, right-for, Pointed};
+ghost use Rattle.nodes.specs.promises.Replaced as replaced;
 
 // ---- reading it
 
@@ -107,80 +106,67 @@ pub fn asks_equal(q: &[u8; 552], j: u8) -> bool
 
 // ---- making it
 
-// The node that stands for node i: of an "and" whose halves come down to one node, that node.
-fn replacement(q: &[u8], reps: &[u8; 40], i: u8) -> u8
-    requires { ⌜ Ordered (now q) × (i < layout.node-count (now q)) × Replacements (now q) i (now reps) ⌝ }
-    ensures { λ r. ⌜ Replaces (now (q .entry)) (now (reps .entry)) i r ⌝ }
+// The node that node c comes down to: of an "and" of one node with itself, that node.
+fn past(b: &[u8], c: u8) -> u8
+    ensures { λ r. ⌜ r ≡ replaced.past (now (b .entry)) c ⌝ }
 {
-    if questions::operator(q, i) != 4 {
-        return i;
-    }
-    let l = byte(reps, questions::left(q, i) as usize);
-    let r = byte(reps, questions::right(q, i) as usize);
-    if l == r {
+    let l = questions::left(b, c);
+    if (questions::operator(b, c) == 4) & (l == questions::right(b, c)) {
         return l;
     }
-    i
+    c
 }
 
-// The node that stands for each node.
-fn replacements(q: &[u8]) -> [u8; 40]
-    requires { ⌜ Ordered (now q) ⌝ }
-    ensures { λ r. ⌜ Replacements (now (q .entry)) (layout.node-count (now (q .entry))) r ⌝ }
+// Whether a node has a child in the left cell, by its operator.
+fn has_left(op: u8) -> bool
+    ensures { λ r. ⌜ r ≡ has-left op ⌝ }
 {
-    let n = node_count(q);
-    let mut reps = [0u8; 40];
-    let mut i: u8 = 0;
-    while i < n {
-        let x = replacement(q, &reps, i);
-        let at = i as usize;
-        reps[at] = x;
-        i += 1;
-    }
-    reps
+    (op == 3) | (op == 4) | (op == 6) | (op == 8)
 }
 
-fn left_for(q: &[u8], reps: &[u8; 40], i: u8) -> u8
-    ensures { λ r. ⌜ r ≡ left-for (now (q .entry)) (now (reps .entry)) i ⌝ }
+// The cells of node i of q; b is what the nodes before it have become.
+fn left_for(q: &[u8], b: &[u8], i: u8) -> u8
+    ensures { λ r. ⌜ r ≡ left-for (now (q .entry)) (now (b .entry)) i ⌝ }
 {
-    let op = questions::operator(q, i);
-    match op {
-        3 | 4 | 6 | 8 => byte(reps, questions::left(q, i) as usize),
-        _ => questions::left(q, i),
+    if has_left(questions::operator(q, i)) {
+        return past(b, questions::left(q, i));
     }
+    questions::left(q, i)
 }
 
-fn right_for(q: &[u8], reps: &[u8; 40], i: u8) -> u8
-    ensures { λ r. ⌜ r ≡ right-for (now (q .entry)) (now (reps .entry)) i ⌝ }
+fn right_for(q: &[u8], b: &[u8], i: u8) -> u8
+    ensures { λ r. ⌜ r ≡ right-for (now (q .entry)) (now (b .entry)) i ⌝ }
 {
     if questions::operator(q, i) == 4 {
-        return byte(reps, questions::right(q, i) as usize);
+        return past(b, questions::right(q, i));
     }
     questions::right(q, i)
 }
 
 // Node i gets its new cells and its depth.
-fn put(q: &[u8], reps: &[u8; 40], out: &mut [u8], i: u8, d: u8)
-    requires { ⌜ Pointed (now q) (now reps) (now out) i × (i < 40) × (d ≡ formulas.depth (formula (now q) i)) ⌝ }
-    ensures { λ _. ⌜ Pointed (now (q .entry)) (now (reps .entry)) (now (out .exit)) (i + 1) ⌝ }
+fn put(q: &[u8], b: &mut [u8; 552], i: u8, d: u8)
+    requires { ⌜ Ordered (now q) × (i < layout.node-count (now q)) × Pointed (now q) (now b) i × (d ≡ formulas.depth (formula (now q) i)) ⌝ }
+    ensures { λ _. ⌜ Pointed (now (q .entry)) (now (b .exit)) (i + 1) ⌝ }
 {
+    let l = left_for(q, b, i);
+    let r = right_for(q, b, i);
     let at = 8 + 12 * i as usize;
-    out[at + 2] = left_for(q, reps, i);
-    out[at + 3] = right_for(q, reps, i);
-    out[512 + i as usize] = d;
+    b[at + 2] = l;
+    b[at + 3] = r;
+    b[512 + i as usize] = d;
 }
 
-fn copied(q: &[u8], reps: &[u8; 40]) -> [u8; 552]
+fn copied(q: &[u8]) -> [u8; 552]
     requires { ⌜ length (now q) ≡ 512 ⌝ }
-    ensures { λ r. ⌜ Pointed (now (q .entry)) (now (reps .entry)) r 0 ⌝ }
+    ensures { λ r. ⌜ Pointed (now (q .entry)) r 0 ⌝ }
 {
-    let mut out = [0u8; 552];
+    let mut b = [0u8; 552];
     let mut i: usize = 0;
     while i < 512 {
-        out[i] = q[i];
+        b[i] = q[i];
         i += 1;
     }
-    out
+    b
 }
 
 // The question with every child that is an "and" of one node with itself replaced by that node, and with its depths.
@@ -188,16 +174,15 @@ pub fn nodes(q: &[u8]) -> [u8; 552]
     requires { ⌜ Ordered (now q) ⌝ }
     ensures { λ r. ⌜ ((S A N : ℕ) → refusal (read-question S A N (now (q .entry))) ≡ 0 → Shared S A N (now (q .entry)) r) ⌝ }
 {
-    let n = node_count(q);
-    let reps = replacements(q);
+    let n = questions::node_count(q);
     let depths = questions::depth_table(q);
-    let mut out = copied(q, &reps);
+    let mut b = copied(q);
     let mut i: u8 = 0;
     while i < n {
         let at = i as usize;
         let d = depths[at] as u8;
-        put(q, &reps, &mut out, i, d);
+        put(q, &mut b, i, d);
         i += 1;
     }
-    out
+    b
 }

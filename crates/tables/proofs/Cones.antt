@@ -12,11 +12,13 @@ use lib.Seq.{getD-set-same, getD-set-other, getD-take, length-take-le}
 use Rattle.logic.specs.Formula.{Node, depth}
 use Rattle.blocks.specs.Bytes.{Bytes}
 use Rattle.questions.specs.Layout.{node-count, node-of}
+use Rattle.questions.specs.promises.Formed.{InRange}
 use Rattle.questions.proofs.Laws.{by-operator}
-use Rattle.evaluation.specs.promises.Reached.{formula, reads-left, Earlier, Cone, root-of}
-use Rattle.tables.specs.promises.Need.{Given, Grown}
-use Rattle.tables.specs.promises.Chosen.{Ordered, Entered, Chosen, Listed}
-use Rattle.tables.proofs.Marks.{grown-mark, grown-then, blank, one-there, one-only, given-question}
+use Rattle.nodes.specs.promises.Nodes.{formula, reads-left}
+use Rattle.evaluation.specs.promises.Reached.{Earlier, Cone, root-of}
+use Rattle.tables.specs.promises.Need.{Grown}
+use Rattle.tables.specs.promises.Chosen.{Asked, Entered, Chosen, Listed}
+use Rattle.tables.proofs.Marks.{grown-mark, grown-then, blank, one-there, one-only}
 
 pub reads-cases : (op : ℕ) → reads-left op ≡ true → ((op ≡ 3) ⊎ (op ≡ 6)) ⊎ (op ≡ 4)
 unfolding reads-left
@@ -33,17 +35,16 @@ reads-cases =
     (λ e. absurd (false≢true e))
     (λ k e. absurd (false≢true e))
 
-pub given-ordered : {m q : Bytes} → Given m q → Ordered q
-given-ordered {m} {q} given =
-    let a = given-question given in
-    record {
-      few = a .few-nodes;
-      left = λ j h e. ⊎-elim
-          (⊎-elim (λ o. a .in-range j h .of-neg o) (λ o. a .in-range j h .of-next o))
-          (λ o. a .in-range j h .of-both o .0)
-          (reads-cases ((node-of q j) .operator) e);
-      right = λ j h o. a .in-range j h .of-both o .1;
-    }
+-- The children of a node have smaller numbers than its own.
+module _ {q : Bytes} (a : Asked q) (j : ℕ) (h : j < node-count q) where
+  abbrev range : InRange (a .1) (a .2) j (node-of q j)
+  range = a .3 .formed .in-range j h
+
+  left-before : reads-left ((node-of q j) .operator) ≡ true → (node-of q j) .left < j
+  left-before e = ⊎-elim (⊎-elim (range .of-neg) (range .of-next)) (λ o. range .of-both o .0) (reads-cases ((node-of q j) .operator) e)
+
+  right-before : (node-of q j) .operator ≡ 4 → (node-of q j) .right < j
+  right-before o = range .of-both o .1
 
 -- ---- one node
 
@@ -67,15 +68,15 @@ module _ {q : Bytes} {j : ℕ} {marks : List ℕ} where
 abbrev pub Node-done : (q : Bytes) (j : ℕ) (marks : List ℕ) → List ℕ → Type 0
 Node-done q j marks marks′ = Grown 32 j marks marks′ × (getD marks j 0 ≡ 1 → Entered q marks′ j)
 
-module _ (q : Bytes) (j : ℕ) (marks : List ℕ) (o : Ordered q) (h : j < node-count q) (z : length marks ≡ 40) where
+module _ (q : Bytes) (j : ℕ) (marks : List ℕ) (a : Asked q) (h : j < node-count q) (z : length marks ≡ 40) where
   abbrev node : Node
   node = node-of q j
 
   child-grown : (l : List ℕ) (c : ℕ) → length l ≡ 40 → c < j → Grown 32 j l (set l c 1)
-  child-grown l c e g = let few = o .few in grown-mark 32 j l c (omega arith) g (omega arith)
+  child-grown l c e g = let few = a .3 .formed .few-nodes in grown-mark 32 j l c (omega arith) g (omega arith)
 
   child-marked : (l : List ℕ) (c : ℕ) → length l ≡ 40 → c < j → getD (set l c 1) c 0 ≡ 1
-  child-marked l c e g = let few = o .few in getD-set-same l c 1 0 (omega arith)
+  child-marked l c e g = let few = a .3 .formed .few-nodes in getD-set-same l c 1 0 (omega arith)
 
   reads : (node .operator ≡ 3) ⊎ (node .operator ≡ 6) → reads-left (node .operator) ≡ true
   unfolding reads-left
@@ -83,19 +84,19 @@ module _ (q : Bytes) (j : ℕ) (marks : List ℕ) (o : Ordered q) (h : j < node-
 
   pub left-entered : (node .operator ≡ 3) ⊎ (node .operator ≡ 6) → Node-done q j marks (set marks (node .left) 1)
   left-entered e =
-      let b = o .left j h (reads e) in
+      let b = left-before a j h (reads e) in
       (child-grown marks (node .left) z b, λ _. entered-left e (child-marked marks (node .left) z b))
 
   pub both-entered : node .operator ≡ 4 → Node-done q j marks (set (set marks (node .left) 1) (node .right) 1)
   unfolding reads-left
   both-entered e =
-      let a = o .left j h (ap reads-left e) in
-      let b = o .right j h e in
-      let l : List ℕ = set marks (node .left) 1 in
-      let s : length l ≡ 40 = length-set marks (node .left) 1 ∙ z in
-      let g = child-grown l (node .right) s b in (
-        grown-then _ _ _ j (omega arith) (omega arith) (child-grown marks (node .left) z a) g,
-        λ _. entered-both (g .stays _ (child-marked marks (node .left) z a)) (child-marked l (node .right) s b),
+      let l = left-before a j h (ap reads-left e) in
+      let r = right-before a j h e in
+      let one : List ℕ = set marks (node .left) 1 in
+      let s : length one ≡ 40 = length-set marks (node .left) 1 ∙ z in
+      let g = child-grown one (node .right) s r in (
+        grown-then _ _ _ j (omega arith) (omega arith) (child-grown marks (node .left) z l) g,
+        λ _. entered-both (g .stays _ (child-marked marks (node .left) z l)) (child-marked one (node .right) s r),
       )
 
 -- ---- the pass from the condition downwards
@@ -200,23 +201,23 @@ module _ {marks out : List ℕ} {i n : ℕ} (p : Listed marks i n out) where
       place f a b (no y) (yes z) = absurd (omega (arith, ap (λ k. getD out k 0) z))
       place f a b (no y) (no z) = absurd (omega (arith, p .rising e f (omega arith) a))
 
-pub listed-cone : {q : Bytes} {c n : ℕ} {marks out : List ℕ} → Ordered q → Chosen q c marks → c < node-count q → Listed marks (c + 1) n out → length out ≡ 40
+pub listed-cone : {q : Bytes} {c n : ℕ} {marks out : List ℕ} → Asked q → Chosen q c marks → c < node-count q → Listed marks (c + 1) n out → length out ≡ 40
     → (n ≤ 40) × Cone q (take n out) × (root-of (take n out) ≡ c)
-listed-cone {q} {c} {n} {marks} {out} o chosen h p z = (
+listed-cone {q} {c} {n} {marks} {out} a chosen h p z = (
   fits,
   record {
     some = rw size (omega (arith, top .1));
     nodes = λ i l. subst (λ x. x < node-count q) (sym (at i (inside i l))) (omega (arith, p .nodes i (inside i l) .0));
     lefts = λ i l d e. child i (inside i l) ((node-of q (getD (take n out) i 0)) .left)
-        (o .left (getD (take n out) i 0) (node i (inside i l)) e) (marked i (inside i l) .left d e);
+        (left-before a (getD (take n out) i 0) (node i (inside i l)) e) (marked i (inside i l) .left d e);
     rights = λ i l d e. child i (inside i l) ((node-of q (getD (take n out) i 0)) .right)
-        (o .right (getD (take n out) i 0) (node i (inside i l)) e) (marked i (inside i l) .right d e);
+        (right-before a (getD (take n out) i 0) (node i (inside i l)) e) (marked i (inside i l) .right d e);
   },
   ap (λ k. getD (take n out) (k - 1) 0) size ∙ at (n - 1) (omega (arith, top .1)) ∙ sym (ap (λ k. getD out k 0) last) ∙ top .2,
 )
   where
     fits : n ≤ 40
-    fits = omega (arith, p .few, o .few)
+    fits = omega (arith, p .few, a .3 .formed .few-nodes)
 
     size : length (take n out) ≡ n
     size = length-take-le n out (omega (arith, fits))

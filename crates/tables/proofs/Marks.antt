@@ -14,7 +14,7 @@ use Rattle.blocks.specs.Bytes.{Bytes}
 use Rattle.models.specs.Layout.{state-count, action-count, prop-count}
 use Rattle.prepared.specs.promises.Rows.{step-in, Offers, Prepared}
 use Rattle.questions.specs.Layout.{start-of, node-count, node-of}
-use Rattle.questions.proofs.Accepted as questions
+use Rattle.questions.specs.promises.Formed.{InRange}
 use Rattle.evaluation.specs.promises.Reached.{Reached, itself, under-not, and-left, and-right, under-next}
 use Rattle.tables.specs.promises.Need.{Given, Marked, Passed-on, Grown, Needs}
 
@@ -150,24 +150,21 @@ Pair-done m q need k need′ = Grown (state-count m) (32 * (k / 32)) need need�
 -- ---- what is given
 
 module _ {m q : Bytes} (given : Given m q) where
-  pub given-question : questions.Accepted (state-count m) (action-count m) (prop-count m) q
-  given-question = questions.accepted (state-count m) (action-count m) (prop-count m) q (given .question-accepted)
-
   module _ (need : List ℕ) (k : ℕ) (h : k < 32 * node-count q) (state : k % 32 < state-count m) where
     abbrev node : Node
     node = node-of q (k / 32)
 
-    range : questions.InRange (action-count m) (prop-count m) (k / 32) node
-    range = given-question .in-range (k / 32) (omega arith)
+    range : InRange (action-count m) (prop-count m) (k / 32) node
+    range = given .nodes .formed .in-range (k / 32) (omega arith)
 
     child-grown : (l : List ℕ) (c : ℕ) → length l ≡ 1280 → c < k / 32 → Grown (state-count m) (32 * (k / 32)) l (set l (32 * c + k % 32) 1)
     child-grown l c e g =
         let x : (32 * c + k % 32) % 32 ≡ k % 32 = omega arith in
-        let few = given-question .few-nodes in
+        let few = given .nodes .formed .few-nodes in
         grown-mark (state-count m) (32 * (k / 32)) l (32 * c + k % 32) (omega arith) (omega arith) (omega arith)
 
     child-marked : (l : List ℕ) (c : ℕ) → length l ≡ 1280 → c < k / 32 → Marked (set l (32 * c + k % 32) 1) c (k % 32)
-    child-marked l c e g = let few = given-question .few-nodes in getD-set-same l (32 * c + k % 32) 1 0 (omega arith)
+    child-marked l c e g = let few = given .nodes .formed .few-nodes in getD-set-same l (32 * c + k % 32) 1 0 (omega arith)
 
     pub left-marked : length need ≡ 1280 → (node .operator ≡ 3) ⊎ (node .operator ≡ 8) → Pair-done m q need k (set need (32 * node .left + k % 32) 1)
     left-marked z o =
@@ -205,7 +202,7 @@ module _ {m q : Bytes} (given : Given m q) where
 
   pub first-inside : (first < 1280) × (first < 32 * node-count q) × (first % 32 ≡ start-of q) × (start-of q < state-count m) × (state-count m ≤ 32)
   first-inside =
-      let a = given-question given in
+      let a = given .nodes .formed in
       let h : start-of q < state-count m = a .starts in
       let g : state-count m ≤ 32 = given .prepared .states in
       let n : 1 ≤ node-count q = a .some-node in

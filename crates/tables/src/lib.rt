@@ -3,26 +3,23 @@
 ghost use mathlib.Core.Path.{_≡_};
 ghost use Prim.Native.Nat.{_+_, _*_, _/_, _%_, ℕ, _<_, _≤_};
 ghost use lib.ListN.{getD, set, length, take};
-ghost use Rattle.logic.specs.Formula.{depth};
 ghost use Rattle.models.specs.Layout.{state-count};
 ghost use Rattle.prepared.specs.promises.Rows.{choices-in, outcomes-in, step-in, Offers, Prepared};
-ghost use Rattle.questions.specs.Layout.{formulas-of};
 ghost use Rattle.questions.specs.Layout as question;
-ghost use Rattle.questions.specs.promises.Tables.{table};
 ghost use Rattle.evaluation.specs.promises.Reached.{Cone, root-of};
 ghost use Rattle.tables.specs.promises.Need.{Given, Marked, Passed-on, Grown, Needs};
-ghost use Rattle.tables.specs.promises.Chosen.{Ordered, Entered, Chosen, Listed};
+ghost use Rattle.tables.specs.promises.Chosen.{Asked, Entered, Chosen, Listed};
 use blocks::byte;
-use evaluation::depth_at;
 use evaluation::store;
+use nodes::count;
+use nodes::depth;
+use nodes::left;
+use nodes::operator;
+use nodes::right;
+use nodes::start;
 use prepared::choices;
 use prepared::outcomes;
 use prepared::target;
-use questions::left;
-use questions::node_count;
-use questions::operator;
-use questions::right;
-use questions::start;
 
 // ---- what the verdict can turn on
 
@@ -67,7 +64,7 @@ fn mark_next(m: &[u16; 8704], need: &mut [u8; 1280], child: u8, s: u8)
 }
 
 // Marks what the pair at a place of the table turns on, if it is marked.
-fn pass_on(m: &[u16; 8704], q: &[u8], need: &mut [u8; 1280], k: usize)
+fn pass_on(m: &[u16; 8704], q: &[u8; 552], need: &mut [u8; 1280], k: usize)
     requires { ⌜ Given (now m) (now q) × (k < 32 * question.node-count (now q)) ⌝ }
     requires { ⌜ (getD (now need) k 0 ≡ 1 → k % 32 < state-count (now m)) ⌝ }
     ensures { λ _. ⌜ Grown (state-count (now (m .entry))) (32 * (k / 32)) (now (need .entry)) (now (need .exit)) × (getD (now (need .entry)) k 0 ≡ 1 → Passed-on (now (m .entry)) (now (q .entry)) (now (need .exit)) (k / 32) (k % 32)) ⌝ }
@@ -90,12 +87,12 @@ fn pass_on(m: &[u16; 8704], q: &[u8], need: &mut [u8; 1280], k: usize)
 }
 
 // Marks from the root in the start state downwards: children have smaller numbers.
-pub fn needed(m: &[u16; 8704], q: &[u8]) -> [u8; 1280]
+pub fn needed(m: &[u16; 8704], q: &[u8; 552]) -> [u8; 1280]
     requires { ⌜ Given (now m) (now q) ⌝ }
     ensures { λ r. ⌜ Needs (now (m .entry)) (now (q .entry)) r ⌝ }
 {
     let mut need = [0u8; 1280];
-    let root = node_count(q) - 1;
+    let root = count(q) - 1;
     let first = place(root, start(q));
     need[first] = 1;
     let mut k = place(root, 0) + 32;
@@ -109,14 +106,14 @@ pub fn needed(m: &[u16; 8704], q: &[u8]) -> [u8; 1280]
 // ---- the nodes of a condition
 
 // Marks the children of node j, if it is marked and no state formula.
-fn enter(q: &[u8], depths: &[u32], marks: &mut [u8; 40], j: u8)
-    requires { ⌜ Ordered (now q) × (now depths ≡ table depth (formulas-of (now q))) × (j < question.node-count (now q)) ⌝ }
+fn enter(q: &[u8; 552], marks: &mut [u8; 40], j: u8)
+    requires { ⌜ Asked (now q) × (j < question.node-count (now q)) ⌝ }
     ensures { λ _. ⌜ Grown 32 j (now (marks .entry)) (now (marks .exit)) × (getD (now (marks .entry)) j 0 ≡ 1 → Entered (now (q .entry)) (now (marks .exit)) j) ⌝ }
 {
     if byte(marks, j as usize) != 1 {
         return;
     }
-    if depth_at(depths, j) == 0 {
+    if depth(q, j) == 0 {
         return;
     }
     let op = operator(q, j);
@@ -131,8 +128,8 @@ fn enter(q: &[u8], depths: &[u32], marks: &mut [u8; 40], j: u8)
 }
 
 // Marks from the condition c downwards.
-fn chosen(q: &[u8], depths: &[u32], c: u8) -> [u8; 40]
-    requires { ⌜ Ordered (now q) × (now depths ≡ table depth (formulas-of (now q))) × (c < question.node-count (now q)) ⌝ }
+fn chosen(q: &[u8; 552], c: u8) -> [u8; 40]
+    requires { ⌜ Asked (now q) × (c < question.node-count (now q)) ⌝ }
     ensures { λ r. ⌜ Chosen (now (q .entry)) c r ⌝ }
 {
     let mut marks = [0u8; 40];
@@ -141,7 +138,7 @@ fn chosen(q: &[u8], depths: &[u32], c: u8) -> [u8; 40]
     let mut j = c + 1;
     while j > 0 {
         j -= 1;
-        enter(q, depths, &mut marks, j);
+        enter(q, &mut marks, j);
     }
     marks
 }
@@ -159,11 +156,11 @@ fn list_node(marks: &[u8; 40], out: &mut [u8], i: u8, n: usize) -> usize
 }
 
 // The nodes of the condition c, children before parents; gives their number.
-pub fn cone(q: &[u8], depths: &[u32], c: u8, out: &mut [u8]) -> usize
-    requires { ⌜ Ordered (now q) × (now depths ≡ table depth (formulas-of (now q))) × (c < question.node-count (now q)) × (length (now out) ≡ 40) ⌝ }
+pub fn cone(q: &[u8; 552], c: u8, out: &mut [u8]) -> usize
+    requires { ⌜ Asked (now q) × (c < question.node-count (now q)) × (length (now out) ≡ 40) ⌝ }
     ensures { λ r. ⌜ (r ≤ 40) × Cone (now (q .entry)) (take r (now (out .exit))) × (root-of (take r (now (out .exit))) ≡ c) ⌝ }
 {
-    let marks = chosen(q, depths, c);
+    let marks = chosen(q, c);
     let mut n: usize = 0;
     let mut i: u8 = 0;
     while i < c {

@@ -1,22 +1,21 @@
 // Weighing a plan: the summed weights of the paths that it allows and on which the condition is true, each path met once.
 ghost use mathlib.Core.Path.{_≡_};
-ghost use Prim.Native.Nat.{ℕ, _+_, _*_, _^_, _<_, _≤_};
+ghost use Prim.Native.Nat.{_+_, _*_, _^_, _<_, _≤_};
 ghost use lib.ListN.{length, take, drop};
-ghost use mathlib.Core.List.{_∷_};
 ghost use Rattle.logic.specs.Checked.{ok};
-ghost use Rattle.logic.specs.Lists.{tabulate};
 ghost use Rattle.logic.specs.Plan.{Plan};
 ghost use Rattle.logic.specs.Choices.{plan-of};
 ghost use Rattle.logic.specs.Formula.{depth, W};
-ghost use Rattle.prepared.specs.promises.Rows.{step-in, Offers, model-in};
-ghost use Rattle.evaluation.specs.promises.Reached.{formula, root-of, on-path, Ready};
+ghost use Rattle.prepared.specs.promises.Rows.{step-in, model-in};
+ghost use Rattle.nodes.specs.promises.Nodes.{formula};
+ghost use Rattle.evaluation.specs.promises.Reached.{root-of, on-path, Ready};
 ghost use Rattle.evaluation.specs.promises.Learnt.{known};
-ghost use Rattle.weighing.specs.promises.Sums.{each, weigh};
+ghost use Rattle.weighing.specs.promises.Sums.{weigh};
 ghost use Rattle.weighing.specs.promises.Places.{Here, Ran};
 use blocks::byte;
+use evaluation::Place;
 use evaluation::learn;
 use evaluation::step;
-use prepared::Row;
 use prepared::row_of;
 use prepared::weight;
 
@@ -63,12 +62,11 @@ fn plus(m: &[u16; 8704], s: u8, i: usize, o: usize, sum: u64, x: u64) -> u64
     sum + weight(m, s as usize, i, o) * x
 }
 
-// Sums over the paths from a spot that the choices allow.
+// Sums over the paths from a spot that the choices allow: the choice there is read, and each of its outcomes leads on.
 fn weigh_from(
     m: &[u16; 8704],
-    q: &[u8],
-    depths: &[u32],
-    truth: &[u8],
+    q: &[u8; 552],
+    truth: &[u8; 1280],
     cone: &[u8],
     choices: &[u8],
     trail: &mut [u16; 6],
@@ -76,7 +74,7 @@ fn weigh_from(
     v: &mut [u8; 280],
     spot: Spot,
 ) -> Part
-    requires { ⌜ Ready (now m) (now q) (spot .start) (now depths) (now truth) (now cone) ⌝ }
+    requires { ⌜ Ready (now m) (now q) (spot .start) (now truth) (now cone) ⌝ }
     requires { ⌜ Here (now m) (now q) (spot .start) (now cone) (now trail) (now gains) (now v) (spot .h) (spot .s) (spot .k) × (spot .at ≤ length (now choices)) ⌝ }
     ensures { λ r. ⌜ Ran (weigh (model-in (now (m .entry))) (spot .k) (spot .s) (on-path (now (m .entry)) (now (q .entry)) (spot .start) (now (cone .entry)) (take (spot .h) (now (trail .entry)))) (drop (spot .at) (now (choices .entry)))) (now (m .entry)) (now (q .entry)) (spot .start) (now (cone .entry)) (spot .h) (now (trail .entry)) (now (trail .exit)) (now (gains .exit)) (now (v .exit)) (now (choices .entry)) (r .value) (r .next) ⌝ }
 {
@@ -87,62 +85,24 @@ fn weigh_from(
         };
     }
     let row = row_of(m, spot.s as usize, byte(choices, spot.at));
-    let below = Spot {
-        start: spot.start,
-        h: spot.h,
-        s: spot.s,
-        k: spot.k - 1,
-        at: after(choices, spot.at),
-    };
-    weigh_below(
-        m,
-        q,
-        depths,
-        truth,
-        cone,
-        choices,
-        trail,
-        gains,
-        v,
-        below,
-        row,
-    )
-}
-
-// Sums over the paths that begin with an outcome of the choice whose row is given and go on for k steps.
-fn weigh_below(
-    m: &[u16; 8704],
-    q: &[u8],
-    depths: &[u32],
-    truth: &[u8],
-    cone: &[u8],
-    choices: &[u8],
-    trail: &mut [u16; 6],
-    gains: &mut [i32; 7],
-    v: &mut [u8; 280],
-    spot: Spot,
-    row: Row,
-) -> Part
-    requires { ⌜ Ready (now m) (now q) (spot .start) (now depths) (now truth) (now cone) × ((o : ℕ) → o < row .count → Offers (now m) (spot .s) (row .at) o) ⌝ }
-    requires { ⌜ Here (now m) (now q) (spot .start) (now cone) (now trail) (now gains) (now v) (spot .h) (spot .s) (spot .k + 1) × (spot .at ≤ length (now choices)) ⌝ }
-    ensures { λ r. ⌜ Ran (each (λ o. weigh (model-in (now (m .entry))) (spot .k) (o .target) (λ r. on-path (now (m .entry)) (now (q .entry)) (spot .start) (now (cone .entry)) (take (spot .h) (now (trail .entry))) (o ∷ r))) (tabulate (row .count) (step-in (now (m .entry)) (spot .s) (row .at))) (drop (spot .at) (now (choices .entry)))) (now (m .entry)) (now (q .entry)) (spot .start) (now (cone .entry)) (spot .h) (now (trail .entry)) (now (trail .exit)) (now (gains .exit)) (now (v .exit)) (now (choices .entry)) (r .value) (r .next) ⌝ }
-{
     let mut sum: u64 = 0;
-    let mut next = spot.at;
+    let mut next = after(choices, spot.at);
     let mut o: usize = 0;
     while o < row.count {
+        let here = Place {
+            start: spot.start,
+            h: spot.h,
+            s: spot.s,
+        };
         let t = step(
             m,
             q,
-            depths,
             truth,
             cone,
             trail,
             gains,
             v,
-            spot.start,
-            spot.h,
-            spot.s,
+            here,
             row.at as u8,
             o as u8,
         );
@@ -150,10 +110,10 @@ fn weigh_below(
             start: spot.start,
             h: spot.h + 1,
             s: t,
-            k: spot.k,
+            k: spot.k - 1,
             at: next,
         };
-        let r = weigh_from(m, q, depths, truth, cone, choices, trail, gains, v, on);
+        let r = weigh_from(m, q, truth, cone, choices, trail, gains, v, on);
         sum = plus(m, spot.s, row.at, o, sum, r.value);
         next = r.next;
         o += 1;
@@ -167,22 +127,21 @@ fn weigh_below(
 // The total of the plan with these choices: the summed weights of the paths that it allows and on which the condition is true.
 pub fn plan_weight(
     m: &[u16; 8704],
-    q: &[u8],
-    depths: &[u32],
-    truth: &[u8],
+    q: &[u8; 552],
+    truth: &[u8; 1280],
     cone: &[u8],
     choices: &[u8],
     start: u8,
     n: u8,
 ) -> u64
-    requires { ⌜ Ready (now m) (now q) start (now depths) (now truth) (now cone) ⌝ }
+    requires { ⌜ Ready (now m) (now q) start (now truth) (now cone) ⌝ }
     requires { ⌜ (depth (formula (now q) (root-of (now cone))) ≤ n) × (n ≤ 6) ⌝ }
     ensures { λ r. ⌜ ((π : Plan n) → plan-of (model-in (now (m .entry))) n start (now (choices .entry)) ≡ ok π → r ≡ W (model-in (now (m .entry))) (formula (now (q .entry)) (root-of (now (cone .entry)))) n start π) ⌝ }
 {
     let mut trail = [0u16; 6];
     let mut gains = [0i32; 7];
     let mut v = [0u8; 280];
-    learn(q, depths, truth, &trail, &gains, cone, &mut v, 0, start);
+    learn(q, truth, &trail, &gains, cone, &mut v, 0, start);
     let spot = Spot {
         start: start,
         h: 0,
@@ -193,7 +152,6 @@ pub fn plan_weight(
     let r = weigh_from(
         m,
         q,
-        depths,
         truth,
         cone,
         choices,

@@ -17,13 +17,13 @@ number S e = let G = S .pre .0 in
     e ∙ G .counts .right (S .args .n) (S .args .s) (S .pre .1 .1) (G .ready .state) (S .pre .1 .2)
 
 plans-counted-requires : tie.Need-plans-counted-requires
-plans-counted-requires c κs = let S = c .before .before .before .before in (S .pre .1 .1, state-small (S .pre .0) (S .pre .0 .ready .state))
+plans-counted-requires c κs = let S = c .before in (S .pre .1 .1, state-small (S .pre .0) (S .pre .0 .ready .state))
 
 slice-aggregate-first-within : tie.Need-slice-aggregate-first-within
 slice-aggregate-first-within c = search needs
 
 first-within-requires : tie.Need-first-within-requires
-first-within-requires c κs = let S = c .before .before .before .before .before .before .before in
+first-within-requires c κs = let S = c .before .before .before .before in
     let P = S .pre .1 in
     (S .pre .0, (P .0, P .1, P .2, omega (arith, number S (c .before .before .plans-counted .ensures), length-replicate {A = ℕ} 1306 0)))
 
@@ -34,7 +34,7 @@ slice-aggregate-first-within-2 : tie.Need-slice-aggregate-first-within-2
 slice-aggregate-first-within-2 c = search needs
 
 first-within-requires-2 : tie.Need-first-within-requires-2
-first-within-requires-2 c κs = let S = c .before .before .before .before .before .before .before .before in
+first-within-requires-2 c κs = let S = c .before .before .before .before .before in
     let P = S .pre .1 in
     (S .pre .0, (P .0, P .1, P .2, omega (arith, number S (c .before .before .before .plans-counted .ensures), length-replicate {A = ℕ} 8474 0)))
 
@@ -45,7 +45,7 @@ slice-aggregate-first-within-3 : tie.Need-slice-aggregate-first-within-3
 slice-aggregate-first-within-3 c = search needs
 
 first-within-requires-3 : tie.Need-first-within-requires-3
-first-within-requires-3 c κs = let S = c .before .before .before .before .before .before .before .before in
+first-within-requires-3 c κs = let S = c .before .before .before .before .before in
     let P = S .pre .1 in
     (S .pre .0, (P .0, P .1, P .2, omega (arith, number S (c .before .before .before .plans-counted .ensures), length-replicate {A = ℕ} 65818 0)))
 

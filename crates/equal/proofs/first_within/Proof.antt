@@ -2,64 +2,46 @@
 use Prim.Native.Nat.{ℕ}
 use native.Mathlib.Omega.{arith}
 use mathlib.Core.Path.{refl}
-use lib.IntN.{pos}
+use lib.IntN.{ℤ, pos}
 use lib.ListN.{length, take, replicate, length-replicate}
 use Rattle.logic.specs.Limits.{plan-total}
 use Rattle.prepared.specs.promises.Rows.{model-in}
 use Rattle.evaluation.specs.promises.Reached.{on-path}
+use Rattle.evaluation.proofs.Knowing.{cone-node}
 use Rattle.evaluation.proofs.Stepping.{begun}
 use Rattle.equal.proofs.Rooms.{room-whole}
 use Rattle.equal.proofs.Totals.{totals-length}
+use Rattle.equal.proofs.Writing.{state-small}
 use Rattle.equal.proofs.Searching.{begins, first-listed}
 use borrow.Author.Needs.{needs}
 use Rattle.equal.proofs.first_within.Statement.{statement}
 use Rattle.equal.proofs.first_within.Tie as tie
 
-slice-aggregate-learn : tie.Need-slice-aggregate-learn
-slice-aggregate-learn c = search needs
-
-slice-aggregate-learn-2 : tie.Need-slice-aggregate-learn-2
-slice-aggregate-learn-2 c = search needs
-
-slice-aggregate-learn-3 : tie.Need-slice-aggregate-learn-3
-slice-aggregate-learn-3 c = search needs
-
 learn-requires : tie.Need-learn-requires
-learn-requires c κs = search needs
+learn-requires c κs = let G = c .before .before .before .before .before .pre .0 in (cone-node (G .ready), state-small G (G .ready .state), omega arith)
 
 list-requires : tie.Need-list-requires
-list-requires c κs = let S = c .before .before .before .before .before .before .before .before .before .before .before .before .before .before in
+list-requires c κs = let S = c .before .before .before .before .before .before .before .before .before .before in
     let G = S .pre .0 in
-    let x = c .before .before .before .before .before .learn in
-    let v = x .last .1 .1 .1 .1 .1 .1 .0 in
-    let knows = begun (G .ready) (replicate 6 0) (replicate 7 (pos 0)) (replicate 280 0) v refl (omega (arith, length-replicate {A = ℕ} 280 0)) (x .ensures) in
+    let x = c .before .before .before .before .learn in
+    let v = x .last .1 .1 .1 .1 .1 .0 in
+    let knows = begun (G .ready) (replicate 6 0) (replicate 7 (pos 0)) (replicate 280 0) v refl (length-replicate {A = ℤ} 7 (pos 0)) (length-replicate {A = ℕ} 280 0) (x .ensures) in
     let total = plan-total (model-in (S .args .m .now)) (S .args .n) (S .args .start) in
     let room = room-whole (S .args .n) total (length (S .args .buf .now)) (S .pre .1 .1) (S .pre .1 .2) (S .pre .1 .3) in
     (G, (begins G (replicate 6 0) (replicate 7 (pos 0)) v (S .pre .1 .0) (S .pre .1 .1) knows, room))
 
 find-requires : tie.Need-find-requires
-find-requires c κs = let S = c .before .before .before .before .before .before .before .before .before .before .before .before .before .before .before .before .before .before in
+find-requires c κs = let S = c .before .before .before .before .before .before .before .before .before .before .before .before .before .before in
     let x = c .before .before .before .list in
     let M = S .args .m .now in
     let f = on-path M (S .args .q .now) (S .args .start) (S .args .cone .now) (take 0 (replicate 6 0)) in
-    omega (arith, x .ensures .count, totals-length (model-in M) (S .args .n) (S .args .start) f, x .kept .1 .1 .1 .1 .1 .1 .1 .1 .1 .0, S .pre .1 .2, S .pre .1 .3)
+    omega (arith, x .ensures .count, totals-length (model-in M) (S .args .n) (S .args .start) f, x .kept .1 .1 .1 .1 .1 .1 .1 .1 .0, S .pre .1 .2, S .pre .1 .3)
 
 same-length : tie.Need-same-length
 same-length c = search needs
 
 returns : tie.Need-returns
-returns c = let S = c .before .before .before .before .before .before .before .before .before .before .before .before .before .before .before .before .before .before .before in
-    first-listed (S .pre .0) (S .args .n) (S .args .x) (c .before .before .before .before .list .ensures) (c .find .ensures)
+returns c = let S = c .before .before .before .before .before .before .before .before .before .before .before .before .before .before .before in first-listed (S .pre .0) (S .args .n) (S .args .x) (c .before .before .before .before .list .ensures) (c .find .ensures)
 
 pub first-within-spec : {M : Type 1} → statement M
-first-within-spec =
-    tie.close
-    (tie.spec
-    slice-aggregate-learn
-    slice-aggregate-learn-2
-    slice-aggregate-learn-3
-    learn-requires
-    list-requires
-    find-requires
-    same-length
-    returns)
+first-within-spec = tie.close (tie.spec learn-requires list-requires find-requires same-length returns)

@@ -10,7 +10,8 @@ use Rattle.blocks.specs.Bytes.{Bytes}
 use Rattle.models.specs.Layout.{state-count, denominator-of}
 use Rattle.prepared.specs.promises.Rows.{step-in, model-in}
 use Rattle.evaluation.specs.promises.Path.{state-after}
-use Rattle.evaluation.specs.promises.Reached.{formula, root-of, Ready}
+use Rattle.nodes.specs.promises.Nodes.{formula}
+use Rattle.evaluation.specs.promises.Reached.{root-of, Ready}
 use Rattle.evaluation.specs.promises.Learnt.{known}
 use Rattle.evaluation.specs.promises.Known.{Knows, Back}
 use Rattle.equal.specs.promises.Totals.{part}
@@ -21,8 +22,8 @@ pub record Counts (m : Bytes) (table : List ℕ) : Type 0 where
   pub right : (n s : ℕ) → n ≤ 6 → s < state-count m → plan-total (model-in m) n s ≤ 65536 → getD table (32 * n + s) 0 ≡ plan-total (model-in m) n s
 
 -- The tables for a search from the start for the condition at the cone's root, which looks d steps ahead.
-pub record Given (m q : Bytes) (start d : ℕ) (depths truth cone table : List ℕ) : Type 0 where
-  pub ready : Ready m q start depths truth cone
+pub record Given (m q : Bytes) (start d : ℕ) (truth cone table : List ℕ) : Type 0 where
+  pub ready : Ready m q start truth cone
   pub counts : Counts m table
   pub looks : d ≡ depth (formula q (root-of cone))
 

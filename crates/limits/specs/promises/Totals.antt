@@ -56,9 +56,3 @@ node-fits plans m x = not (eqb (x .operator) 8) || every (length (m .states)) (f
 -- Whether a limit is set to a node, by its numbers.
 unfoldable pub bounded : Bool → Node → Bool
 bounded plans x = eqb (x .operator) 8 && (not plans || eqb (x .right) 2)
-
--- The steps and the relation of a "plan" node are in range.
-pub record Numbered (x : Node) : Type 0 where
-  pub steps : x .operator ≡ 8 → x .n ≤ 6
-  pub some-relation : x .operator ≡ 8 → 1 ≤ x .right
-  pub last-relation : x .operator ≡ 8 → x .right ≤ 3

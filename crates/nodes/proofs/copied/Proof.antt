@@ -10,19 +10,19 @@ use Rattle.nodes.proofs.copied.Statement.{statement}
 use Rattle.nodes.proofs.copied.Tie as tie
 
 abbrev Inv-loop : tie.InvT-loop
-Inv-loop q reps out₀ i₀ out i = (i ≤ 512) × (length out ≡ 552) × ((k : ℕ) → k < i → getD out k 0 ≡ getD q k 0)
+Inv-loop q b₀ i₀ b i = (i ≤ 512) × (length b ≡ 552) × ((k : ℕ) → k < i → getD b k 0 ≡ getD q k 0)
 
 abbrev μ-loop : tie.MeasureT-loop
-μ-loop q reps out₀ i₀ out i = 512 - i
+μ-loop q b₀ i₀ b i = 512 - i
 
 loop-holds : tie.Need-loop-holds Inv-loop μ-loop
 loop-holds c = (omega arith, refl, λ k h. absurd (not-suc-le-zero h))
 
-shared-slice-read-out : tie.Need-shared-slice-read-out Inv-loop μ-loop
-shared-slice-read-out c = omega (arith, c .before .before .before .pre)
+shared-slice-read-b : tie.Need-shared-slice-read-b Inv-loop μ-loop
+shared-slice-read-b c = omega (arith, c .before .before .before .pre)
 
-array-write-out : tie.Need-array-write-out Inv-loop μ-loop
-array-write-out c = omega arith
+array-write-b : tie.Need-array-write-b Inv-loop μ-loop
+array-write-b c = omega arith
 
 add-i : tie.Need-add-i Inv-loop μ-loop
 add-i c = omega arith
@@ -34,10 +34,10 @@ loop-again : tie.Need-loop-again Inv-loop μ-loop
 loop-again c = let L = c .before .before .loop in
     let q = c .before .before .before .args .q .now in (
       omega arith,
-      length-set (L .out) (L .i) (getD q (L .i) 0) ∙ L .inv .1,
-      λ k h. one-more (λ k. getD (set (L .out) (L .i) (getD q (L .i) 0)) k 0 ≡ getD q k 0) (L .i)
-          (λ k l. getD-set-other (L .out) (L .i) k (getD q (L .i) 0) 0 (λ e. omega arith) ∙ L .inv .2 k l)
-          (getD-set-same (L .out) (L .i) (getD q (L .i) 0) 0 (omega (arith, L .inv .1, c .before .loop-test .taken))) k (omega arith),
+      length-set (L .b) (L .i) (getD q (L .i) 0) ∙ L .inv .1,
+      λ k h. one-more (λ k. getD (set (L .b) (L .i) (getD q (L .i) 0)) k 0 ≡ getD q k 0) (L .i)
+          (λ k l. getD-set-other (L .b) (L .i) k (getD q (L .i) 0) 0 (λ e. omega arith) ∙ L .inv .2 k l)
+          (getD-set-same (L .b) (L .i) (getD q (L .i) 0) 0 (omega (arith, L .inv .1, c .before .loop-test .taken))) k (omega arith),
     )
 
 returns : tie.Need-returns Inv-loop μ-loop
@@ -57,8 +57,8 @@ copied-spec =
     Inv-loop
     μ-loop
     loop-holds
-    shared-slice-read-out
-    array-write-out
+    shared-slice-read-b
+    array-write-b
     add-i
     loop-less
     loop-again

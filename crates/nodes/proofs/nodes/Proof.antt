@@ -1,7 +1,7 @@
 -- The invariant: the nodes passed have their new cells and their depths.
 use Prim.Native.Nat.{ℕ, _≤_, _<_, _-_}
 use native.Mathlib.Omega.{arith}
-use mathlib.Core.Path.{_≡_, sym, ap, subst, _∙_}
+use mathlib.Core.Path.{_≡_, ap, subst, _∙_}
 use mathlib.Core.List.{List}
 use lib.ListN.{getD}
 use borrow.Author.Needs.{needs}
@@ -21,22 +21,19 @@ unfolding depth
 depth-at q ds i e h = ap (λ t. getD t i 0) e ∙ table-at depth q (formulas-of q) i h
 
 abbrev Inv-loop : tie.InvT-loop
-Inv-loop q n reps depths out₀ i₀ out i = (i ≤ n) × Pointed q reps out i
+Inv-loop q n depths b₀ i₀ b i = (i ≤ n) × Pointed q b i
 
 abbrev μ-loop : tie.MeasureT-loop
-μ-loop q n reps depths out₀ i₀ out i = n - i
+μ-loop q n depths b₀ i₀ b i = n - i
 
 node-count-requires : tie.Need-node-count-requires Inv-loop μ-loop
 node-count-requires c κs = search needs
-
-replacements-requires : tie.Need-replacements-requires Inv-loop μ-loop
-replacements-requires c κs = c .before .before .pre
 
 depth-table-requires : tie.Need-depth-table-requires Inv-loop μ-loop
 depth-table-requires c κs = search needs
 
 copied-requires : tie.Need-copied-requires Inv-loop μ-loop
-copied-requires c κs = c .before .before .before .before .before .pre .size
+copied-requires c κs = c .before .before .before .pre .size
 
 loop-holds : tie.Need-loop-holds Inv-loop μ-loop
 loop-holds c = (omega arith, c .copied .ensures)
@@ -48,22 +45,19 @@ mul-d : tie.Need-mul-d Inv-loop μ-loop
 mul-d c = search needs
 
 array-read-d : tie.Need-array-read-d Inv-loop μ-loop
-array-read-d c = let n = c .before .before .before .before .before .before .node-count in omega (arith, n .ensures, c .before .before .before .before .before .before .before .before .pre .few)
+array-read-d c = omega (arith, c .before .before .before .before .node-count .ensures, c .before .before .before .before .before .before .pre .few)
 
 cast-d : tie.Need-cast-d Inv-loop μ-loop
-cast-d c = let S = c .before .before .before .before .before .before .before .before in
+cast-d c = let S = c .before .before .before .before .before .before in
     let i = c .before .loop .i in
-    let l : i < node-count (S .args .q .now) = omega (arith, c .before .before .before .before .before .before .node-count .ensures) in
-    rw (depth-at (S .args .q .now) (c .before .before .before .before .depth-table .result) i (c .before .before .before .before .depth-table .ensures) (omega (arith, S .pre .few))) (omega (arith, S .pre .deep i l))
-
-slice-aggregate-put : tie.Need-slice-aggregate-put Inv-loop μ-loop
-slice-aggregate-put c = sym (c .before .before .before .loop .inv .1 .size)
+    let l : i < node-count (S .args .q .now) = omega (arith, c .before .before .before .before .node-count .ensures) in
+    rw (depth-at (S .args .q .now) (c .before .before .before .depth-table .result) i (c .before .before .before .depth-table .ensures) (omega (arith, S .pre .few))) (omega (arith, S .pre .deep i l))
 
 put-requires : tie.Need-put-requires Inv-loop μ-loop
-put-requires c κs = let S = c .before .before .before .before .before .before .before .before .before .before in
-    let i = c .before .before .before .loop .i in
-    let l : i < 40 = omega (arith, c .before .before .before .before .before .before .before .before .node-count .ensures, S .pre .few) in
-    (c .before .before .before .loop .inv .1, l, depth-at (S .args .q .now) (c .before .before .before .before .before .before .depth-table .result) i (c .before .before .before .before .before .before .depth-table .ensures) l)
+put-requires c κs = let S = c .before .before .before .before .before .before .before in
+    let i = c .before .before .loop .i in
+    let l : i < node-count (S .args .q .now) = omega (arith, c .before .before .before .before .before .node-count .ensures) in
+    (S .pre, l, c .before .before .loop .inv .1, depth-at (S .args .q .now) (c .before .before .before .before .depth-table .result) i (c .before .before .before .before .depth-table .ensures) (omega (arith, l, S .pre .few)))
 
 add-i : tie.Need-add-i Inv-loop μ-loop
 add-i c = omega arith
@@ -72,13 +66,13 @@ loop-less : tie.Need-loop-less Inv-loop μ-loop
 loop-less c = omega arith
 
 loop-again : tie.Need-loop-again Inv-loop μ-loop
-loop-again c = (omega arith, c .before .put .ensures)
+loop-again c = (omega arith, c .put .ensures)
 
 returns : tie.Need-returns Inv-loop μ-loop
-returns c = let S = c .before .before .before .before .before .before .before .before in
+returns c = let S = c .before .before .before .before .before .before in
     let L = c .before .loop in
-    let e : L .i ≡ node-count (S .args .q .now) = omega (arith, c .before .before .before .before .before .before .node-count .ensures, L .inv .0, c .loop-test .left) in
-    shared-question (S .pre) (c .before .before .before .before .before .replacements .ensures) (subst (Pointed (S .args .q .now) (c .before .before .before .before .before .replacements .result) (L .out)) e (L .inv .1))
+    let e : L .i ≡ node-count (S .args .q .now) = omega (arith, c .before .before .before .before .node-count .ensures, L .inv .0, c .loop-test .left) in
+    shared-question (S .pre) (subst (Pointed (S .args .q .now) (L .b)) e (L .inv .1))
 
 pub nodes-spec : {M : Type 1} → statement M
 nodes-spec =
@@ -87,7 +81,6 @@ nodes-spec =
     Inv-loop
     μ-loop
     node-count-requires
-    replacements-requires
     depth-table-requires
     copied-requires
     loop-holds
@@ -95,7 +88,6 @@ nodes-spec =
     mul-d
     array-read-d
     cast-d
-    slice-aggregate-put
     put-requires
     add-i
     loop-less

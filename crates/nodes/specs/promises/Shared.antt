@@ -7,7 +7,7 @@ use mathlib.Core.List.{List}
 use mathlib.Core.Option.{Option, none, some}
 use Rattle.logic.specs.Model.{Model, Step}
 use Rattle.logic.specs.Quantity.{Relation}
-use Rattle.logic.specs.Formula.{Formula, never, prop, neg, both, does, next, gain, plan, sat, depth, is-path, shallow}
+use Rattle.logic.specs.Formula.{Formula, on-plan, sat, depth, is-path, shallow}
 use Rattle.blocks.specs.Bytes.{Bytes}
 use Rattle.questions.specs.Layout.{start-of, node-count, node-of}
 use Rattle.nodes.specs.promises.Nodes.{formula, Nodes, has-left}
@@ -28,14 +28,7 @@ pub record Asked : Type 0 where
 
 -- The other formulas ask nothing of plans.
 unfoldable pub asked : Formula → Option Asked
-asked never = none
-asked (prop i) = none
-asked (neg φ) = none
-asked (both φ ψ) = none
-asked (does a) = none
-asked (next φ) = none
-asked (gain n b p) = none
-asked (plan n φ r p q) = some (record { steps = n; condition = λ m s t. sat m φ s t; relation = r; p = p; q = q })
+asked φ = on-plan none (λ n ψ r p q. some (record { steps = n; condition = λ m s t. sat m ψ s t; relation = r; p = p; q = q })) φ
 
 -- The same for whoever judges: in meaning, to ground 9, and in what is asked of plans.
 pub record Alike (φ ψ : Formula) : Type 0 where

@@ -9,19 +9,19 @@ use Rattle.tables.proofs.cone.Statement.{statement}
 use Rattle.tables.proofs.cone.Tie as tie
 
 abbrev Inv-loop : tie.InvT-loop
-Inv-loop q depths c out₀ marks n₀ i₀ out n i = (i ≤ c) × (length out ≡ 40) × Listed marks i n out
+Inv-loop q c out₀ marks n₀ i₀ out n i = (i ≤ c) × (length out ≡ 40) × Listed marks i n out
 
 abbrev μ-loop : tie.MeasureT-loop
-μ-loop q depths c out₀ marks n₀ i₀ out n i = c - i
+μ-loop q c out₀ marks n₀ i₀ out n i = c - i
 
 chosen-requires : tie.Need-chosen-requires Inv-loop μ-loop
-chosen-requires c κs = (c .before .before .before .pre .0, c .before .before .before .pre .1, c .before .before .before .pre .2)
+chosen-requires c κs = let S = c .before in (S .pre .0, S .pre .1)
 
 loop-holds : tie.Need-loop-holds Inv-loop μ-loop
-loop-holds c = (omega arith, c .before .before .before .before .pre .3, listed-none _ _)
+loop-holds c = (omega arith, c .before .before .pre .2, listed-none _ _)
 
 list-node-requires : tie.Need-list-node-requires Inv-loop μ-loop
-list-node-requires c κs = (c .before .before .before .loop .inv .2, omega (arith, c .before .before .before .before .before .before .before .before .pre .0 .few), c .before .before .before .loop .inv .1)
+list-node-requires c κs = (c .before .before .before .loop .inv .2, omega (arith, c .before .before .before .before .before .before .pre .0 .3 .formed .few-nodes), c .before .before .before .loop .inv .1)
 
 add-i : tie.Need-add-i Inv-loop μ-loop
 add-i c = omega arith
@@ -34,14 +34,14 @@ loop-again c = (omega arith, c .before .before .list-node .kept .1 .0 ∙ c .bef
 
 list-node-requires-2 : tie.Need-list-node-requires-2 Inv-loop μ-loop
 list-node-requires-2 c κs = let L = c .before .before .before .loop in
-    (subst (λ (i : ℕ). Listed (c .before .before .before .before .chosen .result) i (L .n) (L .out)) (omega arith) (L .inv .2), omega (arith, c .before .before .before .before .before .before .before .before .pre .0 .few), L .inv .1)
+    (subst (λ (i : ℕ). Listed (c .before .before .before .before .chosen .result) i (L .n) (L .out)) (omega arith) (L .inv .2), omega (arith, c .before .before .before .before .before .before .pre .0 .3 .formed .few-nodes), L .inv .1)
 
 same-length : tie.Need-same-length Inv-loop μ-loop
-same-length c = c .before .before .list-node2 .kept .1 .0 ∙ c .before .before .before .before .before .before .loop .inv .1 ∙ sym (c .before .before .before .before .before .before .before .before .before .before .before .pre .3)
+same-length c = c .before .before .list-node2 .kept .1 .0 ∙ c .before .before .before .before .before .before .loop .inv .1 ∙ sym (c .before .before .before .before .before .before .before .before .before .pre .2)
 
 returns : tie.Need-returns Inv-loop μ-loop
-returns c = let P = c .before .before .before .before .before .before .before .before .before .before .before .pre in
-    listed-cone (P .0) (c .before .before .before .before .before .before .before .chosen .ensures) (P .2) (c .before .before .list-node2 .ensures) (c .before .before .list-node2 .kept .1 .0 ∙ c .before .before .before .before .before .before .loop .inv .1)
+returns c = let P = c .before .before .before .before .before .before .before .before .before .pre in
+    listed-cone (P .0) (c .before .before .before .before .before .before .before .chosen .ensures) (P .1) (c .before .before .list-node2 .ensures) (c .before .before .list-node2 .kept .1 .0 ∙ c .before .before .before .before .before .before .loop .inv .1)
 
 pub cone-spec : {M : Type 1} → statement M
 cone-spec =

@@ -5,7 +5,7 @@ use mathlib.Core.Path.{_≡_, sym, subst}
 use lib.ListN.{set}
 use borrow.Author.Needs.{needs}
 use Rattle.questions.specs.Layout.{start-of, node-count}
-use Rattle.tables.proofs.Marks.{blank, given-question, Passing, first-inside, passing-start, passing-more, passing-end}
+use Rattle.tables.proofs.Marks.{blank, Passing, first-inside, passing-start, passing-more, passing-end}
 use Rattle.tables.proofs.needed.Statement.{statement}
 use Rattle.tables.proofs.needed.Tie as tie
 
@@ -15,11 +15,11 @@ Inv-loop m q need₀ root first k₀ need k = (k ≤ 32 * node-count q) × Passi
 abbrev μ-loop : tie.MeasureT-loop
 μ-loop m q need₀ root first k₀ need k = k
 
-node-count-requires : tie.Need-node-count-requires Inv-loop μ-loop
-node-count-requires c κs = search needs
+count-requires : tie.Need-count-requires Inv-loop μ-loop
+count-requires c κs = search needs
 
 sub-root : tie.Need-sub-root Inv-loop μ-loop
-sub-root c = omega (arith, c .node-count .ensures, (given-question (c .before .before .pre)) .some-node)
+sub-root c = omega (arith, c .count .ensures, c .before .pre .nodes .formed .some-node)
 
 start-requires : tie.Need-start-requires Inv-loop μ-loop
 start-requires c κs = search needs
@@ -28,21 +28,21 @@ place-requires : tie.Need-place-requires Inv-loop μ-loop
 place-requires c κs = search needs
 
 array-write-need : tie.Need-array-write-need Inv-loop μ-loop
-array-write-need c = omega (arith, first-inside (c .before .before .before .before .pre) .0, c .place .ensures, c .before .start .ensures, c .before .before .node-count .ensures)
+array-write-need c = omega (arith, first-inside (c .before .before .before .pre) .0, c .place .ensures, c .before .start .ensures, c .before .before .count .ensures)
 
 place-requires-2 : tie.Need-place-requires-2 Inv-loop μ-loop
 place-requires-2 c κs = search needs
 
 add-k : tie.Need-add-k Inv-loop μ-loop
-add-k c = omega (arith, c .place2 .ensures, c .before .before .before .node-count .ensures, (given-question (c .before .before .before .before .before .pre)) .few-nodes)
+add-k c = omega (arith, c .place2 .ensures, c .before .before .before .count .ensures, c .before .before .before .before .pre .nodes .formed .few-nodes)
 
 loop-holds : tie.Need-loop-holds Inv-loop μ-loop
-loop-holds c = let G = c .before .before .before .before .before .pre in
-    let m = c .before .before .before .before .before .args .m .now in
-    let q = c .before .before .before .before .before .args .q .now in
-    let n = (given-question G) .some-node in
-    let p : c .before .place .result ≡ 32 * (node-count q - 1) + start-of q = omega (arith, c .before .place .ensures, c .before .before .start .ensures, c .before .before .before .node-count .ensures) in
-    let r : c .place2 .result + 32 ≡ 32 * node-count q = omega (arith, c .place2 .ensures, c .before .before .before .node-count .ensures) in (
+loop-holds c = let G = c .before .before .before .before .pre in
+    let m = c .before .before .before .before .args .m .now in
+    let q = c .before .before .before .before .args .q .now in
+    let n = G .nodes .formed .some-node in
+    let p : c .before .place .result ≡ 32 * (node-count q - 1) + start-of q = omega (arith, c .before .place .ensures, c .before .before .start .ensures, c .before .before .before .count .ensures) in
+    let r : c .place2 .result + 32 ≡ 32 * node-count q = omega (arith, c .place2 .ensures, c .before .before .before .count .ensures) in (
       omega arith,
       subst (λ (x : ℕ). Passing m q (set (blank 1280) x 1) (c .place2 .result + 32)) (sym p)
           (subst (λ (y : ℕ). Passing m q (set (blank 1280) (32 * (node-count q - 1) + start-of q) 1) y) (sym r) (passing-start G)),
@@ -52,19 +52,19 @@ sub-k : tie.Need-sub-k Inv-loop μ-loop
 sub-k c = omega arith
 
 pass-on-requires : tie.Need-pass-on-requires Inv-loop μ-loop
-pass-on-requires c κs = ((c .before .before .before .before .before .before .before .before .pre, omega arith), λ e. c .before .before .loop .inv .1 .inside _ e .1)
+pass-on-requires c κs = ((c .before .before .before .before .before .before .before .pre, omega arith), λ e. c .before .before .loop .inv .1 .inside _ e .1)
 
 loop-less : tie.Need-loop-less Inv-loop μ-loop
 loop-less c = omega arith
 
 loop-again : tie.Need-loop-again Inv-loop μ-loop
-loop-again c = let S = c .before .before .before .before .before .before .before .before .before in
+loop-again c = let S = c .before .before .before .before .before .before .before .before in
     let L = c .before .before .before .loop in
     let n = c .pass-on in
     (omega arith, passing-more (L .k - 1) (subst (Passing (S .args .m .now) (S .args .q .now) (L .need)) (omega arith) (L .inv .1)) (omega arith) (n .ensures .0) (n .ensures .1))
 
 returns : tie.Need-returns Inv-loop μ-loop
-returns c = let S = c .before .before .before .before .before .before .before in
+returns c = let S = c .before .before .before .before .before .before in
     let L = c .before .loop in
     passing-end (subst (Passing (S .args .m .now) (S .args .q .now) (L .need)) (omega arith) (L .inv .1))
 
@@ -74,7 +74,7 @@ needed-spec =
     (tie.spec
     Inv-loop
     μ-loop
-    node-count-requires
+    count-requires
     sub-root
     start-requires
     place-requires

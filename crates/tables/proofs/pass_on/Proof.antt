@@ -8,7 +8,7 @@ use lib.ListN.{set}
 use Rattle.models.specs.Layout.{state-count}
 use Rattle.prepared.specs.promises.Rows.{step-in, Offers}
 use Rattle.tables.specs.promises.Need.{Marked, Grown}
-use Rattle.tables.proofs.Marks.{Pair-done, grown-none, given-question, left-marked, both-marked, next-marked, none-marked}
+use Rattle.tables.proofs.Marks.{Pair-done, grown-none, left-marked, both-marked, next-marked, none-marked}
 use borrow.Author.Needs.{needs}
 use Rattle.tables.proofs.pass_on.Statement.{statement}
 use Rattle.tables.proofs.pass_on.Tie as tie
@@ -17,10 +17,10 @@ byte-requires : tie.Need-byte-requires
 byte-requires c κs = search needs
 
 returns : tie.Need-returns
-returns c = (grown-none _ _ (c .before .before .before .before .before .args .need .now), λ e. absurd (c .if1 .taken (c .before .byte .ensures ∙ e)))
+returns c = (grown-none _ _ (c .before .before .before .before .args .need .now), λ e. absurd (c .if1 .taken (c .before .byte .ensures ∙ e)))
 
 cast-j : tie.Need-cast-j
-cast-j c = omega (arith, (given-question (c .before .before .before .before .before .pre .0 .0)) .few-nodes)
+cast-j c = omega (arith, c .before .before .before .before .pre .0 .0 .nodes .formed .few-nodes)
 
 cast-s : tie.Need-cast-s
 cast-s c = search needs
@@ -50,13 +50,13 @@ left-requires-3 : tie.Need-left-requires-3
 left-requires-3 c κs = search needs
 
 mark-next-requires : tie.Need-mark-next-requires
-mark-next-requires c κs = let S = c .before .before .before .before .before .before .before .before .before in
-    let A = given-question (S .pre .0 .0) in
+mark-next-requires c κs = let S = c .before .before .before .before .before .before .before .before in
+    let A = S .pre .0 .0 .nodes .formed in
     let b = A .in-range (S .args .k / 32) (omega arith) .of-next (sym (c .before .before .before .operator .ensures) ∙ c .before .before .match .keys3) in
     (S .pre .0 .0 .prepared, omega (arith, b, A .few-nodes, c .left3 .ensures), S .pre .1 (sym (c .before .before .before .before .before .byte .ensures) ∙ c .before .before .before .before .if1 .left))
 
 returns-2 : tie.Need-returns-2
-returns-2 c = let S = c .before .before .before .before .before .before .before .before .before .before in
+returns-2 c = let S = c .before .before .before .before .before .before .before .before .before in
     let need = S .args .need .now in
     let k = S .args .k in
     let e = c .before .before .before .before .operator .ensures in
@@ -64,7 +64,7 @@ returns-2 c = let S = c .before .before .before .before .before .before .before 
     (left-marked (S .pre .0 .0) need k (S .pre .0 .1) (S .pre .1 (sym (c .before .before .before .before .before .before .byte .ensures) ∙ c .before .before .before .before .before .if1 .left)) (c .before .before .mark-arg .given .0 .1) (⊎-elim (λ x. inl (sym e ∙ x)) (λ x. inr (sym e ∙ x)) (c .before .before .before .match .keys1)))
 
 returns-3 : tie.Need-returns-3
-returns-3 c = let S = c .before .before .before .before .before .before .before .before .before .before .before .before .before in
+returns-3 c = let S = c .before .before .before .before .before .before .before .before .before .before .before .before in
     let need = S .args .need .now in
     let k = S .args .k in
     subst (Pair-done (S .args .m .now) (S .args .q .now) need k)
@@ -73,7 +73,7 @@ returns-3 c = let S = c .before .before .before .before .before .before .before 
     (both-marked (S .pre .0 .0) need k (S .pre .0 .1) (S .pre .1 (sym (c .before .before .before .before .before .before .before .before .before .byte .ensures) ∙ c .before .before .before .before .before .before .before .before .if1 .left)) (c .before .before .before .before .before .mark-arg2 .given .0 .1) (sym (c .before .before .before .before .before .before .before .operator .ensures) ∙ c .before .before .before .before .before .before .match .keys2))
 
 returns-4 : tie.Need-returns-4
-returns-4 c = let S = c .before .before .before .before .before .before .before .before .before .before in
+returns-4 c = let S = c .before .before .before .before .before .before .before .before .before in
     let need = S .args .need .now in
     let k = S .args .k in
     let m = S .args .m .now in
@@ -83,7 +83,7 @@ returns-4 c = let S = c .before .before .before .before .before .before .before 
     next-marked (S .pre .0 .0) need k (S .pre .0 .1) (S .pre .1 (sym (c .before .before .before .before .before .before .byte .ensures) ∙ c .before .before .before .before .before .if1 .left)) (sym (c .before .before .before .before .operator .ensures) ∙ c .before .before .before .match .keys3) (w .0) (w .1)
 
 returns-5 : tie.Need-returns-5
-returns-5 c = let S = c .before .before .before .before .before .before .before in
+returns-5 c = let S = c .before .before .before .before .before .before in
     let n = c .match .rest in
     let e = c .before .operator .ensures in
     none-marked (S .pre .0 .0) (S .args .need .now) (S .args .k) (S .pre .0 .1) (S .pre .1 (sym (c .before .before .before .byte .ensures) ∙ c .before .before .if1 .left))

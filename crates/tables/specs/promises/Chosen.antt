@@ -6,14 +6,13 @@ use mathlib.Core.List.{List}
 use lib.ListN.{getD}
 use Rattle.logic.specs.Formula.{depth}
 use Rattle.blocks.specs.Bytes.{Bytes}
-use Rattle.questions.specs.Layout.{node-count, node-of}
-use Rattle.evaluation.specs.promises.Reached.{formula, reads-left, Earlier}
+use Rattle.questions.specs.Layout.{node-of}
+use Rattle.nodes.specs.promises.Nodes.{formula, reads-left, Nodes}
+use Rattle.evaluation.specs.promises.Reached.{Earlier}
 
--- There are few nodes, and the children of a node have smaller numbers than its own.
-pub record Ordered (q : Bytes) : Type 0 where
-  pub few : node-count q ≤ 40
-  pub left : (j : ℕ) → j < node-count q → reads-left ((node-of q j) .operator) ≡ true → (node-of q j) .left < j
-  pub right : (j : ℕ) → j < node-count q → (node-of q j) .operator ≡ 4 → (node-of q j) .right < j
+-- A prepared question, for whatever model.
+abbrev pub Asked : Bytes → Type 0
+Asked q = (S : ℕ) × (A : ℕ) × (N : ℕ) × Nodes S A N q
 
 -- The children that the values of node j on a path are made of are marked; a state formula is not entered.
 pub record Entered (q : Bytes) (marks : List ℕ) (j : ℕ) : Type 0 where

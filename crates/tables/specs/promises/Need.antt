@@ -4,17 +4,16 @@ use mathlib.Core.Path.{_≡_}
 use mathlib.Core.Logic.{_⊎_}
 use mathlib.Core.List.{List}
 use lib.ListN.{getD}
-use Rattle.logic.specs.promises.Refusal.{refusal}
 use Rattle.blocks.specs.Bytes.{Bytes}
 use Rattle.models.specs.Layout.{state-count, action-count, prop-count}
 use Rattle.prepared.specs.promises.Rows.{step-in, Offers, Prepared}
 use Rattle.questions.specs.Layout.{start-of, node-count, node-of}
-use Rattle.questions.specs.Grounds.{read-question}
+use Rattle.nodes.specs.promises.Nodes.{Nodes}
 
--- What is judged: an accepted question for a prepared model.
+-- What is judged: a question for a model, both prepared.
 pub record Given (m q : Bytes) : Type 0 where
   pub prepared : Prepared m
-  pub question-accepted : refusal (read-question (state-count m) (action-count m) (prop-count m) q) ≡ 0
+  pub nodes : Nodes (state-count m) (action-count m) (prop-count m) q
 
 abbrev pub Marked : List ℕ → ℕ → ℕ → Type 0
 Marked need j s = getD need (32 * j + s) 0 ≡ 1

@@ -18,8 +18,8 @@ cast-result : tie.Need-cast-result
 cast-result c = search needs
 
 returns : tie.Need-returns
-returns c = let S = c .before .before .before .before in
-    c .known .ensures ∙ ap (λ j. known (S .args .v .now) j 0) (c .before .before .byte .ensures)
+returns c = let S = c .before .before .before in
+    c .known .ensures ∙ ap (λ j. known (S .args .v .now) j 0) (c .before .byte .ensures)
 
 pub leaf-spec : {M : Type 1} → statement M
 leaf-spec = tie.close (tie.spec sub-byte byte-requires known-requires cast-result returns)

@@ -6,8 +6,9 @@ use lib.IntN.{ℤ}
 use lib.ListN.{length, take, drop}
 use Rattle.logic.specs.Formula.{depth}
 use Rattle.blocks.specs.Bytes.{Bytes}
+use Rattle.nodes.specs.promises.Nodes.{formula}
 use Rattle.evaluation.specs.promises.Path.{state-after}
-use Rattle.evaluation.specs.promises.Reached.{formula, root-of}
+use Rattle.evaluation.specs.promises.Reached.{root-of}
 use Rattle.evaluation.specs.promises.Known.{Knows, Back}
 use Rattle.weighing.specs.promises.Sums.{Run}
 

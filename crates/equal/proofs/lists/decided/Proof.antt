@@ -30,8 +30,8 @@ power-requires : tie.Need-power-requires
 power-requires c κs = search needs
 
 mul-x : tie.Need-mul-x
-mul-x c = let D = c .before .before .before .before .before .before .before .before .pre in
-    record { fits = value-fits (c .before .before .known .ensures) (D .truth) (c .power .ensures ∙ ap (λ z. z ^ c .before .before .before .before .before .before .before .before .args .k) (c .before .denominator .ensures)) (D .part-of) (D .steps) }
+mul-x c = let D = c .before .before .before .before .before .before .before .pre in
+    record { fits = value-fits (c .before .before .known .ensures) (D .truth) (c .power .ensures ∙ ap (λ z. z ^ c .before .before .before .before .before .before .before .args .k) (c .before .denominator .ensures)) (D .part-of) (D .steps) }
 
 fill-requires : tie.Need-fill-requires
 fill-requires c κs = search needs
@@ -40,8 +40,8 @@ same-length : tie.Need-same-length
 same-length c = search needs
 
 returns : tie.Need-returns
-returns c = let S = c .before .before .before .before .before .before .before .before .before .before .before .before in
-    let n = c .before .before .before .before .before .before .before .before .before .plans-counted in
+returns c = let S = c .before .before .before .before .before .before .before .before .before .before .before in
+    let n = c .before .before .before .before .before .before .before .before .plans-counted in
     (n .ensures, c .before .before .fill .ensures ∙ ap₂ (λ i y. splice (S .args .buf .now) (S .args .at) (replicate i y)) (n .ensures) (ap₂ _*_ (c .before .before .before .before .before .before .known .ensures) (c .before .before .before .before .power .ensures ∙ ap (λ z. z ^ S .args .k) (c .before .before .before .before .before .denominator .ensures))))
 
 pub decided-spec : {M : Type 1} → statement M
