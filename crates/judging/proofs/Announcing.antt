@@ -28,15 +28,14 @@ use Rattle.blocks.specs.Splice.{splice}
 use Rattle.blocks.proofs.Splice.{splice-none}
 use Rattle.models.specs.Layout.{state-count}
 use Rattle.prepared.specs.promises.Rows.{model-in}
-use Rattle.questions.specs.Layout.{start-of, node-count, node-of, formulas-of, question-of}
-use Rattle.questions.specs.promises.Tables.{table}
+use Rattle.questions.specs.Layout.{start-of, node-count, node-of, question-of}
 use Rattle.limits.specs.promises.Totals.{Totals}
-use Rattle.evaluation.specs.promises.Reached.{formula, root-of}
+use Rattle.nodes.specs.promises.Nodes.{formula}
+use Rattle.evaluation.specs.promises.Reached.{root-of}
 use Rattle.extension.specs.promises.Choices.{extend}
 use Rattle.extension.proofs.Choices.{extend-choices}
 use Rattle.search.proofs.Orders.{ordered, additive}
 use Rattle.tables.specs.promises.Need.{Given}
-use Rattle.tables.proofs.Marks.{given-question}
 use Rattle.judging.specs.declared.Outcome.{Outcome}
 use Rattle.judging.specs.declared.plans.Decision.{Decision}
 use Rattle.judging.specs.promises.Asked.{Asked, Served}
@@ -93,7 +92,7 @@ state-depth (plan n φ b p q) e = refl
 
 -- ---- the verdict on a "plan" node
 
-module _ {m q : Bytes} {counts depths : List ℕ} (asked : Asked m q counts depths) (j s : ℕ) (h : j < node-count q)
+module _ {m q : Bytes} {counts : List ℕ} (asked : Asked m q counts) (j s : ℕ) (h : j < node-count q)
     (o : (node-of q j) .operator ≡ 8) (inside : s < state-count m) {scratch : List ℕ} {r : Decision} (x : Decided m q j s scratch r) where
   -- "equal"
   pub equal-few : (node-of q j) .right ≡ 2 → (plan-total (model-in m) ((node-of q j) .n) s ≤ 65536) × (r .place ≤ 65536)
@@ -160,14 +159,13 @@ module _ {m q : Bytes} {counts depths : List ℕ} (asked : Asked m q counts dept
 
 -- ---- the root
 
-pub asked-at : {m q : Bytes} {counts depths : List ℕ} → Served m q → Totals true (model-in m) counts → depths ≡ table depth (formulas-of q)
-    → Asked m q counts depths
-asked-at x c d =
+pub asked-at : {m q : Bytes} {counts : List ℕ} → Served m q → Totals true (model-in m) counts
+    → Asked m q counts
+asked-at x c =
     record {
-      given = record { prepared = x .prepared; question-accepted = x .question-accepted };
+      given = record { prepared = x .prepared; nodes = x .nodes };
       counted = c;
       within = x .within;
-      deep = d;
     }
 
 -- What is asked of a node that is judged.
@@ -176,19 +174,19 @@ Judged-at m q truth j s = (j < node-count q) × (s < state-count m) × Supplied 
 
 module _ {m q : Bytes} (given : Given m q) where
   root-node : root q < node-count q
-  root-node = let n : 1 ≤ node-count q = given-question given .some-node in omega arith
+  root-node = let n : 1 ≤ node-count q = given .nodes .formed .some-node in omega arith
 
   root-depth : depth (formula q (root q)) ≡ 0
   unfolding question-of
-  root-depth = state-depth (formula q (root q)) (given-question given .root-state)
+  root-depth = state-depth (formula q (root q)) (given .nodes .formed .root-state)
 
   pub root-judged : {truth : Bytes} → Supplied m q truth (root q) (start-of q) → {j s : ℕ} → j ≡ root q → s ≡ start-of q → Judged-at m q truth j s
   root-judged {truth} x {s = s} e f =
       subst (λ j. Judged-at m q truth j s) (sym e)
-      (subst (λ s. Judged-at m q truth (root q) s) (sym f) (root-node, given-question given .starts, x, root-depth))
+      (subst (λ s. Judged-at m q truth (root q) s) (sym f) (root-node, given .nodes .formed .starts, x, root-depth))
 
   pub root-posed : {truth : Bytes} → Supplied m q truth (root q) (start-of q) → (node-of q (root q)) .operator ≡ 8 → Posed m q truth (root q) (start-of q)
-  root-posed x o = record { node = root-node; is-plan = o; state = given-question given .starts; told = x .under-plan o }
+  root-posed x o = record { node = root-node; is-plan = o; state = given .nodes .formed .starts; told = x .under-plan o }
 
 pub root-announces : (m q : Bytes) {j s : ℕ} {x : Outcome} (before after : List ℕ) → j ≡ root q → s ≡ start-of q
     → Announces (verdict (model-in m) s (formula q j)) x before after → Announces (root-verdict (model-in m) q) x before after

@@ -39,14 +39,14 @@ use Rattle.prepared.specs.promises.Rows.{model-in}
 use Rattle.prepared.proofs.Laws.{states-are}
 use Rattle.questions.specs.Layout.{node-count, node-of, formulas-of}
 use Rattle.questions.proofs.Laws.{by-operator}
+use Rattle.questions.specs.promises.Formed.{PlanRange, Formed}
 use Rattle.questions.proofs.Accepted as questions
 use Rattle.limits.specs.promises.Totals.{fits}
 use Rattle.limits.specs.promises.Totals as totals
 use Rattle.limits.proofs.Nodes.{nodes-all, done}
-use Rattle.evaluation.specs.promises.Reached.{formula}
+use Rattle.nodes.specs.promises.Nodes.{formula}
 use Rattle.bounds.specs.promises.Bounded.{Bounded, meets-at}
 use Rattle.tables.specs.promises.Need.{Given}
-use Rattle.tables.proofs.Marks.{given-question}
 use Rattle.judging.specs.promises.Asked.{Asked}
 use Rattle.judging.specs.promises.Decided.{led-weight, led-plan, plan-at, First, Led}
 use Rattle.judging.specs.declared.plans.Decision.{Decision}
@@ -214,14 +214,14 @@ pub record Planned (q : Bytes) (j : ℕ) : Type 0 where
   pub here : formula q j ≡ plan ((node-of q j) .n) (formula q ((node-of q j) .left)) (relation ((node-of q j) .right)) (nonnegative ((node-of q j) .p)) ((node-of q j) .q)
   pub deep : depth (formula q ((node-of q j) .left)) ≤ (node-of q j) .n
   pub few : (node-of q j) .n ≤ 6
-  pub range : questions.PlanRange j (node-of q j)
+  pub range : PlanRange j (node-of q j)
 
 pub plan-bounded : {m q : Bytes} {j : ℕ} → Bounded m q j → Planned q j
 plan-bounded {m} {q} {j} b =
     let S = state-count m in
     let A = action-count m in
     let N = prop-count m in
-    let asks = questions.accepted S A N q (b .question-accepted) in
+    let asks = b .nodes .formed in
     let r = asks .in-range j (b .node) .of-plan (b .is-plan) in
     record {
       here = questions.at-plan S A N q asks j (b .node) (b .is-plan);
@@ -231,12 +231,12 @@ plan-bounded {m} {q} {j} b =
     }
 
 module _ {m q : Bytes} (given : Given m q) where
-  abbrev asks : questions.Accepted (state-count m) (action-count m) (prop-count m) q
-  asks = given-question given
+  abbrev asks : Formed (state-count m) (action-count m) (prop-count m) q
+  asks = given .nodes .formed
 
   pub plan-here : (j : ℕ) → j < node-count q → (node-of q j) .operator ≡ 8 → Planned q j
   plan-here j h o =
-      plan-bounded (record { prepared = given .prepared; question-accepted = given .question-accepted; node = h; is-plan = o })
+      plan-bounded (record { prepared = given .prepared; nodes = given .nodes; node = h; is-plan = o })
 
   -- ---- the model
 
@@ -345,7 +345,7 @@ module _ {m q : Bytes} (given : Given m q) where
 
 -- ---- the limits
 
-module _ {m q : Bytes} {counts depths : List ℕ} (asked : Asked m q counts depths) (j s : ℕ) (h : j < node-count q)
+module _ {m q : Bytes} {counts : List ℕ} (asked : Asked m q counts) (j s : ℕ) (h : j < node-count q)
     (o : (node-of q j) .operator ≡ 8) (e : (node-of q j) .right ≡ 2) (inside : s < state-count m) where
   inside-model : s < length (model-in m .states)
   inside-model = subst (λ k. s < k) (sym (given-states (asked .given))) inside

@@ -4,4 +4,3 @@ pub mod Peeling
 pub mod Remembering
 pub mod Posing
 pub mod Announcing
-pub mod Alike

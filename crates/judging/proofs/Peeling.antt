@@ -15,11 +15,11 @@ use Rattle.logic.proofs.Depth.{sat-short}
 use Rattle.blocks.specs.Bytes.{Bytes}
 use Rattle.models.specs.Layout.{state-count, action-count, prop-count}
 use Rattle.prepared.specs.promises.Rows.{model-in}
-use Rattle.questions.specs.Layout.{node-of, formulas-of}
-use Rattle.questions.specs.promises.Tables.{table}
+use Rattle.questions.specs.Layout.{node-count, node-of}
+use Rattle.questions.specs.promises.Formed.{Formed}
 use Rattle.questions.proofs.Accepted as questions
-use Rattle.evaluation.specs.promises.Reached.{formula, Reached, itself, under-not, and-left, and-right, under-next}
-use Rattle.evaluation.proofs.Knowing.{depth-in}
+use Rattle.nodes.specs.promises.Nodes.{formula, depth-in}
+use Rattle.evaluation.specs.promises.Reached.{Reached, itself, under-not, and-left, and-right, under-next}
 use Rattle.judging.specs.promises.Truth.{Told}
 use Rattle.judging.specs.promises.Conditions.{Stands, Same, Peels}
 use Rattle.judging.specs.declared.conditions.Peeled.{Peeled}
@@ -66,17 +66,14 @@ right-one true false e = absurd (false≢true (sym e))
 right-one false u e = refl
 
 module _ {m q truth : Bytes} {c s : ℕ} (h : Stands m q truth c s) (o : (node-of q c) .operator ≡ 4) where
-  abbrev asked : questions.Accepted (state-count m) (action-count m) (prop-count m) q
-  asked = questions.accepted (state-count m) (action-count m) (prop-count m) q (h .accepted)
+  abbrev asked : Formed (state-count m) (action-count m) (prop-count m) q
+  asked = h .nodes .formed
 
   abbrev left : ℕ
   left = (node-of q c) .left
 
   abbrev right : ℕ
   right = (node-of q c) .right
-
-  few : c < 40
-  few = omega (arith, asked .few-nodes, h .node)
 
   before-left : left < c
   before-left = asked .in-range c (h .node) .of-both o .0
@@ -89,11 +86,11 @@ module _ {m q truth : Bytes} {c s : ℕ} (h : Stands m q truth c s) (o : (node-o
 
   stands-left : Stands m q truth left s
   stands-left =
-      record { accepted = h .accepted; node = omega (arith, before-left, h .node); state = h .state; told = told-on (h .told) (and-left itself o) }
+      record { nodes = h .nodes; node = omega (arith, before-left, h .node); state = h .state; told = told-on (h .told) (and-left itself o) }
 
   stands-right : Stands m q truth right s
   stands-right =
-      record { accepted = h .accepted; node = omega (arith, before-right, h .node); state = h .state; told = told-on (h .told) (and-right itself o) }
+      record { nodes = h .nodes; node = omega (arith, before-right, h .node); state = h .state; told = told-on (h .told) (and-right itself o) }
 
   -- The truth of a child on a path; what the table says of one that is a state formula, it is on every path.
   abbrev on : ℕ → List Step → Bool
@@ -140,12 +137,12 @@ same-itself h = record { stands = h; looks = refl; values = λ r. refl }
 pub peels-none : {q truth : Bytes} {c s : ℕ} → Peels q truth c s (record { dead = false; node = c })
 peels-none = record { never = λ m h e. absurd (false≢true e); left = λ m h e. same-itself h }
 
-module _ {q truth : Bytes} {depths : List ℕ} (deep : depths ≡ table depth (formulas-of q)) {c s : ℕ} (o : (node-of q c) .operator ≡ 4) where
-  -- By the tables of depths and of truth: i is the child that is read, j the other.
-  peels-by : (i j : ℕ) → ((m : Bytes) → Stands m q truth c s → i < 40)
+module _ {q truth : Bytes} {c s : ℕ} (o : (node-of q c) .operator ≡ 4) where
+  -- By the depths and the table of truth: i is the child that is read, j the other.
+  peels-by : (i j : ℕ) → ((m : Bytes) → Stands m q truth c s → i < node-count q)
       → ((m : Bytes) → Stands m q truth c s → depth (formula q i) ≡ 0 → eqb (getD truth (32 * i + s) 0) 0 ≡ true → (p : List Step) → value-of (model-in m) (formula q c) s p ≡ 0)
       → ((m : Bytes) → Stands m q truth c s → depth (formula q i) ≡ 0 → eqb (getD truth (32 * i + s) 0) 0 ≡ false → Same m q truth c s j)
-      → {a b x y z : ℕ} → a ≡ i → b ≡ j → z ≡ getD depths a 0 → z ≡ 0 → y ≡ 32 * a + s → x ≡ getD truth y 0 → Peels q truth c s (record { dead = eqb x 0; node = b })
+      → {a b x y z : ℕ} → a ≡ i → b ≡ j → z ≡ depth-in q a → z ≡ 0 → y ≡ 32 * a + s → x ≡ getD truth y 0 → Peels q truth c s (record { dead = eqb x 0; node = b })
   peels-by i j few never same {x = x} ea eb ez e0 ey ex =
       record {
         never = λ m h e. never m h (shallow m h) (sym there ∙ e);
@@ -156,17 +153,17 @@ module _ {q truth : Bytes} {depths : List ℕ} (deep : depths ≡ table depth (f
       there = ap (λ v. eqb v 0) (ex ∙ ap (λ k. getD truth k 0) (ey ∙ ap (λ k. 32 * k + s) ea))
 
       shallow : (m : Bytes) → Stands m q truth c s → depth (formula q i) ≡ 0
-      shallow m h = sym (depth-in q depths deep i (few m h)) ∙ ap (λ k. getD depths k 0) (sym ea) ∙ sym ez ∙ e0
+      shallow m h = sym (h .nodes .deep i (few m h)) ∙ ap (depth-in q) (sym ea) ∙ sym ez ∙ e0
 
-  pub peels-left : {a b x y z : ℕ} → a ≡ (node-of q c) .left → b ≡ (node-of q c) .right → z ≡ getD depths a 0 → z ≡ 0
+  pub peels-left : {a b x y z : ℕ} → a ≡ (node-of q c) .left → b ≡ (node-of q c) .right → z ≡ depth-in q a → z ≡ 0
       → y ≡ 32 * a + s → x ≡ getD truth y 0 → Peels q truth c s (record { dead = eqb x 0; node = b })
   peels-left =
-      peels-by ((node-of q c) .left) ((node-of q c) .right) (λ m h. omega (arith, before-left h o, few h o)) (λ m h. left-never h o) (λ m h. left-same h o)
+      peels-by ((node-of q c) .left) ((node-of q c) .right) (λ m h. omega (arith, before-left h o, h .node)) (λ m h. left-never h o) (λ m h. left-same h o)
 
-  pub peels-right : {a b x y z : ℕ} → a ≡ (node-of q c) .left → b ≡ (node-of q c) .right → z ≡ getD depths b 0 → z ≡ 0
+  pub peels-right : {a b x y z : ℕ} → a ≡ (node-of q c) .left → b ≡ (node-of q c) .right → z ≡ depth-in q b → z ≡ 0
       → y ≡ 32 * b + s → x ≡ getD truth y 0 → Peels q truth c s (record { dead = eqb x 0; node = a })
   peels-right ea eb =
-      peels-by ((node-of q c) .right) ((node-of q c) .left) (λ m h. omega (arith, before-right h o, few h o)) (λ m h. right-never h o) (λ m h. right-same h o) eb ea
+      peels-by ((node-of q c) .right) ((node-of q c) .left) (λ m h. omega (arith, before-right h o, h .node)) (λ m h. right-never h o) (λ m h. right-same h o) eb ea
 
 -- ---- one after the other
 

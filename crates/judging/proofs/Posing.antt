@@ -7,7 +7,7 @@ use mathlib.Core.Path.{_≡_, refl, sym, ap, ap₂, subst, _∙_}
 use mathlib.Core.Bool.{Bool, true, false}
 use mathlib.Core.List.{List, []}
 use lib.Dec.{eqb, ltb}
-use lib.ListN.{getD, length, length-map}
+use lib.ListN.{length, length-map}
 use lib.Pow.{pow-add}
 use borrow.Author.Tests.{le-ltb, eqb-true, eqb-false}
 use Rattle.logic.specs.Formula.{depth, sat, nonnegative}
@@ -17,13 +17,12 @@ use Rattle.logic.specs.Limits.{plan-total}
 use Rattle.logic.specs.promises.Total.{total, value-of}
 use Rattle.logic.proofs.Dictionary.{plan-count}
 use Rattle.blocks.specs.Bytes.{Bytes}
-use Rattle.models.specs.Layout.{state-count, action-count, prop-count, denominator-of}
+use Rattle.models.specs.Layout.{state-count, denominator-of}
 use Rattle.prepared.specs.promises.Rows.{model-in}
 use Rattle.prepared.proofs.Laws.{denominator-is}
-use Rattle.questions.specs.Layout.{node-count, node-of, formulas-of}
-use Rattle.questions.specs.promises.Tables.{table}
-use Rattle.questions.proofs.Accepted as questions
-use Rattle.evaluation.specs.promises.Reached.{formula, Cone, root-of, Ready}
+use Rattle.questions.specs.Layout.{node-count, node-of}
+use Rattle.nodes.specs.promises.Nodes.{formula, depth-in}
+use Rattle.evaluation.specs.promises.Reached.{Cone, root-of, Ready}
 use Rattle.bounds.specs.promises.Bounded.{Bounded, meets-at, Exactly}
 use Rattle.bounds.proofs.Meeting.{small}
 use Rattle.bounds.proofs.Powers.{power-le}
@@ -31,8 +30,6 @@ use Rattle.search.specs.declared.Found.{Found}
 use Rattle.equal.specs.promises.Totals.{totals}
 use Rattle.equal.specs.promises.Listing as listing
 use Rattle.tables.specs.promises.Need.{Given}
-use Rattle.tables.proofs.Marks.{given-question}
-use Rattle.evaluation.proofs.Knowing.{depth-in}
 use Rattle.judging.specs.promises.Asked.{Asked}
 use Rattle.judging.specs.promises.Truth.{Told}
 use Rattle.judging.specs.declared.plans.Decision.{Decision}
@@ -43,7 +40,7 @@ use Rattle.judging.proofs.Deciding.{Planned, plan-bounded, plan-here, a
 use Rattle.judging.proofs.Remembering.{same-best, never-best, best-small}
 use Rattle.judging.proofs.Remembering as remembering
 
-pub posed-at : {m q : Bytes} {counts depths truth : List ℕ} {j s : ℕ} → Asked m q counts depths → j < node-count q → (node-of q j) .operator ≡ 8
+pub posed-at : {m q : Bytes} {counts truth : List ℕ} {j s : ℕ} → Asked m q counts → j < node-count q → (node-of q j) .operator ≡ 8
     → s < state-count m → Told m q truth ((node-of q j) .left) s → Posed m q truth j s
 posed-at a h o l t = record { node = h; is-plan = o; state = l; told = t }
 
@@ -57,13 +54,9 @@ asked-other q j e h = eqb-false ((node-of q j) .right) 2 (sym e ∙ h)
 -- ---- a total over more steps
 
 module _ {m q : Bytes} {j : ℕ} (b : Bounded m q j) where
-  -- The depth of a "plan" node's condition, by the table.
-  pub looks-there : {depths : List ℕ} {c d : ℕ} → depths ≡ table depth (formulas-of q) → c ≡ (node-of q j) .left → d ≡ getD depths c 0 → d ≡ depth (condition q j)
-  looks-there {depths} deep e f =
-      let l : (node-of q j) .left < j = plan-bounded b .range .child in
-      let h : j < node-count q = b .node in
-      let n : node-count q ≤ 40 = questions.accepted (state-count m) (action-count m) (prop-count m) q (b .question-accepted) .few-nodes in
-      f ∙ ap (λ i. getD depths i 0) e ∙ depth-in q depths deep ((node-of q j) .left) (omega arith)
+  -- The depth of a "plan" node's condition, as it stands behind the block.
+  pub looks-there : {c d : ℕ} → c ≡ (node-of q j) .left → d ≡ depth-in q c → d ≡ depth (condition q j)
+  looks-there e f = f ∙ ap (depth-in q) e ∙ b .nodes .deep ((node-of q j) .left) (omega (arith, plan-bounded b .range .child, b .node))
 
   pub power-fits : denominator-of m ^ (node-of q j) .n < 2 ^ 64
   power-fits = let p : denominator-of m ^ (node-of q j) .n ≤ 100 ^ 6 = power-le (denominator-of m) ((node-of q j) .n) 6 (small m q j b) (plan-bounded b .few) in omega arith
@@ -81,37 +74,36 @@ module _ {m q : Bytes} {j : ℕ} (b : Bounded m q j) where
       power-sum : (D : ℕ) {d n : ℕ} → d ≤ n → D ^ (n - d) * D ^ d ≡ D ^ n
       power-sum D {d} {n} l = let f : n - d + d ≡ n = omega arith in sym (pow-add D (n - d) d) ∙ ap (λ i. D ^ i) f
 
-pub depth-there : {m q : Bytes} {counts depths : List ℕ} {j : ℕ} → Asked m q counts depths → j < node-count q → (node-of q j) .operator ≡ 8
-    → {c d : ℕ} → c ≡ (node-of q j) .left → d ≡ getD depths c 0 → d ≡ depth (condition q j)
+pub depth-there : {m q : Bytes} {counts : List ℕ} {j : ℕ} → Asked m q counts → j < node-count q → (node-of q j) .operator ≡ 8
+    → {c d : ℕ} → c ≡ (node-of q j) .left → d ≡ depth-in q c → d ≡ depth (condition q j)
 depth-there a h o e f =
-    looks-there (record { prepared = a .given .prepared; question-accepted = a .given .question-accepted; node = h; is-plan = o }) (a .deep) e f
+    looks-there (record { prepared = a .given .prepared; nodes = a .given .nodes; node = h; is-plan = o }) e f
 
 module _ {m q : Bytes} {truth : List ℕ} {j s : ℕ} (given : Given m q) (posed : Posed m q truth j s) where
   pub planned : Planned q j
   planned = plan-here given j (posed .node) (posed .is-plan)
 
   pub bounded : Bounded m q j
-  bounded = record { prepared = given .prepared; question-accepted = given .question-accepted; node = posed .node; is-plan = posed .is-plan }
+  bounded = record { prepared = given .prepared; nodes = given .nodes; node = posed .node; is-plan = posed .is-plan }
 
   -- The condition stands before the node, among at most 40.
   pub before : ((node-of q j) .left < node-count q) × ((node-of q j) .left < 40)
   before =
       let l : (node-of q j) .left < j = planned .range .child in
       let n : j < node-count q = posed .node in
-      let f : node-count q ≤ 40 = given-question given .few-nodes in
+      let f : node-count q ≤ 40 = given .nodes .formed .few-nodes in
       (omega arith, omega arith)
 
   pub stands-there : {c : ℕ} → c ≡ (node-of q j) .left → Stands m q truth c s
   stands-there e =
       subst (λ i. Stands m q truth i s) (sym e)
-      (record { accepted = given .question-accepted; node = before .0; state = posed .state; told = posed .told })
+      (record { nodes = given .nodes; node = before .0; state = posed .state; told = posed .told })
 
-  module _ {depths : List ℕ} (deep : depths ≡ table depth (formulas-of q)) where
-    pub looks : {c d : ℕ} → c ≡ (node-of q j) .left → d ≡ getD depths c 0 → d ≡ depth (condition q j)
-    looks e f = looks-there bounded deep e f
+  pub looks : {c d : ℕ} → c ≡ (node-of q j) .left → d ≡ depth-in q c → d ≡ depth (condition q j)
+  looks e f = looks-there bounded e f
 
-    pub ready : {l : List ℕ} → Cone q l → root-of l ≡ (node-of q j) .left → Ready m q s depths truth l
-    ready cone e = remembering.ready given (stands-there refl) deep cone e
+  pub ready : {l : List ℕ} → Cone q l → root-of l ≡ (node-of q j) .left → Ready m q s truth l
+  ready cone e = remembering.ready given (stands-there refl) cone e
 
   -- ---- what a search for the least or the greatest weight is handed, and found
 

@@ -19,13 +19,11 @@ use Rattle.blocks.specs.Bytes.{Bytes}
 use Rattle.models.specs.Layout.{state-count, denominator-of}
 use Rattle.prepared.specs.promises.Rows.{model-in}
 use Rattle.prepared.proofs.Laws.{denominator-is}
-use Rattle.questions.specs.Layout.{node-count, formulas-of}
-use Rattle.questions.specs.promises.Tables.{table}
-use Rattle.evaluation.specs.promises.Reached.{formula, Reached, Cone, root-of, Ready}
-use Rattle.evaluation.proofs.Knowing.{depth-in}
+use Rattle.questions.specs.Layout.{node-count}
+use Rattle.nodes.specs.promises.Nodes.{formula, depth-in}
+use Rattle.evaluation.specs.promises.Reached.{Reached, Cone, root-of, Ready}
 use Rattle.evaluation.proofs.Values.{one-if-small}
 use Rattle.tables.specs.promises.Need.{Given}
-use Rattle.tables.proofs.Marks.{given-question}
 use Rattle.search.specs.declared.Found.{Found}
 use Rattle.search.specs.promises.Greatest.{Finds}
 use Rattle.search.proofs.Orders.{additive}
@@ -62,16 +60,15 @@ one-if-same false false e = refl
 -- ---- what a search is handed, and what it finds
 
 module _ {m q : Bytes} {truth : List ℕ} {c s : ℕ} (given : Given m q) (h : Stands m q truth c s) where
-  pub looks : {depths : List ℕ} {d : ℕ} → depths ≡ table depth (formulas-of q) → d ≡ getD depths c 0 → d ≡ depth (formula q c)
-  looks {depths} deep e = e ∙ depth-in q depths deep c (omega (arith, h .node, given-question given .few-nodes))
+  pub looks : {d : ℕ} → d ≡ depth-in q c → d ≡ depth (formula q c)
+  looks e = e ∙ given .nodes .deep c (h .node)
 
-  pub ready : {depths l : List ℕ} → depths ≡ table depth (formulas-of q) → Cone q l → root-of l ≡ c → Ready m q s depths truth l
-  ready deep cone e =
+  pub ready : {l : List ℕ} → Cone q l → root-of l ≡ c → Ready m q s truth l
+  ready cone e =
       record {
         prepared = given .prepared;
-        question-accepted = given .question-accepted;
+        nodes = given .nodes;
         state = h .state;
-        depths-right = deep;
         ordered = cone;
         truth-right = λ i t r d. h .told .right i t (subst (λ c. Reached m q c s i t) e r) d;
       }
@@ -98,7 +95,7 @@ module _ {m q : Bytes} {truth : List ℕ} {c s : ℕ} (given : Given m q) (h : S
   -- ---- what is remembered
 
   pub place-in : memo-place c s least < 2560
-  place-in = omega (arith, one-if-small least, h .node, h .state, given-question given .few-nodes, given .prepared .states)
+  place-in = omega (arith, one-if-small least, h .node, h .state, given .nodes .formed .few-nodes, given .prepared .states)
 
   pub recalled : {memo : List ℕ} {k x : ℕ} → Remembers m q memo → k ≡ memo-place c s least → x ≡ getD memo k 0 → (x ≡ 0 → ⊥) → x - 1 ≡ best-total m q c s least
   recalled {memo} {k} {x} r e f n =

@@ -18,12 +18,14 @@ use Rattle.models.specs.Layout.{state-count, action-count, prop-count}
 use Rattle.prepared.specs.promises.Rows.{model-in}
 use Rattle.questions.specs.Layout.{start-of, node-count, node-of}
 use Rattle.questions.proofs.Laws.{by-operator}
+use Rattle.questions.specs.promises.Formed.{Formed}
 use Rattle.questions.proofs.Accepted as questions
-use Rattle.evaluation.specs.promises.Reached.{formula, Reached, itself, under-not, and-left, and-right, under-next}
+use Rattle.nodes.specs.promises.Nodes.{formula}
+use Rattle.evaluation.specs.promises.Reached.{Reached, itself, under-not, and-left, and-right, under-next}
 use Rattle.evaluation.proofs.Meaning.{flipped, joined}
 use Rattle.tables.specs.promises.Need.{Given, Marked, Needs}
 use Rattle.judging.specs.promises.Truth.{Told, Supplied, Right}
-use Rattle.tables.proofs.Marks.{given-question, first-inside, reached-marked}
+use Rattle.tables.proofs.Marks.{first-inside, reached-marked}
 
 module _ {m q : Bytes} (given : Given m q) where
   pub props-few : prop-count m ≤ 32
@@ -41,8 +43,8 @@ module _ {m q : Bytes} (given : Given m q) where
     abbrev N : ℕ
     N = prop-count m
 
-    abbrev asked : questions.Accepted (state-count m) (action-count m) (prop-count m) q
-    asked = given-question given
+    abbrev asked : Formed (state-count m) (action-count m) (prop-count m) q
+    asked = given .nodes .formed
 
     abbrev left : ℕ
     left = (node-of q j) .left
@@ -104,10 +106,10 @@ module _ {m q : Bytes} (given : Given m q) where
   -- What a node turns on is not after it.
   reached-before : {c s j t : ℕ} → c < node-count q → Reached m q c s j t → j ≤ c
   reached-before {c} h itself = omega arith
-  reached-before {c} h (under-not {j} r o) = let w = reached-before h r in omega (arith, given-question given .in-range j (omega arith) .of-neg o)
-  reached-before {c} h (and-left {j} r o) = let w = reached-before h r in omega (arith, given-question given .in-range j (omega arith) .of-both o .0)
-  reached-before {c} h (and-right {j} r o) = let w = reached-before h r in omega (arith, given-question given .in-range j (omega arith) .of-both o .1)
-  reached-before {c} h (under-next {j} a i r o l) = let w = reached-before h r in omega (arith, given-question given .in-range j (omega arith) .of-next o)
+  reached-before {c} h (under-not {j} r o) = let w = reached-before h r in omega (arith, given .nodes .formed .in-range j (omega arith) .of-neg o)
+  reached-before {c} h (and-left {j} r o) = let w = reached-before h r in omega (arith, given .nodes .formed .in-range j (omega arith) .of-both o .0)
+  reached-before {c} h (and-right {j} r o) = let w = reached-before h r in omega (arith, given .nodes .formed .in-range j (omega arith) .of-both o .1)
+  reached-before {c} h (under-next {j} a i r o l) = let w = reached-before h r in omega (arith, given .nodes .formed .in-range j (omega arith) .of-next o)
 
   module _ {need truth : List ℕ} (needs : Needs m q need) (k : ℕ) (known : Right m q need truth k) where
     right-told : (c s : ℕ) → 32 * c + 32 ≤ k → c < node-count q → s < state-count m → Marked need c s → Told m q truth c s
@@ -132,7 +134,7 @@ module _ {m q : Bytes} (given : Given m q) where
     pub supplied : (x : ℕ) → 32 * (x / 32) ≤ k → x < 32 * node-count q → getD need x 0 ≡ 1 → Supplied m q truth (x / 32) (x % 32)
     supplied x before h e =
         let passed = needs .closed x e in
-        let range = given-question given .in-range (x / 32) (omega arith) in
+        let range = given .nodes .formed .in-range (x / 32) (omega arith) in
         let y = node-of q (x / 32) in
         record {
           under-not = λ o. child (y .left) (range .of-neg o) (passed .under-not o);

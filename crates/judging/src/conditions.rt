@@ -2,18 +2,13 @@
 ghost use mathlib.Core.Path.{_≡_};
 ghost use Prim.Native.Nat.{_≤_, _<_};
 ghost use lib.ListN.{length};
-ghost use Rattle.logic.specs.Formula.{depth};
-ghost use Rattle.questions.specs.Layout.{formulas-of};
-ghost use Rattle.questions.specs.promises.Tables.{table};
-ghost use Rattle.evaluation.specs.promises.Reached.{formula};
+ghost use Rattle.logic.specs.Formula as formulas;
+ghost use Rattle.nodes.specs.promises.Nodes.{formula};
 ghost use Rattle.tables.specs.promises.Need.{Given};
 ghost use Rattle.judging.specs.promises.Conditions.{Stands, Peels, best-total, Searched, memo-place, Remembers};
 use blocks::byte;
 use evaluation::bit;
-use evaluation::depth_at;
-use questions::left;
-use questions::operator;
-use questions::right;
+use nodes::depth;
 use search::Found;
 use search::find;
 use tables::cone;
@@ -25,27 +20,26 @@ pub struct Peeled {
     pub node: u8,
 }
 
-// Takes one state formula off c, where c is "and" of one and another node.
-fn peel_one(q: &[u8], depths: &[u32], truth: &[u8], c: u8, s: u8) -> Peeled
-    requires { ⌜ now depths ≡ table depth (formulas-of (now q)) ⌝ }
+// Takes one state formula off c, where c is "and" of one and another node. It asks nothing of its numbers, so it reads them with a test.
+fn peel_one(q: &[u8; 552], truth: &[u8; 1280], c: u8, s: u8) -> Peeled
     ensures { λ r. ⌜ Peels (now (q .entry)) (now (truth .entry)) c s r ⌝ }
 {
-    if operator(q, c) != 4 {
+    if questions::operator(q, c) != 4 {
         return Peeled {
             dead: false,
             node: c,
         };
     }
-    let a = left(q, c);
-    let b = right(q, c);
-    if depth_at(depths, a) == 0 {
+    let a = questions::left(q, c);
+    let b = questions::right(q, c);
+    if byte(q, 512 + a as usize) == 0 {
         let x = byte(truth, place(a, s));
         return Peeled {
             dead: x == 0,
             node: b,
         };
     }
-    if depth_at(depths, b) == 0 {
+    if byte(q, 512 + b as usize) == 0 {
         let x = byte(truth, place(b, s));
         return Peeled {
             dead: x == 0,
@@ -59,15 +53,14 @@ fn peel_one(q: &[u8], depths: &[u32], truth: &[u8], c: u8, s: u8) -> Peeled
 }
 
 // Takes all state formulas off c that it joins.
-pub fn peel(q: &[u8], depths: &[u32], truth: &[u8], c: u8, s: u8) -> Peeled
-    requires { ⌜ now depths ≡ table depth (formulas-of (now q)) ⌝ }
+pub fn peel(q: &[u8; 552], truth: &[u8; 1280], c: u8, s: u8) -> Peeled
     ensures { λ r. ⌜ Peels (now (q .entry)) (now (truth .entry)) c s r ⌝ }
 {
     let mut at = c;
-    let mut r = peel_one(q, depths, truth, at, s);
+    let mut r = peel_one(q, truth, at, s);
     while !r.dead && r.node < at {
         at = r.node;
-        r = peel_one(q, depths, truth, at, s);
+        r = peel_one(q, truth, at, s);
     }
     r
 }
@@ -75,22 +68,21 @@ pub fn peel(q: &[u8], depths: &[u32], truth: &[u8], c: u8, s: u8) -> Peeled
 // Searches for the plan of greatest weight, or of least, as deep as condition c looks.
 pub fn searched(
     m: &[u16; 8704],
-    q: &[u8],
-    depths: &[u32],
-    truth: &[u8],
+    q: &[u8; 552],
+    truth: &[u8; 1280],
     scratch: &mut [u8],
     c: u8,
     s: u8,
     least: bool,
 ) -> Found
-    requires { ⌜ Given (now m) (now q) × (now depths ≡ table depth (formulas-of (now q))) × Stands (now m) (now q) (now truth) c s ⌝ }
-    requires { ⌜ (depth (formula (now q) c) ≤ 6) × (4095 ≤ length (now scratch)) ⌝ }
+    requires { ⌜ Given (now m) (now q) × Stands (now m) (now q) (now truth) c s ⌝ }
+    requires { ⌜ (formulas.depth (formula (now q) c) ≤ 6) × (4095 ≤ length (now scratch)) ⌝ }
     ensures { λ r. ⌜ Searched (now (m .entry)) (now (q .entry)) c s least (now (scratch .exit)) r ⌝ }
 {
-    let d = depth_at(depths, c) as u8;
+    let d = depth(q, c);
     let mut nodes = [0u8; 40];
-    let k = cone(q, depths, c, &mut nodes);
-    find(m, q, depths, truth, &nodes[..k], scratch, s, d, least)
+    let k = cone(q, c, &mut nodes);
+    find(m, q, truth, &nodes[..k], scratch, s, d, least)
 }
 
 // Where the best total of c in s is remembered.
@@ -103,17 +95,16 @@ fn memo_at(c: u8, s: u8, least: bool) -> usize
 // The best total of condition c in s: remembered, or searched and remembered.
 pub fn best_value(
     m: &[u16; 8704],
-    q: &[u8],
-    depths: &[u32],
-    truth: &[u8],
+    q: &[u8; 552],
+    truth: &[u8; 1280],
     scratch: &mut [u8],
     memo: &mut [u64; 2560],
     c: u8,
     s: u8,
     least: bool,
 ) -> u64
-    requires { ⌜ Given (now m) (now q) × (now depths ≡ table depth (formulas-of (now q))) × Stands (now m) (now q) (now truth) c s ⌝ }
-    requires { ⌜ (depth (formula (now q) c) ≤ 6) × (4095 ≤ length (now scratch)) × Remembers (now m) (now q) (now memo) ⌝ }
+    requires { ⌜ Given (now m) (now q) × Stands (now m) (now q) (now truth) c s ⌝ }
+    requires { ⌜ (formulas.depth (formula (now q) c) ≤ 6) × (4095 ≤ length (now scratch)) × Remembers (now m) (now q) (now memo) ⌝ }
     ensures { λ r. ⌜ (r ≡ best-total (now (m .entry)) (now (q .entry)) c s least) × Remembers (now (m .entry)) (now (q .entry)) (now (memo .exit)) ⌝ }
 {
     let k = memo_at(c, s, least);
@@ -121,7 +112,7 @@ pub fn best_value(
     if known != 0 {
         return known - 1;
     }
-    let r = searched(m, q, depths, truth, scratch, c, s, least);
+    let r = searched(m, q, truth, scratch, c, s, least);
     let value = r.value;
     memo[k] = 1 + value;
     value

@@ -4,13 +4,12 @@ ghost use mathlib.Core.Path.{_≡_};
 ghost use Prim.Native.Nat.{_≤_, _<_};
 ghost use mathlib.Core.Bool.{true, false};
 ghost use lib.ListN.{length};
-ghost use Rattle.logic.specs.Formula.{depth};
+ghost use Rattle.logic.specs.Formula as formulas;
 ghost use Rattle.logic.specs.Verdict.{verdict};
 ghost use Rattle.models.specs.Layout.{state-count};
 ghost use Rattle.prepared.specs.promises.Rows.{model-in};
-ghost use Rattle.questions.specs.Layout.{start-of, node-count, node-of, formulas-of};
-ghost use Rattle.questions.specs.promises.Tables.{table};
-ghost use Rattle.evaluation.specs.promises.Reached.{formula};
+ghost use Rattle.questions.specs.Layout.{start-of, node-count, node-of};
+ghost use Rattle.nodes.specs.promises.Nodes.{formula};
 ghost use Rattle.tables.specs.promises.Need.{Given};
 ghost use Rattle.judging.specs.promises.Asked.{Asked, Served};
 ghost use Rattle.judging.specs.promises.Truth.{Supplied};
@@ -25,18 +24,16 @@ use crate::plans::Decision;
 use crate::plans::decide;
 use crate::truth::plain_truth;
 use crate::truth::truth_table;
-use evaluation::depth_at;
 use extension::extend;
 use limits::plan_totals;
-use questions::asks_equal;
-use questions::depth_table;
-use questions::left;
-use questions::node_count;
-use questions::operator;
-use questions::start;
-use questions::steps;
+use nodes::asks_equal;
+use nodes::count;
+use nodes::depth;
+use nodes::left;
+use nodes::operator;
+use nodes::start;
+use nodes::steps;
 use ranking::nth;
-use sharing::shared;
 use tables::cone;
 use tables::needed;
 use weighing::plan_weight;
@@ -78,27 +75,26 @@ fn with_plan(weight: u64, steps: u8, count: u32) -> Outcome
 }
 
 // The truth that the root in the start state turns on.
-fn root_truth(m: &[u16; 8704], q: &[u8], counts: &[u64; 224], depths: &[u32]) -> [u8; 1280]
-    requires { ⌜ Asked (now m) (now q) (now counts) (now depths) ⌝ }
+fn root_truth(m: &[u16; 8704], q: &[u8; 552], counts: &[u64; 224]) -> [u8; 1280]
+    requires { ⌜ Asked (now m) (now q) (now counts) ⌝ }
     ensures { λ r. ⌜ Supplied (now (m .entry)) (now (q .entry)) r (root (now (q .entry))) (start-of (now (q .entry))) ⌝ }
 {
     let need = needed(m, q);
-    truth_table(m, q, counts, depths, &need)
+    truth_table(m, q, counts, &need)
 }
 
 // Writes the choices of the plan that a search found for node j in s, and tells of it.
 fn show(
     m: &[u16; 8704],
-    q: &[u8],
+    q: &[u8; 552],
     counts: &[u64; 224],
-    depths: &[u32],
     scratch: &[u8],
     choices: &mut [u8],
     j: u8,
     s: u8,
     r: Decision,
 ) -> Outcome
-    requires { ⌜ Asked (now m) (now q) (now counts) (now depths) × Decided (now m) (now q) j s (now scratch) r × (r .met ≡ true) ⌝ }
+    requires { ⌜ Asked (now m) (now q) (now counts) × Decided (now m) (now q) j s (now scratch) r × (r .met ≡ true) ⌝ }
     requires { ⌜ (j < node-count (now q)) × (node-of (now q) j .operator ≡ 8) × (s < state-count (now m)) × (1365 ≤ length (now choices)) ⌝ }
     ensures { λ x. ⌜ Announces (verdict (model-in (now (m .entry))) s (formula (now (q .entry)) j)) x (now (choices .entry)) (now (choices .exit)) ⌝ }
 {
@@ -109,7 +105,7 @@ fn show(
         nth(m, counts, choices, s, n, place as u64);
         return with_plan(weight, n, 1 + place as u32);
     }
-    let d = depth_at(depths, left(q, j));
+    let d = depth(q, left(q, j));
     extend(m, scratch, choices, s as usize, d as usize, n as usize);
     with_plan(weight, n, 0)
 }
@@ -117,16 +113,15 @@ fn show(
 // The verdict on node j, a state formula, in s.
 fn at_node(
     m: &[u16; 8704],
-    q: &[u8],
+    q: &[u8; 552],
     counts: &[u64; 224],
-    depths: &[u32],
-    truth: &[u8],
+    truth: &[u8; 1280],
     choices: &mut [u8],
     j: u8,
     s: u8,
 ) -> Outcome
-    requires { ⌜ Asked (now m) (now q) (now counts) (now depths) × (j < node-count (now q)) × (s < state-count (now m)) ⌝ }
-    requires { ⌜ Supplied (now m) (now q) (now truth) j s × (depth (formula (now q) j) ≡ 0) × (1365 ≤ length (now choices)) ⌝ }
+    requires { ⌜ Asked (now m) (now q) (now counts) × (j < node-count (now q)) × (s < state-count (now m)) ⌝ }
+    requires { ⌜ Supplied (now m) (now q) (now truth) j s × (formulas.depth (formula (now q) j) ≡ 0) × (1365 ≤ length (now choices)) ⌝ }
     ensures { λ r. ⌜ Announces (verdict (model-in (now (m .entry))) s (formula (now (q .entry)) j)) r (now (choices .entry)) (now (choices .exit)) ⌝ }
 {
     if operator(q, j) != 8 {
@@ -134,67 +129,45 @@ fn at_node(
         return plain(x == 1, 0);
     }
     let mut scratch = [0u8; 4095];
-    let r = decide(m, q, counts, depths, truth, &mut scratch, j, s);
+    let r = decide(m, q, counts, truth, &mut scratch, j, s);
     let met = r.met;
     let place = r.place;
     if met {
-        return show(m, q, counts, depths, &scratch, choices, j, s, r);
+        return show(m, q, counts, &scratch, choices, j, s, r);
     }
     plain(false, place as u32)
 }
 
-// The verdict on the root of a question in its start state, by tables made for it.
-fn at_root(m: &[u16; 8704], q: &[u8], choices: &mut [u8]) -> Outcome
+// Judges a question: the verdict on its root in its start state, and the choices of a shown plan from the beginning of `choices` on.
+pub fn judged(m: &[u16; 8704], q: &[u8; 552], choices: &mut [u8]) -> Outcome
     requires { ⌜ Served (now m) (now q) ⌝ }
     requires { ⌜ 1365 ≤ length (now choices) ⌝ }
     ensures { λ r. ⌜ Announces (root-verdict (model-in (now (m .entry))) (now (q .entry))) r (now (choices .entry)) (now (choices .exit)) ⌝ }
 {
     let counts = plan_totals(m);
-    let depths = depth_table(q);
-    let truth = root_truth(m, q, &counts, &depths);
-    let j = node_count(q) - 1;
-    at_node(m, q, &counts, &depths, &truth, choices, j, start(q))
-}
-
-// Judges a question: the verdict, and the choices of a shown plan from the beginning of `choices` on. Every "and" of a node with itself is
-// pointed past first, so that a tower of them costs no more than what stands under it.
-pub fn judged(m: &[u16; 8704], q: &[u8], choices: &mut [u8]) -> Outcome
-    requires { ⌜ Served (now m) (now q) ⌝ }
-    requires { ⌜ 1365 ≤ length (now choices) ⌝ }
-    ensures { λ r. ⌜ Announces (root-verdict (model-in (now (m .entry))) (now (q .entry))) r (now (choices .entry)) (now (choices .exit)) ⌝ }
-{
-    let alike = shared(q);
-    at_root(m, &alike, choices)
+    let truth = root_truth(m, q, &counts);
+    let j = count(q) - 1;
+    at_node(m, q, &counts, &truth, choices, j, start(q))
 }
 
 // The total of the plan with these choices, by the tables.
-fn root_weight(m: &[u16; 8704], q: &[u8], depths: &[u32], truth: &[u8], choices: &[u8]) -> u64
-    requires { ⌜ Given (now m) (now q) × (now depths ≡ table depth (formulas-of (now q))) ⌝ }
+fn root_weight(m: &[u16; 8704], q: &[u8; 552], truth: &[u8; 1280], choices: &[u8]) -> u64
+    requires { ⌜ Given (now m) (now q) ⌝ }
     requires { ⌜ Posed (now m) (now q) (now truth) (root (now q)) (start-of (now q)) ⌝ }
     ensures { λ r. ⌜ Weighs (model-in (now (m .entry))) (now (q .entry)) (now (choices .entry)) r ⌝ }
 {
-    let j = node_count(q) - 1;
+    let j = count(q) - 1;
     let mut nodes = [0u8; 40];
-    let k = cone(q, depths, left(q, j), &mut nodes);
-    plan_weight(
-        m,
-        q,
-        depths,
-        truth,
-        &nodes[..k],
-        choices,
-        start(q),
-        steps(q, j),
-    )
+    let k = cone(q, left(q, j), &mut nodes);
+    plan_weight(m, q, truth, &nodes[..k], choices, start(q), steps(q, j))
 }
 
 // The total of the plan with these choices, for the condition of the root, which is a "plan".
-pub fn sheet_weight(m: &[u16; 8704], q: &[u8], choices: &[u8]) -> u64
+pub fn sheet_weight(m: &[u16; 8704], q: &[u8; 552], choices: &[u8]) -> u64
     requires { ⌜ Served (now m) (now q) × (node-of (now q) (root (now q)) .operator ≡ 8) ⌝ }
     ensures { λ r. ⌜ Weighs (model-in (now (m .entry))) (now (q .entry)) (now (choices .entry)) r ⌝ }
 {
     let counts = plan_totals(m);
-    let depths = depth_table(q);
-    let truth = root_truth(m, q, &counts, &depths);
-    root_weight(m, q, &depths, &truth, choices)
+    let truth = root_truth(m, q, &counts);
+    root_weight(m, q, &truth, choices)
 }

@@ -2,13 +2,13 @@
 ghost use mathlib.Core.Path.{_≡_};
 ghost use Prim.Native.Nat.{_^_, _≤_, _<_};
 ghost use mathlib.Core.List.{[]};
-ghost use Rattle.logic.specs.Formula.{depth, sat};
+ghost use Rattle.logic.specs.Formula.{sat};
+ghost use Rattle.logic.specs.Formula as formulas;
 ghost use lib.ListN.{length};
 ghost use Rattle.models.specs.Layout.{state-count, denominator-of};
 ghost use Rattle.prepared.specs.promises.Rows.{model-in};
-ghost use Rattle.questions.specs.Layout.{node-count, node-of, formulas-of};
-ghost use Rattle.questions.specs.promises.Tables.{table};
-ghost use Rattle.evaluation.specs.promises.Reached.{formula};
+ghost use Rattle.questions.specs.Layout.{node-count, node-of};
+ghost use Rattle.nodes.specs.promises.Nodes.{formula};
 ghost use Rattle.tables.specs.promises.Need.{Given};
 ghost use Rattle.bounds.specs.promises.Bounded.{Bounded};
 ghost use Rattle.judging.specs.promises.Asked.{Asked};
@@ -22,13 +22,13 @@ use bounds::exact_total;
 use bounds::meets;
 use bounds::power;
 use equal::first_equal;
-use evaluation::depth_at;
 use limits::plans_counted;
+use nodes::asks_equal;
+use nodes::asks_less;
+use nodes::depth;
+use nodes::left;
+use nodes::steps;
 use prepared::denominator;
-use questions::asks_equal;
-use questions::asks_less;
-use questions::left;
-use questions::steps;
 use tables::cone;
 
 // What deciding a "plan" node in a state came to: whether it is true, the weight of the plan found, its place for "equal" (from 0; the
@@ -41,31 +41,30 @@ pub struct Decision {
 }
 
 // A total of the condition of node j, over as many steps as it looks ahead, as one over all steps of the node.
-fn over_all_steps(m: &[u16; 8704], q: &[u8], depths: &[u32], j: u8, value: u64) -> u64
-    requires { ⌜ Bounded (now m) (now q) j × (now depths ≡ table depth (formulas-of (now q))) ⌝ }
-    requires { ⌜ value ≤ denominator-of (now m) ^ depth (condition (now q) j) ⌝ }
+fn over_all_steps(m: &[u16; 8704], q: &[u8; 552], j: u8, value: u64) -> u64
+    requires { ⌜ Bounded (now m) (now q) j ⌝ }
+    requires { ⌜ value ≤ denominator-of (now m) ^ formulas.depth (condition (now q) j) ⌝ }
     ensures { λ r. ⌜ Lengthened (now (m .entry)) (now (q .entry)) j value r ⌝ }
 {
-    let d = depth_at(depths, left(q, j)) as u8;
+    let d = depth(q, left(q, j));
     power(denominator(m), steps(q, j) - d) * value
 }
 
 // "less" and "greater": the plan of least or of greatest weight decides, and a search as deep as the condition looks finds it.
 fn led(
     m: &[u16; 8704],
-    q: &[u8],
-    depths: &[u32],
-    truth: &[u8],
+    q: &[u8; 552],
+    truth: &[u8; 1280],
     scratch: &mut [u8],
     j: u8,
     s: u8,
 ) -> Decision
-    requires { ⌜ Given (now m) (now q) × (now depths ≡ table depth (formulas-of (now q))) × Posed (now m) (now q) (now truth) j s ⌝ }
+    requires { ⌜ Given (now m) (now q) × Posed (now m) (now q) (now truth) j s ⌝ }
     requires { ⌜ (node-of (now q) j .right ≡ 2 → ⊥) × (4095 ≤ length (now scratch)) ⌝ }
     ensures { λ r. ⌜ Led (now (m .entry)) (now (q .entry)) j s (now (scratch .exit)) r ⌝ }
 {
-    let r = searched(m, q, depths, truth, scratch, left(q, j), s, asks_less(q, j));
-    let weight = over_all_steps(m, q, depths, j, r.value);
+    let r = searched(m, q, truth, scratch, left(q, j), s, asks_less(q, j));
+    let weight = over_all_steps(m, q, j, r.value);
     Decision {
         met: meets(m, q, j, weight),
         weight: weight,
@@ -77,39 +76,37 @@ fn led(
 // Whether the "plan" node j, "less" or "greater", is true in s: by what is left of its condition there, searched once.
 fn plan_led(
     m: &[u16; 8704],
-    q: &[u8],
-    depths: &[u32],
-    truth: &[u8],
+    q: &[u8; 552],
+    truth: &[u8; 1280],
     scratch: &mut [u8],
     memo: &mut [u64; 2560],
     j: u8,
     s: u8,
 ) -> bool
-    requires { ⌜ Given (now m) (now q) × (now depths ≡ table depth (formulas-of (now q))) × Posed (now m) (now q) (now truth) j s ⌝ }
+    requires { ⌜ Given (now m) (now q) × Posed (now m) (now q) (now truth) j s ⌝ }
     requires { ⌜ (node-of (now q) j .right ≡ 2 → ⊥) × (4095 ≤ length (now scratch)) × Remembers (now m) (now q) (now memo) ⌝ }
     ensures { λ r. ⌜ (r ≡ sat (model-in (now (m .entry))) (formula (now (q .entry)) j) s []) × Remembers (now (m .entry)) (now (q .entry)) (now (memo .exit)) ⌝ }
 {
-    let rest = peel(q, depths, truth, left(q, j), s);
+    let rest = peel(q, truth, left(q, j), s);
     let c = rest.node;
     if rest.dead {
         return meets(m, q, j, 0);
     }
     let least = asks_less(q, j);
-    let x = best_value(m, q, depths, truth, scratch, memo, c, s, least);
-    meets(m, q, j, over_all_steps(m, q, depths, j, x))
+    let x = best_value(m, q, truth, scratch, memo, c, s, least);
+    meets(m, q, j, over_all_steps(m, q, j, x))
 }
 
 // "equal": the first plan decides that has the one total that meets the bound, if there is such a total.
 fn first(
     m: &[u16; 8704],
-    q: &[u8],
+    q: &[u8; 552],
     counts: &[u64; 224],
-    depths: &[u32],
-    truth: &[u8],
+    truth: &[u8; 1280],
     j: u8,
     s: u8,
 ) -> Decision
-    requires { ⌜ Asked (now m) (now q) (now counts) (now depths) × Posed (now m) (now q) (now truth) j s ⌝ }
+    requires { ⌜ Asked (now m) (now q) (now counts) × Posed (now m) (now q) (now truth) j s ⌝ }
     requires { ⌜ node-of (now q) j .right ≡ 2 ⌝ }
     ensures { λ r. ⌜ Placed (now (m .entry)) (now (q .entry)) j s r ⌝ }
 {
@@ -126,10 +123,10 @@ fn first(
         };
     }
     let c = left(q, j);
-    let d = depth_at(depths, c) as u8;
+    let d = depth(q, c);
     let mut nodes = [0u8; 40];
-    let k = cone(q, depths, c, &mut nodes);
-    let place = first_equal(m, q, depths, truth, &nodes[..k], counts, s, d, n, total);
+    let k = cone(q, c, &mut nodes);
+    let place = first_equal(m, q, truth, &nodes[..k], counts, s, d, n, total);
     Decision {
         met: place < all,
         weight: total,
@@ -141,44 +138,42 @@ fn first(
 // Decides the "plan" node j in s.
 pub fn decide(
     m: &[u16; 8704],
-    q: &[u8],
+    q: &[u8; 552],
     counts: &[u64; 224],
-    depths: &[u32],
-    truth: &[u8],
+    truth: &[u8; 1280],
     scratch: &mut [u8],
     j: u8,
     s: u8,
 ) -> Decision
-    requires { ⌜ Asked (now m) (now q) (now counts) (now depths) × Posed (now m) (now q) (now truth) j s ⌝ }
+    requires { ⌜ Asked (now m) (now q) (now counts) × Posed (now m) (now q) (now truth) j s ⌝ }
     requires { ⌜ (4095 ≤ length (now scratch)) ⌝ }
     ensures { λ r. ⌜ Decided (now (m .entry)) (now (q .entry)) j s (now (scratch .exit)) r ⌝ }
 {
     if asks_equal(q, j) {
-        return first(m, q, counts, depths, truth, j, s);
+        return first(m, q, counts, truth, j, s);
     }
-    led(m, q, depths, truth, scratch, j, s)
+    led(m, q, truth, scratch, j, s)
 }
 
 // Whether the "plan" node j is true in s.
 pub fn plan_true(
     m: &[u16; 8704],
-    q: &[u8],
+    q: &[u8; 552],
     counts: &[u64; 224],
-    depths: &[u32],
-    truth: &[u8],
+    truth: &[u8; 1280],
     scratch: &mut [u8],
     memo: &mut [u64; 2560],
     j: u8,
     s: u8,
 ) -> bool
-    requires { ⌜ Asked (now m) (now q) (now counts) (now depths) × (j < node-count (now q)) × (s < state-count (now m)) ⌝ }
+    requires { ⌜ Asked (now m) (now q) (now counts) × (j < node-count (now q)) × (s < state-count (now m)) ⌝ }
     requires { ⌜ (node-of (now q) j .operator ≡ 8) × Told (now m) (now q) (now truth) (node-of (now q) j .left) s ⌝ }
     requires { ⌜ (4095 ≤ length (now scratch)) × Remembers (now m) (now q) (now memo) ⌝ }
     ensures { λ r. ⌜ (r ≡ sat (model-in (now (m .entry))) (formula (now (q .entry)) j) s []) × Remembers (now (m .entry)) (now (q .entry)) (now (memo .exit)) ⌝ }
 {
     if asks_equal(q, j) {
-        let r = first(m, q, counts, depths, truth, j, s);
+        let r = first(m, q, counts, truth, j, s);
         return r.met;
     }
-    plan_led(m, q, depths, truth, scratch, memo, j, s)
+    plan_led(m, q, truth, scratch, memo, j, s)
 }

@@ -8,7 +8,7 @@ ghost use Rattle.logic.specs.promises.Total.{value-of};
 ghost use Rattle.models.specs.Layout.{state-count};
 ghost use Rattle.prepared.specs.promises.Rows.{model-in};
 ghost use Rattle.questions.specs.Layout as question;
-ghost use Rattle.evaluation.specs.promises.Reached.{formula};
+ghost use Rattle.nodes.specs.promises.Nodes.{formula};
 ghost use Rattle.tables.specs.promises.Need.{Given, Needs};
 ghost use Rattle.judging.specs.promises.Asked.{Asked};
 ghost use Rattle.judging.specs.promises.Truth.{Supplied, Right};
@@ -16,15 +16,15 @@ ghost use Rattle.judging.specs.promises.Conditions.{Remembers};
 use crate::plans::plan_true;
 use blocks::byte;
 use evaluation::bit;
+use nodes::count;
+use nodes::left;
+use nodes::operator;
+use nodes::right;
 use prepared::holds;
-use questions::left;
-use questions::node_count;
-use questions::operator;
-use questions::right;
 use tables::place;
 
 // The truth of node j, which is no "plan", in s, from that of its children; of a path formula, nothing is said.
-pub fn plain_truth(m: &[u16; 8704], q: &[u8], truth: &[u8], j: u8, s: u8) -> u8
+pub fn plain_truth(m: &[u16; 8704], q: &[u8; 552], truth: &[u8; 1280], j: u8, s: u8) -> u8
     requires { ⌜ Given (now m) (now q) × (j < question.node-count (now q)) × (s < state-count (now m)) ⌝ }
     requires { ⌜ Supplied (now m) (now q) (now truth) j s × (question.node-of (now q) j .operator ≡ 8 → ⊥) ⌝ }
     ensures { λ r. ⌜ (depth (formula (now (q .entry)) j) ≡ 0 → r ≡ value-of (model-in (now (m .entry))) (formula (now (q .entry)) j) s []) ⌝ }
@@ -41,21 +41,20 @@ pub fn plain_truth(m: &[u16; 8704], q: &[u8], truth: &[u8], j: u8, s: u8) -> u8
 // The truth of node j in s.
 fn truth_at(
     m: &[u16; 8704],
-    q: &[u8],
+    q: &[u8; 552],
     counts: &[u64; 224],
-    depths: &[u32],
-    truth: &[u8],
+    truth: &[u8; 1280],
     scratch: &mut [u8],
     memo: &mut [u64; 2560],
     j: u8,
     s: u8,
 ) -> u8
-    requires { ⌜ Asked (now m) (now q) (now counts) (now depths) × (j < question.node-count (now q)) × (s < state-count (now m)) ⌝ }
+    requires { ⌜ Asked (now m) (now q) (now counts) × (j < question.node-count (now q)) × (s < state-count (now m)) ⌝ }
     requires { ⌜ Supplied (now m) (now q) (now truth) j s × (4095 ≤ length (now scratch)) × Remembers (now m) (now q) (now memo) ⌝ }
     ensures { λ r. ⌜ (depth (formula (now (q .entry)) j) ≡ 0 → r ≡ value-of (model-in (now (m .entry))) (formula (now (q .entry)) j) s []) × Remembers (now (m .entry)) (now (q .entry)) (now (memo .exit)) ⌝ }
 {
     if operator(q, j) == 8 {
-        return bit(plan_true(m, q, counts, depths, truth, scratch, memo, j, s));
+        return bit(plan_true(m, q, counts, truth, scratch, memo, j, s));
     }
     plain_truth(m, q, truth, j, s)
 }
@@ -63,16 +62,15 @@ fn truth_at(
 // The truth at a place of the table, if it is needed.
 fn truth_if(
     m: &[u16; 8704],
-    q: &[u8],
+    q: &[u8; 552],
     counts: &[u64; 224],
-    depths: &[u32],
-    need: &[u8],
-    truth: &[u8],
+    need: &[u8; 1280],
+    truth: &[u8; 1280],
     scratch: &mut [u8],
     memo: &mut [u64; 2560],
     k: usize,
 ) -> u8
-    requires { ⌜ Asked (now m) (now q) (now counts) (now depths) × (k < 32 * question.node-count (now q)) ⌝ }
+    requires { ⌜ Asked (now m) (now q) (now counts) × (k < 32 * question.node-count (now q)) ⌝ }
     requires { ⌜ Needs (now m) (now q) (now need) × Right (now m) (now q) (now need) (now truth) k × (4095 ≤ length (now scratch)) × Remembers (now m) (now q) (now memo) ⌝ }
     ensures { λ r. ⌜ (getD (now (need .entry)) k 0 ≡ 1 → depth (formula (now (q .entry)) (k / 32)) ≡ 0 → r ≡ value-of (model-in (now (m .entry))) (formula (now (q .entry)) (k / 32)) (k % 32) []) × Remembers (now (m .entry)) (now (q .entry)) (now (memo .exit)) ⌝ }
 {
@@ -83,7 +81,6 @@ fn truth_if(
         m,
         q,
         counts,
-        depths,
         truth,
         scratch,
         memo,
@@ -95,31 +92,20 @@ fn truth_if(
 // The truth of all nodes before the root, where it is needed.
 pub fn truth_table(
     m: &[u16; 8704],
-    q: &[u8],
+    q: &[u8; 552],
     counts: &[u64; 224],
-    depths: &[u32],
-    need: &[u8],
+    need: &[u8; 1280],
 ) -> [u8; 1280]
-    requires { ⌜ Asked (now m) (now q) (now counts) (now depths) × Needs (now m) (now q) (now need) ⌝ }
+    requires { ⌜ Asked (now m) (now q) (now counts) × Needs (now m) (now q) (now need) ⌝ }
     ensures { λ r. ⌜ Right (now (m .entry)) (now (q .entry)) (now (need .entry)) r (32 * (question.node-count (now (q .entry)) - 1)) ⌝ }
 {
-    let end = place(node_count(q) - 1, 0);
+    let end = place(count(q) - 1, 0);
     let mut scratch = [0u8; 4095];
     let mut memo = [0u64; 2560];
     let mut truth = [0u8; 1280];
     let mut k: usize = 0;
     while k < end {
-        let x = truth_if(
-            m,
-            q,
-            counts,
-            depths,
-            need,
-            &truth,
-            &mut scratch,
-            &mut memo,
-            k,
-        );
+        let x = truth_if(m, q, counts, need, &truth, &mut scratch, &mut memo, k);
         truth[k] = x;
         k += 1;
     }

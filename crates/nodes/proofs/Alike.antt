@@ -233,6 +233,7 @@ module _ {q q′ : Bytes} (o : Ordered q) (c : Pointed q q′ (node-count q)) wh
               };
           count = count-same;
           start = start-same;
+          operators = operator-same;
           alike = λ j h. kept j h .alike;
           past-left = past-left;
           past-right = past-right;

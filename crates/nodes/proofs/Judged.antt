@@ -10,7 +10,6 @@ use lib.IntN.{pos}
 use lib.ListN.{length}
 use Rattle.logic.specs.Lists.{every, keep}
 use Rattle.logic.specs.Checked.{Checked, ok, refused}
-use Rattle.logic.specs.promises.Refusal.{refusal}
 use Rattle.logic.specs.Grounds.{_unless_, decided}
 use Rattle.logic.specs.Model.{Model}
 use Rattle.logic.specs.Quantity.{Relation, naturals, sum}
@@ -54,9 +53,12 @@ module _ (m : Model) (s : ℕ) where
   unfolding goal asked W
   goal-asked φ = sym (on-plan-then goal-by none _ φ)
 
+  goal-alike : {φ ψ : Formula} → Alike φ ψ → goal m s φ ≡ goal m s ψ
+  goal-alike {φ} {ψ} e = goal-asked φ ∙ ap goal-by (e .asks) ∙ sym (goal-asked ψ)
+
   verdict-alike : {φ ψ : Formula} → Alike φ ψ → verdict m s φ ≡ verdict m s ψ
   unfolding verdict
-  verdict-alike {φ} {ψ} e = ap₂ (verdict-by m s) (e .same .truths m s []) (goal-asked φ ∙ ap goal-by (e .asks) ∙ sym (goal-asked ψ))
+  verdict-alike e = ap₂ (verdict-by m s) (e .same .truths m s []) (goal-alike e)
 
 module _ (f : ℕ → Relation → ℕ → Bool) (m : Model) where
   -- What `every-plan` asks of one formula.
@@ -95,9 +97,16 @@ module _ {S A N : ℕ} {q q′ : Bytes} (h : Shared S A N q q′) (m : Model) wh
       every-node f m q ∙ every-same (node-count q) (λ i l. test-alike f m (h .alike i l))
       ∙ ap (λ k. every k (λ i. plan-test f m (formula q′ i))) (sym (h .count)) ∙ sym (every-node f m q′)
 
-  pub same-limits : refusal (limits m (formulas-of q)) ≡ refusal (limits m (formulas-of q′))
+  pub same-goal : goal m (start-of q) (question-of q .root) ≡ goal m (start-of q′) (question-of q′ .root)
+  unfolding question-of
+  same-goal =
+      let n : 1 ≤ node-count q′ = h .nodes .formed .some-node in
+      goal-alike m (start-of q) (h .alike (node-count q - 1) (omega (arith, n, h .count)))
+      ∙ ap₂ (λ s k. goal m s (formula q′ (k - 1))) (sym (h .start)) (sym (h .count))
+
+  pub same-limits : limits m (formulas-of q) ≡ limits m (formulas-of q′)
   unfolding limits
   same-limits =
-      ap₂ (λ a b. refusal (decided {A = Unit {0}} (24 unless a ∷ 25 unless b ∷ []) tt))
+      ap₂ (λ a b. decided {A = Unit {0}} (24 unless a ∷ 25 unless b ∷ []) tt)
       (test-same (λ n r s. leb (path-total m n s) 1000000))
       (test-same (λ n r s. not (is-equal r) || leb (plan-total m n s) 65536))

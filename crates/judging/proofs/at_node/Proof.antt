@@ -4,7 +4,7 @@ use mathlib.Core.List.{[]}
 use Rattle.logic.specs.Formula.{sat}
 use Rattle.prepared.specs.promises.Rows.{model-in}
 use Rattle.questions.specs.Layout.{node-of}
-use Rattle.evaluation.specs.promises.Reached.{formula}
+use Rattle.nodes.specs.promises.Nodes.{formula}
 use Rattle.judging.proofs.Deciding.{other-verdict}
 use Rattle.judging.proofs.Posing.{posed-at}
 use Rattle.judging.proofs.Announcing.{announces-truth, announces-no, no-verdict, place-few}

@@ -7,7 +7,8 @@ use lib.ListN.{take}
 use lib.Seq.{length-take-le}
 use Rattle.logic.specs.Formula.{depth}
 use Rattle.questions.specs.Layout.{node-count, node-of}
-use Rattle.evaluation.specs.promises.Reached.{formula, Ready}
+use Rattle.nodes.specs.promises.Nodes.{formula}
+use Rattle.evaluation.specs.promises.Reached.{Ready}
 use Rattle.tables.proofs.Cones.{given-ordered}
 use Rattle.judging.specs.promises.Announced.{root}
 use Rattle.judging.proofs.Posing.{planned, before, ready}

@@ -15,16 +15,15 @@ use Rattle.blocks.specs.Bytes.{Bytes}
 use Rattle.models.specs.Layout.{state-count, action-count, prop-count}
 use Rattle.prepared.specs.promises.Rows.{model-in}
 use Rattle.questions.specs.Layout.{node-count}
-use Rattle.questions.specs.Grounds.{read-question}
-use Rattle.evaluation.specs.promises.Reached.{formula}
+use Rattle.nodes.specs.promises.Nodes.{formula, Nodes}
 use Rattle.search.specs.declared.Found.{Found}
 use Rattle.judging.specs.promises.Truth.{Told}
 use Rattle.judging.specs.promises.Decided.{best}
 use Rattle.judging.specs.declared.conditions.Peeled.{Peeled}
 
--- Node c of a question accepted for the model, in the state s, with a table that is right where its truth there can turn on it.
+-- Node c of a question prepared for the model, in the state s, with a table that is right where its truth there can turn on it.
 pub record Stands (m q truth : Bytes) (c s : ℕ) : Type 0 where
-  pub accepted : refusal (read-question (state-count m) (action-count m) (prop-count m) q) ≡ 0
+  pub nodes : Nodes (state-count m) (action-count m) (prop-count m) q
   pub node : c < node-count q
   pub state : s < state-count m
   pub told : Told m q truth c s

@@ -20,7 +20,7 @@ use Rattle.blocks.specs.Bytes.{Bytes}
 use Rattle.models.specs.Layout.{state-count, denominator-of}
 use Rattle.prepared.specs.promises.Rows.{model-in}
 use Rattle.questions.specs.Layout.{node-count, node-of}
-use Rattle.evaluation.specs.promises.Reached.{formula}
+use Rattle.nodes.specs.promises.Nodes.{formula}
 use Rattle.bounds.specs.promises.Bounded.{meets-at}
 use Rattle.judging.specs.promises.Truth.{Told}
 use Rattle.judging.specs.declared.plans.Decision.{Decision}

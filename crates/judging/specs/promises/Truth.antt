@@ -8,7 +8,8 @@ use Rattle.logic.specs.promises.Total.{value-of}
 use Rattle.blocks.specs.Bytes.{Bytes}
 use Rattle.prepared.specs.promises.Rows.{model-in}
 use Rattle.questions.specs.Layout.{node-of}
-use Rattle.evaluation.specs.promises.Reached.{formula, Reached}
+use Rattle.nodes.specs.promises.Nodes.{formula}
+use Rattle.evaluation.specs.promises.Reached.{Reached}
 
 -- The table is right wherever the truth of node c in s can turn on it.
 pub record Told (m q truth : Bytes) (c s : ℕ) : Type 0 where

@@ -46,6 +46,7 @@ pub record Shared (S A N : ℕ) (q q′ : Bytes) : Type 0 where
   pub nodes : Nodes S A N q′
   pub count : node-count q′ ≡ node-count q
   pub start : start-of q′ ≡ start-of q
+  pub operators : (j : ℕ) → j < node-count q → (node-of q′ j) .operator ≡ (node-of q j) .operator
   pub alike : (j : ℕ) → j < node-count q → Alike (formula q j) (formula q′ j)
   pub past-left : (j : ℕ) → j < node-count q → has-left ((node-of q′ j) .operator) ≡ true → Doubled q′ ((node-of q′ j) .left) → ⊥
   pub past-right : (j : ℕ) → j < node-count q → (node-of q′ j) .operator ≡ 4 → Doubled q′ ((node-of q′ j) .right) → ⊥

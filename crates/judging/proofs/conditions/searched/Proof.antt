@@ -4,7 +4,7 @@ use native.Mathlib.Omega.{arith}
 use mathlib.Core.Path.{refl, sym, ap, _∙_}
 use lib.Seq.{length-take-le}
 use Rattle.logic.specs.Formula.{depth}
-use Rattle.evaluation.specs.promises.Reached.{formula}
+use Rattle.nodes.specs.promises.Nodes.{formula}
 use Rattle.tables.proofs.Cones.{given-ordered}
 use Rattle.judging.proofs.Remembering.{looks, ready, finds}
 use borrow.Author.Needs.{needs}

@@ -9,7 +9,7 @@ use Rattle.logic.specs.Formula.{depth}
 use Rattle.logic.specs.Limits.{plan-total}
 use Rattle.prepared.specs.promises.Rows.{model-in}
 use Rattle.questions.specs.Layout.{node-of}
-use Rattle.evaluation.specs.promises.Reached.{formula}
+use Rattle.nodes.specs.promises.Nodes.{formula}
 use Rattle.equal.proofs.Serving.{counts-right}
 use Rattle.tables.proofs.Cones.{given-ordered}
 use Rattle.judging.proofs.Deciding.{few-plans, counted-plans}

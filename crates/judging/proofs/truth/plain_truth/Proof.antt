@@ -7,7 +7,6 @@ use lib.ListN.{getD}
 use Rattle.logic.specs.Model.{prop-in}
 use Rattle.logic.specs.promises.Total.{one-if}
 use Rattle.prepared.specs.promises.Rows.{model-in}
-use Rattle.tables.proofs.Marks.{given-question}
 use Rattle.judging.proofs.Truths.{truth-prop, truth-not, truth-and, truth-none}
 use borrow.Author.Needs.{needs}
 use Rattle.judging.proofs.truth.plain_truth.Statement.{statement}
@@ -30,7 +29,7 @@ holds-requires : tie.Need-holds-requires
 holds-requires c κs = let S = c .before .before .before .before .before in
     let P = S .pre .0 in
     let o = sym (c .before .before .operator .ensures) ∙ c .before .match .keys1 in
-    (P .0 .prepared, P .2, omega (arith, c .left .ensures, P .0 .prepared .props, (given-question (P .0)) .in-range (S .args .j) (P .1) .of-prop o))
+    (P .0 .prepared, P .2, omega (arith, c .left .ensures, P .0 .prepared .props, P .0 .nodes .formed .in-range (S .args .j) (P .1) .of-prop o))
 
 bit-requires : tie.Need-bit-requires
 bit-requires c κs = search needs

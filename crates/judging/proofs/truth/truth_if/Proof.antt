@@ -2,7 +2,6 @@
 use native.Mathlib.Omega.{arith}
 use mathlib.Core.Path.{sym, _∙_}
 use borrow.Author.Needs.{needs}
-use Rattle.tables.proofs.Marks.{given-question}
 use Rattle.judging.proofs.Truths.{supplied}
 use Rattle.judging.proofs.truth.truth_if.Statement.{statement}
 use Rattle.judging.proofs.truth.truth_if.Tie as tie
@@ -14,7 +13,7 @@ returns : tie.Need-returns
 returns c = ((λ e. absurd (c .if1 .taken (c .before .byte .ensures ∙ e))), c .before .before .before .before .before .before .before .pre .1 .3)
 
 cast-truth-at : tie.Need-cast-truth-at
-cast-truth-at c = omega (arith, (given-question (c .before .before .before .before .before .before .before .before .before .pre .0 .0 .given)) .few-nodes)
+cast-truth-at c = omega (arith, c .before .before .before .before .before .before .before .before .before .pre .0 .0 .given .nodes .formed .few-nodes)
 
 cast-truth-at-2 : tie.Need-cast-truth-at-2
 cast-truth-at-2 c = search needs

@@ -5,7 +5,6 @@ use lib.ListN.{length, length-set, length-replicate}
 use Rattle.questions.specs.Layout.{node-count}
 use Rattle.judging.specs.promises.Truth.{Right}
 use Rattle.judging.specs.promises.Conditions.{Remembers}
-use Rattle.tables.proofs.Marks.{given-question}
 use Rattle.judging.proofs.Remembering.{remembers-none}
 use Rattle.judging.proofs.Truths.{right-none, right-more}
 use Rattle.judging.proofs.truth.truth_table.Statement.{statement}
@@ -21,7 +20,7 @@ node-count-requires : tie.Need-node-count-requires Inv-loop μ-loop
 node-count-requires c κs = tt
 
 sub-place : tie.Need-sub-place Inv-loop μ-loop
-sub-place c = omega (arith, c .node-count .ensures, (given-question (c .before .before .before .before .pre .0 .given)) .some-node)
+sub-place c = omega (arith, c .node-count .ensures, c .before .before .before .before .pre .0 .given .nodes .formed .some-node)
 
 place-requires : tie.Need-place-requires Inv-loop μ-loop
 place-requires c κs = tt
@@ -41,7 +40,7 @@ truth-if-requires c κs = let P = c .before .before .before .before .before .bef
     ((P .0, omega arith), (P .1, L .inv .3, omega (arith, L .inv .4), L .inv .5))
 
 array-write-truth : tie.Need-array-write-truth Inv-loop μ-loop
-array-write-truth c = omega (arith, (given-question (c .before .before .before .before .before .before .before .before .before .before .before .before .pre .0 .given)) .few-nodes)
+array-write-truth c = omega (arith, c .before .before .before .before .before .before .before .before .before .before .before .before .pre .0 .given .nodes .formed .few-nodes)
 
 add-k : tie.Need-add-k Inv-loop μ-loop
 add-k c = omega arith
@@ -51,7 +50,7 @@ loop-less c = omega arith
 
 loop-again : tie.Need-loop-again Inv-loop μ-loop
 loop-again c = let L = c .before .before .before .before .before .before .loop in
-    let few = (given-question (c .before .before .before .before .before .before .before .before .before .before .before .before .pre .0 .given)) .few-nodes in
+    let few = c .before .before .before .before .before .before .before .before .before .before .before .before .pre .0 .given .nodes .formed .few-nodes in
     let n = c .before .truth-if in
     let v = n .result in
     (L .inv .0, omega arith, length-set (L .truth) (L .k) v ∙ L .inv .2, right-more v (L .inv .3) (omega arith) (n .ensures .0), n .kept .1 .1 .1 .1 .1 .1 .0 ∙ L .inv .4, n .ensures .1)
