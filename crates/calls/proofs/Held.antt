@@ -26,4 +26,4 @@ module _ {h : Held} (sound : Sound h) (m : Model) (held-model : h .model ≡ som
   start-inside q held-question =
       let c = sound .question-read m q held-model held-question in
       let a = questions.accepted (length (m .states)) (length (m .actions)) (m .propositions) (c .0) (ap refusal (c .1)) in
-      subst (λ x. x .start < length (m .states)) (ok-same (sym (a .read) ∙ c .1)) (a .starts)
+      subst (λ x. x .start < length (m .states)) (ok-same (sym (a .read) ∙ c .1)) (a .formed .starts)

@@ -35,6 +35,7 @@ use Rattle.models.proofs.Rows.{entries-few, outcomes-are}
 use Rattle.models.proofs.Held.{accepted, states-held}
 use Rattle.questions.specs.Layout.{node-of, node-count, formulas-of, question-of}
 use Rattle.questions.specs.Grounds.{read-question}
+use Rattle.questions.specs.promises.Formed.{Formed}
 use Rattle.questions.proofs.Accepted as questions
 use Rattle.questions.proofs.Laws.{by-operator}
 use Rattle.extension.specs.promises.Choices.{room}
@@ -132,7 +133,7 @@ steps (next φ) = 0
 steps (gain n r p) = 0
 steps (plan n φ r p q) = n
 
-module _ (S A N : ℕ) (c : Bytes) (a : questions.Accepted S A N c) (i : ℕ) (h : i < node-count c) (e : is-plan (getD (formulas-of c) i never) ≡ true) where
+module _ (S A N : ℕ) (c : Bytes) (a : Formed S A N c) (i : ℕ) (h : i < node-count c) (e : is-plan (getD (formulas-of c) i never) ≡ true) where
   not-here : {φ : Formula} → getD (formulas-of c) i never ≡ φ → is-plan φ ≡ false → node-of c i .operator ≡ 8
   not-here q f = absurd (false≢true (sym f ∙ ap is-plan (sym q) ∙ e))
 
@@ -218,7 +219,7 @@ module _ {h : Held} (sound-held : Sound h) (x : Plan-question h) where
   same-question = ok-same (sym (question-bytes .1) ∙ asked .read)
 
   last-node : node-count c - 1 < node-count c
-  last-node = omega (arith, asked .some-node)
+  last-node = omega (arith, asked .formed .some-node)
 
   root-plan : getD (formulas-of c) (node-count c - 1) never ≡ plan n (asked-for .condition) (asked-for .relation) (asked-for .p) (asked-for .q)
   unfolding question-of
@@ -228,7 +229,7 @@ module _ {h : Held} (sound-held : Sound h) (x : Plan-question h) where
   unfolding steps is-plan
   steps-asked =
       subst (λ n. (1 ≤ n) × (n ≤ 6)) (ap steps root-plan)
-      (plan-steps (length (x .model .states)) (length (x .model .actions)) (x .model .propositions) c asked (node-count c - 1) last-node (ap is-plan root-plan))
+      (plan-steps (length (x .model .states)) (length (x .model .actions)) (x .model .propositions) c (asked .formed) (node-count c - 1) last-node (ap is-plan root-plan))
 
   start-inside : s < length (x .model .states)
   start-inside = held.start-inside sound-held (x .model) (x .held-model) (x .question) (x .held-question)

@@ -1,6 +1,6 @@
 // The truth of state formulas, from the first node to the last, where the verdict can turn on it.
 ghost use mathlib.Core.Path.{_≡_};
-ghost use Prim.Native.Nat.{_*_, _-_, _/_, _%_, _<_, _≤_};
+ghost use Prim.Native.Nat.{_+_, _*_, _-_, _/_, _%_, _<_, _≤_};
 ghost use mathlib.Core.List.{[]};
 ghost use lib.ListN.{getD, length};
 ghost use Rattle.logic.specs.Formula.{depth};
@@ -14,7 +14,6 @@ ghost use Rattle.judging.specs.promises.Asked.{Asked};
 ghost use Rattle.judging.specs.promises.Truth.{Supplied, Right};
 ghost use Rattle.judging.specs.promises.Conditions.{Remembers};
 use crate::plans::plan_true;
-use blocks::byte;
 use evaluation::bit;
 use nodes::count;
 use nodes::left;
@@ -22,6 +21,14 @@ use nodes::operator;
 use nodes::right;
 use prepared::holds;
 use tables::place;
+
+// The truth of node j in s, as it was found.
+fn found(truth: &[u8; 1280], j: u8, s: u8) -> u8
+    requires { ⌜ (j < 40) × (s < 32) ⌝ }
+    ensures { λ r. ⌜ r ≡ getD (now (truth .entry)) (32 * j + s) 0 ⌝ }
+{
+    truth[32 * j as usize + s as usize]
+}
 
 // The truth of node j, which is no "plan", in s, from that of its children; of a path formula, nothing is said.
 pub fn plain_truth(m: &[u16; 8704], q: &[u8; 552], truth: &[u8; 1280], j: u8, s: u8) -> u8
@@ -32,8 +39,8 @@ pub fn plain_truth(m: &[u16; 8704], q: &[u8; 552], truth: &[u8; 1280], j: u8, s:
     let op = operator(q, j);
     match op {
         2 => bit(holds(m, s as usize, left(q, j))),
-        3 => bit(byte(truth, place(left(q, j), s)) == 0),
-        4 => byte(truth, place(left(q, j), s)) & byte(truth, place(right(q, j), s)),
+        3 => bit(found(truth, left(q, j), s) == 0),
+        4 => found(truth, left(q, j), s) & found(truth, right(q, j), s),
         _ => 0,
     }
 }
@@ -74,7 +81,7 @@ fn truth_if(
     requires { ⌜ Needs (now m) (now q) (now need) × Right (now m) (now q) (now need) (now truth) k × (4095 ≤ length (now scratch)) × Remembers (now m) (now q) (now memo) ⌝ }
     ensures { λ r. ⌜ (getD (now (need .entry)) k 0 ≡ 1 → depth (formula (now (q .entry)) (k / 32)) ≡ 0 → r ≡ value-of (model-in (now (m .entry))) (formula (now (q .entry)) (k / 32)) (k % 32) []) × Remembers (now (m .entry)) (now (q .entry)) (now (memo .exit)) ⌝ }
 {
-    if byte(need, k) != 1 {
+    if need[k] != 1 {
         return 0;
     }
     truth_at(

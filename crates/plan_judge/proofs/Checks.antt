@@ -5,7 +5,7 @@ use native.Mathlib.Omega.{arith}
 use mathlib.Core.Path.{_≡_, refl, sym, ap, ap₂, subst, _∙_}
 use mathlib.Core.Bool.{Bool, true, false, _&&_}
 use lib.Dec.{leb}
-use lib.IntN.{ℤ, pos}
+use lib.IntN.{ℤ, pos, natAbs}
 use lib.ListN.{take, drop}
 use lib.Seq.{take-append-seam}
 use borrow.Author.Tests.{le-leb, leb-true}
@@ -15,14 +15,15 @@ use Rattle.logic.specs.Model.{Model}
 use Rattle.logic.specs.Plan.{Plan}
 use Rattle.logic.specs.Quantity.{naturals}
 use Rattle.logic.specs.Formula.{W, meets, relation, nonnegative}
-use Rattle.logic.specs.Verdict.{Goal}
+use Rattle.logic.specs.Verdict.{Goal, plan-goal}
+use Rattle.logic.proofs.Checked.{ok-same}
 use Rattle.logic.specs.Limits.{limits}
 use Rattle.logic.specs.Choices.{plan-of}
 use Rattle.blocks.specs.Bytes.{Bytes}
 use Rattle.models.specs.Layout.{state-count, action-count, prop-count, denominator-of, model-of}
 use Rattle.prepared.specs.promises.Rows.{model-in, Prepares}
 use mathlib.Core.List.{List}
-use Rattle.questions.specs.Layout.{Question, start-of, node-count, node-of, question-of}
+use Rattle.questions.specs.Layout.{Question, start-of, node-count, node-of, formulas-of, question-of}
 use Rattle.questions.specs.Grounds.{read-question}
 use Rattle.questions.proofs.Accepted.{accepted}
 use Rattle.sheets.specs.Layout.{Sheet, weight-of, sheet-of}
@@ -31,6 +32,8 @@ use Rattle.sheets.specs.promises.Reader.{Blocks, Gathered}
 use Rattle.sheets.proofs.Laws.{sheet-passed}
 use Rattle.calls.specs.Calls.{Report, same, reported}
 use Rattle.calls.specs.promises.Chains.{check-on, do-check}
+use Rattle.nodes.specs.promises.Shared.{Shared}
+use Rattle.nodes.proofs.Judged.{same-goal, same-limits}
 use Rattle.bounds.specs.promises.Bounded.{Bounded, meets-at}
 use Rattle.weighing.proofs.Plans.{plan-there, weight-most}
 use Rattle.judging.specs.promises.Asked.{Served}
@@ -41,7 +44,7 @@ use Rattle.plan_judge.specs.View.{view}
 use Rattle.plan_judge.specs.promises.Values.{checking, checked-by}
 use Rattle.plan_judge.specs.promises.State.{held-goal, PlanRoot, plan-on}
 use Rattle.plan_judge.proofs.Returns.{said-bytes}
-use Rattle.plan_judge.proofs.Grounds.{bind-refused, bind-passed, then-refused, limits-passed, both-asked, both-held, both-passed, goal-refused, root-node, condition, asked-goal, goal-is}
+use Rattle.plan_judge.proofs.Grounds.{bind-refused, bind-passed, then-refused, limits-passed, both-asked, both-held, both-passed, goal-refused, root-node, condition, root-goal, asked-goal, goal-is}
 
 -- ---- the plan on a sheet
 
@@ -138,18 +141,49 @@ module _ (m q : Bytes) (r : PlanRoot m q) (b : Bytes) where
   pub check-limited : (k : ℕ) → k ≡ refusal (limits M (question-of q .nodes)) → (k ≡ 0 → ⊥) → Refused k ≡ checking (check-on M (question-of q) b)
   check-limited k i h = refused-by (check-on M (question-of q) b) k (then-refused (limits M (question-of q .nodes)) _ k i h ∙ sym (ap refusal check-is)) h
 
-  -- The model prepared.
-  module _ {a : List ℕ} (p : Prepares m a) where
-    pub sheet-asked : refusal (read-question (state-count a) (action-count a) (prop-count a) q) ≡ 0
-    sheet-asked = rw (p .head 2 (omega arith), p .head 3 (omega arith), p .head 4 (omega arith)) (r .asked)
+  pub sheet-asked : {a : List ℕ} → Prepares m a → refusal (read-question (state-count a) (action-count a) (prop-count a) q) ≡ 0
+  sheet-asked p = rw (p .head 2 (omega arith), p .head 3 (omega arith), p .head 4 (omega arith)) (r .asked)
 
-    pub root-bounded : (j : ℕ) → j ≡ node-count q - 1 → Bounded a q j
+  -- The model and the question prepared: the goal is the same.
+  module _ {a q′ : List ℕ} (p : Prepares m a) (h : Shared (state-count a) (action-count a) (prop-count a) q q′) where
+    pub plan-there : root-node q′ .operator ≡ 8
+    plan-there =
+        let some = accepted _ _ _ q (r .asked) .formed .some-node in
+        ap (λ k. node-of q′ (k - 1) .operator) (h .count) ∙ h .operators (node-count q - 1) (omega arith) ∙ r .is-plan
+
+    pub root-bounded : (j : ℕ) → j ≡ node-count q′ - 1 → Bounded a q′ j
     root-bounded j i =
-        record { prepared = p .prepared; question-accepted = sheet-asked; node = omega (arith, accepted _ _ _ q (r .asked) .some-node); is-plan = ap (λ k. node-of q k .operator) i ∙ r .is-plan }
+        record { prepared = p .prepared; nodes = h .nodes; node = omega (arith, h .nodes .formed .some-node); is-plan = ap (λ k. node-of q′ k .operator) i ∙ plan-there }
 
-    pub sheet-served : refusal (limits M (question-of q .nodes)) ≡ 0 → Served a q
+    pub sheet-served : refusal (limits M (question-of q .nodes)) ≡ 0 → Served a q′
     unfolding question-of
-    sheet-served l = record { prepared = p .prepared; question-accepted = sheet-asked; within = rw (p .same) l }
+    sheet-served l = record { prepared = p .prepared; nodes = h .nodes; within = sym (ap refusal (same-limits h (model-in a))) ∙ rw (p .same) l }
+
+    pub limits-there : refusal (limits (model-in a) (question-of q′ .nodes)) ≡ refusal (limits M (question-of q .nodes))
+    unfolding question-of
+    limits-there = sym (ap refusal (same-limits h (model-in a))) ∙ ap (λ M. refusal (limits M (formulas-of q))) (p .same)
+
+    abbrev there : Goal
+    there = plan-goal M (start-of q′) (root-node q′ .n) (condition q′) (relation (root-node q′ .right)) (nonnegative (root-node q′ .p)) (root-node q′ .q)
+
+    same-there : there ≡ asked-goal m q
+    unfolding question-of
+    same-there = ok-same (sym (root-goal (h .nodes .formed) M (start-of q′) plan-there) ∙ sym (same-goal h M) ∙ goal-is m q r)
+
+    pub steps-there : root-node q′ .n ≡ n
+    steps-there = ap (λ (g : Goal). g .steps) same-there
+
+    -- What the total of the plan with some choices is, and whether it meets the bound.
+    total-there : (cs : Bytes) {w : ℕ} → Weighs (model-in a) q′ cs w → (π : Plan n) → plan-of M n s cs ≡ ok π → pos w ≡ pos (W M (condition q) n s π)
+    total-there cs {w} g =
+        subst (λ (G : Goal). (π : Plan (G .steps)) → plan-of M (G .steps) s cs ≡ ok π → pos w ≡ G .total π) same-there
+        (λ π e. ap pos (subst (λ M. Weighs M q′ cs w) (p .same) g π (subst (λ s. plan-of M (root-node q′ .n) s cs ≡ ok π) (sym (h .start)) e)))
+
+    met-there : (w : ℕ) {t : Bool} → t ≡ meets-at a q′ (node-count q′ - 1) w → (π : Plan n) → pos (W M (condition q) n s π) ≡ pos w → t ≡ asked-goal m q .met π
+    met-there w {t} j =
+        let bound : Model → ℕ → Bool = λ M w. meets naturals M (root-node q′ .n) (relation (root-node q′ .right)) (nonnegative (root-node q′ .p)) (root-node q′ .q) w in
+        subst (λ (G : Goal). (π : Plan (G .steps)) → G .total π ≡ pos w → t ≡ G .met π) same-there
+        (λ π e. j ∙ ap (λ M. bound M w) (p .same) ∙ ap (bound M) (sym (ap natAbs e)))
 
   module _ (l : refusal (limits M (question-of q .nodes)) ≡ 0) where
     -- What is left past the limits.
@@ -167,18 +201,18 @@ module _ (m q : Bytes) (r : PlanRoot m q) (b : Bytes) where
         by (refused j) z = z
 
     -- The weight of the plan on the sheet decides.
-    module _ (e : refusal (plan-on M n s b) ≡ 0) (w : ℕ) {a : List ℕ} (p : Prepares m a) (g : Weighs (model-in a) q (sheet-of b .choices) w) where
+    module _ (e : refusal (plan-on M n s b) ≡ 0) (w : ℕ) {a q′ : List ℕ} (p : Prepares m a) (h : Shared (state-count a) (action-count a) (prop-count a) q q′) (g : Weighs (model-in a) q′ (sheet-of b .choices) w) where
       o : OnSheet M n s b
       o = on-sheet M n s b e
 
       weight-is : w ≡ W M (condition q) n s (o .plan)
-      weight-is = subst (λ M. Weighs M q (sheet-of b .choices) w) (p .same) g (o .plan) (o .read)
+      weight-is = ap natAbs (total-there p h (sheet-of b .choices) g (o .plan) (o .read))
 
       -- It is at most D to the n, so that it can be put to the bound of the root.
-      pub weight-fits : (j : ℕ) → j ≡ node-count q - 1 → w ≤ denominator-of a ^ (node-of q j .n)
+      pub weight-fits : (j : ℕ) → j ≡ node-count q′ - 1 → w ≤ denominator-of a ^ (node-of q′ j .n)
       weight-fits j i =
-          let l : w ≤ denominator-of m ^ n = omega (arith, weight-is, weight-most m (r .passed) (condition q) n s (accepted _ _ _ q (r .asked) .starts) (sheet-of b .choices) (o .plan) (o .read)) in
-          rw (p .head 5 (omega arith)) (subst (λ k. w ≤ denominator-of m ^ (node-of q k .n)) (sym i) l)
+          let l : w ≤ denominator-of m ^ n = omega (arith, weight-is, weight-most m (r .passed) (condition q) n s (accepted _ _ _ q (r .asked) .formed .starts) (sheet-of b .choices) (o .plan) (o .read)) in
+          rw (p .head 5 (omega arith)) (subst (λ k. w ≤ denominator-of m ^ k) (sym (steps-there p h) ∙ ap (λ k. node-of q′ k .n) (sym i)) l)
 
       past-sheet : check-on M (question-of q) b ≡ (guard 11 (same (pos (weight-of b 0)) (pos w)) >> ok (on-total w))
       unfolding sheet-of
@@ -189,11 +223,12 @@ module _ (m q : Bytes) (r : PlanRoot m q) (b : Bytes) where
           ∙ ap (λ z. guard 11 (same (pos (weight-of b 0)) (pos z)) >> ok (on-total z)) (sym weight-is)
 
       pub check-weight : (weight-of b 0 ≡ w → ⊥) → Refused 11 ≡ checking (check-on M (question-of q) b)
-      check-weight h =
+      check-weight i =
           refused-by (check-on M (question-of q) b) 11
-          (sym (ap refusal (past-sheet ∙ ap (λ t. guard 11 t >> ok (on-total w)) (other-weight (weight-of b 0) w h))))
+          (sym (ap refusal (past-sheet ∙ ap (λ t. guard 11 t >> ok (on-total w)) (other-weight (weight-of b 0) w i))))
           (λ z. omega arith)
 
-      pub check-met : weight-of b 0 ≡ w → (t : Bool) → t ≡ meets-at a q (node-count q - 1) w → Accepted (record { met = t }) ≡ checking (check-on M (question-of q) b)
-      check-met h t j =
-          ap (λ t. Accepted (record { met = t })) (j ∙ ap (λ M. meets naturals M n (relation (root-node q .right)) (nonnegative (root-node q .p)) (root-node q .q) w) (p .same)) ∙ sym (ap checking (past-sheet ∙ ap (λ t. guard 11 t >> ok (on-total w)) (same-weight (weight-of b 0) w h)))
+      pub check-met : weight-of b 0 ≡ w → (t : Bool) → t ≡ meets-at a q′ (node-count q′ - 1) w → Accepted (record { met = t }) ≡ checking (check-on M (question-of q) b)
+      check-met i t j =
+          ap (λ t. Accepted (record { met = t })) (met-there p h w j (o .plan) (ap pos (sym weight-is)) ∙ ap (λ z. on-total z .met) (sym weight-is))
+          ∙ sym (ap checking (past-sheet ∙ ap (λ t. guard 11 t >> ok (on-total w)) (same-weight (weight-of b 0) w i)))

@@ -19,7 +19,8 @@ use Rattle.models.specs.Layout.{state-count, action-count, prop-count, model-of
 use Rattle.models.specs.Grounds.{read-model}
 use Rattle.questions.specs.Layout.{Question, start-of, node-count, node-of, formulas-of, question-of}
 use Rattle.questions.specs.Grounds.{read-question}
-use Rattle.questions.proofs.Accepted.{Accepted, accepted, at-never, at-prop, at-neg, at-both, at-does, at-next, at-gain, at-plan}
+use Rattle.questions.specs.promises.Formed.{Formed}
+use Rattle.questions.proofs.Accepted.{accepted, at-never, at-prop, at-neg, at-both, at-does, at-next, at-gain, at-plan}
 use Rattle.questions.proofs.Laws.{by-operator}
 use Rattle.limits.proofs.Nodes.{done}
 use Rattle.calls.specs.Calls.{Held}
@@ -53,7 +54,7 @@ limits-passed m fs e = by (every-plan (λ n r s. leb (path-total m n s) 1000000)
 
 -- ---- the root
 
-module _ {S A N : ℕ} {b : Bytes} (a : Accepted S A N b) where
+module _ {S A N : ℕ} {b : Bytes} (a : Formed S A N b) where
   -- The number of the root.
   abbrev top : ℕ
   top = node-count b - 1
@@ -157,8 +158,8 @@ module _ (d : Desk) where
     abbrev M : Model
     M = model-of (said-bytes d)
 
-    question-facts : Accepted (state-count (said-bytes d)) (action-count (said-bytes d)) (prop-count (said-bytes d)) (d .question)
-    question-facts = accepted _ _ _ (d .question) (b .asked)
+    question-facts : Formed (state-count (said-bytes d)) (action-count (said-bytes d)) (prop-count (said-bytes d)) (d .question)
+    question-facts = accepted _ _ _ (d .question) (b .asked) .formed
 
     pub both-held : held-both (view d) ≡ ok (M, question-of (d .question))
     unfolding held-both
@@ -235,7 +236,7 @@ asked-goal m q = plan-goal (model-of m) (start-of q) (root-node q .n) (condition
 
 pub goal-is : (m q : Bytes) → PlanRoot m q → goal (model-of m) (question-of q .start) (question-of q .root) ≡ ok (asked-goal m q)
 unfolding question-of
-goal-is m q r = root-goal (accepted _ _ _ q (r .asked)) (model-of m) (start-of q) (r .is-plan)
+goal-is m q r = root-goal (accepted _ _ _ q (r .asked) .formed) (model-of m) (start-of q) (r .is-plan)
 
 pub goal-passed : {B : Type 0} (d : Desk) → refusal (held-goal (view d)) ≡ 0 → (f : Model → Question → Goal → Checked B)
     → goal-then (view d) f ≡ f (model-of (said-bytes d)) (question-of (d .question)) (asked-goal (said-bytes d) (d .question))

@@ -16,6 +16,8 @@ use Rattle.prepared.specs.promises.Rows.{model-in, Prepares}
 use Rattle.questions.specs.Grounds.{read-question}
 use Rattle.questions.specs.Layout.{Question, question-of}
 use Rattle.blocks.specs.Splice.{splice}
+use Rattle.nodes.specs.promises.Shared.{Shared}
+use Rattle.nodes.proofs.Judged.{same-verdict, same-limits}
 use Rattle.judging.specs.promises.Asked.{Served}
 use Rattle.judging.specs.promises.Announced.{root-verdict, told, shown-choices}
 use Rattle.calls.specs.promises.Chains.{do-judge}
@@ -93,23 +95,27 @@ module _ (d : Desk) where
         by (ok a) v = refl
         by (refused k) v = refl
 
-  -- The model prepared.
-  module _ (b : Both d) {a : List ℕ} (p : Prepares (said-bytes d) a) where
-    pub limits-prepared : refusal (limits (model-in a) (question-of (d .question) .nodes)) ≡ refusal (do-judge (view d))
-    limits-prepared = rw (p .same) (ground-limits b)
+  pub asked-prepared : Both d → {a : List ℕ} → Prepares (said-bytes d) a → refusal (read-question (state-count a) (action-count a) (prop-count a) (d .question)) ≡ 0
+  asked-prepared b p = rw (p .head 2 (omega arith), p .head 3 (omega arith), p .head 4 (omega arith)) (b .asked)
 
-    pub asked-prepared : refusal (read-question (state-count a) (action-count a) (prop-count a) (d .question)) ≡ 0
-    asked-prepared = rw (p .head 2 (omega arith), p .head 3 (omega arith), p .head 4 (omega arith)) (b .asked)
+  -- The model and the question prepared.
+  module _ (b : Both d) {a q′ : List ℕ} (p : Prepares (said-bytes d) a) (h : Shared (state-count a) (action-count a) (prop-count a) (d .question) q′) where
+    pub limits-prepared : refusal (limits (model-in a) (question-of q′ .nodes)) ≡ refusal (do-judge (view d))
+    unfolding question-of
+    limits-prepared = sym (ap refusal (same-limits h (model-in a))) ∙ rw (p .same) (ground-limits b)
+
+    same-root : root-verdict (model-in a) q′ ≡ root-verdict (model-of (said-bytes d)) (d .question)
+    unfolding question-of
+    same-root = sym (same-verdict h (model-in a)) ∙ ap (λ M. root-verdict M (d .question)) (p .same)
 
     -- Where judge is not refused, the verdict is told.
     module _ (e : refusal (do-judge (view d)) ≡ 0) where
-      pub served : Served a (d .question)
+      pub served : Served a q′
       unfolding question-of
-      served = record { prepared = p .prepared; question-accepted = asked-prepared; within = limits-prepared ∙ e }
+      served = record { prepared = p .prepared; nodes = h .nodes; within = limits-prepared ∙ e }
 
-      pub judge-done : (cs : Bytes) → cs ≡ choices-code (root-verdict (model-in a) (d .question)) → (v : Verdict) → v ≡ verdict-code (root-verdict (model-in a) (d .question))
-          → announced cs v ≡ judged-by d
+      pub judge-done : (cs : Bytes) → cs ≡ choices-code (root-verdict (model-in a) q′) → (v : Verdict) → v ≡ verdict-code (root-verdict (model-in a) q′) → announced cs v ≡ judged-by d
       unfolding judged-by settling question-of
       judge-done cs i v j =
-          ap₂ announced (i ∙ ap (λ M. choices-code (root-verdict M (d .question))) (p .same)) (j ∙ ap (λ M. verdict-code (root-verdict M (d .question))) (p .same))
+          ap₂ announced (i ∙ ap choices-code same-root) (j ∙ ap verdict-code same-root)
           ∙ sym (ap (judging d) (judge-is b ∙ ap (λ c. c >> ok (root-verdict (model-of (said-bytes d)) (d .question))) (limits-passed _ _ (ground-limits b ∙ e))))

@@ -51,7 +51,7 @@ module _ (m q : Bytes) (r : PlanRoot m q) (cs : List ℕ) where
   unfolding choices-in question-of
   choices-are =
       ap (λ c. c >>= (λ g. read-plan (model-of m) (g .steps) (start-of q) cs >>= (λ x. ok (choices (g .steps) (x .0)))))
-      (root-goal (accepted _ _ _ q (r .asked)) (model-of m) (start-of q) (r .is-plan))
+      (root-goal (accepted _ _ _ q (r .asked) .formed) (model-of m) (start-of q) (r .is-plan))
 
   pub size-choices : plan-size n (read-plan (model-of m) n (start-of q) cs) ≡ size-in (choices-in (model-of m) (question-of q) cs)
   unfolding plan-size size-in
@@ -72,7 +72,7 @@ module _ (m q : Bytes) (r : PlanRoot m q) (cs : List ℕ) where
       let x = bind-ok (read-plan (model-of m) n (start-of q) cs) _ (sym choices-are ∙ e) in
       let w = read-sound (model-of m) n (start-of q) cs (x .0) (x .1) in
       let z : choices n (x .0 .0) ≡ l = ok-same (x .2) in
-      let a = accepted _ _ _ q (r .asked) in
+      let a = accepted _ _ _ q (r .asked) .formed in
       let s = a .in-range (node-count q - 1) (omega (arith, a .some-node)) .of-plan (r .is-plan) .compares .some-step in
       let i : cs ≡ l ++ x .0 .1 = w .1 ∙ ap (λ k. k ++ x .0 .1) z in
       (omega (arith, some-choice n (x .0 .0) s, ap length z), omega (arith, ap length i ∙ length-append l (x .0 .1)), sym (ap (take (length l)) i ∙ take-append-seam l (x .0 .1)))

@@ -26,6 +26,7 @@ ghost use Rattle.plan_judge.specs.promises.State.{held-both, held-goal, 
 pub mod c_call;
 
 use limits::limit_refusal;
+use nodes::nodes;
 use prepared::prepare;
 
 // The record of a shown plan: its total W, its steps, and its place in dictionary order for "equal", else 0.
@@ -273,12 +274,13 @@ pub fn judge(d: Desk) -> Judging
     let q = d.question;
     let n = blocks_end(6144, d.blocks);
     let model = prepare(&m[..n]);
-    let l = limit_refusal(&model, &q);
+    let query = nodes(&q);
+    let l = limit_refusal(&model, &query);
     if l != 0 {
         return turned_away(d, l);
     }
     let mut choices = [0u8; 1365];
-    let o = judging::judged(&model, &q, &mut choices);
+    let o = judging::judged(&model, &query, &mut choices);
     let v = verdict_of(o);
     Judging {
         answer: Judgement::Judged(v),
@@ -447,7 +449,7 @@ fn sheet_ground(m: &[u8], q: &[u8], b: &[u8]) -> u32
 }
 
 // The total of the plan on a sheet, for a question with a "plan" root.
-fn sheet_weight(m: &[u16; 8704], q: &[u8], b: &[u8]) -> u64
+fn sheet_weight(m: &[u16; 8704], q: &[u8; 552], b: &[u8]) -> u64
     requires { ⌜ Served (now m) (now q) × (node-of (now q) (node-count (now q) - 1) .operator ≡ 8) × Blocks 6 (now b) ⌝ }
     ensures { λ r. ⌜ Weighs (model-in (now (m .entry))) (now (q .entry)) ((sheet-of (now (b .entry))) .choices) r ⌝ }
 {
@@ -462,7 +464,8 @@ fn check_on(m: &[u8], q: &[u8], b: &[u8]) -> Checking
     ensures { λ r. ⌜ r ≡ checking (check-on (model-of (now (m .entry))) (question-of (now (q .entry))) (now (b .entry))) ⌝ }
 {
     let model = prepare(m);
-    let l = limit_refusal(&model, q);
+    let query = nodes(q);
+    let l = limit_refusal(&model, &query);
     if l != 0 {
         return Checking::Refused(l);
     }
@@ -470,12 +473,12 @@ fn check_on(m: &[u8], q: &[u8], b: &[u8]) -> Checking
     if k != 0 {
         return Checking::Refused(k);
     }
-    let w = sheet_weight(&model, q, b);
+    let w = sheet_weight(&model, &query, b);
     if sheets::weight_at(b, 0) != w {
         return Checking::Refused(11);
     }
     Checking::Accepted(Report {
-        met: bounds::meets(&model, q, root(q), w),
+        met: bounds::meets(&model, &query, root(&query), w),
     })
 }
 

@@ -42,7 +42,7 @@ module _ (d : Desk) (m q : Bytes) (l : Asked d m q) (r : Judging) (i : r ≡ jud
 
     told-shown : length (r .choices) ≡ 1365 → Shown m q v (take count (r .choices))
     told-shown w =
-        let a = accepted _ _ _ q (l .question) in
+        let a = accepted _ _ _ q (l .question) .formed in
         record {
           small = sizes m (passed-all m (l .model) .sizes) .parts;
           some-node = a .some-node;
@@ -56,7 +56,7 @@ module _ (d : Desk) (m q : Bytes) (l : Asked d m q) (r : Judging) (i : r ≡ jud
         ap₂ (λ x k. shown-line (denominator-of m) (plan-root q) x (take k (r .choices))) (t .code) e
         ∙ ap (λ c. shown-line (denominator-of m) (plan-root q) (verdict-code (asked-verdict m q)) (take (shown-size (some (asked-verdict m q))) c)) (t .beside)
         ∙ line-is (model-of m) (question-of q .root) (asked-verdict m q) (denominator-of m) (plan-root q) (denominator-held m)
-        (root-is (accepted _ _ _ q (l .question)) (model-of m) (question-of q .start))
+        (root-is (accepted _ _ _ q (l .question) .formed) (model-of m) (question-of q .start))
         ∙ sym (ap line-of (t .line))
 
     told-printable : length (r .choices) ≡ 1365 → Printable m q r v count

@@ -18,7 +18,7 @@ use Rattle.logic.specs.Verdict as logic
 use Rattle.logic.proofs.Checked.{not-ok, ok-same}
 use Rattle.blocks.specs.Bytes.{Bytes}
 use Rattle.questions.specs.Layout.{node-of, node-count, question-of}
-use Rattle.questions.proofs.Accepted.{Accepted}
+use Rattle.questions.specs.promises.Formed.{Formed}
 use Rattle.lines.specs.Line.{plain-line, no-plans-line, yes-plan-line, is-plan, verdict-line}
 use Rattle.plan_judge.specs.promises.Values.{padded, verdict-code, choices-code}
 use Rattle.plan_judge.specs.promises.State.{shown-size}
@@ -49,7 +49,7 @@ goal-plan m s (next φ) e = absurd (not-ok e)
 goal-plan m s (gain n b p) e = absurd (not-ok e)
 goal-plan m s (plan n φ r p q) e = refl
 
-module _ {S A N : ℕ} {q : Bytes} (a : Accepted S A N q) (m : Model) (s : ℕ) where
+module _ {S A N : ℕ} {q : Bytes} (a : Formed S A N q) (m : Model) (s : ℕ) where
   -- The root's formula is a "plan" where its operator says so.
   pub root-is : is-plan (question-of q .root) ≡ plan-root q
   root-is = by (plan-root q) refl

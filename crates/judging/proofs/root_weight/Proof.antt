@@ -9,24 +9,31 @@ use Rattle.logic.specs.Formula.{depth}
 use Rattle.questions.specs.Layout.{node-count, node-of}
 use Rattle.nodes.specs.promises.Nodes.{formula}
 use Rattle.evaluation.specs.promises.Reached.{Ready}
-use Rattle.tables.proofs.Cones.{given-ordered}
 use Rattle.judging.specs.promises.Announced.{root}
 use Rattle.judging.proofs.Posing.{planned, before, ready}
 use Rattle.judging.proofs.Announcing.{root-weighs}
 use borrow.Author.Needs.{needs}
 use Rattle.judging.proofs.root_weight.Statement.{statement}
 use Rattle.judging.proofs.root_weight.Tie as tie
+use Rattle.judging.proofs.root_weight.Reads as reads
+use Rattle.judging.proofs.root_weight.Lts as lts
+use Rattle.nodes.proofs.count.Reads as count-reads
+use Rattle.nodes.proofs.left.Reads as left-reads
+use Rattle.nodes.proofs.start.Reads as start-reads
+use Rattle.nodes.proofs.steps.Reads as steps-reads
+use Rattle.tables.proofs.cone.Reads as cone-reads
+use Rattle.weighing.proofs.plan_weight.Reads as plan-weight-reads
 
 -- The condition's node.
 at-root : (S : tie.Start) {k l : ℕ} → k ≡ node-count (S .args .q .now) → l ≡ (node-of (S .args .q .now) (k - 1)) .left
     → l ≡ (node-of (S .args .q .now) (root (S .args .q .now))) .left
 at-root S e f = f ∙ ap (λ (i : ℕ). (node-of (S .args .q .now) (i - 1)) .left) e
 
-node-count-requires : tie.Need-node-count-requires
-node-count-requires c κs = search needs
+count-requires : tie.Need-count-requires
+count-requires c κs = search needs
 
 sub-j : tie.Need-sub-j
-sub-j c = omega (arith, c .before .before .before .before .before .pre .1 .node, c .node-count .ensures)
+sub-j c = search needs
 
 left-requires : tie.Need-left-requires
 left-requires c κs = search needs
@@ -35,16 +42,15 @@ slice-aggregate-cone : tie.Need-slice-aggregate-cone
 slice-aggregate-cone c = search needs
 
 cone-requires : tie.Need-cone-requires
-cone-requires c κs = let S = c .before .before .before .before .before .before .before in
+cone-requires c κs = let S = c .before .before .before .before in
     let l = before (S .pre .0 .0) (S .pre .1) .0 in
-    (given-ordered (S .pre .0 .0), S .pre .0 .1, omega (arith, at-root S (c .before .before .node-count .ensures) (c .before .left .ensures)), refl)
+    ((_, _, _, S .pre .0 .0 .nodes), omega (arith, at-root S (c .before .before .count .ensures) (c .before .left .ensures)), refl)
 
 array-share-prefix-nodes : tie.Need-array-share-prefix-nodes
 array-share-prefix-nodes c = search needs
 
 slice-aggregate-plan-weight : tie.Need-slice-aggregate-plan-weight
-slice-aggregate-plan-weight c = let K = c .before .before in
-    sym (length-take-le _ _ (omega (arith, K .cone .ensures .0, K .cone .kept .1 .1 .1 .0)))
+slice-aggregate-plan-weight c = sym (length-take-le _ _ (omega (arith, c .before .before .cone .ensures .0, c .before .before .cone .kept .1 .1 .0)))
 
 start-requires : tie.Need-start-requires
 start-requires c κs = search needs
@@ -53,30 +59,28 @@ steps-requires : tie.Need-steps-requires
 steps-requires c κs = search needs
 
 plan-weight-requires : tie.Need-plan-weight-requires
-plan-weight-requires c κs = let K = c .before .before .before .before in
-    let S = K .before .before .before .before .before .before .before .before in
+plan-weight-requires c κs = let S = c .before .before .before .before .before .before .before .before .before in
     let G = S .pre .0 .0 in
-    let top = K .cone .ensures .2 ∙ at-root S (K .before .before .before .node-count .ensures) (K .before .before .left .ensures) in
-    let l : List ℕ = take (K .cone .result) (K .cone .last .1 .1 .1 .0) in
-    let n = c .steps .ensures ∙ ap (λ (i : ℕ). (node-of (S .args .q .now) (i - 1)) .n) (K .before .before .before .node-count .ensures) in (
+    let top = c .before .before .before .before .cone .ensures .2 ∙ at-root S (c .before .before .before .before .before .before .before .count .ensures) (c .before .before .before .before .before .before .left .ensures) in
+    let l : List ℕ = take (c .before .before .before .before .cone .result) (c .before .before .before .before .cone .last .1 .1 .0) in
+    let n = c .steps .ensures ∙ ap (λ (i : ℕ). (node-of (S .args .q .now) (i - 1)) .n) (c .before .before .before .before .before .before .before .count .ensures) in (
       subst (λ (s : ℕ). Ready (S .args .m .now) (S .args .q .now) s (S .args .depths .now) (S .args .truth .now) l) (sym (c .before .start .ensures))
-          (ready G (S .pre .1) (S .pre .0 .1) (K .cone .ensures .1) top),
+          (ready G (S .pre .1) (S .pre .0 .1) (c .before .before .before .before .cone .ensures .1) top),
       (omega (arith, planned G (S .pre .1) .deep, ap (λ (i : ℕ). depth (formula (S .args .q .now) i)) top), omega (arith, planned G (S .pre .1) .few)),
     )
 
 returns : tie.Need-returns
-returns c = let K = c .before .before .before .before .before in
-    let S = K .before .before .before .before .before .before .before .before in
-    let n = c .before .steps .ensures ∙ ap (λ (i : ℕ). (node-of (S .args .q .now) (i - 1)) .n) (K .before .before .before .node-count .ensures) in
-    root-weighs (S .args .m .now) (S .args .q .now) (S .args .choices .now) (take (K .cone .result) (K .cone .last .1 .1 .1 .0))
+returns c = let S = c .before .before .before .before .before .before .before .before .before .before in
+    let n = c .before .steps .ensures ∙ ap (λ (i : ℕ). (node-of (S .args .q .now) (i - 1)) .n) (c .before .before .before .before .before .before .before .before .count .ensures) in
+    root-weighs (S .args .m .now) (S .args .q .now) (S .args .choices .now) (take (c .before .before .before .before .before .cone .result) (c .before .before .before .before .before .cone .last .1 .1 .0))
     (c .plan-weight .result) (c .before .steps .result) (c .before .before .start .result) n (c .before .before .start .ensures)
-    (K .cone .ensures .2 ∙ at-root S (K .before .before .before .node-count .ensures) (K .before .before .left .ensures)) (c .plan-weight .ensures)
+    (c .before .before .before .before .before .cone .ensures .2 ∙ at-root S (c .before .before .before .before .before .before .before .before .count .ensures) (c .before .before .before .before .before .before .before .left .ensures)) (c .plan-weight .ensures)
 
 pub root-weight-spec : {M : Type 1} → statement M
 root-weight-spec =
     tie.close
     (tie.spec
-    node-count-requires
+    count-requires
     sub-j
     left-requires
     slice-aggregate-cone

@@ -12,6 +12,15 @@ use Rattle.judging.proofs.Announcing.{announces-plan, equal-few, equal-
 use borrow.Author.Needs.{needs}
 use Rattle.judging.proofs.show.Statement.{statement}
 use Rattle.judging.proofs.show.Tie as tie
+use Rattle.judging.proofs.show.Reads as reads
+use Rattle.judging.proofs.show.Lts as lts
+use Rattle.extension.proofs.extend.Reads as extend-reads
+use Rattle.judging.proofs.with_plan.Reads as with-plan-reads
+use Rattle.nodes.proofs.asks_equal.Reads as asks-equal-reads
+use Rattle.nodes.proofs.depth.Reads as depth-reads
+use Rattle.nodes.proofs.left.Reads as left-reads
+use Rattle.nodes.proofs.steps.Reads as steps-reads
+use Rattle.ranking.proofs.nth.Reads as nth-reads
 
 steps-requires : tie.Need-steps-requires
 steps-requires c κs = search needs
@@ -20,12 +29,11 @@ asks-equal-requires : tie.Need-asks-equal-requires
 asks-equal-requires c κs = search needs
 
 nth-requires : tie.Need-nth-requires
-nth-requires c κs = let R = c .before .before in
-    let S = R .before .before .before .before .before .before in
+nth-requires c κs = let S = c .before .before .before .before .before .before in
     let P = S .pre .0 in
     let N = S .pre .1 in
-    let e = asked-equal (S .args .q .now) (S .args .j) (R .asks-equal .ensures) (c .before .if1 .taken) in
-    let n = R .before .steps .ensures in
+    let e = asked-equal (S .args .q .now) (S .args .j) (c .before .before .asks-equal .ensures) (c .before .if1 .taken) in
+    let n = c .before .before .before .steps .ensures in
     let few = equal-few (P .0) (S .args .j) (S .args .s) (N .0) (N .1) (N .2) (P .1) e .0 in
     let here = equal-inside (P .0) (S .args .j) (S .args .s) (N .0) (N .1) (N .2) (P .1) e (P .2) in (
       (P .0 .given .prepared, P .0 .counted),
@@ -39,13 +47,13 @@ nth-requires c κs = let R = c .before .before in
     )
 
 cast-with-plan : tie.Need-cast-with-plan
-cast-with-plan c = let S = c .before .before .before .before .before .before .before .before .before .before .before in
+cast-with-plan c = let S = c .before .before .before .before .before .before .before .before .before in
     let P = S .pre .0 in
     let N = S .pre .1 in
     record { fits = omega (arith, place-few (P .0) (S .args .j) (S .args .s) (N .0) (N .1) (N .2) (P .1)) }
 
 add-with-plan : tie.Need-add-with-plan
-add-with-plan c = let S = c .before .before .before .before .before .before .before .before .before .before .before in
+add-with-plan c = let S = c .before .before .before .before .before .before .before .before .before in
     let P = S .pre .0 in
     let N = S .pre .1 in
     record { fits = omega (arith, place-few (P .0) (S .args .j) (S .args .s) (N .0) (N .1) (N .2) (P .1)) }
@@ -57,20 +65,22 @@ same-length : tie.Need-same-length
 same-length c = search needs
 
 returns : tie.Need-returns
-returns c = let R = c .before .before .before .before .before .before in
-    let S = R .before .before .before .before .before .before in
+returns c = let S = c .before .before .before .before .before .before .before .before .before .before in
     let P = S .pre .0 in
     let N = S .pre .1 in
-    let e = asked-equal (S .args .q .now) (S .args .j) (R .asks-equal .ensures) (c .before .before .before .before .before .if1 .taken) in
-    let n = R .before .steps .ensures in
+    let e = asked-equal (S .args .q .now) (S .args .j) (c .before .before .before .before .before .before .asks-equal .ensures) (c .before .before .before .before .before .if1 .taken) in
+    let n = c .before .before .before .before .before .before .before .steps .ensures in
     announces-plan (S .args .choices .now) (equal-verdict (P .0) (S .args .j) (S .args .s) (N .0) (N .1) (N .2) (P .1) e (P .2)) n
     (ap (λ (i : ℕ). choices i (plan-at (model-in (S .args .m .now)) i (S .args .s) (S .args .r .place))) n) (c .with-plan .ensures) (c .before .before .before .nth .ensures .0)
 
 left-requires : tie.Need-left-requires
 left-requires c κs = search needs
 
-depth-at-requires : tie.Need-depth-at-requires
-depth-at-requires c κs = search needs
+depth-requires : tie.Need-depth-requires
+depth-requires c κs = let S = c .before .before .before .before .before .before in
+    let P = S .pre .0 in
+    let N = S .pre .1 in
+    omega (arith, c .left .ensures, plan-here (P .0 .given) (S .args .j) (N .0) (N .1) .range .child, N .0, P .0 .given .nodes .formed .few-nodes)
 
 cast-extend : tie.Need-cast-extend
 cast-extend c = search needs
@@ -79,12 +89,11 @@ cast-extend-2 : tie.Need-cast-extend-2
 cast-extend-2 c = search needs
 
 extend-requires : tie.Need-extend-requires
-extend-requires c κs = let R = c .before .before .before .before in
-    let S = R .before .before .before .before .before .before in
+extend-requires c κs = let S = c .before .before .before .before .before .before .before .before in
     let P = S .pre .0 in
     let N = S .pre .1 in
     let few = plan-here (P .0 .given) (S .args .j) (N .0) (N .1) .few in
-    ((P .0 .given .prepared, N .2), (omega (arith, R .before .steps .ensures), N .3))
+    ((P .0 .given .prepared, N .2), (omega (arith, c .before .before .before .before .before .steps .ensures), N .3))
 
 with-plan-requires-2 : tie.Need-with-plan-requires-2
 with-plan-requires-2 c κs = search needs
@@ -93,13 +102,12 @@ same-length-2 : tie.Need-same-length-2
 same-length-2 c = search needs
 
 returns-2 : tie.Need-returns-2
-returns-2 c = let R = c .before .before .before .before .before .before .before .before in
-    let S = R .before .before .before .before .before .before in
+returns-2 c = let S = c .before .before .before .before .before .before .before .before .before .before .before .before in
     let P = S .pre .0 in
     let N = S .pre .1 in
-    let e = asked-other (S .args .q .now) (S .args .j) (R .asks-equal .ensures) (c .before .before .before .before .before .before .before .if1 .left) in
-    let n = R .before .steps .ensures in
-    let d = depth-there (P .0) (N .0) (N .1) (c .before .before .before .before .before .before .left .ensures) (c .before .before .before .before .before .depth-at .ensures) in
+    let e = asked-other (S .args .q .now) (S .args .j) (c .before .before .before .before .before .before .before .before .asks-equal .ensures) (c .before .before .before .before .before .before .before .if1 .left) in
+    let n = c .before .before .before .before .before .before .before .before .before .steps .ensures in
+    let d = depth-there (P .0) (N .0) (N .1) (c .before .before .before .before .before .before .left .ensures) (c .before .before .before .before .before .depth .ensures) in
     announces-plan (S .args .choices .now) (led-verdict (P .0) (S .args .j) (S .args .s) (N .0) (N .1) (N .2) (P .1) e (P .2)) n
     (led-choices (P .0) (S .args .j) (S .args .s) (N .0) (N .1) (N .2) (P .1) e d n) (c .with-plan2 .ensures) (c .before .before .before .extend .ensures .0)
 
@@ -116,7 +124,7 @@ show-spec =
     same-length
     returns
     left-requires
-    depth-at-requires
+    depth-requires
     cast-extend
     cast-extend-2
     extend-requires

@@ -37,7 +37,7 @@ plan-size-requires : tie.Need-plan-size-requires
 plan-size-requires c κs = let S = c .before .before .before .before .before .before .before in
     let q = S .args .q .now in
     let e = said-cut (S .args .model .now) (S .args .blocks) (c .before .before .before .blocks-end .result) (c .before .before .before .blocks-end .ensures) in
-    (ap (λ z. refusal (read-model z)) e ∙ S .pre .passed, omega (arith, accepted _ _ _ q (S .pre .asked) .starts, c .start .ensures, ap state-count e))
+    (ap (λ z. refusal (read-model z)) e ∙ S .pre .passed, omega (arith, accepted _ _ _ q (S .pre .asked) .formed .starts, c .start .ensures, ap state-count e))
 
 returns : tie.Need-returns
 returns c = let S = c .before .before .before .before .before .before .before .before in

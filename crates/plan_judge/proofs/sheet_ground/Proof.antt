@@ -50,7 +50,7 @@ slice-aggregate-plan-refusal c = let l : c .before .before .gather .result ≤ l
 
 plan-refusal-requires : tie.Need-plan-refusal-requires
 plan-refusal-requires c κs = let S = c .before .before .before .before .before .before .before .before .before .before .before in
-    (S .pre .passed, omega (arith, accepted _ _ _ (S .args .q .now) (S .pre .asked) .starts, c .before .before .before .before .before .before .start .ensures))
+    (S .pre .passed, omega (arith, accepted _ _ _ (S .args .q .now) (S .pre .asked) .formed .starts, c .before .before .before .before .before .before .start .ensures))
 
 returns-2 : tie.Need-returns-2
 returns-2 c = let S = c .before .before .before .before .before .before .before .before .before .before .before .before in

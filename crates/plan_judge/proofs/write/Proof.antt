@@ -105,7 +105,7 @@ write-sheet-requires c κs = let P = c .before .before .before in
     let found = found-shown d (S .args .buf .now) (asked (E .before .before)) (E .before .shown-size .result) (E .before .shown-size .ensures) (E .if2 .left) in (
       (
         ap (λ z. refusal (read-model z)) e ∙ r .passed,
-        omega (arith, accepted _ _ _ q (r .asked) .starts, s .ensures, ap state-count e),
+        omega (arith, accepted _ _ _ q (r .asked) .formed .starts, s .ensures, ap state-count e),
         choices-read (said-bytes d) q r (d .choices) l found
             ∙ ap₂ (λ n s. end-of (length l) (read-plan (model-of (said-bytes d)) n s l)) (sym (n .ensures)) (sym (s .ensures))
             ∙ ap (λ z. end-of (length l) (read-plan (model-of z) (n .result) (s .result) l)) (sym e),

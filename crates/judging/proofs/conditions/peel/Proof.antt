@@ -4,21 +4,24 @@ use Rattle.judging.specs.promises.Conditions.{Peels}
 use Rattle.judging.proofs.Peeling.{Alike, alike-itself, alike-on, peels-on}
 use Rattle.judging.proofs.conditions.peel.Statement.{statement}
 use Rattle.judging.proofs.conditions.peel.Tie as tie
+use Rattle.judging.proofs.conditions.peel.Reads as reads
+use Rattle.judging.proofs.conditions.peel.Lts as lts
+use Rattle.judging.proofs.conditions.peel_one.Reads as peel-one-reads
 
 abbrev Inv-loop : tie.InvT-loop
-Inv-loop q depths truth c s at₀ r₀ at r = Alike q truth c s at × Peels q truth at s r
+Inv-loop q truth c s at₀ r₀ at r = Alike q truth c s at × Peels q truth at s r
 
 abbrev μ-loop : tie.MeasureT-loop
-μ-loop q depths truth c s at₀ r₀ at r = at
+μ-loop q truth c s at₀ r₀ at r = at
 
 peel-one-requires : tie.Need-peel-one-requires Inv-loop μ-loop
-peel-one-requires c κs = c .before .before .before .pre
+peel-one-requires c κs = tt
 
 loop-holds : tie.Need-loop-holds Inv-loop μ-loop
 loop-holds c = (alike-itself, c .peel-one .ensures)
 
 peel-one-requires-2 : tie.Need-peel-one-requires-2 Inv-loop μ-loop
-peel-one-requires-2 c κs = c .before .before .before .before .before .before .before .before .before .pre
+peel-one-requires-2 c κs = tt
 
 loop-less : tie.Need-loop-less Inv-loop μ-loop
 loop-less c = ltb-true _ _ (c .before .if2 .taken)

@@ -11,12 +11,20 @@ use Rattle.prepared.specs.promises.Rows.{model-in}
 use Rattle.questions.specs.Layout.{node-of}
 use Rattle.nodes.specs.promises.Nodes.{formula}
 use Rattle.equal.proofs.Serving.{counts-right}
-use Rattle.tables.proofs.Cones.{given-ordered}
 use Rattle.judging.proofs.Deciding.{few-plans, counted-plans}
 use Rattle.judging.proofs.Posing.{planned, bounded, before, looks, ready, placed-never, placed-at}
 use borrow.Author.Needs.{needs}
 use Rattle.judging.proofs.plans.first.Statement.{statement}
 use Rattle.judging.proofs.plans.first.Tie as tie
+use Rattle.judging.proofs.plans.first.Reads as reads
+use Rattle.judging.proofs.plans.first.Lts as lts
+use Rattle.bounds.proofs.exact_total.Reads as exact-total-reads
+use Rattle.equal.proofs.first_equal.Reads as first-equal-reads
+use Rattle.limits.proofs.plans_counted.Reads as plans-counted-reads
+use Rattle.nodes.proofs.depth.Reads as depth-reads
+use Rattle.nodes.proofs.left.Reads as left-reads
+use Rattle.nodes.proofs.steps.Reads as steps-reads
+use Rattle.tables.proofs.cone.Reads as cone-reads
 
 -- The table's number of plans is their number.
 number : (S : tie.Start) {x n : ℕ} → x ≡ getD (S .args .counts .now) (32 * n + S .args .s) 0 → n ≡ (node-of (S .args .q .now) (S .args .j)) .n
@@ -29,14 +37,14 @@ steps-requires : tie.Need-steps-requires
 steps-requires c κs = search needs
 
 plans-counted-requires : tie.Need-plans-counted-requires
-plans-counted-requires c κs = let P = c .before .before .before .before .pre .0 in
+plans-counted-requires c κs = let P = c .before .pre .0 in
     (omega (arith, planned (P .0 .given) (P .1) .few, c .steps .ensures), omega (arith, P .1 .state, P .0 .given .prepared .states))
 
 exact-total-requires : tie.Need-exact-total-requires
-exact-total-requires c κs = let P = c .before .before .before .before .before .pre .0 in bounded (P .0 .given) (P .1)
+exact-total-requires c κs = search needs
 
 returns : tie.Need-returns
-returns c = let S = c .before .before .before .before .before .before .before .before in
+returns c = let S = c .before .before .before .before .before in
     let P = S .pre .0 in
     placed-never (P .0 .given) (P .1) (c .before .before .exact-total .ensures)
     (number S (c .before .before .before .plans-counted .ensures) (c .before .before .before .before .steps .ensures)) (not-true _ (c .if1 .taken))
@@ -44,40 +52,33 @@ returns c = let S = c .before .before .before .before .before .before .before .b
 left-requires : tie.Need-left-requires
 left-requires c κs = search needs
 
-depth-at-requires : tie.Need-depth-at-requires
-depth-at-requires c κs = search needs
-
-cast-d : tie.Need-cast-d
-cast-d c = let P = c .before .before .before .before .before .before .before .before .before .before .pre .0 in
-    let d = looks (P .0 .given) (P .1) (P .0 .deep) (c .before .left .ensures) (c .depth-at .ensures) in
-    record { fits = omega (arith, planned (P .0 .given) (P .1) .deep, planned (P .0 .given) (P .1) .few) }
+depth-requires : tie.Need-depth-requires
+depth-requires c κs = let P = c .before .before .before .before .before .before .pre .0 in omega (arith, c .left .ensures, planned (P .0 .given) (P .1) .range .child, P .1 .node, P .0 .given .nodes .formed .few-nodes)
 
 slice-aggregate-cone : tie.Need-slice-aggregate-cone
 slice-aggregate-cone c = search needs
 
 cone-requires : tie.Need-cone-requires
-cone-requires c κs = let P = c .before .before .before .before .before .before .before .before .before .before .before .pre .0 in
+cone-requires c κs = let P = c .before .before .before .before .before .before .before .before .pre .0 in
     let l = before (P .0 .given) (P .1) .0 in
-    (given-ordered (P .0 .given), P .0 .deep, omega (arith, c .before .before .left .ensures), refl)
+    ((_, _, _, P .0 .given .nodes), omega (arith, c .before .before .left .ensures), refl)
 
 array-share-prefix-nodes : tie.Need-array-share-prefix-nodes
 array-share-prefix-nodes c = search needs
 
 slice-aggregate-first-equal : tie.Need-slice-aggregate-first-equal
-slice-aggregate-first-equal c = let K = c .before .before in
-    sym (length-take-le _ _ (omega (arith, K .cone .ensures .0, K .cone .kept .1 .1 .1 .0)))
+slice-aggregate-first-equal c = sym (length-take-le _ _ (omega (arith, c .before .before .cone .ensures .0, c .before .before .cone .kept .1 .1 .0)))
 
 first-equal-requires : tie.Need-first-equal-requires
-first-equal-requires c κs = let K = c .before .before in
-    let S = K .before .before .before .before .before .before .before .before .before .before .before .before in
+first-equal-requires c κs = let S = c .before .before .before .before .before .before .before .before .before .before .before in
     let A = S .pre .0 .0 in
     let P = S .pre .0 .1 in
-    let top = K .cone .ensures .2 ∙ K .before .before .before .left .ensures in
-    let d = looks (A .given) P (A .deep) (K .before .before .before .left .ensures) (K .before .before .depth-at .ensures) in
-    let n = K .before .before .before .before .before .before .before .before .steps .ensures in
+    let top = c .before .before .cone .ensures .2 ∙ c .before .before .before .before .before .left .ensures in
+    let d = looks (A .given) P (c .before .before .before .before .before .left .ensures) (c .before .before .before .before .depth .ensures) in
+    let n = c .before .before .before .before .before .before .before .before .before .before .steps .ensures in
     let few = few-plans A (S .args .j) (S .args .s) (P .node) (P .is-plan) (S .pre .1) (P .state) in (
       record {
-        ready = ready (A .given) P (A .deep) (K .cone .ensures .1) top;
+        ready = ready (A .given) P (c .before .before .cone .ensures .1) top;
         counts = counts-right (S .args .m .now) (S .args .counts .now) (A .counted);
         looks = d ∙ ap (λ (i : ℕ). depth (formula (S .args .q .now) i)) (sym top);
       },
@@ -89,15 +90,13 @@ first-equal-requires c κs = let K = c .before .before in
     )
 
 returns-2 : tie.Need-returns-2
-returns-2 c = let K = c .before .before .before in
-    let X = K .before .before .before .before .before .before in
-    let S = X .before .before .before .before .before .before in
+returns-2 c = let S = c .before .before .before .before .before .before .before .before .before .before .before .before in
     let P = S .pre .0 in
-    let n = X .before .before .steps .ensures in
-    let all = number S (X .before .plans-counted .ensures) n in
-    let top = K .cone .ensures .2 ∙ K .before .before .before .left .ensures in
-    placed-at (P .0 .given) (P .1) (X .exact-total .ensures) all (take (K .cone .result) (K .cone .last .1 .1 .1 .0))
-    (not-false _ (K .before .before .before .before .if1 .left)) n top (c .first-equal .ensures)
+    let n = c .before .before .before .before .before .before .before .before .before .before .before .steps .ensures in
+    let all = number S (c .before .before .before .before .before .before .before .before .before .before .plans-counted .ensures) n in
+    let top = c .before .before .before .cone .ensures .2 ∙ c .before .before .before .before .before .before .left .ensures in
+    placed-at (P .0 .given) (P .1) (c .before .before .before .before .before .before .before .before .before .exact-total .ensures) all (take (c .before .before .before .cone .result) (c .before .before .before .cone .last .1 .1 .0))
+    (not-false _ (c .before .before .before .before .before .before .before .if1 .left)) n top (c .first-equal .ensures)
 
 pub first-spec : {M : Type 1} → statement M
 first-spec =
@@ -108,8 +107,7 @@ first-spec =
     exact-total-requires
     returns
     left-requires
-    depth-at-requires
-    cast-d
+    depth-requires
     slice-aggregate-cone
     cone-requires
     array-share-prefix-nodes

@@ -3,6 +3,13 @@ use Rattle.judging.proofs.Posing.{bounded, stands-there, few-there, fou
 use borrow.Author.Needs.{needs}
 use Rattle.judging.proofs.plans.led.Statement.{statement}
 use Rattle.judging.proofs.plans.led.Tie as tie
+use Rattle.judging.proofs.plans.led.Reads as reads
+use Rattle.judging.proofs.plans.led.Lts as lts
+use Rattle.bounds.proofs.meets.Reads as meets-reads
+use Rattle.judging.proofs.conditions.searched.Reads as searched-reads
+use Rattle.judging.proofs.plans.over_all_steps.Reads as over-all-steps-reads
+use Rattle.nodes.proofs.asks_less.Reads as asks-less-reads
+use Rattle.nodes.proofs.left.Reads as left-reads
 
 left-requires : tie.Need-left-requires
 left-requires c κs = search needs
@@ -11,26 +18,24 @@ asks-less-requires : tie.Need-asks-less-requires
 asks-less-requires c κs = search needs
 
 searched-requires : tie.Need-searched-requires
-searched-requires c κs = let S = c .before .before .before .before .before .before .before in
+searched-requires c κs = let S = c .before .before .before .before in
     let P = S .pre .0 in
     let e = c .before .left .ensures in
-    ((P .0, P .1, stands-there (P .0) (P .2) e), (few-there (P .0) (P .2) e, S .pre .1 .1))
+    ((P .0, P .1, stands-there (P .0) (P .1) e), (few-there (P .0) (P .1) e, S .pre .1 .1))
 
 over-all-steps-requires : tie.Need-over-all-steps-requires
-over-all-steps-requires c κs = let F = c .before .before in
-    let P = c .before .before .before .before .before .before .before .before .before .before .pre .0 in
-    ((bounded (P .0) (P .2), P .1), found-small (P .0) (P .2) (F .before .before .left .ensures) (F .before .asks-less .ensures) (F .searched .ensures))
+over-all-steps-requires c κs = let P = c .before .before .before .before .before .before .before .pre .0 in
+    ((bounded (P .0) (P .1), P .1), found-small (P .0) (P .1) (c .before .before .before .before .left .ensures) (c .before .before .before .asks-less .ensures) (c .before .before .searched .ensures))
 
 meets-requires : tie.Need-meets-requires
-meets-requires c κs = let P = c .before .before .before .before .before .before .before .before .before .before .before .pre .0 in (bounded (P .0) (P .2), c .over-all-steps .ensures .small)
+meets-requires c κs = search needs
 
 same-length : tie.Need-same-length
 same-length c = search needs
 
 returns : tie.Need-returns
-returns c = let F = c .before .before .before .before in
-    let P = c .before .before .before .before .before .before .before .before .before .before .before .before .pre .0 in
-    found-led (P .0) (P .2) (F .before .before .left .ensures) (F .before .asks-less .ensures) (F .searched .ensures) (c .before .over-all-steps .ensures) (c .meets .ensures)
+returns c = let P = c .before .before .before .before .before .before .before .before .before .pre .0 in
+    found-led (P .0) (P .1) (c .before .before .before .before .before .before .left .ensures) (c .before .before .before .before .before .asks-less .ensures) (c .before .before .before .before .searched .ensures) (c .before .over-all-steps .ensures) (c .meets .ensures)
 
 pub led-spec : {M : Type 1} → statement M
 led-spec =

@@ -7,17 +7,19 @@ use Rattle.judging.proofs.Posing.{looks-there, power-fits, lengthened}
 use borrow.Author.Needs.{needs}
 use Rattle.judging.proofs.plans.over_all_steps.Statement.{statement}
 use Rattle.judging.proofs.plans.over_all_steps.Tie as tie
+use Rattle.judging.proofs.plans.over_all_steps.Reads as reads
+use Rattle.judging.proofs.plans.over_all_steps.Lts as lts
+use Rattle.bounds.proofs.power.Reads as power-reads
+use Rattle.nodes.proofs.depth.Reads as depth-reads
+use Rattle.nodes.proofs.left.Reads as left-reads
+use Rattle.nodes.proofs.steps.Reads as steps-reads
+use Rattle.prepared.proofs.denominator.Reads as denominator-reads
 
 left-requires : tie.Need-left-requires
 left-requires c κs = search needs
 
-depth-at-requires : tie.Need-depth-at-requires
-depth-at-requires c κs = search needs
-
-cast-d : tie.Need-cast-d
-cast-d c = let P = c .before .before .before .before .pre .0 in
-    let d = looks-there (P .0) (P .1) (c .before .left .ensures) (c .depth-at .ensures) in
-    record { fits = omega (arith, plan-bounded (P .0) .deep, plan-bounded (P .0) .few) }
+depth-requires : tie.Need-depth-requires
+depth-requires c κs = let S = c .before in omega (arith, c .left .ensures, plan-bounded (S .pre .0) .range .child, S .pre .0 .node, S .pre .0 .nodes .formed .few-nodes)
 
 denominator-requires : tie.Need-denominator-requires
 denominator-requires c κs = search needs
@@ -26,36 +28,35 @@ steps-requires : tie.Need-steps-requires
 steps-requires c κs = search needs
 
 sub-power : tie.Need-sub-power
-sub-power c = let P = c .before .before .before .before .before .before .pre .0 in
-    let d = looks-there (P .0) (P .1) (c .before .before .before .left .ensures) (c .before .before .depth-at .ensures) in
-    omega (arith, plan-bounded (P .0) .deep, c .steps .ensures)
+sub-power c = let P = c .before .before .before .before .pre .0 in
+    let d = looks-there P (c .before .before .before .left .ensures) (c .before .before .depth .ensures) in
+    omega (arith, plan-bounded P .deep, c .steps .ensures)
 
 power-requires : tie.Need-power-requires
-power-requires c κs = let S = c .before .before .before .before .before .before in
+power-requires c κs = let S = c .before .before .before .before in
     let P = S .pre .0 in
-    let D = small (S .args .m .now) (S .args .q .now) (S .args .j) (P .0) in
-    (omega (arith, c .before .denominator .ensures), omega (arith, plan-bounded (P .0) .few, c .steps .ensures))
+    let D = small (S .args .m .now) (S .args .q .now) (S .args .j) P in
+    (omega (arith, c .before .denominator .ensures), omega (arith, plan-bounded P .few, c .steps .ensures))
 
 mul-result : tie.Need-mul-result
-mul-result c = let S = c .before .before .before .before .before .before .before in
+mul-result c = let S = c .before .before .before .before .before in
     let P = S .pre .0 in
-    let d = looks-there (P .0) (P .1) (c .before .before .before .before .left .ensures) (c .before .before .before .depth-at .ensures) in
-    let l = lengthened (P .0) d (c .before .steps .ensures) (c .before .before .denominator .ensures) (c .power .ensures) (S .pre .1) in
-    record { fits = lt-of-le-of-lt (l .small) (power-fits (P .0)) }
+    let d = looks-there P (c .before .before .before .before .left .ensures) (c .before .before .before .depth .ensures) in
+    let l = lengthened P d (c .before .steps .ensures) (c .before .before .denominator .ensures) (c .power .ensures) (S .pre .1) in
+    record { fits = lt-of-le-of-lt (l .small) (power-fits P) }
 
 returns : tie.Need-returns
-returns c = let S = c .before .before .before .before .before .before .before in
+returns c = let S = c .before .before .before .before .before in
     let P = S .pre .0 in
-    let d = looks-there (P .0) (P .1) (c .before .before .before .before .left .ensures) (c .before .before .before .depth-at .ensures) in
-    lengthened (P .0) d (c .before .steps .ensures) (c .before .before .denominator .ensures) (c .power .ensures) (S .pre .1)
+    let d = looks-there P (c .before .before .before .before .left .ensures) (c .before .before .before .depth .ensures) in
+    lengthened P d (c .before .steps .ensures) (c .before .before .denominator .ensures) (c .power .ensures) (S .pre .1)
 
 pub over-all-steps-spec : {M : Type 1} → statement M
 over-all-steps-spec =
     tie.close
     (tie.spec
     left-requires
-    depth-at-requires
-    cast-d
+    depth-requires
     denominator-requires
     steps-requires
     sub-power

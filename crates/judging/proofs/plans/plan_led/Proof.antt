@@ -4,6 +4,14 @@ use Rattle.judging.proofs.Posing.{bounded, dead-truth, left-stands, lef
 use borrow.Author.Needs.{needs}
 use Rattle.judging.proofs.plans.plan_led.Statement.{statement}
 use Rattle.judging.proofs.plans.plan_led.Tie as tie
+use Rattle.judging.proofs.plans.plan_led.Reads as reads
+use Rattle.judging.proofs.plans.plan_led.Lts as lts
+use Rattle.bounds.proofs.meets.Reads as meets-reads
+use Rattle.judging.proofs.conditions.best_value.Reads as best-value-reads
+use Rattle.judging.proofs.conditions.peel.Reads as peel-reads
+use Rattle.judging.proofs.plans.over_all_steps.Reads as over-all-steps-reads
+use Rattle.nodes.proofs.asks_less.Reads as asks-less-reads
+use Rattle.nodes.proofs.left.Reads as left-reads
 
 left-requires : tie.Need-left-requires
 left-requires c κs = search needs
@@ -12,45 +20,44 @@ peel-requires : tie.Need-peel-requires
 peel-requires c κs = search needs
 
 meets-requires : tie.Need-meets-requires
-meets-requires c κs = let P = c .before .before .before .before .before .before .before .pre .0 in (bounded (P .0) (P .2), omega arith)
+meets-requires c κs = let P = c .before .before .before .before .pre .0 in (bounded (P .0) (P .1), omega arith)
 
 returns : tie.Need-returns
-returns c = let S = c .before .before .before .before .before .before .before .before in
+returns c = let S = c .before .before .before .before .before in
     let P = S .pre .0 in
-    (dead-truth (P .0) (P .2) (S .pre .1 .0) (c .before .before .before .left .ensures) (c .before .before .peel .ensures) (c .before .if1 .taken) (c .meets .ensures), S .pre .1 .2)
+    (dead-truth (P .0) (P .1) (S .pre .1 .0) (c .before .before .before .left .ensures) (c .before .before .peel .ensures) (c .before .if1 .taken) (c .meets .ensures), S .pre .1 .2)
 
 asks-less-requires : tie.Need-asks-less-requires
 asks-less-requires c κs = search needs
 
 best-value-requires : tie.Need-best-value-requires
-best-value-requires c κs = let S = c .before .before .before .before .before .before .before .before .before .before in
+best-value-requires c κs = let S = c .before .before .before .before .before .before .before in
     let P = S .pre .0 in
     let N = S .pre .1 in
     let e = c .before .before .before .before .before .left .ensures in
     let p = c .before .before .before .before .peel .ensures in
     let d = c .before .before .before .if1 .left in
-    ((P .0, P .1, left-stands (P .0) (P .2) (N .0) e p d), (left-few (P .0) (P .2) (N .0) e p d, N .1, N .2))
+    ((P .0, left-stands (P .0) (P .1) (N .0) e p d), (left-few (P .0) (P .1) (N .0) e p d, N .1, N .2))
 
 over-all-steps-requires : tie.Need-over-all-steps-requires
-over-all-steps-requires c κs = let S = c .before .before .before .before .before .before .before .before .before .before .before .before .before in
+over-all-steps-requires c κs = let S = c .before .before .before .before .before .before .before .before .before .before in
     let P = S .pre .0 in
-    let R = c .before .before .before .before .before in (
-      (bounded (P .0) (P .2), P .1),
-      left-small (P .0) (P .2) (S .pre .1 .0) (R .before .before .before .left .ensures) (R .before .before .peel .ensures) (R .before .if1 .left) (R .asks-less .ensures) (c .before .before .best-value .ensures .0),
+    (
+      bounded (P .0) (P .1),
+      left-small (P .0) (P .1) (S .pre .1 .0) (c .before .before .before .before .before .before .before .before .left .ensures) (c .before .before .before .before .before .before .before .peel .ensures) (c .before .before .before .before .before .before .if1 .left) (c .before .before .before .before .before .asks-less .ensures) (c .before .before .best-value .ensures .0),
     )
 
 meets-requires-2 : tie.Need-meets-requires-2
-meets-requires-2 c κs = let P = c .before .before .before .before .before .before .before .before .before .before .before .before .before .before .pre .0 in (bounded (P .0) (P .2), c .over-all-steps .ensures .small)
+meets-requires-2 c κs = let P = c .before .before .before .before .before .before .before .before .before .before .before .pre .0 in (bounded (P .0) (P .1), c .over-all-steps .ensures .small)
 
 same-length : tie.Need-same-length
 same-length c = search needs
 
 returns-2 : tie.Need-returns-2
-returns-2 c = let S = c .before .before .before .before .before .before .before .before .before .before .before .before .before .before .before in
+returns-2 c = let S = c .before .before .before .before .before .before .before .before .before .before .before .before in
     let P = S .pre .0 in
-    let R = c .before .before .before .before .before .before .before in
     let b = c .before .before .before .before .best-value .ensures in (
-      left-truth (P .0) (P .2) (S .pre .1 .0) (R .before .before .before .left .ensures) (R .before .before .peel .ensures) (R .before .if1 .left) (R .asks-less .ensures) (b .0)
+      left-truth (P .0) (P .1) (S .pre .1 .0) (c .before .before .before .before .before .before .before .before .before .before .left .ensures) (c .before .before .before .before .before .before .before .before .before .peel .ensures) (c .before .before .before .before .before .before .before .before .if1 .left) (c .before .before .before .before .before .before .before .asks-less .ensures) (b .0)
           (c .before .over-all-steps .ensures) (c .meets2 .ensures),
       b .1,
     )
