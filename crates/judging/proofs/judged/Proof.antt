@@ -2,6 +2,7 @@ use Prim.Native.Nat.{ℕ, _-_}
 use native.Mathlib.Omega.{arith}
 use mathlib.Core.Path.{ap}
 use Rattle.judging.proofs.Announcing.{asked-at, root-judged, root-announces}
+use borrow.Author.Needs.{needs}
 use Rattle.judging.proofs.judged.Statement.{statement}
 use Rattle.judging.proofs.judged.Tie as tie
 use Rattle.judging.proofs.judged.Reads as reads
@@ -22,7 +23,7 @@ root-truth-requires c κs = asked-at (c .before .before .before .pre .0) (c .bef
 
 -- src/lib.rt:149:13
 count-requires : tie.Need-count-requires
-count-requires c κs = ?
+count-requires c κs = search needs
 
 -- src/lib.rt:149:13
 sub-j : tie.Need-sub-j
@@ -30,7 +31,7 @@ sub-j c = omega (arith, c .before .before .before .before .before .pre .0 .nodes
 
 -- src/lib.rt:150:48
 start-requires : tie.Need-start-requires
-start-requires c κs = ?
+start-requires c κs = search needs
 
 -- src/lib.rt:150:5
 at-node-requires : tie.Need-at-node-requires
@@ -41,7 +42,7 @@ at-node-requires c κs = let S = c .before .before .before .before .before .befo
 
 -- src/lib.rt:142:1
 same-length : tie.Need-same-length
-same-length c = ?
+same-length c = search needs
 
 -- src/lib.rt:142:1
 returns : tie.Need-returns

@@ -43,8 +43,8 @@ slice-aggregate-cone c = search needs
 
 cone-requires : tie.Need-cone-requires
 cone-requires c κs = let S = c .before .before .before .before in
-    let l = before (S .pre .0 .0) (S .pre .1) .0 in
-    ((_, _, _, S .pre .0 .0 .nodes), omega (arith, at-root S (c .before .before .count .ensures) (c .before .left .ensures)), refl)
+    let l = before (S .pre .0) (S .pre .1) .0 in
+    ((_, _, _, S .pre .0 .nodes), omega (arith, l, at-root S (c .before .before .count .ensures) (c .before .left .ensures)), refl)
 
 array-share-prefix-nodes : tie.Need-array-share-prefix-nodes
 array-share-prefix-nodes c = search needs
@@ -60,12 +60,12 @@ steps-requires c κs = search needs
 
 plan-weight-requires : tie.Need-plan-weight-requires
 plan-weight-requires c κs = let S = c .before .before .before .before .before .before .before .before .before in
-    let G = S .pre .0 .0 in
+    let G = S .pre .0 in
     let top = c .before .before .before .before .cone .ensures .2 ∙ at-root S (c .before .before .before .before .before .before .before .count .ensures) (c .before .before .before .before .before .before .left .ensures) in
     let l : List ℕ = take (c .before .before .before .before .cone .result) (c .before .before .before .before .cone .last .1 .1 .0) in
     let n = c .steps .ensures ∙ ap (λ (i : ℕ). (node-of (S .args .q .now) (i - 1)) .n) (c .before .before .before .before .before .before .before .count .ensures) in (
-      subst (λ (s : ℕ). Ready (S .args .m .now) (S .args .q .now) s (S .args .depths .now) (S .args .truth .now) l) (sym (c .before .start .ensures))
-          (ready G (S .pre .1) (S .pre .0 .1) (c .before .before .before .before .cone .ensures .1) top),
+      subst (λ (s : ℕ). Ready (S .args .m .now) (S .args .q .now) s (S .args .truth .now) l) (sym (c .before .start .ensures))
+          (ready G (S .pre .1) (c .before .before .before .before .cone .ensures .1) top),
       (omega (arith, planned G (S .pre .1) .deep, ap (λ (i : ℕ). depth (formula (S .args .q .now) i)) top), omega (arith, planned G (S .pre .1) .few)),
     )
 

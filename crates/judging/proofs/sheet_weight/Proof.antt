@@ -23,7 +23,7 @@ root-weight-requires c κs = let S = c .before .before .before .before .before i
 
 -- src/lib.rt:166:1
 returns : tie.Need-returns
-returns c = ?
+returns c = c .root-weight .ensures
 
 pub sheet-weight-spec : {M : Type 1} → statement M
 sheet-weight-spec =

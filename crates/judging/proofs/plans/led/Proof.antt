@@ -21,11 +21,11 @@ searched-requires : tie.Need-searched-requires
 searched-requires c κs = let S = c .before .before .before .before in
     let P = S .pre .0 in
     let e = c .before .left .ensures in
-    ((P .0, P .1, stands-there (P .0) (P .1) e), (few-there (P .0) (P .1) e, S .pre .1 .1))
+    ((P .0, stands-there (P .0) (P .1) e), (few-there (P .0) (P .1) e, S .pre .1 .1))
 
 over-all-steps-requires : tie.Need-over-all-steps-requires
 over-all-steps-requires c κs = let P = c .before .before .before .before .before .before .before .pre .0 in
-    ((bounded (P .0) (P .1), P .1), found-small (P .0) (P .1) (c .before .before .before .before .left .ensures) (c .before .before .before .asks-less .ensures) (c .before .before .searched .ensures))
+    (bounded (P .0) (P .1), found-small (P .0) (P .1) (c .before .before .before .before .left .ensures) (c .before .before .before .asks-less .ensures) (c .before .before .searched .ensures))
 
 meets-requires : tie.Need-meets-requires
 meets-requires c κs = search needs
