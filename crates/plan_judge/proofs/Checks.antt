@@ -146,14 +146,14 @@ module _ (m q : Bytes) (r : PlanRoot m q) (b : Bytes) where
 
   -- The model and the question prepared: the goal is the same.
   module _ {a q′ : List ℕ} (p : Prepares m a) (h : Shared (state-count a) (action-count a) (prop-count a) q q′) where
-    pub plan-there : root-node q′ .operator ≡ 8
-    plan-there =
+    pub root-there : root-node q′ .operator ≡ 8
+    root-there =
         let some = accepted _ _ _ q (r .asked) .formed .some-node in
         ap (λ k. node-of q′ (k - 1) .operator) (h .count) ∙ h .operators (node-count q - 1) (omega arith) ∙ r .is-plan
 
     pub root-bounded : (j : ℕ) → j ≡ node-count q′ - 1 → Bounded a q′ j
     root-bounded j i =
-        record { prepared = p .prepared; nodes = h .nodes; node = omega (arith, h .nodes .formed .some-node); is-plan = ap (λ k. node-of q′ k .operator) i ∙ plan-there }
+        record { prepared = p .prepared; nodes = h .nodes; node = omega (arith, h .nodes .formed .some-node); is-plan = ap (λ k. node-of q′ k .operator) i ∙ root-there }
 
     pub sheet-served : refusal (limits M (question-of q .nodes)) ≡ 0 → Served a q′
     unfolding question-of
@@ -168,7 +168,7 @@ module _ (m q : Bytes) (r : PlanRoot m q) (b : Bytes) where
 
     same-there : there ≡ asked-goal m q
     unfolding question-of
-    same-there = ok-same (sym (root-goal (h .nodes .formed) M (start-of q′) plan-there) ∙ sym (same-goal h M) ∙ goal-is m q r)
+    same-there = ok-same (sym (root-goal (h .nodes .formed) M (start-of q′) root-there) ∙ sym (same-goal h M) ∙ goal-is m q r)
 
     pub steps-there : root-node q′ .n ≡ n
     steps-there = ap (λ (g : Goal). g .steps) same-there

@@ -477,8 +477,9 @@ fn check_on(m: &[u8], q: &[u8], b: &[u8]) -> Checking
     if sheets::weight_at(b, 0) != w {
         return Checking::Refused(11);
     }
+    let j = root(&query);
     Checking::Accepted(Report {
-        met: bounds::meets(&model, &query, root(&query), w),
+        met: bounds::meets(&model, &query, j, w),
     })
 }
 

@@ -4,7 +4,13 @@ use mathlib.Core.Path.{_≡_, sym, ap, subst, _∙_}
 use lib.ListN.{length, take}
 use lib.Seq.{length-take-le}
 use Rattle.logic.specs.promises.Refusal.{refusal}
+use Rattle.logic.specs.Limits.{limits}
+use Rattle.models.specs.Layout.{state-count, action-count, prop-count}
 use Rattle.models.specs.Grounds.{read-model}
+use Rattle.questions.specs.Layout.{question-of}
+use Rattle.questions.specs.Grounds.{read-question}
+use Rattle.nodes.specs.promises.Shared.{Shared}
+use Rattle.nodes.proofs.Children.{ordered}
 use Rattle.prepared.specs.promises.Rows.{model-in, Prepares}
 use Rattle.calls.specs.promises.Chains.{do-judge}
 use Rattle.judging.specs.promises.Announced.{root-verdict}
@@ -34,9 +40,25 @@ both-held c = held (c .before .before .before .before .before)
 prepared : (c : tie.After-prepare) → Prepares (said-bytes (c .before .before .before .before .before .before .before .args .d)) (c .prepare .result)
 prepared c = subst (λ z. Prepares z (c .prepare .result)) (cut (c .before .before)) (c .prepare .ensures)
 
+-- The question of the desk is prepared beside it.
+asked : (c : tie.After-prepare) → let a = c .prepare .result in refusal (read-question (state-count a) (action-count a) (prop-count a) (c .before .before .before .before .before .before .before .args .d .question)) ≡ 0
+asked c = asked-prepared (c .before .before .before .before .before .before .before .args .d) (both-held c) (prepared c)
+
+shared : (c : tie.After-nodes)
+    → let P = c .before .before in
+    let a = P .prepare .result in
+    Shared (state-count a) (action-count a) (prop-count a) (P .before .before .before .before .before .before .before .args .d .question) (c .nodes .result)
+shared c = c .nodes .ensures _ _ _ (asked (c .before .before))
+
+-- The limits of what is prepared are those of what is held.
+limited : (c : tie.After-nodes)
+    → let P = c .before .before in
+    refusal (limits (model-in (P .prepare .result)) (question-of (c .nodes .result) .nodes)) ≡ refusal (do-judge (view (P .before .before .before .before .before .before .before .args .d)))
+limited c = let P = c .before .before in limits-prepared (P .before .before .before .before .before .before .before .args .d) (both-held P) (prepared P) (shared c)
+
 -- Past the limits.
-past : (c : tie.Else2) → refusal (do-judge (view (c .before .before .before .before .before .before .before .before .before .before .before .args .d))) ≡ 0
-past c = sym (limits-prepared (c .before .before .before .before .before .before .before .before .before .before .before .args .d) (both-held (c .before .before .before .before)) (prepared (c .before .before .before .before))) ∙ sym (c .before .limit-refusal .ensures) ∙ c .if2 .left
+past : (c : tie.Else2) → refusal (do-judge (view (c .before .before .before .before .before .before .before .before .before .before .before .before .before .args .d))) ≡ 0
+past c = sym (limited (c .before .before .before .before)) ∙ sym (c .before .limit-refusal .ensures) ∙ c .if2 .left
 
 state-ground-requires : tie.Need-state-ground-requires
 state-ground-requires c κs = search needs
@@ -61,39 +83,41 @@ slice-aggregate-prepare c = sym (length-take-le (c .before .blocks-end .result) 
 prepare-requires : tie.Need-prepare-requires
 prepare-requires c κs = ap (λ z. refusal (read-model z)) (cut (c .before)) ∙ held (c .before .before .before .before) .passed
 
-slice-aggregate-limit-refusal : tie.Need-slice-aggregate-limit-refusal
-slice-aggregate-limit-refusal c = search needs
+slice-aggregate-nodes : tie.Need-slice-aggregate-nodes
+slice-aggregate-nodes c = search needs
+
+nodes-requires : tie.Need-nodes-requires
+nodes-requires c κs = ordered _ _ _ _ (asked (c .before))
 
 limit-refusal-requires : tie.Need-limit-refusal-requires
-limit-refusal-requires c κs = let R = c .before .before in (prepared R .prepared, asked-prepared (R .before .before .before .before .before .before .before .args .d) (both-held R) (prepared R))
+limit-refusal-requires c κs = let N = c .before .before in (prepared (N .before .before) .prepared, shared N .nodes)
 
 turned-away-requires-2 : tie.Need-turned-away-requires-2
 turned-away-requires-2 c κs = search needs
 
 returns-2 : tie.Need-returns-2
-returns-2 c = let R = c .before .before .before .before .before in
-    let d = R .before .before .before .before .before .before .before .args .d in
+returns-2 c = let N = c .before .before .before .before .before in
     let l = c .before .before .limit-refusal in
-    c .turned-away2 .ensures ∙ judge-refused d (l .result) (l .ensures ∙ limits-prepared d (both-held R) (prepared R)) (c .before .if2 .taken)
+    c .turned-away2 .ensures ∙ judge-refused (N .before .before .before .before .before .before .before .before .before .args .d) (l .result) (l .ensures ∙ limited N) (c .before .if2 .taken)
 
 slice-aggregate-judged : tie.Need-slice-aggregate-judged
 slice-aggregate-judged c = search needs
 
-slice-aggregate-judged-2 : tie.Need-slice-aggregate-judged-2
-slice-aggregate-judged-2 c = search needs
-
 judged-requires : tie.Need-judged-requires
-judged-requires c κs = let R = c .before .before .before .before .before .before .before in (served (R .before .before .before .before .before .before .before .args .d) (both-held R) (prepared R) (past (c .before .before .before)), omega arith)
+judged-requires c κs = let N = c .before .before .before .before .before .before .before in
+    let P = N .before .before in
+    (served (P .before .before .before .before .before .before .before .args .d) (both-held P) (prepared P) (shared N) (past (c .before .before .before)), omega arith)
 
 verdict-of-requires : tie.Need-verdict-of-requires
 verdict-of-requires c κs = search needs
 
 returns-3 : tie.Need-returns-3
-returns-3 c = let R = c .before .before .before .before .before .before .before .before .before .before in
-    let d = R .before .before .before .before .before .before .before .args .d in
-    let v = root-verdict (model-in (R .prepare .result)) (d .question) in
+returns-3 c = let N = c .before .before .before .before .before .before .before .before .before .before in
+    let P = N .before .before in
+    let d = P .before .before .before .before .before .before .before .args .d in
+    let v = root-verdict (model-in (P .prepare .result)) (N .nodes .result) in
     let o = c .before .before .judged .ensures in
-    judge-done d (both-held R) (prepared R) (past (c .before .before .before .before .before .before)) _ (o .1 ∙ choices-told v) (c .verdict-of .result) (c .verdict-of .ensures ∙ ap verdict-from (o .0) ∙ verdict-told v)
+    judge-done d (both-held P) (prepared P) (shared N) (past (c .before .before .before .before .before .before)) _ (o .1 ∙ choices-told v) (c .verdict-of .result) (c .verdict-of .ensures ∙ ap verdict-from (o .0) ∙ verdict-told v)
 
 pub judge-spec : {M : Type 1} → statement M
 judge-spec =
@@ -106,12 +130,12 @@ judge-spec =
     array-share-prefix-m
     slice-aggregate-prepare
     prepare-requires
-    slice-aggregate-limit-refusal
+    slice-aggregate-nodes
+    nodes-requires
     limit-refusal-requires
     turned-away-requires-2
     returns-2
     slice-aggregate-judged
-    slice-aggregate-judged-2
     judged-requires
     verdict-of-requires
     returns-3)

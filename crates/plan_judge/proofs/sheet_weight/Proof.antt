@@ -28,7 +28,7 @@ sheet-weight-requires : tie.Need-sheet-weight-requires
 sheet-weight-requires c κs = search needs
 
 returns : tie.Need-returns
-returns c = let S = c .before .before .before .before .before .before .before in
+returns c = let S = c .before .before .before .before .before .before in
     subst (λ l. Weighs (model-in (S .args .m .now)) (S .args .q .now) l (c .sheet-weight .result))
     (gathered-are (sheet-of (S .args .b .now) .choices) _ (c .before .before .before .gather .last .1 .0) (c .before .before .before .gather .result) (c .before .before .before .gather .ensures)) (c .sheet-weight .ensures)
 

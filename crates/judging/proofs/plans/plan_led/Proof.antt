@@ -41,8 +41,7 @@ best-value-requires c κs = let S = c .before .before .before .before .before .b
 
 over-all-steps-requires : tie.Need-over-all-steps-requires
 over-all-steps-requires c κs = let S = c .before .before .before .before .before .before .before .before .before .before in
-    let P = S .pre .0 in
-    (
+    let P = S .pre .0 in (
       bounded (P .0) (P .1),
       left-small (P .0) (P .1) (S .pre .1 .0) (c .before .before .before .before .before .before .before .before .left .ensures) (c .before .before .before .before .before .before .before .peel .ensures) (c .before .before .before .before .before .before .if1 .left) (c .before .before .before .before .before .asks-less .ensures) (c .before .before .best-value .ensures .0),
     )
