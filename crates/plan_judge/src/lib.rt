@@ -275,9 +275,9 @@ pub fn judge(d: Desk) -> Judging
     let n = blocks_end(6144, d.blocks);
     let model = prepare(&m[..n]);
     let query = nodes(&q);
-    let l = limit_refusal(&model, &query);
-    if l != 0 {
-        return turned_away(d, l);
+    let ground = limit_refusal(&model, &query);
+    if ground != 0 {
+        return turned_away(d, ground);
     }
     let mut choices = [0u8; 1365];
     let o = judging::judged(&model, &query, &mut choices);
