@@ -8,6 +8,7 @@ use lib.ListN.{take, length-set}
 use Rattle.models.specs.Layout.{denominator-of}
 use Rattle.prepared.specs.promises.Rows.{choices-in, outcomes-in, Offers}
 use Rattle.evaluation.specs.promises.Reached.{on-path}
+use Rattle.evaluation.specs.promises.Known.{Stepped}
 use Rattle.search.proofs.Walking.{Walking, walking-none}
 use Rattle.search.proofs.Losing.{weighed, weighed-none}
 use Rattle.search.proofs.Paths.{state-here, place-here, few-here, picked-leaf, Kept, back-none, kept-none}
@@ -74,86 +75,87 @@ pick-Inv-loop m q truth cone late trail₀ gains₀ v₀ choices₀ spot s n bes
 abbrev pick-μ-loop : pick-lts.MeasureT-loop
 pick-μ-loop m q truth cone late trail₀ gains₀ v₀ choices₀ spot s n best₀ i₀ trail gains v choices best i = n - i
 
-pick-leaf-requires : (t : ℕ) → pick-lts.Need-leaf-requires (pick-claims t) (pick-at t) pick.Post pick-Inv-loop pick-μ-loop
-pick-leaf-requires t c κs = (c .before .before .before .before .before .pre .1 .0) .ready .ordered .some
+module _ (t : ℕ) where
+  pick-leaf-requires : pick-lts.Need-leaf-requires (pick-claims t) (pick-at t) pick.Post pick-Inv-loop pick-μ-loop
+  pick-leaf-requires c κs = (c .before .before .before .before .before .pre .1 .0) .ready .ordered .some
 
-pick-returns : (t : ℕ) → pick-lts.Need-returns (pick-claims t) (pick-at t) pick.Post pick-Inv-loop pick-μ-loop
-pick-returns t c = let S = c .before .before .before .before .before .before in
-    (picked-leaf (S .pre .1 .0) (S .args .spot .least) (c .leaf .result) (S .args .spot .at) (S .args .choices .now) (c .before .before .if1 .taken) (c .leaf .ensures), back-none (S .pre .1 .0))
+  pick-returns : pick-lts.Need-returns (pick-claims t) (pick-at t) pick.Post pick-Inv-loop pick-μ-loop
+  pick-returns c = let S = c .before .before .before .before .before .before in
+      (picked-leaf (S .pre .1 .0) (S .args .spot .least) (c .leaf .result) (S .args .spot .at) (S .args .choices .now) (c .before .before .if1 .taken) (c .leaf .ensures), back-none (S .pre .1 .0))
 
-pick-cast-s : (t : ℕ) → pick-lts.Need-cast-s (pick-claims t) (pick-at t) pick.Post pick-Inv-loop pick-μ-loop
-pick-cast-s t c = search needs
+  pick-cast-s : pick-lts.Need-cast-s (pick-claims t) (pick-at t) pick.Post pick-Inv-loop pick-μ-loop
+  pick-cast-s c = search needs
 
-pick-choices-requires : (t : ℕ) → pick-lts.Need-choices-requires (pick-claims t) (pick-at t) pick.Post pick-Inv-loop pick-μ-loop
-pick-choices-requires t c κs = let P = c .before .before .before .before .before .pre .1 .0 in omega (arith, state-here P, P .ready .prepared .states)
+  pick-choices-requires : pick-lts.Need-choices-requires (pick-claims t) (pick-at t) pick.Post pick-Inv-loop pick-μ-loop
+  pick-choices-requires c κs = let P = c .before .before .before .before .before .pre .1 .0 in omega (arith, state-here P, P .ready .prepared .states)
 
-pick-cast-n : (t : ℕ) → pick-lts.Need-cast-n (pick-claims t) (pick-at t) pick.Post pick-Inv-loop pick-μ-loop
-pick-cast-n t c = let S = c .before .before .before .before .before .before in
-    let P = S .pre .1 .0 in
-    omega (arith, c .choices .ensures, P .ready .prepared .few-choices (S .args .spot .s) (state-here P))
+  pick-cast-n : pick-lts.Need-cast-n (pick-claims t) (pick-at t) pick.Post pick-Inv-loop pick-μ-loop
+  pick-cast-n c = let S = c .before .before .before .before .before .before in
+      let P = S .pre .1 .0 in
+      omega (arith, c .choices .ensures, P .ready .prepared .few-choices (S .args .spot .s) (state-here P))
 
-pick-loop-holds : (t : ℕ) → pick-lts.Need-loop-holds (pick-claims t) (pick-at t) pick.Post pick-Inv-loop pick-μ-loop
-pick-loop-holds t c = let S = c .before .before .before .before .before .before in
-    (c .choices .ensures, omega arith, turned-none (S .pre .1 .0) (S .args .spot .at) (S .args .choices .now))
+  pick-loop-holds : pick-lts.Need-loop-holds (pick-claims t) (pick-at t) pick.Post pick-Inv-loop pick-μ-loop
+  pick-loop-holds c = let S = c .before .before .before .before .before .before in
+      (c .choices .ensures, omega arith, turned-none (S .pre .1 .0) (S .args .spot .at) (S .args .choices .now))
 
-pick-cast-choice : (t : ℕ) → pick-lts.Need-cast-choice (pick-claims t) (pick-at t) pick.Post pick-Inv-loop pick-μ-loop
-pick-cast-choice t c = search needs
+  pick-cast-choice : pick-lts.Need-cast-choice (pick-claims t) (pick-at t) pick.Post pick-Inv-loop pick-μ-loop
+  pick-cast-choice c = search needs
 
-pick-choice-requires : (t : ℕ) → pick-lts.Need-choice-requires (pick-claims t) (pick-at t) pick.Post pick-Inv-loop pick-μ-loop
-pick-choice-requires t c κs = let P = c .before .before .before .before .before .before .before .before .pre .1 .0 in
-    (P .ready .prepared, state-here P, omega (arith, c .before .loop .inv .0, c .loop-test .taken))
+  pick-choice-requires : pick-lts.Need-choice-requires (pick-claims t) (pick-at t) pick.Post pick-Inv-loop pick-μ-loop
+  pick-choice-requires c κs = let P = c .before .before .before .before .before .before .before .before .pre .1 .0 in
+      (P .ready .prepared, state-here P, omega (arith, c .before .loop .inv .0, c .loop-test .taken))
 
-pick-slice-write-choices : (t : ℕ) → pick-lts.Need-slice-write-choices (pick-claims t) (pick-at t) pick.Post pick-Inv-loop pick-μ-loop
-pick-slice-write-choices t c = let S = c .before .before .before .before .before .before .before .before .before in
-    walk-room (S .pre .1 .0) (c .before .before .before .before .before .if1 .left) (c .before .before .loop .inv .2) (S .pre .1 .1) .0
+  pick-slice-write-choices : pick-lts.Need-slice-write-choices (pick-claims t) (pick-at t) pick.Post pick-Inv-loop pick-μ-loop
+  pick-slice-write-choices c = let S = c .before .before .before .before .before .before .before .before .before in
+      walk-room (S .pre .1 .0) (c .before .before .before .before .before .if1 .left) (c .before .before .loop .inv .2) (S .pre .1 .1) .0
 
-pick-sub-t22 : (t : ℕ) → pick-lts.Need-sub-t22 (pick-claims t) (pick-at t) pick.Post pick-Inv-loop pick-μ-loop
-pick-sub-t22 t c = search needs
+  pick-sub-t22 : pick-lts.Need-sub-t22 (pick-claims t) (pick-at t) pick.Post pick-Inv-loop pick-μ-loop
+  pick-sub-t22 c = search needs
 
-pick-add-t23 : (t : ℕ) → pick-lts.Need-add-t23 (pick-claims t) (pick-at t) pick.Post pick-Inv-loop pick-μ-loop
-pick-add-t23 t c = let S = c .before .before .before .before .before .before .before .before .before .before in
-    let L = c .before .before .before .loop in
-    omega (arith, walk-room (S .pre .1 .0) (c .before .before .before .before .before .before .if1 .left) (L .inv .2) (S .pre .1 .1) .0, (L .inv .2) .kept .room, S .good .1 .1 .1 .1 .1 .1 .1 .1 .0 .0)
+  pick-add-t23 : pick-lts.Need-add-t23 (pick-claims t) (pick-at t) pick.Post pick-Inv-loop pick-μ-loop
+  pick-add-t23 c = let S = c .before .before .before .before .before .before .before .before .before .before in
+      let L = c .before .before .before .loop in
+      omega (arith, walk-room (S .pre .1 .0) (c .before .before .before .before .before .before .if1 .left) (L .inv .2) (S .pre .1 .1) .0, (L .inv .2) .kept .room, S .good .1 .1 .1 .1 .1 .1 .1 .1 .0 .0)
 
-pick-walk-requires : (t : ℕ) → pick-lts.Need-walk-requires (pick-claims t) (pick-at t) pick.Post pick-Inv-loop pick-μ-loop
-pick-walk-requires t c κs = let S = c .before .before .before .before .before .before .before .before .before .before .before .before .before .before in
-    let L = c .before .before .before .before .before .before .before .loop in
-    let some = c .before .before .before .before .before .before .before .before .before .before .if1 .left in
-    let r = walk-room (S .pre .1 .0) some (L .inv .2) (S .pre .1 .1) in
-    (omega (arith, S .pre .0, some), (walk-setting (S .pre .1 .0) some (L .inv .2), (omega (arith, L .inv .0, c .before .before .before .before .before .before .loop-test .taken), simp length-set (r .1))))
+  pick-walk-requires : pick-lts.Need-walk-requires (pick-claims t) (pick-at t) pick.Post pick-Inv-loop pick-μ-loop
+  pick-walk-requires c κs = let S = c .before .before .before .before .before .before .before .before .before .before .before .before .before .before in
+      let L = c .before .before .before .before .before .before .before .loop in
+      let some = c .before .before .before .before .before .before .before .before .before .before .if1 .left in
+      let r = walk-room (S .pre .1 .0) some (L .inv .2) (S .pre .1 .1) in
+      (omega (arith, S .pre .0, some), (walk-setting (S .pre .1 .0) some (L .inv .2), (omega (arith, L .inv .0, c .before .before .before .before .before .before .loop-test .taken), simp length-set (r .1))))
 
-pick-keep-requires : (t : ℕ) → pick-lts.Need-keep-requires (pick-claims t) (pick-at t) pick.Post pick-Inv-loop pick-μ-loop
-pick-keep-requires t c κs = let S = c .before .before .before .before .before .before .before .before .before .before .before .before .before .before .before .before .before .before in
-    let L = c .before .before .before .before .before .before .before .before .before .before .before .loop in
-    let W = c .before .before .before .walk in
-    keep-asked (S .pre .1 .0) (c .before .before .before .before .before .before .before .before .before .before .before .before .before .before .if1 .left) (L .inv .2) (S .pre .1 .1) (omega (arith, L .inv .0, c .before .before .before .before .before .before .before .before .before .before .loop-test .taken)) (c .before .before .before .before .before .before .before .before .before .choice .ensures) {choices′ = W .last .1 .1 .1 .1 .1 .1 .1 .1 .0} (W .ensures .0)
+  pick-keep-requires : pick-lts.Need-keep-requires (pick-claims t) (pick-at t) pick.Post pick-Inv-loop pick-μ-loop
+  pick-keep-requires c κs = let S = c .before .before .before .before .before .before .before .before .before .before .before .before .before .before .before .before .before .before in
+      let L = c .before .before .before .before .before .before .before .before .before .before .before .loop in
+      let W = c .before .before .before .walk in
+      keep-asked (S .pre .1 .0) (c .before .before .before .before .before .before .before .before .before .before .before .before .before .before .if1 .left) (L .inv .2) (S .pre .1 .1) (omega (arith, L .inv .0, c .before .before .before .before .before .before .before .before .before .before .loop-test .taken)) (c .before .before .before .before .before .before .before .before .before .choice .ensures) {choices′ = W .last .1 .1 .1 .1 .1 .1 .1 .1 .0} (W .ensures .0)
 
-pick-add-i : (t : ℕ) → pick-lts.Need-add-i (pick-claims t) (pick-at t) pick.Post pick-Inv-loop pick-μ-loop
-pick-add-i t c = let S = c .before .before .before .before .before .before .before .before .before .before .before .before .before .before .before .before .before .before .before .before .before in
-    let P = S .pre .1 .0 in
-    omega (arith, c .before .before .before .before .before .before .before .before .before .before .before .before .before .before .loop .inv .0, c .before .before .before .before .before .before .before .before .before .before .before .before .before .loop-test .taken, P .ready .prepared .few-choices (S .args .spot .s) (state-here P))
+  pick-add-i : pick-lts.Need-add-i (pick-claims t) (pick-at t) pick.Post pick-Inv-loop pick-μ-loop
+  pick-add-i c = let S = c .before .before .before .before .before .before .before .before .before .before .before .before .before .before .before .before .before .before .before .before .before in
+      let P = S .pre .1 .0 in
+      omega (arith, c .before .before .before .before .before .before .before .before .before .before .before .before .before .before .loop .inv .0, c .before .before .before .before .before .before .before .before .before .before .before .before .before .loop-test .taken, P .ready .prepared .few-choices (S .args .spot .s) (state-here P))
 
-pick-loop-less : (t : ℕ) → pick-lts.Need-loop-less (pick-claims t) (pick-at t) pick.Post pick-Inv-loop pick-μ-loop
-pick-loop-less t c = search needs
+  pick-loop-less : pick-lts.Need-loop-less (pick-claims t) (pick-at t) pick.Post pick-Inv-loop pick-μ-loop
+  pick-loop-less c = search needs
 
-pick-loop-again : (t : ℕ) → pick-lts.Need-loop-again (pick-claims t) (pick-at t) pick.Post pick-Inv-loop pick-μ-loop
-pick-loop-again t c = let S = c .before .before .before .before .before .before .before .before .before .before .before .before .before .before .before .before .before .before .before .before .before in
-    let L = c .before .before .before .before .before .before .before .before .before .before .before .before .before .before .loop in
-    let W = c .before .before .before .before .before .before .walk in
-    let J = c .before .before .keep in
-    let place : L .i < choices-in (S .args .m .now) (S .args .spot .s) = omega (arith, L .inv .0, c .before .before .before .before .before .before .before .before .before .before .before .before .before .loop-test .taken) in (
-      L .inv .0,
-      omega (arith, c .before .before .before .before .before .before .before .before .before .before .before .before .before .loop-test .taken),
-      turned-taken (S .pre .1 .0) (c .before .before .before .before .before .before .before .before .before .before .before .before .before .before .before .before .before .if1 .left) (L .inv .2) (S .pre .1 .1) place (c .before .before .before .before .before .before .before .before .before .before .before .before .choice .ensures) {choices′ = W .last .1 .1 .1 .1 .1 .1 .1 .1 .0} (W .ensures .0) (W .ensures .1) (J .ensures)
-          (J .kept .0 ∙ W .kept .1 .1 .1 .1 .1 .1 .1 .1 .0),
-    )
+  pick-loop-again : pick-lts.Need-loop-again (pick-claims t) (pick-at t) pick.Post pick-Inv-loop pick-μ-loop
+  pick-loop-again c = let S = c .before .before .before .before .before .before .before .before .before .before .before .before .before .before .before .before .before .before .before .before .before in
+      let L = c .before .before .before .before .before .before .before .before .before .before .before .before .before .before .loop in
+      let W = c .before .before .before .before .before .before .walk in
+      let J = c .before .before .keep in
+      let place : L .i < choices-in (S .args .m .now) (S .args .spot .s) = omega (arith, L .inv .0, c .before .before .before .before .before .before .before .before .before .before .before .before .before .loop-test .taken) in (
+        L .inv .0,
+        omega (arith, c .before .before .before .before .before .before .before .before .before .before .before .before .before .loop-test .taken),
+        turned-taken (S .pre .1 .0) (c .before .before .before .before .before .before .before .before .before .before .before .before .before .before .before .before .before .if1 .left) (L .inv .2) (S .pre .1 .1) place (c .before .before .before .before .before .before .before .before .before .before .before .before .choice .ensures) {choices′ = W .last .1 .1 .1 .1 .1 .1 .1 .1 .0} (W .ensures .0) (W .ensures .1) (J .ensures)
+            (J .kept .0 ∙ W .kept .1 .1 .1 .1 .1 .1 .1 .1 .0),
+      )
 
-pick-same-length : (t : ℕ) → pick-lts.Need-same-length (pick-claims t) (pick-at t) pick.Post pick-Inv-loop pick-μ-loop
-pick-same-length t c = (c .before .loop .inv .2) .kept .room
+  pick-same-length : pick-lts.Need-same-length (pick-claims t) (pick-at t) pick.Post pick-Inv-loop pick-μ-loop
+  pick-same-length c = (c .before .loop .inv .2) .kept .room
 
-pick-returns-2 : (t : ℕ) → pick-lts.Need-returns-2 (pick-claims t) (pick-at t) pick.Post pick-Inv-loop pick-μ-loop
-pick-returns-2 t c = let L = c .before .loop in
-    (turned-all (c .before .before .before .before .before .before .before .before .pre .1 .0) (c .before .before .before .before .if1 .left) (L .inv .2) (omega (arith, L .inv .0, L .inv .1, c .loop-test .left)), (L .inv .2) .kept .back)
+  pick-returns-2 : pick-lts.Need-returns-2 (pick-claims t) (pick-at t) pick.Post pick-Inv-loop pick-μ-loop
+  pick-returns-2 c = let L = c .before .loop in
+      (turned-all (c .before .before .before .before .before .before .before .before .pre .1 .0) (c .before .before .before .before .if1 .left) (L .inv .2) (omega (arith, L .inv .0, L .inv .1, c .loop-test .left)), (L .inv .2) .kept .back)
 
 -- What the callees of `walk` ask and yield.
 abbrev walk-claims : ℕ → walk-lts.Claims
@@ -184,132 +186,130 @@ walk-Inv-loop m q truth cone late trail₀ gains₀ v₀ choices₀ spot i best 
 abbrev walk-μ-loop : walk-lts.MeasureT-loop
 walk-μ-loop m q truth cone late trail₀ gains₀ v₀ choices₀ spot i best k s n sum₀ rest₀ end₀ o₀ trail gains v choices sum rest end o = n - o
 
-walk-cast-s : (t : ℕ) → walk-lts.Need-cast-s (walk-claims t) (walk-at t) walk.Post walk-Inv-loop walk-μ-loop
-walk-cast-s t c = search needs
+module _ (t : ℕ) where
+  walk-cast-s : walk-lts.Need-cast-s (walk-claims t) (walk-at t) walk.Post walk-Inv-loop walk-μ-loop
+  walk-cast-s c = search needs
 
-walk-outcomes-requires : (t : ℕ) → walk-lts.Need-outcomes-requires (walk-claims t) (walk-at t) walk.Post walk-Inv-loop walk-μ-loop
-walk-outcomes-requires t c κs = let S = c .before .before .before in place-here (S .pre .1 .0) (S .pre .1 .1 .0)
+  walk-outcomes-requires : walk-lts.Need-outcomes-requires (walk-claims t) (walk-at t) walk.Post walk-Inv-loop walk-μ-loop
+  walk-outcomes-requires c κs = let S = c .before .before .before in place-here (S .pre .1 .0) (S .pre .1 .1 .0)
 
-walk-cast-n : (t : ℕ) → walk-lts.Need-cast-n (walk-claims t) (walk-at t) walk.Post walk-Inv-loop walk-μ-loop
-walk-cast-n t c = let S = c .before .before .before .before in omega (arith, c .outcomes .ensures, few-here (S .pre .1 .0) (S .pre .1 .1 .0))
+  walk-cast-n : walk-lts.Need-cast-n (walk-claims t) (walk-at t) walk.Post walk-Inv-loop walk-μ-loop
+  walk-cast-n c = let S = c .before .before .before .before in omega (arith, c .outcomes .ensures, few-here (S .pre .1 .0) (S .pre .1 .1 .0))
 
-walk-denominator-requires : (t : ℕ) → walk-lts.Need-denominator-requires (walk-claims t) (walk-at t) walk.Post walk-Inv-loop walk-μ-loop
-walk-denominator-requires t c κs = search needs
+  walk-denominator-requires : walk-lts.Need-denominator-requires (walk-claims t) (walk-at t) walk.Post walk-Inv-loop walk-μ-loop
+  walk-denominator-requires c κs = search needs
 
-walk-loop-holds : (t : ℕ) → walk-lts.Need-loop-holds (walk-claims t) (walk-at t) walk.Post walk-Inv-loop walk-μ-loop
-walk-loop-holds t c = let S = c .before .before .before .before .before in
-    let A = S .args in (
-      c .before .outcomes .ensures,
-      omega arith,
-      walking-none (S .args .spot .least) (A .m .now) (S .args .spot .s) (A .i) (S .args .spot .k) (on-path (A .m .now) (A .q .now) (S .args .spot .start) (A .cone .now) (take (S .args .spot .h) (A .trail .now))) (S .args .spot .at) (A .choices .now),
-      kept-none (S .pre .1 .0) (A .choices .now),
-      omega (arith, weighed-none (A .m .now) (S .args .spot .s) (A .i), c .denominator .ensures),
-    )
+  walk-loop-holds : walk-lts.Need-loop-holds (walk-claims t) (walk-at t) walk.Post walk-Inv-loop walk-μ-loop
+  walk-loop-holds c = let S = c .before .before .before .before .before in
+      let A = S .args in (
+        c .before .outcomes .ensures,
+        omega arith,
+        walking-none (S .args .spot .least) (A .m .now) (S .args .spot .s) (A .i) (S .args .spot .k) (on-path (A .m .now) (A .q .now) (S .args .spot .start) (A .cone .now) (take (S .args .spot .h) (A .trail .now))) (S .args .spot .at) (A .choices .now),
+        kept-none (S .pre .1 .0) (A .choices .now),
+        omega (arith, weighed-none (A .m .now) (S .args .spot .s) (A .i), c .denominator .ensures),
+      )
 
-walk-hopeless-requires : (t : ℕ) → walk-lts.Need-hopeless-requires (walk-claims t) (walk-at t) walk.Post walk-Inv-loop walk-μ-loop
-walk-hopeless-requires t c κs = let S = c .before .before .before .before .before .before .before .before in
-    let L = c .before .before .loop in
-    let here : Offers (S .args .m .now) (S .args .spot .s) (S .args .i) (L .o) = (S .pre .1 .1 .0, omega (arith, L .inv .0, c .before .loop-test .taken)) in
-    hopeless-asked (S .args .spot .k) (S .pre .1 .0) (L .inv .3) (L .inv .2) here (L .rest) (L .inv .4)
+  -- The outcome that a turn of the loop walks, and the step to it.
+  here : (c : walk-lts.In-loop (walk-claims t) (walk-at t) walk.Post walk-Inv-loop walk-μ-loop) → let A = c .before .before .before .before .before .before .before .args in Offers (A .m .now) (A .spot .s) (A .i) (c .before .loop .o)
+  here c = (c .before .before .before .before .before .before .before .pre .1 .1 .0, omega (arith, c .before .loop .inv .0, c .loop-test .taken))
 
-walk-same-length : (t : ℕ) → walk-lts.Need-same-length (walk-claims t) (walk-at t) walk.Post walk-Inv-loop walk-μ-loop
-walk-same-length t c = (c .before .before .before .before .loop .inv .3) .room
+  stepped : (c : walk-lts.After-step (walk-claims t) (walk-at t) walk.Post walk-Inv-loop walk-μ-loop) → let A = c .before .before .before .before .before .before .before .before .before .before .before .before .args in
+      let L = c .before .before .before .before .before .before .loop in
+      let T = c .step in
+      Stepped (A .m .now) (A .q .now) (A .spot .start) (A .cone .now) (A .spot .h) (A .spot .s) (A .i) (L .o) (L .trail) (T .last .1 .1 .1 .1 .0) (T .last .1 .1 .1 .1 .1 .0) (T .last .1 .1 .1 .1 .1 .1 .0) (T .result)
+  stepped c = c .step .ensures
 
-walk-returns : (t : ℕ) → walk-lts.Need-returns (walk-claims t) (walk-at t) walk.Post walk-Inv-loop walk-μ-loop
-walk-returns t c = let S = c .before .before .before .before .before .before .before .before .before .before in
-    let L = c .before .before .before .before .loop in
-    let here : Offers (S .args .m .now) (S .args .spot .s) (S .args .i) (L .o) = (S .pre .1 .1 .0, omega (arith, L .inv .0, c .before .before .before .loop-test .taken)) in
-    (walked-lost (S .args .spot .k) (S .pre .1 .0) (L .inv .3) (L .inv .2) here (L .rest) (L .inv .4) (S .args .best .found) (S .args .best .value) (c .before .hopeless .ensures) (c .if2 .taken), (L .inv .3) .back)
+  walk-hopeless-requires : walk-lts.Need-hopeless-requires (walk-claims t) (walk-at t) walk.Post walk-Inv-loop walk-μ-loop
+  walk-hopeless-requires c κs = let S = c .before .before .before .before .before .before .before .before in
+      let L = c .before .before .loop in
+      hopeless-asked (S .args .spot .k) (S .pre .1 .0) (L .inv .3) (L .inv .2) (here (c .before)) (L .rest) (L .inv .4)
 
-walk-step-requires : (t : ℕ) → walk-lts.Need-step-requires (walk-claims t) (walk-at t) walk.Post walk-Inv-loop walk-μ-loop
-walk-step-requires t c κs = let S = c .before .before .before .before .before .before .before .before .before .before .before in
-    let L = c .before .before .before .before .before .loop in
-    let here : Offers (S .args .m .now) (S .args .spot .s) (S .args .i) (L .o) = (S .pre .1 .1 .0, omega (arith, L .inv .0, c .before .before .before .before .loop-test .taken)) in
-    let x = step-asked (S .args .spot .k) (S .pre .1 .0) (L .inv .3) (L .inv .2) here in
-    (x .0, (x .1, x .2))
+  walk-same-length : walk-lts.Need-same-length (walk-claims t) (walk-at t) walk.Post walk-Inv-loop walk-μ-loop
+  walk-same-length c = (c .before .before .before .before .loop .inv .3) .room
 
-walk-add-t33 : (t : ℕ) → walk-lts.Need-add-t33 (walk-claims t) (walk-at t) walk.Post walk-Inv-loop walk-μ-loop
-walk-add-t33 t c = omega (arith, (c .before .before .before .before .before .before .before .before .before .before .before .before .before .pre .1 .0) .few)
+  walk-returns : walk-lts.Need-returns (walk-claims t) (walk-at t) walk.Post walk-Inv-loop walk-μ-loop
+  walk-returns c = let S = c .before .before .before .before .before .before .before .before .before .before in
+      let L = c .before .before .before .before .loop in
+      (walked-lost (S .args .spot .k) (S .pre .1 .0) (L .inv .3) (L .inv .2) (here (c .before .before .before)) (L .rest) (L .inv .4) (S .args .best .found) (S .args .best .value) (c .before .hopeless .ensures) (c .if2 .taken), (L .inv .3) .back)
 
-walk-pick-last-requires : (t : ℕ) → walk-lts.Need-pick-last-requires (walk-claims t) (walk-at t) walk.Post walk-Inv-loop walk-μ-loop
-walk-pick-last-requires t c κs = let S = c .before .before .before .before .before .before .before .before .before .before .before .before .before .before .before .before .before .before in
-    let L = c .before .before .before .before .before .before .before .before .before .before .before .before .loop in
-    let T = c .before .before .before .before .before .before .step in
-    let here : Offers (S .args .m .now) (S .args .spot .s) (S .args .i) (L .o) = (S .pre .1 .1 .0, omega (arith, L .inv .0, c .before .before .before .before .before .before .before .before .before .before .before .loop-test .taken)) in
-    let e = c .before .before .before .before .if3 .taken in
-    (last-setting (S .args .spot .k) (S .pre .1 .0) (L .inv .3) (L .inv .2) here {trail′ = T .last .1 .1 .1 .1 .0} {gains′ = T .last .1 .1 .1 .1 .1 .0} {v′ = T .last .1 .1 .1 .1 .1 .1 .0} (T .ensures) e, last-room (S .args .spot .k) (S .pre .1 .0) (L .inv .3) (L .inv .2) here e (S .pre .1 .1 .1))
+  walk-step-requires : walk-lts.Need-step-requires (walk-claims t) (walk-at t) walk.Post walk-Inv-loop walk-μ-loop
+  walk-step-requires c κs = let S = c .before .before .before .before .before .before .before .before .before .before .before in
+      let L = c .before .before .before .before .before .loop in
+      let x = step-asked (S .args .spot .k) (S .pre .1 .0) (L .inv .3) (L .inv .2) (here (c .before .before .before .before)) in
+      (x .0, (x .1, x .2))
 
-walk-pick-requires : (t : ℕ) → walk-lts.Need-pick-requires (walk-claims t) (walk-at t) walk.Post walk-Inv-loop walk-μ-loop
-walk-pick-requires t c κs = let S = c .before .before .before .before .before .before .before .before .before .before .before .before .before .before .before .before .before .before in
-    let L = c .before .before .before .before .before .before .before .before .before .before .before .before .loop in
-    let T = c .before .before .before .before .before .before .step in
-    let here : Offers (S .args .m .now) (S .args .spot .s) (S .args .i) (L .o) = (S .pre .1 .1 .0, omega (arith, L .inv .0, c .before .before .before .before .before .before .before .before .before .before .before .loop-test .taken)) in
-    (omega (arith, S .pre .0), (pick-setting (S .args .spot .k) (S .pre .1 .0) (L .inv .3) (L .inv .2) here {trail′ = T .last .1 .1 .1 .1 .0} {gains′ = T .last .1 .1 .1 .1 .1 .0} {v′ = T .last .1 .1 .1 .1 .1 .1 .0} (T .ensures), pick-room (S .args .spot .k) (S .pre .1 .0) (L .inv .3) (L .inv .2) here (S .pre .1 .1 .1)))
+  walk-add-t33 : walk-lts.Need-add-t33 (walk-claims t) (walk-at t) walk.Post walk-Inv-loop walk-μ-loop
+  walk-add-t33 c = omega (arith, (c .before .before .before .before .before .before .before .before .before .before .before .before .before .pre .1 .0) .few)
 
-walk-cast-weight : (t : ℕ) → walk-lts.Need-cast-weight (walk-claims t) (walk-at t) walk.Post walk-Inv-loop walk-μ-loop
-walk-cast-weight t c = search needs
+  walk-pick-last-requires : walk-lts.Need-pick-last-requires (walk-claims t) (walk-at t) walk.Post walk-Inv-loop walk-μ-loop
+  walk-pick-last-requires c κs = let S = c .before .before .before .before .before .before .before .before .before .before .before .before .before .before .before .before .before .before in
+      let L = c .before .before .before .before .before .before .before .before .before .before .before .before .loop in
+      let e = c .before .before .before .before .if3 .taken in
+      (last-setting (S .args .spot .k) (S .pre .1 .0) (L .inv .3) (L .inv .2) (here (c .before .before .before .before .before .before .before .before .before .before .before)) (stepped (c .before .before .before .before .before .before)) e, last-room (S .args .spot .k) (S .pre .1 .0) (L .inv .3) (L .inv .2) (here (c .before .before .before .before .before .before .before .before .before .before .before)) e (S .pre .1 .1 .1))
 
--- The search below the outcome, whichever of the two it was.
-below-here : (t : ℕ) (c : walk-lts.Joined3 (walk-claims t) (walk-at t) walk.Post walk-Inv-loop walk-μ-loop) → let S = c .before .before .before .before .before .before .before .before .before .before .before .before .before .before in
-    let L = c .before .before .before .before .before .before .before .before .loop in
-    let T = c .before .before .step in
-    Below (S .args .spot .least) (S .args .m .now) (S .args .q .now) (S .args .spot .start) (S .args .cone .now) (S .args .spot .h + 1) (T .result) (S .args .spot .k) (L .end) (T .last .1 .1 .1 .1 .0) (T .last .1 .1 .1 .1 .1 .0) (T .last .1 .1 .1 .1 .1 .1 .0) (L .choices) (c .if3 .trail) (c .if3 .gains) (c .if3 .v) (c .if3 .choices) (c .if3 .b)
-below-here t c = let S = c .before .before .before .before .before .before .before .before .before .before .before .before .before .before in
-    let L = c .before .before .before .before .before .before .before .before .loop in
-    let T = c .before .before .step in
-    let here : Offers (S .args .m .now) (S .args .spot .s) (S .args .i) (L .o) = (S .pre .1 .1 .0, omega (arith, L .inv .0, c .before .before .before .before .before .before .before .loop-test .taken)) in
-    let P = Below (S .args .spot .least) (S .args .m .now) (S .args .q .now) (S .args .spot .start) (S .args .cone .now) (S .args .spot .h + 1) (T .result) (S .args .spot .k) (L .end) (T .last .1 .1 .1 .1 .0) (T .last .1 .1 .1 .1 .1 .0) (T .last .1 .1 .1 .1 .1 .1 .0) (L .choices) in
-    ⊎-elim
-    (λ w. same P (w .8) (w .9) (w .10) (w .11) (w .12)
-    (below-last (S .args .spot .k) (S .pre .1 .0) (L .inv .3) (L .inv .2) here {trail′ = T .last .1 .1 .1 .1 .0} {gains′ = T .last .1 .1 .1 .1 .1 .0} {v′ = T .last .1 .1 .1 .1 .1 .1 .0} (T .ensures)
-    {choices″ = w .5 .last .1 .1 .1 .1 .1 .1 .1 .1 .0} (w .0 .taken) (w .5 .ensures) (w .5 .kept .1 .1 .1 .1 .1 .1 .1 .1 .0)))
-    (λ w. same P (w .8) (w .9) (w .10) (w .11) (w .12) (record { picked = w .5 .ensures .0; kept = record { back = w .5 .ensures .1; room = w .5 .kept .1 .1 .1 .1 .1 .1 .1 .1 .0 } }))
-    (c .if3 .came)
+  walk-pick-requires : walk-lts.Need-pick-requires (walk-claims t) (walk-at t) walk.Post walk-Inv-loop walk-μ-loop
+  walk-pick-requires c κs = let S = c .before .before .before .before .before .before .before .before .before .before .before .before .before .before .before .before .before .before in
+      let L = c .before .before .before .before .before .before .before .before .before .before .before .before .loop in
+      (omega (arith, S .pre .0), (pick-setting (S .args .spot .k) (S .pre .1 .0) (L .inv .3) (L .inv .2) (here (c .before .before .before .before .before .before .before .before .before .before .before)) (stepped (c .before .before .before .before .before .before)), pick-room (S .args .spot .k) (S .pre .1 .0) (L .inv .3) (L .inv .2) (here (c .before .before .before .before .before .before .before .before .before .before .before)) (S .pre .1 .1 .1)))
 
-walk-weight-requires : (t : ℕ) → walk-lts.Need-weight-requires (walk-claims t) (walk-at t) walk.Post walk-Inv-loop walk-μ-loop
-walk-weight-requires t c κs = let S = c .before .before .before .before .before .before .before .before .before .before .before .before .before .before in
-    let L = c .before .before .before .before .before .before .before .before .loop in
-    let z = place-here (S .pre .1 .0) (S .pre .1 .1 .0) in
-    (z .0, z .1, omega (arith, L .inv .0, c .before .before .before .before .before .before .before .loop-test .taken, few-here (S .pre .1 .0) (S .pre .1 .1 .0)))
+  walk-cast-weight : walk-lts.Need-cast-weight (walk-claims t) (walk-at t) walk.Post walk-Inv-loop walk-μ-loop
+  walk-cast-weight c = search needs
 
-walk-add-mul-requires : (t : ℕ) → walk-lts.Need-add-mul-requires (walk-claims t) (walk-at t) walk.Post walk-Inv-loop walk-μ-loop
-walk-add-mul-requires t c κs = let S = c .before .before .before .before .before .before .before .before .before .before .before .before .before .before .before in
-    let L = c .before .before .before .before .before .before .before .before .before .loop in
-    let T = c .before .before .before .step in
-    let here : Offers (S .args .m .now) (S .args .spot .s) (S .args .i) (L .o) = (S .pre .1 .1 .0, omega (arith, L .inv .0, c .before .before .before .before .before .before .before .before .loop-test .taken)) in
-    walk-fits (S .args .spot .k) (S .pre .1 .0) (L .inv .3) (L .inv .2) here {trail′ = T .last .1 .1 .1 .1 .0} {gains′ = T .last .1 .1 .1 .1 .1 .0} {v′ = T .last .1 .1 .1 .1 .1 .1 .0} (T .ensures) (below-here t (c .before)) (c .weight .result) (c .weight .ensures .0)
+  -- The search below the outcome, whichever of the two it was.
+  below-here : (c : walk-lts.Joined3 (walk-claims t) (walk-at t) walk.Post walk-Inv-loop walk-μ-loop) → let S = c .before .before .before .before .before .before .before .before .before .before .before .before .before .before in
+      let L = c .before .before .before .before .before .before .before .before .loop in
+      let T = c .before .before .step in
+      Below (S .args .spot .least) (S .args .m .now) (S .args .q .now) (S .args .spot .start) (S .args .cone .now) (S .args .spot .h + 1) (T .result) (S .args .spot .k) (L .end) (T .last .1 .1 .1 .1 .0) (T .last .1 .1 .1 .1 .1 .0) (T .last .1 .1 .1 .1 .1 .1 .0) (L .choices) (c .if3 .trail) (c .if3 .gains) (c .if3 .v) (c .if3 .choices) (c .if3 .b)
+  below-here c = let S = c .before .before .before .before .before .before .before .before .before .before .before .before .before .before in
+      let L = c .before .before .before .before .before .before .before .before .loop in
+      let T = c .before .before .step in
+      let P = Below (S .args .spot .least) (S .args .m .now) (S .args .q .now) (S .args .spot .start) (S .args .cone .now) (S .args .spot .h + 1) (T .result) (S .args .spot .k) (L .end) (T .last .1 .1 .1 .1 .0) (T .last .1 .1 .1 .1 .1 .0) (T .last .1 .1 .1 .1 .1 .1 .0) (L .choices) in
+      ⊎-elim
+      (λ w. same P (w .8) (w .9) (w .10) (w .11) (w .12)
+      (below-last (S .args .spot .k) (S .pre .1 .0) (L .inv .3) (L .inv .2) (here (c .before .before .before .before .before .before .before)) (stepped (c .before .before))
+      {choices″ = w .5 .last .1 .1 .1 .1 .1 .1 .1 .1 .0} (w .0 .taken) (w .5 .ensures) (w .5 .kept .1 .1 .1 .1 .1 .1 .1 .1 .0)))
+      (λ w. same P (w .8) (w .9) (w .10) (w .11) (w .12) (record { picked = w .5 .ensures .0; kept = record { back = w .5 .ensures .1; room = w .5 .kept .1 .1 .1 .1 .1 .1 .1 .1 .0 } }))
+      (c .if3 .came)
 
-walk-sub-rest : (t : ℕ) → walk-lts.Need-sub-rest (walk-claims t) (walk-at t) walk.Post walk-Inv-loop walk-μ-loop
-walk-sub-rest t c = let S = c .before .before .before .before .before .before .before .before .before .before .before .before .before .before .before .before in
-    let L = c .before .before .before .before .before .before .before .before .before .before .loop in
-    let here : Offers (S .args .m .now) (S .args .spot .s) (S .args .i) (L .o) = (S .pre .1 .1 .0, omega (arith, L .inv .0, c .before .before .before .before .before .before .before .before .before .loop-test .taken)) in
-    rest-fewer (S .args .spot .k) (S .pre .1 .0) (L .inv .3) (L .inv .2) here (L .rest) (L .inv .4) (c .before .weight .result) (c .before .weight .ensures .0) .0
+  walk-weight-requires : walk-lts.Need-weight-requires (walk-claims t) (walk-at t) walk.Post walk-Inv-loop walk-μ-loop
+  walk-weight-requires c κs = let S = c .before .before .before .before .before .before .before .before .before .before .before .before .before .before in
+      let L = c .before .before .before .before .before .before .before .before .loop in
+      let z = place-here (S .pre .1 .0) (S .pre .1 .1 .0) in
+      (z .0, z .1, omega (arith, L .inv .0, c .before .before .before .before .before .before .before .loop-test .taken, few-here (S .pre .1 .0) (S .pre .1 .1 .0)))
 
-walk-add-o : (t : ℕ) → walk-lts.Need-add-o (walk-claims t) (walk-at t) walk.Post walk-Inv-loop walk-μ-loop
-walk-add-o t c = let S = c .before .before .before .before .before .before .before .before .before .before .before .before .before .before .before .before in omega (arith, c .before .before .before .before .before .before .before .before .before .before .loop .inv .0, c .before .before .before .before .before .before .before .before .before .loop-test .taken, few-here (S .pre .1 .0) (S .pre .1 .1 .0))
+  walk-add-mul-requires : walk-lts.Need-add-mul-requires (walk-claims t) (walk-at t) walk.Post walk-Inv-loop walk-μ-loop
+  walk-add-mul-requires c κs = let S = c .before .before .before .before .before .before .before .before .before .before .before .before .before .before .before in
+      let L = c .before .before .before .before .before .before .before .before .before .loop in
+      walk-fits (S .args .spot .k) (S .pre .1 .0) (L .inv .3) (L .inv .2) (here (c .before .before .before .before .before .before .before .before)) (stepped (c .before .before .before)) (below-here (c .before)) (c .weight .result) (c .weight .ensures .0)
 
-walk-loop-less : (t : ℕ) → walk-lts.Need-loop-less (walk-claims t) (walk-at t) walk.Post walk-Inv-loop walk-μ-loop
-walk-loop-less t c = omega (arith, c .before .before .before .before .before .before .before .before .before .before .loop .inv .1, c .before .before .before .before .before .before .before .before .before .loop-test .taken)
+  walk-sub-rest : walk-lts.Need-sub-rest (walk-claims t) (walk-at t) walk.Post walk-Inv-loop walk-μ-loop
+  walk-sub-rest c = let S = c .before .before .before .before .before .before .before .before .before .before .before .before .before .before .before .before in
+      let L = c .before .before .before .before .before .before .before .before .before .before .loop in
+      rest-fewer (S .args .spot .k) (S .pre .1 .0) (L .inv .3) (L .inv .2) (here (c .before .before .before .before .before .before .before .before .before)) (L .rest) (L .inv .4) (c .before .weight .result) (c .before .weight .ensures .0) .0
 
-walk-loop-again : (t : ℕ) → walk-lts.Need-loop-again (walk-claims t) (walk-at t) walk.Post walk-Inv-loop walk-μ-loop
-walk-loop-again t c = let S = c .before .before .before .before .before .before .before .before .before .before .before .before .before .before .before .before in
-    let L = c .before .before .before .before .before .before .before .before .before .before .loop in
-    let T = c .before .before .before .before .step in
-    let here : Offers (S .args .m .now) (S .args .spot .s) (S .args .i) (L .o) = (S .pre .1 .1 .0, omega (arith, L .inv .0, c .before .before .before .before .before .before .before .before .before .loop-test .taken)) in
-    let D = below-here t (c .before .before) in (
-      L .inv .0,
-      omega (arith, c .before .before .before .before .before .before .before .before .before .loop-test .taken),
-      walk-more (S .args .spot .k) (S .pre .1 .0) (L .inv .3) (L .inv .2) here {trail′ = T .last .1 .1 .1 .1 .0} {gains′ = T .last .1 .1 .1 .1 .1 .0} {v′ = T .last .1 .1 .1 .1 .1 .1 .0} (T .ensures) D (c .before .weight .result) (c .before .weight .ensures .0) (c .add-mul .ensures),
-      walk-kept (S .args .spot .k) (S .pre .1 .0) (L .inv .3) (L .inv .2) here {trail′ = T .last .1 .1 .1 .1 .0} {gains′ = T .last .1 .1 .1 .1 .1 .0} {v′ = T .last .1 .1 .1 .1 .1 .1 .0} (T .ensures) D,
-      rest-fewer (S .args .spot .k) (S .pre .1 .0) (L .inv .3) (L .inv .2) here (L .rest) (L .inv .4) (c .before .weight .result) (c .before .weight .ensures .0) .1,
-    )
+  walk-add-o : walk-lts.Need-add-o (walk-claims t) (walk-at t) walk.Post walk-Inv-loop walk-μ-loop
+  walk-add-o c = let S = c .before .before .before .before .before .before .before .before .before .before .before .before .before .before .before .before in omega (arith, c .before .before .before .before .before .before .before .before .before .before .loop .inv .0, c .before .before .before .before .before .before .before .before .before .loop-test .taken, few-here (S .pre .1 .0) (S .pre .1 .1 .0))
 
-walk-same-length-2 : (t : ℕ) → walk-lts.Need-same-length-2 (walk-claims t) (walk-at t) walk.Post walk-Inv-loop walk-μ-loop
-walk-same-length-2 t c = (c .before .loop .inv .3) .room
+  walk-loop-less : walk-lts.Need-loop-less (walk-claims t) (walk-at t) walk.Post walk-Inv-loop walk-μ-loop
+  walk-loop-less c = omega (arith, c .before .before .before .before .before .before .before .before .before .before .loop .inv .1, c .before .before .before .before .before .before .before .before .before .loop-test .taken)
 
-walk-returns-2 : (t : ℕ) → walk-lts.Need-returns-2 (walk-claims t) (walk-at t) walk.Post walk-Inv-loop walk-μ-loop
-walk-returns-2 t c = let L = c .before .loop in
-    (walked-all (L .inv .2) (omega (arith, L .inv .0, L .inv .1, c .loop-test .left)), (L .inv .3) .back)
+  walk-loop-again : walk-lts.Need-loop-again (walk-claims t) (walk-at t) walk.Post walk-Inv-loop walk-μ-loop
+  walk-loop-again c = let S = c .before .before .before .before .before .before .before .before .before .before .before .before .before .before .before .before in
+      let L = c .before .before .before .before .before .before .before .before .before .before .loop in
+      let D = below-here (c .before .before) in (
+        L .inv .0,
+        omega (arith, c .before .before .before .before .before .before .before .before .before .loop-test .taken),
+        walk-more (S .args .spot .k) (S .pre .1 .0) (L .inv .3) (L .inv .2) (here (c .before .before .before .before .before .before .before .before .before)) (stepped (c .before .before .before .before)) D (c .before .weight .result) (c .before .weight .ensures .0) (c .add-mul .ensures),
+        walk-kept (S .args .spot .k) (S .pre .1 .0) (L .inv .3) (L .inv .2) (here (c .before .before .before .before .before .before .before .before .before)) (stepped (c .before .before .before .before)) D,
+        rest-fewer (S .args .spot .k) (S .pre .1 .0) (L .inv .3) (L .inv .2) (here (c .before .before .before .before .before .before .before .before .before)) (L .rest) (L .inv .4) (c .before .weight .result) (c .before .weight .ensures .0) .1,
+      )
+
+  walk-same-length-2 : walk-lts.Need-same-length-2 (walk-claims t) (walk-at t) walk.Post walk-Inv-loop walk-μ-loop
+  walk-same-length-2 c = (c .before .loop .inv .3) .room
+
+  walk-returns-2 : walk-lts.Need-returns-2 (walk-claims t) (walk-at t) walk.Post walk-Inv-loop walk-μ-loop
+  walk-returns-2 c = let L = c .before .loop in
+      (walked-all (L .inv .2) (omega (arith, L .inv .0, L .inv .1, c .loop-test .left)), (L .inv .3) .back)
 
 pub +pick+walk-spec : {M : Type 1} → statement M
 +pick+walk-spec = close μ-pick μ-walk (λ t. pick-lts.spec (pick-claims t) (pick-at t) pick.Post
