@@ -85,6 +85,7 @@ fn weigh_from(
         };
     }
     let row = row_of(m, spot.s as usize, byte(choices, spot.at));
+    let i = row.at as u8;
     let mut sum: u64 = 0;
     let mut next = after(choices, spot.at);
     let mut o: usize = 0;
@@ -94,18 +95,7 @@ fn weigh_from(
             h: spot.h,
             s: spot.s,
         };
-        let t = step(
-            m,
-            q,
-            truth,
-            cone,
-            trail,
-            gains,
-            v,
-            here,
-            row.at as u8,
-            o as u8,
-        );
+        let t = step(m, q, truth, cone, trail, gains, v, here, i, o as u8);
         let on = Spot {
             start: spot.start,
             h: spot.h + 1,
