@@ -34,7 +34,8 @@ fn taken(d: usize) -> usize
     if d == 0 { 0 } else { 1 }
 }
 
-// Writes the choices of n steps from s, of which d are read: the choice in s, then those below each of its outcomes.
+// Writes the choices of n steps from s, of which d are read: the choice in s, then those below each of its outcomes. The two places go in as
+// numbers by themselves: a cursor handed on whole is read as one word right after its halves were written, and the processor waits for that.
 fn extend_from(
     m: &[u16; 8704],
     src: &[u8],
@@ -42,28 +43,28 @@ fn extend_from(
     s: usize,
     d: usize,
     n: usize,
-    c: Cursor,
+    from: usize,
+    at: usize,
 ) -> Cursor
     requires { ⌜ Prepared (now m) × (s < state-count (now m)) ⌝ }
-    requires { ⌜ (n ≤ 6) × (c .from + room n ≤ 65536) × (c .at + room n ≤ length (now dst)) ⌝ }
-    ensures { λ r. ⌜ Ran (spec.extend (model-in (now (m .entry))) d n s (drop (c .from) (now (src .entry)))) (room n) (now (src .entry)) (c .from) (r .from) (now (dst .entry)) (now (dst .exit)) (c .at) (r .at) ⌝ }
+    requires { ⌜ (n ≤ 6) × (from + room n ≤ 65536) × (at + room n ≤ length (now dst)) ⌝ }
+    ensures { λ r. ⌜ Ran (spec.extend (model-in (now (m .entry))) d n s (drop from (now (src .entry)))) (room n) (now (src .entry)) from (r .from) (now (dst .entry)) (now (dst .exit)) at (r .at) ⌝ }
 {
     if n == 0 {
-        return c;
+        return Cursor { from: from, at: at };
     }
-    let a = choice(m, src, s, d, c.from);
-    let at = c.at;
+    let a = choice(m, src, s, d, from);
     dst[at] = a;
     let k = taken(d);
     let row = prepared::row_of(m, s, a);
     let mut next = Cursor {
-        from: c.from + k,
+        from: from + k,
         at: at + 1,
     };
     let mut o: usize = 0;
     while o < row.count {
         let t = prepared::target(m, s, row.at, o);
-        next = extend_from(m, src, dst, t, d - k, n - 1, next);
+        next = extend_from(m, src, dst, t, d - k, n - 1, next.from, next.at);
         o += 1;
     }
     next
@@ -75,6 +76,6 @@ pub fn extend(m: &[u16; 8704], src: &[u8], dst: &mut [u8], s: usize, d: usize, n
     requires { ⌜ (n ≤ 6) × (1365 ≤ length (now dst)) ⌝ }
     ensures { λ r. ⌜ (now (dst .exit) ≡ splice (now (dst .entry)) 0 (spec.extend (model-in (now (m .entry))) d n s (now (src .entry)) .0)) × (r ≡ length (spec.extend (model-in (now (m .entry))) d n s (now (src .entry)) .0)) ⌝ }
 {
-    let r = extend_from(m, src, dst, s, d, n, Cursor { from: 0, at: 0 });
+    let r = extend_from(m, src, dst, s, d, n, 0, 0);
     r.at
 }

@@ -33,19 +33,19 @@ claims t =
     (choice.Asked, choice.Learnt, taken.Asked, taken.Learnt, row-of.Asked, row-of.Learnt, target.Asked, target.Learnt, and 3 ps (falls 3 ps _<_ μ-steps t) extend-from.Pre, extend-from.Post)
 
 abbrev Inv-loop : lts.InvT-loop
-Inv-loop m src dst₀ s d n a at k row next₀ o₀ dst next o =
+Inv-loop m src dst₀ s d n from at a k row next₀ o₀ dst next o =
     (o ≤ row .count)
     × Ran (runs (model-in m) (step-in m s (row .at)) (d - k) (n - 1) src o (drop (next₀ .from) src)) (o * room (n - 1)) src (next₀ .from) (next .from) dst₀ dst (next₀ .at) (next .at)
     × (length dst ≡ length dst₀)
 
 abbrev μ-loop : lts.MeasureT-loop
-μ-loop m src dst₀ s d n a at k row next₀ o₀ dst next o = row .count - o
+μ-loop m src dst₀ s d n from at a k row next₀ o₀ dst next o = row .count - o
 
 module _ (t : ℕ) where
   returns : lts.Need-returns (claims t) (begins t) extend-from.Post Inv-loop μ-loop
   returns c =
       let S = c .before .before .before in
-      extend-none (model-in (S .args .m .now)) (S .args .src .now) (S .args .d) (S .args .n) (S .args .s) (S .args .c .from) (S .args .c .at) (S .args .dst .now) (c .if1 .taken)
+      extend-none (model-in (S .args .m .now)) (S .args .src .now) (S .args .d) (S .args .n) (S .args .s) (S .args .from) (S .args .at) (S .args .dst .now) (c .if1 .taken)
 
   choice-requires : lts.Need-choice-requires (claims t) (begins t) extend-from.Post Inv-loop μ-loop
   choice-requires c κs = c .before .before .before .pre .1 .0
@@ -61,47 +61,47 @@ module _ (t : ℕ) where
 
   add-t17 : lts.Need-add-t17 (claims t) (begins t) extend-from.Post Inv-loop μ-loop
   add-t17 c =
-      let S = c .before .before .before .before .before .before .before in
-      omega (arith, S .pre .1 .1 .1, c .before .before .taken .ensures, min-one (S .args .d))
+      let S = c .before .before .before .before .before .before in
+      omega (arith, S .pre .1 .1 .1, c .before .taken .ensures, min-one (S .args .d))
 
   add-t18 : lts.Need-add-t18 (claims t) (begins t) extend-from.Post Inv-loop μ-loop
   add-t18 c =
-      let S = c .before .before .before .before .before .before .before in
-      omega (arith, S .pre .1 .1 .2, room-step (S .args .n) (c .before .before .before .before .if1 .left))
+      let S = c .before .before .before .before .before .before in
+      omega (arith, S .pre .1 .1 .2, room-step (S .args .n) (c .before .before .before .if1 .left))
 
   loop-holds : lts.Need-loop-holds (claims t) (begins t) extend-from.Post Inv-loop μ-loop
   loop-holds c =
-      let S = c .before .before .before .before .before .before .before in
-      (omega arith, runs-none (model-in (S .args .m .now)) (step-in (S .args .m .now) (S .args .s) (c .before .row-of .result .at)) (S .args .d - c .before .before .taken .result) (S .args .n - 1) (S .args .src .now) (S .args .c .from + c .before .before .taken .result) (S .args .c .at + 1) _, refl)
+      let S = c .before .before .before .before .before .before in
+      (omega arith, runs-none (model-in (S .args .m .now)) (step-in (S .args .m .now) (S .args .s) (c .row-of .result .at)) (S .args .d - c .before .taken .result) (S .args .n - 1) (S .args .src .now) (S .args .from + c .before .taken .result) (S .args .at + 1) _, refl)
 
   target-requires : lts.Need-target-requires (claims t) (begins t) extend-from.Post Inv-loop μ-loop
   target-requires c κs =
-      let S = c .before .before .before .before .before .before .before .before .before .before in
-      read-range (S .pre .1 .0 .0) (S .args .s) (S .pre .1 .0 .1) (c .before .before .before .before .row-of .result .at) (c .before .before .loop .o) (c .before .before .before .before .row-of .ensures .offers _ (omega arith))
+      let S = c .before .before .before .before .before .before .before .before .before in
+      read-range (S .pre .1 .0 .0) (S .args .s) (S .pre .1 .0 .1) (c .before .before .before .row-of .result .at) (c .before .before .loop .o) (c .before .before .before .row-of .ensures .offers _ (omega arith))
 
   sub-extend-from : lts.Need-sub-extend-from (claims t) (begins t) extend-from.Post Inv-loop μ-loop
   sub-extend-from c =
-      let S = c .before .before .before .before .before .before .before .before .before .before .before .before in
-      omega (arith, c .before .before .before .before .before .before .before .taken .ensures, min-le-right 1 (S .args .d))
+      let S = c .before .before .before .before .before .before .before .before .before .before .before in
+      omega (arith, c .before .before .before .before .before .before .taken .ensures, min-le-right 1 (S .args .d))
 
   sub-extend-from-2 : lts.Need-sub-extend-from-2 (claims t) (begins t) extend-from.Post Inv-loop μ-loop
   sub-extend-from-2 c = omega arith
 
   extend-from-requires : lts.Need-extend-from-requires (claims t) (begins t) extend-from.Post Inv-loop μ-loop
   extend-from-requires c κs =
-      let S = c .before .before .before .before .before .before .before .before .before .before .before .before in
+      let S = c .before .before .before .before .before .before .before .before .before .before .before in
       let L = c .before .before .before .before .loop in
-      let row = c .before .before .before .before .before .before .row-of in
+      let row = c .before .before .before .before .before .row-of in
       let more = room-more (S .args .n - 1) (L .o) (omega (arith, row .ensures .few)) in
-      let r = room-step (S .args .n) (c .before .before .before .before .before .before .before .before .before .if1 .left) in
+      let r = room-step (S .args .n) (c .before .before .before .before .before .before .before .before .if1 .left) in
       let w = S .pre .1 .0 .0 in (
         omega arith,
         (
           (w, omega (arith, c .before .target .ensures, w .inside (S .args .s) (row .result .at) (L .o) (S .pre .1 .0 .1) (row .ensures .offers (L .o) (omega arith)))),
           (
             omega arith,
-            omega (arith, L .inv .1 .near, c .before .before .before .before .before .before .before .taken .ensures, min-one (S .args .d)),
-            omega (arith, L .inv .1 .next, L .inv .1 .size, L .inv .2, length-set (S .args .dst .now) (S .args .c .at) (c .before .before .before .before .before .before .before .before .choice .result)),
+            omega (arith, L .inv .1 .near, c .before .before .before .before .before .before .taken .ensures, min-one (S .args .d)),
+            omega (arith, L .inv .1 .next, L .inv .1 .size, L .inv .2, length-set (S .args .dst .now) (S .args .at) (c .before .before .before .before .before .before .before .choice .result)),
           ),
         ),
       )
@@ -114,37 +114,37 @@ module _ (t : ℕ) where
 
   loop-again : lts.Need-loop-again (claims t) (begins t) extend-from.Post Inv-loop μ-loop
   loop-again c =
-      let S = c .before .before .before .before .before .before .before .before .before .before .before .before .before .before .before in
+      let S = c .before .before .before .before .before .before .before .before .before .before .before .before .before .before in
       let L = c .before .before .before .before .before .before .before .loop in
-      let row = c .before .before .before .before .before .before .before .before .before .row-of in
-      let k = c .before .before .before .before .before .before .before .before .before .before .taken .result in
+      let row = c .before .before .before .before .before .before .before .before .row-of in
+      let k = c .before .before .before .before .before .before .before .before .before .taken .result in
       let ran = c .before .before .extend-from in
       let more = room-more (S .args .n - 1) (L .o) (omega (arith, row .ensures .few)) in
-      let r = room-step (S .args .n) (c .before .before .before .before .before .before .before .before .before .before .before .before .if1 .left) in (
+      let r = room-step (S .args .n) (c .before .before .before .before .before .before .before .before .before .before .before .if1 .left) in (
         omega arith,
         runs-more (model-in (S .args .m .now)) (step-in (S .args .m .now) (S .args .s) (row .result .at)) (S .args .d - k) (S .args .n - 1) (S .args .src .now)
             (L .o) (c .before .before .before .before .target .result) _ (L .next .from) (ran .result .from) _ (L .next .at) (ran .result .at) _ (L .dst) (ran .last .1 .1 .0)
-            (c .before .before .before .before .target .ensures) (omega (arith, length-set (S .args .dst .now) (S .args .c .at) (c .before .before .before .before .before .before .before .before .before .before .before .choice .result))) (L .inv .1) (ran .ensures),
+            (c .before .before .before .before .target .ensures) (omega (arith, length-set (S .args .dst .now) (S .args .at) (c .before .before .before .before .before .before .before .before .before .before .choice .result))) (L .inv .1) (ran .ensures),
         ran .kept .1 .1 .0 ∙ L .inv .2,
       )
 
   same-length : lts.Need-same-length (claims t) (begins t) extend-from.Post Inv-loop μ-loop
   same-length c =
-      let S = c .before .before .before .before .before .before .before .before .before .before in
-      c .before .before .loop .inv .2 ∙ length-set (S .args .dst .now) (S .args .c .at) (c .before .before .before .before .before .before .choice .result)
+      let S = c .before .before .before .before .before .before .before .before .before in
+      c .before .before .loop .inv .2 ∙ length-set (S .args .dst .now) (S .args .at) (c .before .before .before .before .before .choice .result)
 
   returns-2 : lts.Need-returns-2 (claims t) (begins t) extend-from.Post Inv-loop μ-loop
   returns-2 c =
-      let S = c .before .before .before .before .before .before .before .before .before .before in
+      let S = c .before .before .before .before .before .before .before .before .before in
       let L = c .before .before .loop in
-      let row = c .before .before .before .before .row-of in
-      let a = c .before .before .before .before .before .before .choice in
-      let k = c .before .before .before .before .before .taken in
-      let from = S .args .c .from + k .result in
-      extend-choice (model-in (S .args .m .now)) (S .args .src .now) (S .args .d) (S .args .n) (S .args .s) (S .args .c .from) (S .args .c .at) (a .result) (k .result) (S .args .dst .now) (L .dst) (L .next .from) (L .next .at)
-      (c .before .before .before .before .before .before .before .if1 .left) (omega (arith, S .pre .1 .1 .2, room-step (S .args .n) (c .before .before .before .before .before .before .before .if1 .left))) (a .ensures) (k .ensures)
+      let row = c .before .before .before .row-of in
+      let a = c .before .before .before .before .before .choice in
+      let k = c .before .before .before .before .taken in
+      let from = S .args .from + k .result in
+      extend-choice (model-in (S .args .m .now)) (S .args .src .now) (S .args .d) (S .args .n) (S .args .s) (S .args .from) (S .args .at) (a .result) (k .result) (S .args .dst .now) (L .dst) (L .next .from) (L .next .at)
+      (c .before .before .before .before .before .before .if1 .left) (omega (arith, S .pre .1 .1 .2, room-step (S .args .n) (c .before .before .before .before .before .before .if1 .left))) (a .ensures) (k .ensures)
       (runs-all (model-in (S .args .m .now)) (step-in (S .args .m .now) (S .args .s) (row .result .at)) (S .args .d - k .result) (S .args .n - 1) (S .args .src .now)
-      (S .args .s) (a .result) (row .result .count) (L .o) from (L .next .from) (S .args .c .at + 1) (L .next .at) _ (L .dst) (row .ensures .row) (row .ensures .few) (omega arith) (L .inv .1))
+      (S .args .s) (a .result) (row .result .count) (L .o) from (L .next .from) (S .args .at + 1) (L .next .at) _ (L .dst) (row .ensures .row) (row .ensures .few) (omega arith) (L .inv .1))
 
 pub +extend-from-spec : {M : Type 1} → statement M
 +extend-from-spec =
