@@ -34,17 +34,17 @@ fn taken(d: usize) -> usize
     if d == 0 { 0 } else { 1 }
 }
 
-// Writes the choices of n steps from s, of which d are read: the choice in s, then those below each of its outcomes. The two places go in as
-// numbers by themselves: a cursor handed on whole is read as one word right after its halves were written, and the processor waits for that.
+// Writes the choices of n steps from s, of which d are read: the choice in s, then those below each of its outcomes. The two places stand
+// apart: side by side they are handed on as one word right after its halves were written, and the processor waits for that.
 fn extend_from(
     m: &[u16; 8704],
     src: &[u8],
+    from: usize,
     dst: &mut [u8],
+    at: usize,
     s: usize,
     d: usize,
     n: usize,
-    from: usize,
-    at: usize,
 ) -> Cursor
     requires { ⌜ Prepared (now m) × (s < state-count (now m)) ⌝ }
     requires { ⌜ (n ≤ 6) × (from + room n ≤ 65536) × (at + room n ≤ length (now dst)) ⌝ }
@@ -64,7 +64,7 @@ fn extend_from(
     let mut o: usize = 0;
     while o < row.count {
         let t = prepared::target(m, s, row.at, o);
-        next = extend_from(m, src, dst, t, d - k, n - 1, next.from, next.at);
+        next = extend_from(m, src, next.from, dst, next.at, t, d - k, n - 1);
         o += 1;
     }
     next
@@ -76,6 +76,6 @@ pub fn extend(m: &[u16; 8704], src: &[u8], dst: &mut [u8], s: usize, d: usize, n
     requires { ⌜ (n ≤ 6) × (1365 ≤ length (now dst)) ⌝ }
     ensures { λ r. ⌜ (now (dst .exit) ≡ splice (now (dst .entry)) 0 (spec.extend (model-in (now (m .entry))) d n s (now (src .entry)) .0)) × (r ≡ length (spec.extend (model-in (now (m .entry))) d n s (now (src .entry)) .0)) ⌝ }
 {
-    let r = extend_from(m, src, dst, s, d, n, 0, 0);
+    let r = extend_from(m, src, 0, dst, 0, s, d, n);
     r.at
 }

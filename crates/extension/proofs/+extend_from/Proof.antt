@@ -23,7 +23,7 @@ use Rattle.extension.proofs.+extend_from.{statement}
 use Rattle.extension.proofs.+extend_from.Tie.{close}
 
 abbrev μ-steps : Measures 3 ps ℕ
-μ-steps κs a = a .1 .1 .1 .1 .1 .0
+μ-steps κs a = a .1 .1 .1 .1 .1 .1 .1 .0
 
 abbrev begins : ℕ → In 3 ps
 begins t = and 3 ps (is 3 ps μ-steps t) extend-from.Pre
@@ -33,13 +33,13 @@ claims t =
     (choice.Asked, choice.Learnt, taken.Asked, taken.Learnt, row-of.Asked, row-of.Learnt, target.Asked, target.Learnt, and 3 ps (falls 3 ps _<_ μ-steps t) extend-from.Pre, extend-from.Post)
 
 abbrev Inv-loop : lts.InvT-loop
-Inv-loop m src dst₀ s d n from at a k row next₀ o₀ dst next o =
+Inv-loop m src from dst₀ at s d n a k row next₀ o₀ dst next o =
     (o ≤ row .count)
     × Ran (runs (model-in m) (step-in m s (row .at)) (d - k) (n - 1) src o (drop (next₀ .from) src)) (o * room (n - 1)) src (next₀ .from) (next .from) dst₀ dst (next₀ .at) (next .at)
     × (length dst ≡ length dst₀)
 
 abbrev μ-loop : lts.MeasureT-loop
-μ-loop m src dst₀ s d n from at a k row next₀ o₀ dst next o = row .count - o
+μ-loop m src from dst₀ at s d n a k row next₀ o₀ dst next o = row .count - o
 
 module _ (t : ℕ) where
   returns : lts.Need-returns (claims t) (begins t) extend-from.Post Inv-loop μ-loop
@@ -123,9 +123,9 @@ module _ (t : ℕ) where
       let r = room-step (S .args .n) (c .before .before .before .before .before .before .before .before .before .before .before .if1 .left) in (
         omega arith,
         runs-more (model-in (S .args .m .now)) (step-in (S .args .m .now) (S .args .s) (row .result .at)) (S .args .d - k) (S .args .n - 1) (S .args .src .now)
-            (L .o) (c .before .before .before .before .target .result) _ (L .next .from) (ran .result .from) _ (L .next .at) (ran .result .at) _ (L .dst) (ran .last .1 .1 .0)
+            (L .o) (c .before .before .before .before .target .result) _ (L .next .from) (ran .result .from) _ (L .next .at) (ran .result .at) _ (L .dst) (ran .last .1 .1 .1 .0)
             (c .before .before .before .before .target .ensures) (omega (arith, length-set (S .args .dst .now) (S .args .at) (c .before .before .before .before .before .before .before .before .before .before .choice .result))) (L .inv .1) (ran .ensures),
-        ran .kept .1 .1 .0 ∙ L .inv .2,
+        ran .kept .1 .1 .1 .0 ∙ L .inv .2,
       )
 
   same-length : lts.Need-same-length (claims t) (begins t) extend-from.Post Inv-loop μ-loop
