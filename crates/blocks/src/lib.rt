@@ -2,7 +2,7 @@
 ghost use mathlib.Core.Path.{_≡_};
 ghost use Prim.Native.Nat.{_+_, _*_, _≤_, _<_, _%_};
 ghost use lib.ListN.{length};
-ghost use Rattle.blocks.specs.Bytes.{u16, u32, u64, i16, i32};
+ghost use Rattle.blocks.specs.Bytes.{u16, u32, u64, signed, i16, i32};
 ghost use Rattle.blocks.specs.Bytes as spec;
 ghost use Rattle.blocks.specs.Block.{whole-blocks, word-sum, sums-right};
 ghost use Rattle.blocks.specs.Block as spec-block;
@@ -62,16 +62,23 @@ pub fn u64_at(b: &[u8], i: usize) -> u64
     u32_at(b, i) as u64 + 4294967296 * u32_at(b, i + 4) as u64
 }
 
+// The signed number of 16 bits in two's complement.
+pub fn signed16(x: u32) -> i16
+    requires { ⌜ x < 65536 ⌝ }
+    ensures { λ r. ⌜ r ≡ signed 15 x ⌝ }
+{
+    if x < 32768 {
+        return x as i16;
+    }
+    (x as i32 - 65536) as i16
+}
+
 // The signed 16-bit number at i.
 pub fn i16_at(b: &[u8], i: usize) -> i16
     requires { ⌜ i < 65536 ⌝ }
     ensures { λ r. ⌜ r ≡ i16 (now (b .entry)) i ⌝ }
 {
-    let x = u16_at(b, i);
-    if x < 32768 {
-        return x as i16;
-    }
-    (x as i32 - 65536) as i16
+    signed16(u16_at(b, i))
 }
 
 // The signed 32-bit number at i.

@@ -9,7 +9,7 @@ use lib.Dec.{eqb, ltb, leb}
 use lib.IntN.{ℤ, pos, negsuc, negℤ, _+ℤ_, _-ℤ_, +ℤ-comm, +ℤ-negℤ-cancel}
 use lib.Signed.{mag, ltZ, leZ}
 use mathlib.Core.Logic.{_⊎_, inl, inr}
-use mir.Syntax.{Width, w32, w64}
+use mir.Syntax.{Width, w16, w32, w64}
 use mir.Val.{SFits, toZ, ofZ}
 use mir.ValLaws.{toZ-ofZ}
 use Rattle.logic.specs.Formula.{relation}
@@ -52,16 +52,16 @@ pub fits32 : (z : ℤ) → mag z < 2 ^ 31 → toZ w32 (ofZ w32 z) ≡ z
 fits32 z h = toZ-ofZ w32 z (record { sfits = h })
 
 -- A number that both widths hold can be widened, and is the same.
-wide-fits : (v w : Width) (z : ℤ) → SFits v z → SFits w z → SFits w (toZ v (ofZ v z))
+pub wide-fits : (v w : Width) (z : ℤ) → SFits v z → SFits w z → SFits w (toZ v (ofZ v z))
 wide-fits v w z h g = rw (toZ-ofZ v z h) g
 
-wide-is : (v w : Width) (z : ℤ) → SFits v z → SFits w z → toZ w (ofZ w (toZ v (ofZ v z))) ≡ z
+pub wide-is : (v w : Width) (z : ℤ) → SFits v z → SFits w z → toZ w (ofZ w (toZ v (ofZ v z))) ≡ z
 wide-is v w z h g = ap (λ x. toZ w (ofZ w x)) (toZ-ofZ v z h) ∙ toZ-ofZ w z g
 
--- The sum of two small numbers.
-pub sum32 : (x y : ℤ) → mag x < 2 ^ 31 → mag y < 2 ^ 31 → mag (x +ℤ y) < 2 ^ 31
-    → toZ w32 (ofZ w32 (toZ w32 (ofZ w32 x) +ℤ toZ w32 (ofZ w32 y))) ≡ x +ℤ y
-sum32 x y h g k = ap₂ (λ a b. toZ w32 (ofZ w32 (a +ℤ b))) (fits32 x h) (fits32 y g) ∙ fits32 (x +ℤ y) k
+-- The sum of a number and one of 16 bits, which is widened first.
+pub sum16 : (x y : ℤ) → mag x < 2 ^ 31 → mag y < 2 ^ 15 → mag (x +ℤ y) < 2 ^ 31
+    → toZ w32 (ofZ w32 (toZ w32 (ofZ w32 x) +ℤ toZ w32 (ofZ w32 (toZ w16 (ofZ w16 y))))) ≡ x +ℤ y
+sum16 x y h g k = ap₂ (λ a b. toZ w32 (ofZ w32 (a +ℤ b))) (fits32 x h) (wide-is w16 w32 y (record { sfits = g }) (record { sfits = omega arith })) ∙ fits32 (x +ℤ y) k
 
 pub wider : (z : ℤ) → mag z < 2 ^ 31 → SFits w64 (toZ w32 (ofZ w32 z))
 wider z h = wide-fits w32 w64 z (record { sfits = h }) (record { sfits = omega arith })

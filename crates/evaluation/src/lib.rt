@@ -189,7 +189,7 @@ pub fn step(
         n,
         32 * choice(m, s, c) as u16 + 4 * i as u16 + o as u16,
     );
-    gains[n + 1] = gain_at(gains, h) + reward(m, s, c, e);
+    gains[n + 1] = gain_at(gains, h) + reward(m, s, c, e) as i32;
     let t = target(m, s, c, e) as u8;
     learn(q, truth, trail, gains, cone, v, h + 1, t);
     t

@@ -1,7 +1,7 @@
 -- What the law of a prepared model comes to, for those who read it: the model's sizes, and the choices and outcomes of a state by their places.
 use Prim.Native.Nat.{ℕ, zero, suc, _/_, _%_, _^_, _<_}
 use native.Mathlib.Omega.{arith}
-use mathlib.Core.Path.{_≡_, refl, sym, ap, subst, _∙_}
+use mathlib.Core.Path.{_≡_, sym, ap, subst, _∙_}
 use mathlib.Core.List.{List, [], List·Memᴰ}
 use lib.Dec.{eqb}
 use lib.ListN.{length}
@@ -12,7 +12,7 @@ use Rattle.logic.specs.Quantity.{naturals, sum}
 use Rattle.logic.proofs.Tests.{length-tabulate, counted-in}
 use Rattle.logic.proofs.Members.{in-map}
 use Rattle.blocks.specs.Block.{sum-below}
-use Rattle.models.specs.Layout.{state-count, action-count, prop-count, denominator-of, state-mask, model-of}
+use Rattle.models.specs.Layout.{state-count, denominator-of, state-mask}
 use Rattle.models.proofs.Held.{states-held, denominator-held, tabulate-member, sum-tabulate, mask-held}
 use Rattle.prepared.specs.promises.Rows.{choices-in, choice-in, outcomes-in, step-in, model-in, Prepared}
 
@@ -26,14 +26,6 @@ module _ (m : List ℕ) where
   pub denominator-is : model-in m .denominator ≡ denominator-of m
   unfolding model-in
   denominator-is = denominator-held m
-
-  pub actions-are : length (model-in m .actions) ≡ action-count m
-  unfolding model-in model-of
-  actions-are = length-tabulate _ (action-count m)
-
-  pub propositions-are : model-in m .propositions ≡ prop-count m
-  unfolding model-in model-of
-  propositions-are = refl
 
   pub prop-is : (s i : ℕ) → s < state-count m → eqb (state-mask m s / 2 ^ i % 2) 1 ≡ prop-in (model-in m) s i
   unfolding prop-in model-in mask

@@ -13,6 +13,7 @@ ghost use Rattle.prepared.specs.promises.Rows.{choices-in, choice-in, ou
 mod rows;
 
 use crate::rows::fill;
+use blocks::signed16;
 use blocks::wide;
 
 fn widened(x: u16) -> usize
@@ -105,17 +106,14 @@ fn long(x: u16) -> u64
     x as u64
 }
 
-// A reward of its two bytes.
-fn signed(x: u16) -> i32
+// A reward of its two bytes, which stand in the row as they are.
+fn signed(x: u16) -> i16
     ensures { λ r. ⌜ r ≡ bytes.signed 15 x ⌝ }
 {
-    if x < 32768 {
-        return x as i32;
-    }
-    x as i32 - 65536
+    signed16(x as u32)
 }
 
-pub fn reward(m: &[u16; 8704], s: usize, i: usize, o: usize) -> i32
+pub fn reward(m: &[u16; 8704], s: usize, i: usize, o: usize) -> i16
     requires { ⌜ (s < 32) × (i < 8) × (o < 4) ⌝ }
     ensures { λ r. ⌜ r ≡ (step-in (now (m .entry)) s i o) .reward ⌝ }
 {
@@ -130,7 +128,7 @@ pub fn lane_target(m: &[u16; 8704], s: usize, k: usize) -> usize
     widened(m[512 + 256 * s + 32 + k])
 }
 
-pub fn lane_reward(m: &[u16; 8704], s: usize, k: usize) -> i32
+pub fn lane_reward(m: &[u16; 8704], s: usize, k: usize) -> i16
     requires { ⌜ (s < 32) × (k < 32) ⌝ }
     ensures { λ r. ⌜ r ≡ (step-in (now (m .entry)) s (k / 4) (k % 4)) .reward ⌝ }
 {

@@ -7,7 +7,8 @@ use lib.Seq.{length-take-le}
 use lib.Signed.{mag}
 use Rattle.prepared.specs.promises.Rows.{step-in}
 use Rattle.evaluation.specs.promises.Reached.{Ready}
-use Rattle.evaluation.proofs.Integers.{fits32, sum32, mag-add}
+use mir.Syntax.{w16, w32}
+use Rattle.evaluation.proofs.Integers.{fits32, sum16, wide-fits, wide-is, mag-add}
 use Rattle.evaluation.proofs.Trails.{gain-small}
 use Rattle.evaluation.proofs.Knowing.{cone-node}
 use Rattle.evaluation.proofs.Stepping.{state-small, sizes-small, stepped}
@@ -79,16 +80,19 @@ gain-at-requires c κs = search needs
 reward-requires : tie.Need-reward-requires
 reward-requires c κs = sizes (c .before .before .before .before .before .before .before)
 
+cast-gains : tie.Need-cast-gains
+cast-gains c = wide-fits w16 w32 (c .reward .result) (record { sfits = c .reward .ok }) (record { sfits = omega (arith, c .reward .ok) })
+
 add-gains : tie.Need-add-gains
 add-gains c = let S = c .before .before .before .before .before .before .before .before in
     let g = c .before .gain-at in
-    rw (fits32 (g .result) (g .ok), fits32 (c .reward .result) (c .reward .ok)) (record { sfits = rw (g .ensures, c .reward .ensures) (sum-fits S (c .before .before .before .before .before .put-arg .given .0 .1)) })
+    rw (fits32 (g .result) (g .ok), wide-is w16 w32 (c .reward .result) (record { sfits = c .reward .ok }) (record { sfits = omega (arith, c .reward .ok) })) (record { sfits = rw (g .ensures, c .reward .ensures) (sum-fits S (c .before .before .before .before .before .put-arg .given .0 .1)) })
 
-add-t32 : tie.Need-add-t32
-add-t32 c = search needs
+add-t33 : tie.Need-add-t33
+add-t33 c = search needs
 
-mul-t33 : tie.Need-mul-t33
-mul-t33 c = search needs
+mul-t34 : tie.Need-mul-t34
+mul-t34 c = search needs
 
 element-set-from-gains : tie.Need-element-set-from-gains
 element-set-from-gains c = search needs
@@ -113,7 +117,7 @@ returns c = let S = c .before .before .before .before .before .before .before .b
     stepped (P S) (S .pre .1 .0) (S .pre .1 .1) (whole S n) n _ _ _ _
     (c .before .before .before .before .target .ensures)
     (c .before .before .before .before .before .before .before .before .put .ensures ∙ ap (λ a. set (S .args .trail .now) (S .args .at .h) (32 * a + 4 * S .args .i + S .args .o)) (c .before .before .before .before .before .before .before .before .before .choice .ensures))
-    (ap (set (S .args .gains .now) (S .args .at .h + 1)) (sum32 (g .result) (r .result) (g .ok) (r .ok) (rw (g .ensures, r .ensures) (sum-fits S n)) ∙ ap₂ _+ℤ_ (g .ensures) (r .ensures)))
+    (ap (set (S .args .gains .now) (S .args .at .h + 1)) (sum16 (g .result) (r .result) (g .ok) (r .ok) (rw (g .ensures, r .ensures) (sum-fits S n)) ∙ ap₂ _+ℤ_ (g .ensures) (r .ensures)))
     (c .learn .ensures)
 
 pub step-spec : {M : Type 1} → statement M
@@ -131,9 +135,10 @@ step-spec =
     put-requires
     gain-at-requires
     reward-requires
+    cast-gains
     add-gains
-    add-t32
-    mul-t33
+    add-t33
+    mul-t34
     element-set-from-gains
     target-requires
     cast-t

@@ -7,13 +7,13 @@ use Rattle.lanes.proofs.Words.{Built, built-none, built-small, built-mo
 use mathlib.Core.Bool.{Bool}
 use mathlib.Core.List.{List}
 use lib.IntN.{ℤ, _+ℤ_, _-ℤ_}
-use mir.Syntax.{w32, w64}
+use mir.Syntax.{w16, w32, w64}
 use mir.Val.{toZ}
 use mir.ValLaws.{toZ-ofZ}
 use Rattle.logic.specs.Formula.{relation}
 use Rattle.logic.specs.Quantity.{integers, related}
 use Rattle.prepared.specs.promises.Rows.{choices-in, step-in}
-use Rattle.evaluation.proofs.Integers.{fits32, wider, widened, difference-fits}
+use Rattle.evaluation.proofs.Integers.{fits32, wide-fits, wide-is, wider, widened, difference-fits}
 use Rattle.lanes.proofs.Gains.{difference, difference-is, gain-fits}
 use Rattle.lanes.proofs.gained.Statement.{statement}
 use Rattle.lanes.proofs.gained.Tie as tie
@@ -57,12 +57,12 @@ lane-reward-requires c κs = let S = c .before .before .before in
     (omega (arith, S .pre .0 .states, S .pre .1), omega (arith, few-lanes (S .pre .0) (S .args .s) (S .pre .1)))
 
 cast-related : tie.Need-cast-related Inv-loop μ-loop
-cast-related c = wider (c .lane-reward .result) (c .lane-reward .ok)
+cast-related c = wide-fits w16 w64 (c .lane-reward .result) (record { sfits = c .lane-reward .ok }) (record { sfits = omega (arith, c .lane-reward .ok) })
 
 add-related : tie.Need-add-related Inv-loop μ-loop
 add-related c = let S = c .before .before .before .before in
     let z = c .lane-reward in
-    rw (gain-is S, widened (z .result) (z .ok)) (gain-fits (S .args .after) (S .args .before) (S .fits .after .sfits) (S .fits .before .sfits) (z .result) (z .ok))
+    rw (gain-is S, wide-is w16 w64 (z .result) (record { sfits = z .ok }) (record { sfits = omega (arith, z .ok) })) (gain-fits (S .args .after) (S .args .before) (S .fits .after .sfits) (S .fits .before .sfits) (z .result) (omega (arith, z .ok)))
 
 cast-related-2 : tie.Need-cast-related-2 Inv-loop μ-loop
 cast-related-2 c = let S = c .before .before .before .before in wider (S .args .bound) (S .fits .bound .sfits)
@@ -87,7 +87,7 @@ loop-again c = let L = c .before .before .before .before .loop in
       built-more _ _ (c .before .before .before .loop-test .taken) (L .inv .0) (L .inv .1) (c .pushed .ensures)
           (c .before .related .ensures
           ∙ ap₂ (related integers (relation (A .kind)))
-          (toZ-ofZ w64 _ (add-related (c .before .before)) ∙ ap (_+ℤ_ (difference (A .after) (A .before))) (widened (z .result) (z .ok) ∙ z .ensures))
+          (toZ-ofZ w64 _ (add-related (c .before .before)) ∙ ap (_+ℤ_ (difference (A .after) (A .before))) (wide-is w16 w64 (z .result) (record { sfits = z .ok }) (record { sfits = omega (arith, z .ok) }) ∙ z .ensures))
           (toZ-ofZ w64 _ (wider (A .bound) (S .fits .bound .sfits)))),
     )
 

@@ -1,4 +1,4 @@
-use mir.Syntax.{w32}
+use mir.Syntax.{w16}
 use mir.ValLaws.{toZ-ofZ}
 use Prim.Native.Nat.{_+_, _*_, _/_, _%_}
 use native.Mathlib.Omega.{arith}
@@ -33,7 +33,7 @@ signed-requires c κs = search needs
 returns : tie.Need-returns
 returns c = let A = c .before .before .args in
     let e : 512 + 256 * A .s + 96 + A .k ≡ 512 + 256 * A .s + 96 + 4 * (A .k / 4) + A .k % 4 = omega arith in
-    toZ-ofZ w32 (c .signed .result) (record { sfits = c .signed .ok }) ∙ c .signed .ensures ∙ ap (λ n. signed 15 (getD (A .m .now) n 0)) e
+    toZ-ofZ w16 (c .signed .result) (record { sfits = c .signed .ok }) ∙ c .signed .ensures ∙ ap (λ n. signed 15 (getD (A .m .now) n 0)) e
 
 pub lane-reward-spec : {M : Type 1} → statement M
 lane-reward-spec =
