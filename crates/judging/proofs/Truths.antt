@@ -28,9 +28,6 @@ use Rattle.judging.specs.promises.Truth.{Told, Supplied, Right}
 use Rattle.tables.proofs.Marks.{first-inside, reached-marked}
 
 module _ {m q : Bytes} (given : Given m q) where
-  pub props-few : prop-count m ≤ 32
-  props-few = given .prepared .props
-
   -- ---- by the operator
 
   module _ (j s : ℕ) (h : j < node-count q) where

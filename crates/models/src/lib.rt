@@ -8,7 +8,7 @@ ghost use Rattle.blocks.specs.Block.{whole-blocks};
 ghost use Rattle.models.specs.Layout.{literals, state-mask, post-count, cell-at, outcome-of};
 ghost use Rattle.models.specs.Layout as layout;
 ghost use Rattle.models.specs.Grounds.{kinds-right, sizes-right, read-model};
-ghost use Rattle.models.specs.promises.Used.{Used, count-in};
+ghost use Rattle.models.specs.promises.Used.{Used};
 
 mod consistent;
 mod fields;
@@ -112,17 +112,6 @@ pub fn used_entries(b: &[u8]) -> [u8; 264]
         k += 1;
     }
     used
-}
-
-// How many outcomes an action has in a state, by that table; 0 if it is not enabled.
-pub fn used_outcomes(used: &[u8; 264], s: usize, a: u8) -> u8
-    requires { ⌜ s < 32 ⌝ }
-    ensures { λ r. ⌜ r ≡ count-in (now (used .entry)) s a ⌝ }
-{
-    if a < 8 {
-        return used[8 * s + a as usize];
-    }
-    0
 }
 
 // Ground 3.

@@ -13,7 +13,7 @@ use Rattle.questions.specs.Grounds.{read-question}
 use Rattle.questions.specs.promises.Formed.{Formed}
 use Rattle.questions.proofs.Laws.{by-operator}
 use Rattle.questions.proofs.Accepted.{accepted, at-never, at-prop, at-neg, at-both, at-does, at-next, at-gain, at-plan}
-use Rattle.nodes.specs.promises.Nodes.{formula, has-left, reads-left}
+use Rattle.nodes.specs.promises.Nodes.{formula, has-left}
 use Rattle.nodes.specs.promises.Replaced.{Ordered}
 
 -- What holds of the first n numbers and of n holds of the first n + 1.
@@ -29,12 +29,6 @@ left-before i l =
   where
     none : {A B C D : Type 0} → A → B → C → D → false ≡ true → l < i
     none _ _ _ _ e = absurd (false≢true e)
-
-pub reads-has : (op : ℕ) → reads-left op ≡ true → has-left op ≡ true
-unfolding has-left reads-left
-reads-has =
-    by-operator (λ n. reads-left n ≡ true → has-left n ≡ true)
-    (λ e. e) (λ e. e) (λ e. e) (λ e. e) (λ e. e) (λ e. e) (λ e. e) (λ e. e) (λ e. refl) (λ k e. e)
 
 module _ {S A N : ℕ} {q : Bytes} (f : Formed S A N q) where
   module _ (i : ℕ) (h : i < node-count q) where

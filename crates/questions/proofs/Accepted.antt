@@ -6,7 +6,7 @@ use mathlib.Core.Path.{_≡_, refl, sym, ap, ap₂, _∙_}
 use mathlib.Core.Bool.{true, not, _&&_, false≢true}
 use lib.Dec.{eqb, ltb}
 use lib.IntN.{ℤ, pos, negsuc}
-use lib.ListN.{length, getD, take}
+use lib.ListN.{length, getD}
 use lib.Signed.{mag, leZ}
 use borrow.Author.Tests.{ltb-true, leb-true, eqb-true, not-true}
 use Rattle.logic.specs.Lists.{all, every}
@@ -20,7 +20,7 @@ use Rattle.questions.specs.Layout.{start-of, node-count, node-of, formul
 use Rattle.questions.specs.Grounds.{compares, gain-bound, plan-bound, plan-in-range, node-in-range, spare-zero, formed, read-question}
 use Rattle.questions.specs.promises.Formed.{Compares, GainRange, PlanRange, InRange, Formed}
 use Rattle.questions.specs.promises.Tables.{formulas-before}
-use Rattle.questions.proofs.Laws.{passed, within-least, within-most, one-block, by-operator, all-before, before-take, before-at, formula-here}
+use Rattle.questions.proofs.Laws.{passed, within-least, within-most, one-block, by-operator, before-at, formula-here}
 use Rattle.questions.proofs.Rows.{row-1, row-2, row-3, row-4, row-5, row-6, row-7, row-8, all-shallow}
 
 -- ---- a node's fields
@@ -151,10 +151,6 @@ accepted S A N b e =
     }
 
 -- ---- the formulas
-
--- The formulas before node i, and the one at it.
-pub formulas-take : (b : Bytes) (i : ℕ) → i ≤ node-count b → take i (formulas-of b) ≡ formulas-before b i
-formulas-take b i h = ap (take i) (sym (all-before b)) ∙ before-take b i (node-count b) h
 
 -- A child's formula is the same before node i and in the whole list.
 child-same : (b : Bytes) (i j : ℕ) → i < node-count b → j < i → getD (formulas-before b i) j never ≡ getD (formulas-of b) j never
