@@ -1,2 +1,2 @@
 pub mod Powers
-pub mod Meeting
+pub mod ProductsFit

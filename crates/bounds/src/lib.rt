@@ -7,7 +7,7 @@ ghost use Rattle.logic.specs.Quantity as quantity;
 ghost use Rattle.models.specs.Layout.{denominator-of};
 ghost use Rattle.questions.specs.Layout.{node-of};
 ghost use Rattle.bounds.specs.promises.Bounded.{Bounded, Exactly, meets-at};
-use prepared::denominator;
+use prepared_model::denominator;
 
 // The denominator to the number of steps.
 pub fn power(d: usize, k: u8) -> u64
@@ -39,7 +39,7 @@ fn bound(m: &[u16; 8704], q: &[u8; 552], j: u8) -> u64
     requires { ⌜ Bounded (now m) (now q) j ⌝ }
     ensures { λ r. ⌜ r ≡ denominator-of (now (m .entry)) ^ (node-of (now (q .entry)) j .n) * nonnegative (node-of (now (q .entry)) j .p) ⌝ }
 {
-    power(denominator(m), nodes::steps(q, j)) * nodes::bound(q, j) as u64
+    power(denominator(m), prepared_question::steps(q, j)) * prepared_question::bound(q, j) as u64
 }
 
 // Whether a total meets the bound of node j, a "plan".
@@ -49,8 +49,8 @@ pub fn meets(m: &[u16; 8704], q: &[u8; 552], j: u8, w: u64) -> bool
     ensures { λ r. ⌜ r ≡ meets-at (now (m .entry)) (now (q .entry)) j w ⌝ }
 {
     related(
-        nodes::right(q, j),
-        nodes::parts(q, j) as u64 * w,
+        prepared_question::right(q, j),
+        prepared_question::parts(q, j) as u64 * w,
         bound(m, q, j),
     )
 }
@@ -67,7 +67,7 @@ pub fn exact_total(m: &[u16; 8704], q: &[u8; 552], j: u8) -> Exact
     ensures { λ r. ⌜ Exactly (now (m .entry)) (now (q .entry)) j (r .whole) (r .total) ⌝ }
 {
     let all = bound(m, q, j);
-    let parts = nodes::parts(q, j) as u64;
+    let parts = prepared_question::parts(q, j) as u64;
     Exact {
         whole: all % parts == 0,
         total: all / parts,

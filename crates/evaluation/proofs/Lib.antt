@@ -1,7 +1,7 @@
 pub mod Integers
-pub mod Values
+pub mod LearntInOrder
 pub mod Trails
-pub mod Meaning
-pub mod Knowing
-pub mod Stepping
-pub mod Returning
+pub mod OperatorMeaning
+pub mod LearnKnows
+pub mod StepTaken
+pub mod StepUndone

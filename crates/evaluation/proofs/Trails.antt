@@ -8,7 +8,7 @@ use lib.ListN.{length, getD, take, drop}
 use lib.Signed.{mag}
 use Rattle.logic.specs.Quantity.{sum}
 use Rattle.models.specs.Layout.{state-count}
-use Rattle.prepared.specs.promises.Rows.{step-in, Prepared}
+use Rattle.prepared_model.specs.promises.Rows.{step-in, Prepared}
 use Rattle.evaluation.specs.promises.Path.{step-of, steps-of, state-after, Takes, Trail, stop, move, gain-of}
 use Rattle.evaluation.proofs.Integers.{mag-add}
 

@@ -13,14 +13,14 @@ ghost use Rattle.evaluation.specs.promises.Reached.{Ready};
 ghost use Rattle.evaluation.specs.promises.Known.{Knows, Offered, Stepped};
 ghost use Rattle.questions.specs.Layout.{node-of};
 use blocks::byte;
-use nodes::bound;
-use nodes::depth;
-use nodes::left;
-use nodes::operator;
-use nodes::right;
-use prepared::choice;
-use prepared::reward;
-use prepared::target;
+use prepared_model::choice;
+use prepared_model::reward;
+use prepared_model::target;
+use prepared_question::bound;
+use prepared_question::depth;
+use prepared_question::left;
+use prepared_question::operator;
+use prepared_question::right;
 
 // A place of a path: where it starts, how many steps were taken, and the state that they led to.
 pub struct Place {

@@ -1,6 +1,6 @@
-pub mod Truths
-pub mod Deciding
-pub mod Peeling
-pub mod Remembering
-pub mod Posing
-pub mod Announcing
+pub mod TruthByOperator
+pub mod SearchDecides
+pub mod PeeledMeaning
+pub mod BestTotals
+pub mod SearchHanded
+pub mod VerdictShown

@@ -3,16 +3,16 @@ ghost use mathlib.Core.Path.{_≡_};
 ghost use Prim.Native.Nat.{_≤_, _<_};
 ghost use lib.ListN.{length};
 ghost use Rattle.logic.specs.Formula as formulas;
-ghost use Rattle.nodes.specs.promises.Nodes.{formula};
-ghost use Rattle.tables.specs.promises.Need.{Given};
+ghost use Rattle.prepared_question.specs.promises.Nodes.{formula};
+ghost use Rattle.relevance.specs.promises.Need.{Given};
 ghost use Rattle.judging.specs.promises.Conditions.{Stands, Peels, best-total, Searched, memo-place, Remembers};
+use best_plan::Found;
+use best_plan::find;
 use blocks::byte;
 use evaluation::bit;
-use nodes::depth;
-use search::Found;
-use search::find;
-use tables::cone;
-use tables::place;
+use prepared_question::depth;
+use relevance::cone;
+use relevance::place;
 
 // What is left of a condition in a state: nothing where it is false on every path, else a node that means the same there.
 pub struct Peeled {

@@ -6,10 +6,10 @@ ghost use Rattle.logic.specs.Formula.{sat};
 ghost use Rattle.logic.specs.Formula as formulas;
 ghost use lib.ListN.{length};
 ghost use Rattle.models.specs.Layout.{state-count, denominator-of};
-ghost use Rattle.prepared.specs.promises.Rows.{model-in};
+ghost use Rattle.prepared_model.specs.promises.Rows.{model-in};
 ghost use Rattle.questions.specs.Layout.{node-count, node-of};
-ghost use Rattle.nodes.specs.promises.Nodes.{formula};
-ghost use Rattle.tables.specs.promises.Need.{Given};
+ghost use Rattle.prepared_question.specs.promises.Nodes.{formula};
+ghost use Rattle.relevance.specs.promises.Need.{Given};
 ghost use Rattle.bounds.specs.promises.Bounded.{Bounded};
 ghost use Rattle.judging.specs.promises.Asked.{Asked};
 ghost use Rattle.judging.specs.promises.Truth.{Told};
@@ -21,15 +21,15 @@ use crate::conditions::searched;
 use bounds::exact_total;
 use bounds::meets;
 use bounds::power;
-use equal::first_equal;
+use exact_plan::first_equal;
 use limits::plans_counted;
-use nodes::asks_equal;
-use nodes::asks_less;
-use nodes::depth;
-use nodes::left;
-use nodes::steps;
-use prepared::denominator;
-use tables::cone;
+use prepared_model::denominator;
+use prepared_question::asks_equal;
+use prepared_question::asks_less;
+use prepared_question::depth;
+use prepared_question::left;
+use prepared_question::steps;
+use relevance::cone;
 
 // What deciding a "plan" node in a state came to: whether it is true, the weight of the plan found, its place for "equal" (from 0; the
 // number of all plans if there is none), and the number of choices that the search left in the scratch.

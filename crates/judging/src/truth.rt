@@ -6,21 +6,21 @@ ghost use lib.ListN.{getD, length};
 ghost use Rattle.logic.specs.Formula.{depth};
 ghost use Rattle.logic.specs.promises.Total.{value-of};
 ghost use Rattle.models.specs.Layout.{state-count};
-ghost use Rattle.prepared.specs.promises.Rows.{model-in};
+ghost use Rattle.prepared_model.specs.promises.Rows.{model-in};
 ghost use Rattle.questions.specs.Layout as question;
-ghost use Rattle.nodes.specs.promises.Nodes.{formula};
-ghost use Rattle.tables.specs.promises.Need.{Given, Needs};
+ghost use Rattle.prepared_question.specs.promises.Nodes.{formula};
+ghost use Rattle.relevance.specs.promises.Need.{Given, Needs};
 ghost use Rattle.judging.specs.promises.Asked.{Asked};
 ghost use Rattle.judging.specs.promises.Truth.{Supplied, Right};
 ghost use Rattle.judging.specs.promises.Conditions.{Remembers};
 use crate::plans::plan_true;
 use evaluation::bit;
-use nodes::count;
-use nodes::left;
-use nodes::operator;
-use nodes::right;
-use prepared::holds;
-use tables::place;
+use prepared_model::holds;
+use prepared_question::count;
+use prepared_question::left;
+use prepared_question::operator;
+use prepared_question::right;
+use relevance::place;
 
 // The truth of node j in s, as it was found.
 fn found(truth: &[u8; 1280], j: u8, s: u8) -> u8

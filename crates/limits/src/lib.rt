@@ -9,15 +9,15 @@ ghost use Rattle.logic.specs.promises.Refusal.{refusal};
 ghost use Rattle.logic.specs.Model.{outcomes};
 ghost use Rattle.logic.specs.Limits.{every-plan, limits};
 ghost use Rattle.models.specs.Layout.{state-count, action-count, prop-count};
-ghost use Rattle.prepared.specs.promises.Rows.{choices-in, choice-in, model-in, Prepared};
+ghost use Rattle.prepared_model.specs.promises.Rows.{choices-in, choice-in, model-in, Prepared};
 ghost use Rattle.questions.specs.Layout.{node-of, formulas-of, question-of};
 ghost use Rattle.questions.specs.promises.Formed.{Compares};
-ghost use Rattle.nodes.specs.promises.Nodes.{Nodes};
+ghost use Rattle.prepared_question.specs.promises.Nodes.{Nodes};
 ghost use Rattle.limits.specs.promises.Totals.{gather, step-total, Totals, fits, node-fits};
 ghost use Rattle.limits.specs.promises.Totals as spec;
-use nodes::asks_equal;
-use nodes::operator;
-use nodes::steps;
+use prepared_question::asks_equal;
+use prepared_question::operator;
+use prepared_question::steps;
 
 // The most that is served: plans, or else paths.
 fn limit(plans: bool) -> u64
@@ -65,11 +65,11 @@ fn choice_total(
     requires { ⌜ ((k : ℕ) → getD (now table) k 0 ≤ spec.cap plans) ⌝ }
     ensures { λ r. ⌜ r ≡ min (spec.cap plans) (gather plans (λ o. getD (now (table .entry)) (at + o .target) 0) (outcomes (model-in (now (m .entry))) s (choice-in (now (m .entry)) s i))) ⌝ }
 {
-    let count = prepared::outcomes(m, s, i);
+    let count = prepared_model::outcomes(m, s, i);
     let mut total = none(plans);
     let mut o: usize = 0;
     while o < count {
-        let t = prepared::target(m, s, i, o);
+        let t = prepared_model::target(m, s, i, o);
         total = joined(plans, total, table[at + t]);
         o += 1;
     }
@@ -82,7 +82,7 @@ fn state_total(m: &[u16; 8704], plans: bool, table: &[u64; 224], at: usize, s: u
     requires { ⌜ ((k : ℕ) → getD (now table) k 0 ≤ spec.cap plans) ⌝ }
     ensures { λ r. ⌜ r ≡ min (spec.cap plans) (step-total plans (model-in (now (m .entry))) (λ t. getD (now (table .entry)) (at + t) 0) s) ⌝ }
 {
-    let n = prepared::choices(m, s);
+    let n = prepared_model::choices(m, s);
     let mut total: u64 = 0;
     let mut i: usize = 0;
     while i < n {
@@ -97,7 +97,7 @@ fn totals(m: &[u16; 8704], plans: bool) -> [u64; 224]
     requires { ⌜ Prepared (now m) ⌝ }
     ensures { λ r. ⌜ Totals plans (model-in (now (m .entry))) r ⌝ }
 {
-    let states = prepared::states(m);
+    let states = prepared_model::states(m);
     let mut table = [1u64; 224];
     let mut k: usize = 32;
     while k < 224 {
@@ -158,7 +158,12 @@ fn node_fits(m: &[u16; 8704], q: &[u8; 552], table: &[u64; 224], plans: bool, i:
     if !bounded(q, i, plans) {
         return true;
     }
-    row_fits(table, steps(q, i) as usize, prepared::states(m), plans)
+    row_fits(
+        table,
+        steps(q, i) as usize,
+        prepared_model::states(m),
+        plans,
+    )
 }
 
 // All nodes are checked, used or not.
@@ -167,7 +172,7 @@ fn nodes_fit(m: &[u16; 8704], q: &[u8; 552], plans: bool) -> bool
     ensures { λ r. ⌜ r ≡ every-plan (fits plans (model-in (now (m .entry)))) (model-in (now (m .entry))) (formulas-of (now (q .entry))) ⌝ }
 {
     let table = totals(m, plans);
-    let n = nodes::count(q);
+    let n = prepared_question::count(q);
     let mut right = true;
     let mut i: u8 = 0;
     while i < n {

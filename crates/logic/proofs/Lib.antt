@@ -20,3 +20,4 @@ pub mod Acceptance
 pub mod Examples
 pub mod Depth
 pub mod Lengthening
+pub mod MostChoices

@@ -6,3 +6,4 @@ pub mod Orders
 pub mod Paths
 pub mod Follows
 pub mod Refusal
+pub mod MostChoices

@@ -15,8 +15,8 @@ use Rattle.blocks.specs.Bytes.{Bytes, within}
 use Rattle.models.specs.Layout.{state-count, action-count, outcome-of, entries}
 use Rattle.models.specs.Grounds.{outcome-in-range, read-model}
 use Rattle.models.specs.promises.Readable.{Readable}
-use Rattle.models.proofs.Laws.{entries-past-states, entries-past-actions}
-use Rattle.models.proofs.Passed.{Passed, passed-all, passed-sized, some-post, outcome-passed}
+use Rattle.models.proofs.EveryCell.{entries-past-states, entries-past-actions}
+use Rattle.models.proofs.GroundsPassed.{Passed, passed-all, passed-sized, some-post, outcome-passed}
 
 module _ (b : Bytes) where
   -- A cell with used entries belongs to a state and an action of the model.

@@ -14,13 +14,13 @@ use Rattle.logic.specs.Limits.{limits}
 use Rattle.blocks.specs.Bytes.{Bytes}
 use Rattle.models.specs.Grounds.{read-model}
 use Rattle.questions.specs.Layout.{Question}
-use Rattle.calls.specs.Calls.{Call, load, put, judge, query, write, judged, written, Reply, says, question-for}
-use Rattle.calls.specs.Replies.{replies-after}
-use Rattle.calls.specs.CCall as list
-use Rattle.calls.specs.CCall.{told, c-call}
-use Rattle.calls.specs.promises.Chains.{do-put, do-judge, do-write, answered, by-chain}
-use Rattle.calls.proofs.Histories.{next}
-use Rattle.calls.proofs.Lists.{empty, with-model, with-question, after-none, after-more, reply-is}
+use Rattle.protocol.specs.Calls.{Call, load, put, judge, query, write, judged, written, Reply, says, question-for}
+use Rattle.protocol.specs.Replies.{replies-after}
+use Rattle.protocol.specs.CCall as list
+use Rattle.protocol.specs.CCall.{told, c-call}
+use Rattle.protocol.specs.promises.Chains.{do-put, do-judge, do-write, answered, by-chain}
+use Rattle.protocol.proofs.AfterEachCall.{next}
+use Rattle.protocol.proofs.Lists.{empty, with-model, with-question, after-none, after-more, reply-is}
 use Rattle.plan_judge.specs.promises.CChain.{Told, told-of, told-on, c-chain, c-number, c-buffer}
 use Rattle.plan_judge.specs.promises.CSteps.{told-write}
 use Rattle.plan_judge.proofs.CSteps.{shown-written}

@@ -21,8 +21,8 @@ use Rattle.blocks.specs.Bytes.{Bytes}
 use Rattle.models.specs.Grounds.{read-model}
 use Rattle.questions.specs.Layout.{Question}
 use Rattle.sheets.specs.Layout.{sheet-bytes}
-use Rattle.calls.specs.Calls.{load, put, judge, query, write, Held, done, judged, written, says, question-for}
-use Rattle.calls.specs.promises.Chains.{do-put, do-judge, do-write, sheet-shown, answered, by-chain}
+use Rattle.protocol.specs.Calls.{load, put, judge, query, write, Held, done, judged, written, says, question-for}
+use Rattle.protocol.specs.promises.Chains.{do-put, do-judge, do-write, sheet-shown, answered, by-chain}
 use Rattle.plan_judge.specs.declared.Desk.{Desk}
 use Rattle.plan_judge.specs.declared.Taking.{Taking}
 use Rattle.plan_judge.specs.declared.Taken.the-variants.{Done, Refused}
@@ -39,8 +39,8 @@ use Rattle.plan_judge.specs.View.{view}
 use Rattle.plan_judge.specs.promises.Values.{taking, holding, loaded-by, asking, put-by, verdict-code, settling, judging, judged-by, writing, written-by, filling, filled-by}
 use Rattle.plan_judge.specs.promises.CChain.{Told, told-of, told-on, c-chain, Tells}
 use Rattle.plan_judge.specs.promises.CSteps.{told-put, told-judge, told-write}
-use Rattle.plan_judge.proofs.Kept.{view-holding, view-asking, view-settling}
-use Rattle.plan_judge.proofs.Listed.{few}
+use Rattle.plan_judge.proofs.DesksHoldHistory.{view-holding, view-asking, view-settling}
+use Rattle.plan_judge.proofs.NumbersListed.{few}
 
 -- ---- load and put, by their answers
 

@@ -9,14 +9,14 @@ use Rattle.logic.specs.Model.{Model}
 use Rattle.logic.specs.Verdict as logic
 use Rattle.models.specs.Grounds.{read-model}
 use Rattle.questions.specs.Layout.{Question}
-use Rattle.calls.specs.Calls.{Call, load, put, judge, query, done, judged, refuse, Reply, says, yields}
-use Rattle.calls.specs.promises.Chains.{do-put, do-judge, answered, by-chain}
-use Rattle.calls.proofs.Described.{yields-is, refuse-listed}
+use Rattle.protocol.specs.Calls.{Call, load, put, judge, query, done, judged, refuse, Reply, says, yields}
+use Rattle.protocol.specs.promises.Chains.{do-put, do-judge, answered, by-chain}
+use Rattle.protocol.proofs.FirstGround.{yields-is, refuse-listed}
 use Rattle.plan_judge.specs.declared.Desk.{Desk}
 use Rattle.plan_judge.specs.View.{view}
 use Rattle.plan_judge.specs.promises.Values.{taking, holding, loaded-by, asking, put-by, judging, judged-by}
 use Rattle.plan_judge.specs.promises.Session.{step}
-use Rattle.plan_judge.proofs.Kept.{replies}
+use Rattle.plan_judge.proofs.DesksHoldHistory.{replies}
 use Rattle.plan_judge.proofs.Claims.Ran.{Answered}
 use Rattle.plan_judge.proofs.Claims.Demand1.{Asks-nothing, Demand-1}
 use Rattle.plan_judge.proofs.EveryList.{stepped, answer-there}

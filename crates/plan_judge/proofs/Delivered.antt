@@ -1,10 +1,10 @@
 -- The delivery's claims (`Claims.Delivery`), proved. Demands 2 and 3 are proved of every session whose replies are those described by the
 -- history (crate `calls`); the replies of the code are these (`EveryList`).
 use mathlib.Core.Path.{sym, _∙_}
-use Rattle.calls.proofs.Demand2.{demand-2-always}
-use Rattle.calls.proofs.Sheets.{demand-3-always}
+use Rattle.protocol.proofs.Demand2.{demand-2-always}
+use Rattle.protocol.proofs.SheetsReadBack.{demand-3-always}
 use Rattle.plan_judge.specs.promises.Session.{session}
-use Rattle.plan_judge.proofs.Kept.{session-yields}
+use Rattle.plan_judge.proofs.DesksHoldHistory.{session-yields}
 use Rattle.plan_judge.proofs.Claims.Ran.{Of-the-code}
 use Rattle.plan_judge.proofs.Claims.Delivery.{Delivery}
 use Rattle.plan_judge.proofs.EveryList.{every-answer, every-list, ran-there, code-yields}

@@ -1,12 +1,12 @@
 -- One claim about every list of calls of the code: its answers, its buffers and what the desk then holds are those told by the history
--- (`calls`, `History.after`). By the exact values of the contracts each call is a step of `Session`, and `Kept` has the rest.
+-- (`calls`, `History.after`). By the exact values of the contracts each call is a step of `Session`, and `DesksHoldHistory` has the rest.
 use mathlib.Core.Path.{_≡_, refl, sym, ap, ap₂, subst, _∙_}
 use mathlib.Core.List.{List, [], _∷_, _++_, append-nil, append-assoc}
 use lib.ListN.{length}
 use Rattle.blocks.specs.Bytes.{Bytes}
-use Rattle.calls.specs.Calls.{Query, write, check, Call, load, put, judge, query, Reply, says, yields}
-use Rattle.calls.specs.History.{after}
-use Rattle.calls.specs.Replies.{Session}
+use Rattle.protocol.specs.Calls.{Query, write, check, Call, load, put, judge, query, Reply, says, yields}
+use Rattle.protocol.specs.History.{after}
+use Rattle.protocol.specs.Replies.{Session}
 use Rattle.plan_judge.specs.declared.Desk.{Desk}
 use Rattle.plan_judge.specs.declared.Taking.{Taking}
 use Rattle.plan_judge.specs.declared.Judging.{Judging}
@@ -16,8 +16,8 @@ use Rattle.plan_judge.specs.View.{view}
 use Rattle.plan_judge.specs.promises.Values.{nothing, loaded-by, put-by, judged-by, written-by, filled-by, checked-by}
 use Rattle.plan_judge.specs.Said.{said-taken, said-judgement, said-written, said-checking}
 use Rattle.plan_judge.specs.promises.Session.{asked, step, desk-after}
-use Rattle.calls.specs.Replies.{replies-after, replies-to}
-use Rattle.plan_judge.proofs.Kept.{replies, desk-holds}
+use Rattle.protocol.specs.Replies.{replies-after, replies-to}
+use Rattle.plan_judge.proofs.DesksHoldHistory.{replies, desk-holds}
 use Rattle.plan_judge.proofs.Claims.Ran.{Slice, Asked, writes, checks, Answered, loads, puts, judges, asks, Ran, began, further, Described, Of-the-code}
 use Rattle.plan_judge.proofs.Claims.Demand1.{Next}
 use Rattle.plan_judge.proofs.Claims.Delivery.{There}

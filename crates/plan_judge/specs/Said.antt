@@ -3,7 +3,7 @@ use Prim.Native.Nat.{ℕ}
 use mathlib.Core.List.{List}
 use mathlib.Core.Option.{Option, none, some}
 use Rattle.logic.specs.Verdict as logic
-use Rattle.calls.specs.Calls.{Held, Answer, done, judged, written, accepted, refuse}
+use Rattle.protocol.specs.Calls.{Held, Answer, done, judged, written, accepted, refuse}
 use Rattle.plan_judge.specs.declared.Taken.{Taken}
 use Rattle.plan_judge.specs.declared.Taken.the-variants.{Done, Refused}
 use Rattle.plan_judge.specs.declared.Judgement.{Judgement}

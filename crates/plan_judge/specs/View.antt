@@ -1,6 +1,6 @@
 -- What a desk value holds, whoever put it together: the model if its bytes are those of a model that load accepts, the question if its
 -- bytes are accepted for that model, the verdict if it was judged and, for a yes with a plan, the choices begin with those of one. Demand 1 is about any desk value; on desks that calls gave back this is
--- what was loaded, put and judged (proved: `Kept`).
+-- what was loaded, put and judged (proved: `DesksHoldHistory`).
 use Prim.Native.Nat.{ℕ, _*_}
 use mathlib.Core.Bool.{Bool, cond}
 use mathlib.Core.List.{List}
@@ -16,7 +16,7 @@ use Rattle.logic.specs.Choices.{read-plan}
 use Rattle.blocks.specs.Bytes.{Bytes}
 use Rattle.models.specs.Grounds.{read-model}
 use Rattle.questions.specs.Layout.{Question}
-use Rattle.calls.specs.Calls.{Held, question-for}
+use Rattle.protocol.specs.Calls.{Held, question-for}
 use Rattle.plan_judge.specs.declared.Desk.{Desk}
 use Rattle.plan_judge.specs.declared.Verdict.{Verdict}
 use Rattle.plan_judge.specs.declared.Verdict.the-variants.{No, Yes, YesPlan}

@@ -9,13 +9,13 @@ ghost use Rattle.logic.specs.promises.Refusal.{refusal};
 ghost use Rattle.logic.specs.Choices.{read-plan};
 ghost use Rattle.blocks.specs.Bytes.{byte};
 ghost use Rattle.models.specs.Layout.{state-count, model-of};
-ghost use Rattle.prepared.specs.promises.Rows.{model-in};
+ghost use Rattle.prepared_model.specs.promises.Rows.{model-in};
 ghost use Rattle.models.specs.Grounds.{read-model};
 ghost use Rattle.questions.specs.Layout.{start-of, node-of, node-count, question-of};
 ghost use Rattle.questions.specs.Grounds.{read-question};
 ghost use Rattle.sheets.specs.Layout.{blocks-for, sheet-of};
 ghost use Rattle.sheets.specs.promises.Reader.{Blocks};
-ghost use Rattle.calls.specs.promises.Chains.{check-on};
+ghost use Rattle.protocol.specs.promises.Chains.{check-on};
 ghost use Rattle.judging.specs.promises.Asked.{Served};
 ghost use Rattle.judging.specs.promises.Announced.{Weighs};
 ghost use Rattle.plan_judge.specs.View.{choices-in, view};
@@ -26,8 +26,8 @@ ghost use Rattle.plan_judge.specs.promises.State.{held-both, held-goal, 
 pub mod c_call;
 
 use limits::limit_refusal;
-use nodes::nodes;
-use prepared::prepare;
+use prepared_model::prepare_model;
+use prepared_question::prepare_question;
 
 // The record of a shown plan: its total W, its steps, and its place in dictionary order for "equal", else 0.
 pub struct PlanRecord {
@@ -273,8 +273,8 @@ pub fn judge(d: Desk) -> Judging
     let m = d.model;
     let q = d.question;
     let n = blocks_end(6144, d.blocks);
-    let model = prepare(&m[..n]);
-    let query = nodes(&q);
+    let model = prepare_model(&m[..n]);
+    let query = prepare_question(&q);
     let ground = limit_refusal(&model, &query);
     if ground != 0 {
         return turned_away(d, ground);
@@ -463,8 +463,8 @@ fn check_on(m: &[u8], q: &[u8], b: &[u8]) -> Checking
     requires { ⌜ PlanRoot (now m) (now q) ⌝ }
     ensures { λ r. ⌜ r ≡ checking (check-on (model-of (now (m .entry))) (question-of (now (q .entry))) (now (b .entry))) ⌝ }
 {
-    let model = prepare(m);
-    let query = nodes(q);
+    let model = prepare_model(m);
+    let query = prepare_question(q);
     let l = limit_refusal(&model, &query);
     if l != 0 {
         return Checking::Refused(l);

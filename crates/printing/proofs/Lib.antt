@@ -1,6 +1,6 @@
 pub mod Claims
-pub mod Verdicts
-pub mod Desks
-pub mod Told
-pub mod Inputs
+pub mod LineOfVerdict
+pub mod LineAfterCall
+pub mod CutToShown
+pub mod LineByLength
 pub mod Offered

@@ -5,9 +5,9 @@ use mathlib.Core.Path.{refl, sym, subst}
 use mathlib.Core.List.{List}
 use lib.ListN.{length}
 use Rattle.blocks.specs.Splice.{splice}
-use Rattle.lines.specs.Text.{Put}
-use Rattle.lines.specs.promises.Chain.{answer-line}
-use Rattle.lines.proofs.Printed.{printed-is}
+use Rattle.verdict_line.specs.Text.{Put}
+use Rattle.verdict_line.specs.promises.Chain.{answer-line}
+use Rattle.verdict_line.proofs.LineIsChain.{printed-is}
 use Rattle.printing.proofs.Claims.Answer.{Answer-printed}
 
 pub answer-printed : Answer-printed

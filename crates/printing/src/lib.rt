@@ -5,9 +5,9 @@ ghost use Prim.Native.Nat.{_^_, _≤_};
 ghost use lib.ListN.{length};
 ghost use Rattle.models.specs.Layout.{denominator-of, model-of};
 ghost use Rattle.questions.specs.Layout.{node-count, question-of};
-ghost use Rattle.lines.specs.Text.{Put};
-ghost use Rattle.lines.specs.Line.{no-plans-line, plain-line};
-ghost use Rattle.lines.specs.promises.Chain.{line-of, answer-line};
+ghost use Rattle.verdict_line.specs.Text.{Put};
+ghost use Rattle.verdict_line.specs.Line.{no-plans-line, plain-line};
+ghost use Rattle.verdict_line.specs.promises.Chain.{line-of, answer-line};
 ghost use Rattle.printing.specs.promises.Printed.{plan-root, judging-line, asking-line, loading-line, shown-line, Shown, Loaded, Asked};
 use plan_judge::Desk;
 use plan_judge::Judgement;
@@ -28,9 +28,9 @@ fn no_line(out: &mut [u8], q: &[u8], count: u32) -> usize
     ensures { λ r. ⌜ Put (cond (plan-root (now (q .entry))) (no-plans-line count) (plain-line false)) (now (out .entry)) (now (out .exit)) 0 r ⌝ }
 {
     if root_is_plan(q) {
-        return lines::no_plans_line(out, count);
+        return verdict_line::no_plans_line(out, count);
     }
-    lines::plain_line(out, false)
+    verdict_line::plain_line(out, false)
 }
 
 // D to the n: the total weight of all paths of a plan.
@@ -48,8 +48,8 @@ fn verdict_line(out: &mut [u8], model: &[u8], q: &[u8], v: Verdict, choices: &[u
 {
     match v {
         Verdict::No(x) => no_line(out, q, x.count),
-        Verdict::Yes => lines::plain_line(out, true),
-        Verdict::YesPlan(p) => lines::yes_plan_line(
+        Verdict::Yes => verdict_line::plain_line(out, true),
+        Verdict::YesPlan(p) => verdict_line::yes_plan_line(
             out,
             p.weight,
             whole(model, p.steps),
@@ -69,7 +69,7 @@ fn judging_line(out: &mut [u8], model: &[u8], q: &[u8], d: Desk) -> usize
     let choices = r.choices;
     let e = r.desk;
     match a {
-        Judgement::Refused(k) => lines::refused_line(out, k),
+        Judgement::Refused(k) => verdict_line::refused_line(out, k),
         Judgement::Judged(v) => {
             let count = plan_judge::shown_choices(e);
             verdict_line(out, model, q, v, &choices[..count])
@@ -86,7 +86,7 @@ fn asking_line(out: &mut [u8], model: &[u8], q: &[u8], d: Desk) -> usize
     let a = r.answer;
     let e = r.desk;
     match a {
-        Taken::Refused(k) => lines::refused_line(out, k),
+        Taken::Refused(k) => verdict_line::refused_line(out, k),
         Taken::Done => judging_line(out, model, q, e),
     }
 }
@@ -100,7 +100,7 @@ fn loading_line(out: &mut [u8], model: &[u8], q: &[u8]) -> usize
     let a = r.answer;
     let d = r.desk;
     match a {
-        Taken::Refused(k) => lines::refused_line(out, k),
+        Taken::Refused(k) => verdict_line::refused_line(out, k),
         Taken::Done => asking_line(out, model, q, d),
     }
 }
@@ -111,10 +111,10 @@ pub fn answer(input: &[u8], out: &mut [u8; 8192]) -> usize
 {
     let n = input.len();
     if n < 512 {
-        return lines::refused_line(out, 1);
+        return verdict_line::refused_line(out, 1);
     }
     if 6656 < n {
-        return lines::refused_line(out, 1);
+        return verdict_line::refused_line(out, 1);
     }
     let at = n - 512;
     loading_line(out, &input[..at], &input[at..])

@@ -7,7 +7,7 @@ use Rattle.logic.specs.promises.Refusal.{refusal}
 use Rattle.plan_judge.specs.declared.Desk.{Desk}
 use Rattle.plan_judge.specs.View.{view}
 use Rattle.plan_judge.specs.promises.State.{held-goal, shown-size}
-use Rattle.plan_judge.proofs.Writes.{shown-by, not-shown}
+use Rattle.plan_judge.proofs.WriteReturns.{shown-by, not-shown}
 
 pub shown-few : (d : Desk) → shown-size ((view d) .verdict) ≤ length (d .choices)
 shown-few d = by (refusal (held-goal (view d))) refl

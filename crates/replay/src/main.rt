@@ -25,7 +25,7 @@ fn put_refused(out: &mut [u8], at: usize, k: u32) -> usize
     requires { ⌜ at + 29 ≤ length (now out) ⌝ }
     ensures { λ r. ⌜ r ≤ at + 29 ⌝ }
 {
-    lines::put_number(out, at, b" refused ", k as u64)
+    verdict_line::put_number(out, at, b" refused ", k as u64)
 }
 
 fn put_taken(out: &mut [u8], at: usize, answer: Taken) -> usize
@@ -33,7 +33,7 @@ fn put_taken(out: &mut [u8], at: usize, answer: Taken) -> usize
     ensures { λ r. ⌜ r ≤ at + 29 ⌝ }
 {
     match answer {
-        Taken::Done => lines::put_text(out, at, b" done"),
+        Taken::Done => verdict_line::put_text(out, at, b" done"),
         Taken::Refused(k) => put_refused(out, at, k),
     }
 }
@@ -42,11 +42,11 @@ fn put_plan(out: &mut [u8], at: usize, p: PlanRecord, choices: &[u8]) -> usize
     requires { ⌜ (at + 5600 ≤ length (now out)) × (length (now choices) ≤ 1365) ⌝ }
     ensures { λ r. ⌜ r ≤ at + 5600 ⌝ }
 {
-    let mut next = lines::put_number(out, at, b" yes ", p.weight);
-    next = lines::put_number(out, next, b" ", p.steps as u64);
-    next = lines::put_number(out, next, b" ", p.count as u64);
-    next = lines::put_text(out, next, b" choices");
-    lines::put_choices(out, next, choices)
+    let mut next = verdict_line::put_number(out, at, b" yes ", p.weight);
+    next = verdict_line::put_number(out, next, b" ", p.steps as u64);
+    next = verdict_line::put_number(out, next, b" ", p.count as u64);
+    next = verdict_line::put_text(out, next, b" choices");
+    verdict_line::put_choices(out, next, choices)
 }
 
 fn put_verdict(out: &mut [u8], at: usize, v: Verdict, choices: &[u8]) -> usize
@@ -54,8 +54,8 @@ fn put_verdict(out: &mut [u8], at: usize, v: Verdict, choices: &[u8]) -> usize
     ensures { λ r. ⌜ r ≤ at + 5600 ⌝ }
 {
     match v {
-        Verdict::No(x) => lines::put_number(out, at, b" no ", x.count as u64),
-        Verdict::Yes => lines::put_text(out, at, b" yes"),
+        Verdict::No(x) => verdict_line::put_number(out, at, b" no ", x.count as u64),
+        Verdict::Yes => verdict_line::put_text(out, at, b" yes"),
         Verdict::YesPlan(p) => put_plan(out, at, p, choices),
     }
 }
@@ -81,7 +81,7 @@ fn put_written(out: &mut [u8], at: usize, answer: Written) -> usize
     ensures { λ r. ⌜ r ≤ at + 29 ⌝ }
 {
     match answer {
-        Written::Bytes(n) => lines::put_number(out, at, b" ", n as u64),
+        Written::Bytes(n) => verdict_line::put_number(out, at, b" ", n as u64),
         Written::Refused(k) => put_refused(out, at, k),
     }
 }
@@ -91,9 +91,9 @@ fn put_met(out: &mut [u8], at: usize, met: bool) -> usize
     ensures { λ r. ⌜ r ≤ at + 29 ⌝ }
 {
     if met {
-        return lines::put_text(out, at, b" accepted met");
+        return verdict_line::put_text(out, at, b" accepted met");
     }
-    lines::put_text(out, at, b" accepted unmet")
+    verdict_line::put_text(out, at, b" accepted unmet")
 }
 
 fn put_checked(out: &mut [u8], at: usize, answer: Checking) -> usize
@@ -129,8 +129,8 @@ fn put_sums(out: &mut [u8], at: usize, bytes: &[u8]) -> usize
     ensures { λ r. ⌜ r ≤ at + 42 ⌝ }
 {
     let sums = adler(bytes);
-    let next = lines::put_number(out, at, b" ", sums.a as u64);
-    lines::put_number(out, next, b" ", sums.b as u64)
+    let next = verdict_line::put_number(out, at, b" ", sums.a as u64);
+    verdict_line::put_number(out, next, b" ", sums.b as u64)
 }
 
 // ---- each call with its line
@@ -139,14 +139,14 @@ fn put_sums(out: &mut [u8], at: usize, bytes: &[u8]) -> usize
 fn say(out: &mut [u8], at: usize)
     requires { ⌜ at + 1 ≤ length (now out) ⌝ }
 {
-    let end = lines::put_text(out, at, b"\n");
+    let end = verdict_line::put_text(out, at, b"\n");
     io::write_all(STDOUT_FILENO, &out[..end]);
 }
 
 fn load(desk: Desk, input: &[u8], out: &mut [u8; 8192]) -> Desk {
     let r = plan_judge::load(desk, input);
     let a = r.answer;
-    let name = lines::put_text(out, 0, b"load");
+    let name = verdict_line::put_text(out, 0, b"load");
     let end = put_taken(out, name, a);
     say(out, end);
     r.desk
@@ -155,7 +155,7 @@ fn load(desk: Desk, input: &[u8], out: &mut [u8; 8192]) -> Desk {
 fn put(desk: Desk, input: &[u8], out: &mut [u8; 8192]) -> Desk {
     let r = plan_judge::put(desk, input);
     let a = r.answer;
-    let name = lines::put_text(out, 0, b"put");
+    let name = verdict_line::put_text(out, 0, b"put");
     let end = put_taken(out, name, a);
     say(out, end);
     r.desk
@@ -163,7 +163,7 @@ fn put(desk: Desk, input: &[u8], out: &mut [u8; 8192]) -> Desk {
 
 fn judge(desk: Desk, out: &mut [u8; 8192]) -> Desk {
     let r = plan_judge::judge(desk);
-    let name = lines::put_text(out, 0, b"judge");
+    let name = verdict_line::put_text(out, 0, b"judge");
     let end = put_judged(out, name, r);
     say(out, end);
     r.desk
@@ -171,7 +171,7 @@ fn judge(desk: Desk, out: &mut [u8; 8192]) -> Desk {
 
 fn write(desk: Desk, buffer: &mut [u8], out: &mut [u8; 8192]) {
     let a = plan_judge::write(desk, buffer);
-    let name = lines::put_text(out, 0, b"write");
+    let name = verdict_line::put_text(out, 0, b"write");
     let next = put_written(out, name, a);
     let end = put_sums(out, next, buffer);
     say(out, end);
@@ -179,7 +179,7 @@ fn write(desk: Desk, buffer: &mut [u8], out: &mut [u8; 8192]) {
 
 fn check(desk: Desk, input: &[u8], out: &mut [u8; 8192]) {
     let a = plan_judge::check(desk, input);
-    let name = lines::put_text(out, 0, b"check");
+    let name = verdict_line::put_text(out, 0, b"check");
     let end = put_checked(out, name, a);
     say(out, end);
 }

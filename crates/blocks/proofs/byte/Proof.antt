@@ -1,5 +1,5 @@
 use mathlib.Core.Path.{sym}
-use Rattle.blocks.proofs.Laws.{getD-past}
+use Rattle.blocks.proofs.TwosComplement.{getD-past}
 use borrow.Author.Needs.{needs}
 use Rattle.blocks.proofs.byte.Statement.{statement}
 use Rattle.blocks.proofs.byte.Tie as tie

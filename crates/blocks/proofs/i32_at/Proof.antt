@@ -5,7 +5,7 @@ use lib.IntN.{negsuc}
 use mir.Syntax.{w32}
 use mir.ValLaws.{toZ-pos, toZ-ofZ}
 use Rattle.blocks.specs.Bytes.{i32, signed}
-use Rattle.blocks.proofs.Laws.{signed-low, signed-high, small, high32}
+use Rattle.blocks.proofs.TwosComplement.{signed-low, signed-high, small, high32}
 use borrow.Author.Needs.{needs}
 use Rattle.blocks.proofs.i32_at.Statement.{statement}
 use Rattle.blocks.proofs.i32_at.Tie as tie

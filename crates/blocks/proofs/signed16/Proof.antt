@@ -5,7 +5,7 @@ use lib.IntN.{pos, negsuc, _-ℤ_}
 use mir.Syntax.{w16, w32}
 use mir.Val.{SFits, toZ, ofZ}
 use mir.ValLaws.{toZ-pos, toZ-ofZ}
-use Rattle.blocks.proofs.Laws.{signed-low, signed-high, small, high16}
+use Rattle.blocks.proofs.TwosComplement.{signed-low, signed-high, small, high16}
 use borrow.Author.Needs.{needs}
 use Rattle.blocks.proofs.signed16.Statement.{statement}
 use Rattle.blocks.proofs.signed16.Tie as tie

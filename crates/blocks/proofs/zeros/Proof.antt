@@ -9,7 +9,7 @@ use lib.Dec.{eqb}
 use lib.ListN.{getD}
 use Rattle.logic.specs.Lists.{every}
 use Rattle.blocks.specs.Bytes.{zeros}
-use Rattle.blocks.proofs.Laws.{sum-zero}
+use Rattle.blocks.proofs.TwosComplement.{sum-zero}
 use Rattle.blocks.proofs.zeros.Statement.{statement}
 use Rattle.blocks.proofs.zeros.Tie as tie
 

@@ -9,7 +9,7 @@ use mir.Syntax.{w32}
 use mir.Val.{toZ, ofZ}
 use Rattle.logic.specs.Formula.{nonnegative}
 use Rattle.questions.specs.Layout.{node-of}
-use Rattle.bounds.proofs.Meeting.{small, range, few, product-fits}
+use Rattle.bounds.proofs.ProductsFit.{small, range, few, product-fits}
 use borrow.Author.Needs.{needs}
 use Rattle.bounds.proofs.bound.Statement.{statement}
 use Rattle.bounds.proofs.bound.Tie as tie

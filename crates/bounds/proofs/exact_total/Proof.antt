@@ -1,6 +1,6 @@
 -- `exact_total`: q is not 0, and a total equals the bound just where it is the bound divided by q with nothing left over.
 use native.Mathlib.Omega.{arith}
-use Rattle.bounds.proofs.Meeting.{range, few, exactly}
+use Rattle.bounds.proofs.ProductsFit.{range, few, exactly}
 use borrow.Author.Needs.{needs}
 use Rattle.bounds.proofs.exact_total.Statement.{statement}
 use Rattle.bounds.proofs.exact_total.Tie as tie

@@ -1,7 +1,7 @@
 -- `meets`: the definition compares the same two products; the total is at most D to the n, so its product fits too.
 use native.Mathlib.Omega.{arith}
 use native.Mathlib.Nat.{mul-comm}
-use Rattle.bounds.proofs.Meeting.{range, few, product-fits, meets-by}
+use Rattle.bounds.proofs.ProductsFit.{range, few, product-fits, meets-by}
 use borrow.Author.Needs.{needs}
 use Rattle.bounds.proofs.meets.Statement.{statement}
 use Rattle.bounds.proofs.meets.Tie as tie

@@ -3,7 +3,7 @@ use mathlib.Core.Logic.{⊎-elim}
 use mathlib.Core.Path.{sym, _∙_}
 use Rattle.logic.specs.Quantity.{related}
 use Rattle.logic.specs.Formula.{relation}
-use Rattle.bounds.proofs.Meeting.{less-is, equal-is, greater-by}
+use Rattle.bounds.proofs.ProductsFit.{less-is, equal-is, greater-by}
 use Rattle.bounds.proofs.related.Statement.{statement}
 use Rattle.bounds.proofs.related.Tie as tie
 

@@ -7,9 +7,9 @@ use Rattle.logic.specs.Quantity.{naturals, Relation, equal}
 use Rattle.logic.specs.Formula.{meets, relation, nonnegative}
 use Rattle.blocks.specs.Bytes.{Bytes}
 use Rattle.models.specs.Layout.{state-count, action-count, prop-count}
-use Rattle.prepared.specs.promises.Rows.{model-in, Prepared}
+use Rattle.prepared_model.specs.promises.Rows.{model-in, Prepared}
 use Rattle.questions.specs.Layout.{node-count, node-of}
-use Rattle.nodes.specs.promises.Nodes.{Nodes}
+use Rattle.prepared_question.specs.promises.Nodes.{Nodes}
 
 -- Node j of a question prepared for the prepared model m is a "plan".
 pub record Bounded (m q : Bytes) (j : ℕ) : Type 0 where

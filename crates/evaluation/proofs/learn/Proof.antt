@@ -5,7 +5,7 @@ use lib.ListN.{length, take}
 use lib.Seq.{take-all}
 use borrow.Author.Needs.{needs}
 use Rattle.evaluation.specs.promises.Learnt.{learnt}
-use Rattle.evaluation.proofs.Values.{learnt-more}
+use Rattle.evaluation.proofs.LearntInOrder.{learnt-more}
 use Rattle.evaluation.proofs.learn.Statement.{statement}
 use Rattle.evaluation.proofs.learn.Tie as tie
 

@@ -1,9 +1,9 @@
 use Prim.Native.Nat.{ℕ, _+_, _*_, _-_, _≤_}
 use mathlib.Core.Path.{_≡_, sym, ap, _∙_}
 use lib.ListN.{set}
-use Rattle.nodes.specs.promises.Nodes.{depth-in}
+use Rattle.prepared_question.specs.promises.Nodes.{depth-in}
 use Rattle.evaluation.specs.promises.Learnt.{value-at, learn-node}
-use Rattle.evaluation.proofs.Values.{state-value, path-value, learn-now, learn-later}
+use Rattle.evaluation.proofs.LearntInOrder.{state-value, path-value, learn-now, learn-later}
 use borrow.Author.Needs.{needs}
 use Rattle.evaluation.proofs.learn_node.Statement.{statement}
 use Rattle.evaluation.proofs.learn_node.Tie as tie

@@ -5,13 +5,13 @@ use lib.IntN.{ℤ, pos, _+ℤ_}
 use lib.ListN.{length, getD, set, take}
 use lib.Seq.{length-take-le}
 use lib.Signed.{mag}
-use Rattle.prepared.specs.promises.Rows.{step-in}
+use Rattle.prepared_model.specs.promises.Rows.{step-in}
 use Rattle.evaluation.specs.promises.Reached.{Ready}
 use mir.Syntax.{w16, w32}
 use Rattle.evaluation.proofs.Integers.{fits32, sum16, wide-fits, wide-is, mag-add}
 use Rattle.evaluation.proofs.Trails.{gain-small}
-use Rattle.evaluation.proofs.Knowing.{cone-node}
-use Rattle.evaluation.proofs.Stepping.{state-small, sizes-small, stepped}
+use Rattle.evaluation.proofs.LearnKnows.{cone-node}
+use Rattle.evaluation.proofs.StepTaken.{state-small, sizes-small, stepped}
 use borrow.Author.Needs.{needs}
 use Rattle.evaluation.proofs.step.Statement.{statement}
 use Rattle.evaluation.proofs.step.Tie as tie

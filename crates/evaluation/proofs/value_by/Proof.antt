@@ -6,7 +6,7 @@ use lib.ListN.{getD}
 use Rattle.logic.specs.promises.Total.{one-if}
 use Rattle.questions.specs.Layout.{node-of}
 use Rattle.evaluation.specs.promises.Learnt.{value-by, known}
-use Rattle.evaluation.proofs.Values.{other-value}
+use Rattle.evaluation.proofs.LearntInOrder.{other-value}
 use borrow.Author.Needs.{needs}
 use Rattle.evaluation.proofs.value_by.Statement.{statement}
 use Rattle.evaluation.proofs.value_by.Tie as tie

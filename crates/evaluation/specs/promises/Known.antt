@@ -8,8 +8,8 @@ use lib.IntN.{ℤ, pos}
 use Rattle.logic.specs.Formula.{depth}
 use Rattle.logic.specs.promises.Total.{value-of}
 use Rattle.blocks.specs.Bytes.{Bytes}
-use Rattle.prepared.specs.promises.Rows.{step-in, Offers, model-in}
-use Rattle.nodes.specs.promises.Nodes.{formula}
+use Rattle.prepared_model.specs.promises.Rows.{step-in, Offers, model-in}
+use Rattle.prepared_question.specs.promises.Nodes.{formula}
 use Rattle.evaluation.specs.promises.Path.{number-of, steps-of, state-after, Trail, gain-of}
 use Rattle.evaluation.specs.promises.Reached.{Reached, root-of}
 use Rattle.evaluation.specs.promises.Learnt.{known}

@@ -12,7 +12,7 @@ use Rattle.logic.specs.Quantity.{integers, related}
 use Rattle.logic.specs.promises.Total.{one-if}
 use Rattle.blocks.specs.Bytes.{Bytes, byte}
 use Rattle.questions.specs.Layout.{node-of}
-use Rattle.nodes.specs.promises.Nodes.{depth-in}
+use Rattle.prepared_question.specs.promises.Nodes.{depth-in}
 
 -- The value of node j at place k.
 abbrev pub known : List ℕ → ℕ → ℕ → ℕ

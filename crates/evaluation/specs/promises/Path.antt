@@ -6,7 +6,7 @@ use mathlib.Core.List.{List, [], _∷_}
 use lib.IntN.{ℤ}
 use Rattle.logic.specs.Model.{Step}
 use Rattle.logic.specs.Quantity.{integers, sum}
-use Rattle.prepared.specs.promises.Rows.{choice-in, step-in, Offers}
+use Rattle.prepared_model.specs.promises.Rows.{choice-in, step-in, Offers}
 
 -- The number of outcome o of the choice at place i of the state s, and the step that a number stands for there.
 abbrev pub number-of : List ℕ → (s i o : ℕ) → ℕ

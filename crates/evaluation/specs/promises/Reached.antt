@@ -9,9 +9,9 @@ use Rattle.logic.specs.Formula.{depth}
 use Rattle.logic.specs.promises.Total.{value-of}
 use Rattle.blocks.specs.Bytes.{Bytes}
 use Rattle.models.specs.Layout.{state-count, action-count, prop-count}
-use Rattle.prepared.specs.promises.Rows.{step-in, Offers, model-in, Prepared}
+use Rattle.prepared_model.specs.promises.Rows.{step-in, Offers, model-in, Prepared}
 use Rattle.questions.specs.Layout.{node-count, node-of}
-use Rattle.nodes.specs.promises.Nodes.{formula, reads-left, Nodes}
+use Rattle.prepared_question.specs.promises.Nodes.{formula, reads-left, Nodes}
 use Rattle.evaluation.specs.promises.Path.{steps-of}
 
 -- `m` is a prepared model here and above, `q` a prepared question. The pairs of a node and a state that the truth of node c in s, on whatever path, can turn on.

@@ -2,12 +2,12 @@ use native.Mathlib.Omega.{arith}
 use mathlib.Core.Path.{_≡_, sym, _∙_}
 use mathlib.Core.List.{[]}
 use Rattle.logic.specs.Formula.{sat}
-use Rattle.prepared.specs.promises.Rows.{model-in}
+use Rattle.prepared_model.specs.promises.Rows.{model-in}
 use Rattle.questions.specs.Layout.{node-of}
-use Rattle.nodes.specs.promises.Nodes.{formula}
-use Rattle.judging.proofs.Deciding.{other-verdict}
-use Rattle.judging.proofs.Posing.{posed-at}
-use Rattle.judging.proofs.Announcing.{announces-truth, announces-no, no-verdict, place-few}
+use Rattle.prepared_question.specs.promises.Nodes.{formula}
+use Rattle.judging.proofs.SearchDecides.{other-verdict}
+use Rattle.judging.proofs.SearchHanded.{posed-at}
+use Rattle.judging.proofs.VerdictShown.{announces-truth, announces-no, no-verdict, place-few}
 use borrow.Author.Needs.{needs}
 use Rattle.judging.proofs.at_node.Statement.{statement}
 use Rattle.judging.proofs.at_node.Tie as tie
@@ -17,7 +17,7 @@ use Rattle.judging.proofs.plain.Reads as plain-reads
 use Rattle.judging.proofs.plans.decide.Reads as decide-reads
 use Rattle.judging.proofs.show.Reads as show-reads
 use Rattle.judging.proofs.truth.plain_truth.Reads as plain-truth-reads
-use Rattle.nodes.proofs.operator.Reads as operator-reads
+use Rattle.prepared_question.proofs.operator.Reads as operator-reads
 
 operator-requires : tie.Need-operator-requires
 operator-requires c κs = search needs

@@ -1,7 +1,7 @@
 use Prim.Native.Nat.{ℕ, _-_}
 use native.Mathlib.Omega.{arith}
 use mathlib.Core.Path.{ap}
-use Rattle.judging.proofs.Announcing.{asked-at, root-judged, root-announces}
+use Rattle.judging.proofs.VerdictShown.{asked-at, root-judged, root-announces}
 use borrow.Author.Needs.{needs}
 use Rattle.judging.proofs.judged.Statement.{statement}
 use Rattle.judging.proofs.judged.Tie as tie
@@ -10,8 +10,8 @@ use Rattle.judging.proofs.judged.Lts as lts
 use Rattle.judging.proofs.at_node.Reads as at-node-reads
 use Rattle.judging.proofs.root_truth.Reads as root-truth-reads
 use Rattle.limits.proofs.plan_totals.Reads as plan-totals-reads
-use Rattle.nodes.proofs.count.Reads as count-reads
-use Rattle.nodes.proofs.start.Reads as start-reads
+use Rattle.prepared_question.proofs.count.Reads as count-reads
+use Rattle.prepared_question.proofs.start.Reads as start-reads
 
 -- src/lib.rt:147:18
 plan-totals-requires : tie.Need-plan-totals-requires

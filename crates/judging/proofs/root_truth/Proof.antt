@@ -1,11 +1,11 @@
 use native.Mathlib.Nat.{le-refl}
-use Rattle.judging.proofs.Truths.{root-supplied}
+use Rattle.judging.proofs.TruthByOperator.{root-supplied}
 use Rattle.judging.proofs.root_truth.Statement.{statement}
 use Rattle.judging.proofs.root_truth.Tie as tie
 use Rattle.judging.proofs.root_truth.Reads as reads
 use Rattle.judging.proofs.root_truth.Lts as lts
 use Rattle.judging.proofs.truth.truth_table.Reads as truth-table-reads
-use Rattle.tables.proofs.needed.Reads as needed-reads
+use Rattle.relevance.proofs.needed.Reads as needed-reads
 
 -- src/lib.rt:82:16
 needed-requires : tie.Need-needed-requires

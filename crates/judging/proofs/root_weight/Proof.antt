@@ -7,22 +7,22 @@ use lib.ListN.{take}
 use lib.Seq.{length-take-le}
 use Rattle.logic.specs.Formula.{depth}
 use Rattle.questions.specs.Layout.{node-count, node-of}
-use Rattle.nodes.specs.promises.Nodes.{formula}
+use Rattle.prepared_question.specs.promises.Nodes.{formula}
 use Rattle.evaluation.specs.promises.Reached.{Ready}
 use Rattle.judging.specs.promises.Announced.{root}
-use Rattle.judging.proofs.Posing.{planned, before, ready}
-use Rattle.judging.proofs.Announcing.{root-weighs}
+use Rattle.judging.proofs.SearchHanded.{planned, before, ready}
+use Rattle.judging.proofs.VerdictShown.{root-weighs}
 use borrow.Author.Needs.{needs}
 use Rattle.judging.proofs.root_weight.Statement.{statement}
 use Rattle.judging.proofs.root_weight.Tie as tie
 use Rattle.judging.proofs.root_weight.Reads as reads
 use Rattle.judging.proofs.root_weight.Lts as lts
-use Rattle.nodes.proofs.count.Reads as count-reads
-use Rattle.nodes.proofs.left.Reads as left-reads
-use Rattle.nodes.proofs.start.Reads as start-reads
-use Rattle.nodes.proofs.steps.Reads as steps-reads
-use Rattle.tables.proofs.cone.Reads as cone-reads
-use Rattle.weighing.proofs.plan_weight.Reads as plan-weight-reads
+use Rattle.prepared_question.proofs.count.Reads as count-reads
+use Rattle.prepared_question.proofs.left.Reads as left-reads
+use Rattle.prepared_question.proofs.start.Reads as start-reads
+use Rattle.prepared_question.proofs.steps.Reads as steps-reads
+use Rattle.relevance.proofs.cone.Reads as cone-reads
+use Rattle.plan_choices.proofs.weighing.plan_weight.Reads as plan-weight-reads
 
 -- The condition's node.
 at-root : (S : tie.Start) {k l : ℕ} → k ≡ node-count (S .args .q .now) → l ≡ (node-of (S .args .q .now) (k - 1)) .left

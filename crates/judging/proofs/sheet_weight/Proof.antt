@@ -1,4 +1,4 @@
-use Rattle.judging.proofs.Announcing.{asked-at, root-posed}
+use Rattle.judging.proofs.VerdictShown.{asked-at, root-posed}
 use Rattle.judging.proofs.sheet_weight.Statement.{statement}
 use Rattle.judging.proofs.sheet_weight.Tie as tie
 use Rattle.judging.proofs.sheet_weight.Reads as reads

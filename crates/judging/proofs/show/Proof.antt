@@ -4,23 +4,23 @@ use native.Mathlib.Omega.{arith}
 use mathlib.Core.Path.{sym, ap, subst}
 use Rattle.logic.specs.Plan.{choices}
 use Rattle.logic.specs.Limits.{plan-total}
-use Rattle.prepared.specs.promises.Rows.{model-in}
+use Rattle.prepared_model.specs.promises.Rows.{model-in}
 use Rattle.judging.specs.promises.Decided.{plan-at}
-use Rattle.judging.proofs.Deciding.{plan-here}
-use Rattle.judging.proofs.Posing.{asked-equal, asked-other, depth-there}
-use Rattle.judging.proofs.Announcing.{announces-plan, equal-few, equal-inside, equal-verdict, place-few, led-verdict, led-choices}
+use Rattle.judging.proofs.SearchDecides.{plan-here}
+use Rattle.judging.proofs.SearchHanded.{asked-equal, asked-other, depth-there}
+use Rattle.judging.proofs.VerdictShown.{announces-plan, equal-few, equal-inside, equal-verdict, place-few, led-verdict, led-choices}
 use borrow.Author.Needs.{needs}
 use Rattle.judging.proofs.show.Statement.{statement}
 use Rattle.judging.proofs.show.Tie as tie
 use Rattle.judging.proofs.show.Reads as reads
 use Rattle.judging.proofs.show.Lts as lts
-use Rattle.extension.proofs.extend.Reads as extend-reads
+use Rattle.plan_choices.proofs.extending.extend.Reads as extend-reads
 use Rattle.judging.proofs.with_plan.Reads as with-plan-reads
-use Rattle.nodes.proofs.asks_equal.Reads as asks-equal-reads
-use Rattle.nodes.proofs.depth.Reads as depth-reads
-use Rattle.nodes.proofs.left.Reads as left-reads
-use Rattle.nodes.proofs.steps.Reads as steps-reads
-use Rattle.ranking.proofs.nth.Reads as nth-reads
+use Rattle.prepared_question.proofs.asks_equal.Reads as asks-equal-reads
+use Rattle.prepared_question.proofs.depth.Reads as depth-reads
+use Rattle.prepared_question.proofs.left.Reads as left-reads
+use Rattle.prepared_question.proofs.steps.Reads as steps-reads
+use Rattle.plan_choices.proofs.ranking.nth.Reads as nth-reads
 
 steps-requires : tie.Need-steps-requires
 steps-requires c κs = search needs

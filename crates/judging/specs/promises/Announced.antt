@@ -11,7 +11,7 @@ use Rattle.logic.specs.Formula.{W, nonnegative}
 use Rattle.logic.specs.Verdict.{Verdict, no, yes, yes-plan, verdict}
 use Rattle.blocks.specs.Bytes.{Bytes}
 use Rattle.questions.specs.Layout.{start-of, node-count, node-of}
-use Rattle.nodes.specs.promises.Nodes.{formula}
+use Rattle.prepared_question.specs.promises.Nodes.{formula}
 use Rattle.blocks.specs.Splice.{splice}
 use Rattle.judging.specs.promises.Decided.{condition}
 use Rattle.judging.specs.declared.Outcome.{Outcome}

@@ -8,11 +8,11 @@ use Rattle.logic.specs.Formula.{depth}
 use Rattle.logic.specs.Limits.{limits}
 use Rattle.blocks.specs.Bytes.{Bytes}
 use Rattle.models.specs.Layout.{state-count, action-count, prop-count}
-use Rattle.prepared.specs.promises.Rows.{model-in, Prepared}
+use Rattle.prepared_model.specs.promises.Rows.{model-in, Prepared}
 use Rattle.questions.specs.Layout.{formulas-of}
-use Rattle.nodes.specs.promises.Nodes.{Nodes}
+use Rattle.prepared_question.specs.promises.Nodes.{Nodes}
 use Rattle.limits.specs.promises.Totals.{Totals}
-use Rattle.tables.specs.promises.Need.{Given}
+use Rattle.relevance.specs.promises.Need.{Given}
 
 -- What is judged: a question for a model, both prepared, within the limits, with the table of the numbers of plans.
 pub record Asked (m q : Bytes) (counts : List ℕ) : Type 0 where

@@ -13,10 +13,10 @@ use Rattle.logic.specs.promises.Total.{one-if, value-of}
 use Rattle.logic.specs.promises.Recursion.{greatest}
 use Rattle.blocks.specs.Bytes.{Bytes}
 use Rattle.models.specs.Layout.{state-count, action-count, prop-count}
-use Rattle.prepared.specs.promises.Rows.{model-in}
+use Rattle.prepared_model.specs.promises.Rows.{model-in}
 use Rattle.questions.specs.Layout.{node-count}
-use Rattle.nodes.specs.promises.Nodes.{formula, Nodes}
-use Rattle.search.specs.declared.Found.{Found}
+use Rattle.prepared_question.specs.promises.Nodes.{formula, Nodes}
+use Rattle.best_plan.specs.declared.Found.{Found}
 use Rattle.judging.specs.promises.Truth.{Told}
 use Rattle.judging.specs.promises.Decided.{best}
 use Rattle.judging.specs.declared.conditions.Peeled.{Peeled}

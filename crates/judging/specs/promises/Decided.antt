@@ -18,9 +18,9 @@ use Rattle.logic.specs.Verdict.{plan-goal, shown}
 use Rattle.logic.specs.Limits.{plan-total}
 use Rattle.blocks.specs.Bytes.{Bytes}
 use Rattle.models.specs.Layout.{state-count, denominator-of}
-use Rattle.prepared.specs.promises.Rows.{model-in}
+use Rattle.prepared_model.specs.promises.Rows.{model-in}
 use Rattle.questions.specs.Layout.{node-count, node-of}
-use Rattle.nodes.specs.promises.Nodes.{formula}
+use Rattle.prepared_question.specs.promises.Nodes.{formula}
 use Rattle.bounds.specs.promises.Bounded.{meets-at}
 use Rattle.judging.specs.promises.Truth.{Told}
 use Rattle.judging.specs.declared.plans.Decision.{Decision}

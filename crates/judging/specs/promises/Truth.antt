@@ -6,9 +6,9 @@ use lib.ListN.{getD}
 use Rattle.logic.specs.Formula.{depth}
 use Rattle.logic.specs.promises.Total.{value-of}
 use Rattle.blocks.specs.Bytes.{Bytes}
-use Rattle.prepared.specs.promises.Rows.{model-in}
+use Rattle.prepared_model.specs.promises.Rows.{model-in}
 use Rattle.questions.specs.Layout.{node-of}
-use Rattle.nodes.specs.promises.Nodes.{formula}
+use Rattle.prepared_question.specs.promises.Nodes.{formula}
 use Rattle.evaluation.specs.promises.Reached.{Reached}
 
 -- The table is right wherever the truth of node c in s can turn on it.

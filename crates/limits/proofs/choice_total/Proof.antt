@@ -8,10 +8,10 @@ use lib.ListN.{getD}
 use borrow.Author.Needs.{needs}
 use Rattle.logic.specs.Lists.{tabulate}
 use Rattle.logic.specs.Model.{Step}
-use Rattle.prepared.specs.promises.Rows.{outcomes-in, step-in}
-use Rattle.prepared.proofs.Ranges.{place-range, read-range}
+use Rattle.prepared_model.specs.promises.Rows.{outcomes-in, step-in}
+use Rattle.prepared_model.proofs.PlacesInRange.{place-range, read-range}
 use Rattle.limits.specs.promises.Totals.{gather, cap}
-use Rattle.limits.proofs.Laws.{gather-start, gather-next, small-of, limit-most}
+use Rattle.limits.proofs.CappedTotals.{gather-start, gather-next, small-of, limit-most}
 use Rattle.limits.proofs.choice_total.Statement.{statement}
 use Rattle.limits.proofs.choice_total.Tie as tie
 

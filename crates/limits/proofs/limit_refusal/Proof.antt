@@ -4,7 +4,7 @@ use mathlib.Core.Bool.{true, false}
 use borrow.Author.Needs.{needs}
 use borrow.Author.Tests.{not-true, not-false}
 use Rattle.questions.specs.Layout.{question-of}
-use Rattle.limits.proofs.Nodes.{limits-paths, limits-plans}
+use Rattle.limits.proofs.NodeByNode.{limits-paths, limits-plans}
 use Rattle.limits.proofs.limit_refusal.Statement.{statement}
 use Rattle.limits.proofs.limit_refusal.Tie as tie
 

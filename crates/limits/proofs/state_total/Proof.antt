@@ -8,9 +8,9 @@ use borrow.Author.Needs.{needs}
 use Rattle.logic.specs.Lists.{tabulate}
 use Rattle.logic.specs.Quantity.{naturals, sum}
 use Rattle.logic.specs.Model.{outcomes}
-use Rattle.prepared.specs.promises.Rows.{choices-in, choice-in, model-in}
+use Rattle.prepared_model.specs.promises.Rows.{choices-in, choice-in, model-in}
 use Rattle.limits.specs.promises.Totals.{gather, cap}
-use Rattle.limits.proofs.Laws.{state-end, small-of, sum-start, sum-next}
+use Rattle.limits.proofs.CappedTotals.{state-end, small-of, sum-start, sum-next}
 use Rattle.limits.proofs.state_total.Statement.{statement}
 use Rattle.limits.proofs.state_total.Tie as tie
 

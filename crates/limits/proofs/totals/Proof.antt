@@ -6,7 +6,7 @@ use mathlib.Core.Logic.{⊎-elim}
 use mathlib.Core.Path.{_≡_, sym, subst}
 use borrow.Author.Needs.{needs}
 use Rattle.models.specs.Layout.{state-count}
-use Rattle.limits.proofs.Laws.{Filled, filled-start, filled-past, filled-more, filled-all}
+use Rattle.limits.proofs.CappedTotals.{Filled, filled-start, filled-past, filled-more, filled-all}
 use Rattle.limits.proofs.totals.Statement.{statement}
 use Rattle.limits.proofs.totals.Tie as tie
 

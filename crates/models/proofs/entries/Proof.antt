@@ -4,7 +4,7 @@ use mathlib.Core.Path.{_≡_, refl, sym, ap, _∙_}
 use mathlib.Core.Bool.{true, false}
 use Rattle.logic.specs.Model.{true-of}
 use Rattle.models.specs.Layout.{pre-of, state-mask, post-count, entries}
-use Rattle.models.proofs.Laws.{entries-past-states, entries-past-actions, entries-inside}
+use Rattle.models.proofs.EveryCell.{entries-past-states, entries-past-actions, entries-inside}
 use Rattle.models.proofs.entries.Statement.{statement}
 use Rattle.models.proofs.entries.Tie as tie
 

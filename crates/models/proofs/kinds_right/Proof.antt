@@ -8,7 +8,7 @@ use borrow.Author.Needs.{needs}
 use Rattle.logic.specs.Lists.{every}
 use Rattle.blocks.specs.Block.{headed, block-count}
 use Rattle.models.specs.Grounds.{kinds-right}
-use Rattle.models.proofs.Laws.{blocks-within, every-more}
+use Rattle.models.proofs.EveryCell.{blocks-within, every-more}
 use Rattle.models.proofs.kinds_right.Statement.{statement}
 use Rattle.models.proofs.kinds_right.Tie as tie
 

@@ -3,7 +3,7 @@ use mathlib.Core.Path.{_≡_, refl, sym}
 use mathlib.Core.Bool.{true, _&&_}
 use Rattle.blocks.specs.Block.{whole-blocks, sums-right}
 use Rattle.models.specs.Grounds.{kinds-right, sizes-right, fields-right, head-spare, rows-spare, cells-spare, consistent, no-dead-ends, read-model}
-use Rattle.models.proofs.Laws.{passed, failed, sizes, sized}
+use Rattle.models.proofs.EveryCell.{passed, failed, sizes, sized}
 use Rattle.models.proofs.model_refusal.Statement.{statement}
 use Rattle.models.proofs.model_refusal.Tie as tie
 

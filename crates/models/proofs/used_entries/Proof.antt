@@ -4,7 +4,7 @@ use native.Mathlib.Omega.{arith}
 use mathlib.Core.Path.{_≡_, refl, _∙_}
 use lib.ListN.{length, getD, length-set}
 use Rattle.models.specs.Layout.{entries}
-use Rattle.models.proofs.Laws.{filled-more}
+use Rattle.models.proofs.EveryCell.{filled-more}
 use Rattle.models.proofs.used_entries.Statement.{statement}
 use Rattle.models.proofs.used_entries.Tie as tie
 

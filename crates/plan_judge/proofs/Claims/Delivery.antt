@@ -2,10 +2,10 @@
 -- desk"), and what is offered beside the five calls. That each function meets its contract and returns is what the checker proves of it;
 -- these statements begin at the contracts. (Proved in `Delivered`.)
 use mathlib.Core.List.{List}
-use Rattle.calls.specs.Calls.{Call, Reply}
-use Rattle.calls.specs.Replies.{Session}
-use Rattle.calls.specs.Demand2.{Demand-2-always}
-use Rattle.calls.specs.Demand3.{Demand-3-always}
+use Rattle.protocol.specs.Calls.{Call, Reply}
+use Rattle.protocol.specs.Replies.{Session}
+use Rattle.protocol.specs.Demand2.{Demand-2-always}
+use Rattle.protocol.specs.Demand3.{Demand-3-always}
 use Rattle.plan_judge.specs.declared.Desk.{Desk}
 use Rattle.plan_judge.proofs.Claims.Ran.{Ran, Described, Of-the-code}
 use Rattle.plan_judge.proofs.Claims.Demand1.{Demand-1}

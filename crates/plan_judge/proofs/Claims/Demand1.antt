@@ -9,8 +9,8 @@ use mathlib.Core.Bool.{true}
 use lib.Dec.{eqb}
 use contract.Lifetimes.{Lfts}
 use Rattle.logic.specs.Lists.{any}
-use Rattle.calls.specs.Calls.{Call, lent, refuse, Reply, yields}
-use Rattle.calls.specs.Demand1.{listed}
+use Rattle.protocol.specs.Calls.{Call, lent, refuse, Reply, yields}
+use Rattle.protocol.specs.Demand1.{listed}
 use Rattle.plan_judge.specs.declared.Desk.{Desk}
 use Rattle.plan_judge.specs.View.{view}
 use Rattle.plan_judge.proofs.Claims.Ran.{Slice, Answered}

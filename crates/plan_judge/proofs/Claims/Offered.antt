@@ -7,7 +7,7 @@ use mathlib.Core.Option.{Option, none, some}
 use lib.ListN.{length}
 use contract.Lifetimes.{Lfts}
 use Rattle.logic.specs.Verdict.{Verdict, no, yes, yes-plan}
-use Rattle.calls.specs.CCall.{c-call}
+use Rattle.protocol.specs.CCall.{c-call}
 use Rattle.plan_judge.specs.declared.Desk.{Desk}
 use Rattle.plan_judge.specs.View.{view}
 use Rattle.plan_judge.proofs.Claims.Ran.{Slice}

@@ -8,9 +8,9 @@ use mathlib.Core.List.{List, [], _∷_, _++_}
 use contract.Lifetimes.{Lfts}
 use denote.Ref.{RefT}
 use Rattle.blocks.specs.Bytes.{Bytes}
-use Rattle.calls.specs.Calls.{Query, write, check, Call, load, put, judge, query, Reply, says}
-use Rattle.calls.specs.History.{after}
-use Rattle.calls.specs.Replies.{Session}
+use Rattle.protocol.specs.Calls.{Query, write, check, Call, load, put, judge, query, Reply, says}
+use Rattle.protocol.specs.History.{after}
+use Rattle.protocol.specs.Replies.{Session}
 use Rattle.plan_judge.specs.declared.Desk.{Desk}
 use Rattle.plan_judge.specs.declared.Taking.{Taking}
 use Rattle.plan_judge.specs.declared.Judging.{Judging}
@@ -18,7 +18,7 @@ use Rattle.plan_judge.specs.declared.Written.{Written}
 use Rattle.plan_judge.specs.declared.Checking.{Checking}
 use Rattle.plan_judge.specs.View.{view}
 use Rattle.plan_judge.specs.Said.{said-taken, said-judgement, said-written, said-checking}
-use Rattle.calls.specs.Replies.{replies-to}
+use Rattle.protocol.specs.Replies.{replies-to}
 use Rattle.plan_judge.proofs.empty.Reads as empty-reads
 use Rattle.plan_judge.proofs.load.Reads as load-reads
 use Rattle.plan_judge.proofs.put.Reads as put-reads

@@ -8,11 +8,11 @@ use Rattle.models.specs.Layout.{model-of}
 use Rattle.questions.specs.Layout.{question-of}
 use Rattle.plan_judge.specs.View.{view}
 use Rattle.plan_judge.specs.promises.Values.{checking}
-use Rattle.calls.specs.promises.Chains.{check-on}
+use Rattle.protocol.specs.promises.Chains.{check-on}
 use Rattle.plan_judge.specs.promises.State.{held-goal, PlanRoot}
-use Rattle.plan_judge.proofs.Returns.{said-bytes, cut-inside, cut-said}
-use Rattle.plan_judge.proofs.Grounds.{plan-asked}
-use Rattle.plan_judge.proofs.Checks.{check-state, check-past}
+use Rattle.plan_judge.proofs.LoadPutReturn.{said-bytes, cut-inside, cut-said}
+use Rattle.plan_judge.proofs.StateGrounds.{plan-asked}
+use Rattle.plan_judge.proofs.CheckReturns.{check-state, check-past}
 use borrow.Author.Needs.{needs}
 use Rattle.plan_judge.proofs.check.Statement.{statement}
 use Rattle.plan_judge.proofs.check.Tie as tie

@@ -2,30 +2,30 @@ use mathlib.Core.Path.{_≡_, sym, ap, _∙_}
 use Rattle.logic.specs.promises.Refusal.{refusal}
 use Rattle.logic.specs.Limits.{limits}
 use Rattle.models.specs.Layout.{state-count, action-count, prop-count, model-of}
-use Rattle.prepared.specs.promises.Rows.{model-in}
+use Rattle.prepared_model.specs.promises.Rows.{model-in}
 use Rattle.questions.specs.Layout.{start-of, question-of}
-use Rattle.nodes.specs.promises.Shared.{Shared}
-use Rattle.nodes.proofs.Children.{ordered}
+use Rattle.prepared_question.specs.promises.Shared.{Shared}
+use Rattle.prepared_question.proofs.ChildrenBefore.{ordered}
 use Rattle.bounds.specs.promises.Bounded.{meets-at}
 use Rattle.plan_judge.specs.promises.State.{plan-on}
-use Rattle.plan_judge.proofs.Grounds.{root-node}
-use Rattle.plan_judge.proofs.Checks.{on-sheet, check-limited, root-there, root-bounded, limits-there, sheet-asked, sheet-served, check-sheet, weight-fits, check-weight, check-met}
+use Rattle.plan_judge.proofs.StateGrounds.{root-node}
+use Rattle.plan_judge.proofs.CheckReturns.{on-sheet, check-limited, root-there, root-bounded, limits-there, sheet-asked, sheet-served, check-sheet, weight-fits, check-weight, check-met}
 use borrow.Author.Needs.{needs}
 use Rattle.plan_judge.proofs.check_on.Statement.{statement}
 use Rattle.plan_judge.proofs.check_on.Tie as tie
 
 -- The question of the desk is prepared beside the model.
-shared : (c : tie.After-nodes)
+shared : (c : tie.After-prepare-question)
     → let S = c .before .before .before .before .before in
-    let a = c .before .prepare .result in
-    Shared (state-count a) (action-count a) (prop-count a) (S .args .q .now) (c .nodes .result)
-shared c = let S = c .before .before .before .before .before in c .nodes .ensures _ _ _ (sheet-asked (S .args .m .now) (S .args .q .now) (S .pre) (S .args .b .now) (c .before .prepare .ensures))
+    let a = c .before .prepare-model .result in
+    Shared (state-count a) (action-count a) (prop-count a) (S .args .q .now) (c .prepare-question .result)
+shared c = let S = c .before .before .before .before .before in c .prepare-question .ensures _ _ _ (sheet-asked (S .args .m .now) (S .args .q .now) (S .pre) (S .args .b .now) (c .before .prepare-model .ensures))
 
 -- Their limits are those of what is held.
-limited : (c : tie.After-nodes)
+limited : (c : tie.After-prepare-question)
     → let S = c .before .before .before .before .before in
-    refusal (limits (model-in (c .before .prepare .result)) (question-of (c .nodes .result) .nodes)) ≡ refusal (limits (model-of (S .args .m .now)) (question-of (S .args .q .now) .nodes))
-limited c = let S = c .before .before .before .before .before in limits-there (S .args .m .now) (S .args .q .now) (S .pre) (S .args .b .now) (c .before .prepare .ensures) (shared c)
+    refusal (limits (model-in (c .before .prepare-model .result)) (question-of (c .prepare-question .result) .nodes)) ≡ refusal (limits (model-of (S .args .m .now)) (question-of (S .args .q .now) .nodes))
+limited c = let S = c .before .before .before .before .before in limits-there (S .args .m .now) (S .args .q .now) (S .pre) (S .args .b .now) (c .before .prepare-model .ensures) (shared c)
 
 -- Past the limits, and past the grounds of the sheet.
 within : (c : tie.Else1) → let S = c .before .before .before .before .before .before .before .before .before in refusal (limits (model-of (S .args .m .now)) (question-of (S .args .q .now) .nodes)) ≡ 0
@@ -36,14 +36,14 @@ planned : (c : tie.Else2)
     refusal (plan-on (model-of (S .args .m .now)) (root-node (S .args .q .now) .n) (start-of (S .args .q .now)) (S .args .b .now)) ≡ 0
 planned c = sym (c .before .sheet-ground .ensures) ∙ c .if2 .left
 
-prepare-requires : tie.Need-prepare-requires
-prepare-requires c κs = search needs
+prepare-model-requires : tie.Need-prepare-model-requires
+prepare-model-requires c κs = search needs
 
-nodes-requires : tie.Need-nodes-requires
-nodes-requires c κs = ordered _ _ _ _ (c .before .before .before .before .pre .asked)
+prepare-question-requires : tie.Need-prepare-question-requires
+prepare-question-requires c κs = ordered _ _ _ _ (c .before .before .before .before .pre .asked)
 
 limit-refusal-requires : tie.Need-limit-refusal-requires
-limit-refusal-requires c κs = (c .before .before .before .prepare .ensures .prepared, shared (c .before .before) .nodes)
+limit-refusal-requires c κs = (c .before .before .before .prepare-model .ensures .prepared, shared (c .before .before) .nodes)
 
 returns : tie.Need-returns
 returns c = let S = c .before .before .before .before .before .before .before .before .before in
@@ -63,7 +63,7 @@ sheet-weight-requires c κs = let S = c .before .before .before .before .before 
     let m = S .args .m .now in
     let q = S .args .q .now in
     let b = S .args .b .now in
-    let p = N .before .prepare .ensures in
+    let p = N .before .prepare-model .ensures in
     (sheet-served m q (S .pre) b p (shared N) (within (c .before .before .before .before)), root-there m q (S .pre) b p (shared N), on-sheet (model-of m) (root-node q .n) (start-of q) b (planned (c .before .before)) .blocks)
 
 weight-at-requires : tie.Need-weight-at-requires
@@ -73,7 +73,7 @@ returns-3 : tie.Need-returns-3
 returns-3 c = let S = c .before .before .before .before .before .before .before .before .before .before .before .before .before .before .before .before in
     let N = c .before .before .before .before .before .before .before .before .before .before .before in
     let w = c .before .before .sheet-weight in
-    check-weight (S .args .m .now) (S .args .q .now) (S .pre) (S .args .b .now) (within (c .before .before .before .before .before .before .before)) (planned (c .before .before .before .before .before)) (w .result) (N .before .prepare .ensures) (shared N) (w .ensures)
+    check-weight (S .args .m .now) (S .args .q .now) (S .pre) (S .args .b .now) (within (c .before .before .before .before .before .before .before)) (planned (c .before .before .before .before .before)) (w .result) (N .before .prepare-model .ensures) (shared N) (w .ensures)
     (λ z. c .if3 .taken (c .before .weight-at .ensures ∙ z))
 
 slice-aggregate-root : tie.Need-slice-aggregate-root
@@ -88,7 +88,7 @@ meets-requires c κs = let S = c .before .before .before .before .before .before
     let m = S .args .m .now in
     let q = S .args .q .now in
     let b = S .args .b .now in
-    let p = N .before .prepare .ensures in
+    let p = N .before .prepare-model .ensures in
     let w = c .before .before .before .before .before .before .sheet-weight in
     let r = c .before .before .root in
     (root-bounded m q (S .pre) b p (shared N) (r .result) (r .ensures), weight-fits m q (S .pre) b (within (c .before .before .before .before .before .before .before .before .before .before .before)) (planned (c .before .before .before .before .before .before .before .before .before)) (w .result) p (shared N) (w .ensures) (r .result) (r .ensures))
@@ -97,16 +97,16 @@ returns-4 : tie.Need-returns-4
 returns-4 c = let S = c .before .before .before .before .before .before .before .before .before .before .before .before .before .before .before .before .before .before .before .before .before in
     let N = c .before .before .before .before .before .before .before .before .before .before .before .before .before .before .before .before in
     let w = c .before .before .before .before .before .before .before .sheet-weight in
-    check-met (S .args .m .now) (S .args .q .now) (S .pre) (S .args .b .now) (within (c .before .before .before .before .before .before .before .before .before .before .before .before)) (planned (c .before .before .before .before .before .before .before .before .before .before)) (w .result) (N .before .prepare .ensures) (shared N) (w .ensures)
+    check-met (S .args .m .now) (S .args .q .now) (S .pre) (S .args .b .now) (within (c .before .before .before .before .before .before .before .before .before .before .before .before)) (planned (c .before .before .before .before .before .before .before .before .before .before)) (w .result) (N .before .prepare-model .ensures) (shared N) (w .ensures)
     (sym (c .before .before .before .before .before .before .weight-at .ensures) ∙ c .before .before .before .before .before .if3 .left) (c .meets .result)
-    (c .meets .ensures ∙ ap (λ j. meets-at (N .before .prepare .result) (N .nodes .result) j (w .result)) (c .before .before .before .root .ensures))
+    (c .meets .ensures ∙ ap (λ j. meets-at (N .before .prepare-model .result) (N .prepare-question .result) j (w .result)) (c .before .before .before .root .ensures))
 
 pub check-on-spec : {M : Type 1} → statement M
 check-on-spec =
     tie.close
     (tie.spec
-    prepare-requires
-    nodes-requires
+    prepare-model-requires
+    prepare-question-requires
     limit-refusal-requires
     returns
     sheet-ground-requires

@@ -8,10 +8,10 @@ use Rattle.logic.specs.promises.Refusal.{refusal}
 use Rattle.logic.specs.Choices.{read-plan}
 use Rattle.models.specs.Layout.{state-count, model-of}
 use Rattle.models.specs.Grounds.{read-model}
-use Rattle.questions.proofs.Accepted.{accepted}
+use Rattle.questions.proofs.AcceptedFacts.{accepted}
 use Rattle.plan_judge.specs.promises.State.{plan-size}
-use Rattle.plan_judge.proofs.Returns.{said-cut}
-use Rattle.plan_judge.proofs.Writes.{size-choices}
+use Rattle.plan_judge.proofs.LoadPutReturn.{said-cut}
+use Rattle.plan_judge.proofs.WriteReturns.{size-choices}
 use Rattle.plan_judge.proofs.first_size.Statement.{statement}
 use Rattle.plan_judge.proofs.first_size.Tie as tie
 

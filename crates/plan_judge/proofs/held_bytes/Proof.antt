@@ -3,7 +3,7 @@ use mathlib.Core.Path.{sym, ap, _∙_}
 use lib.ListN.{length-take}
 use Rattle.logic.specs.promises.Refusal.{refusal}
 use Rattle.models.specs.Grounds.{read-model}
-use Rattle.plan_judge.proofs.Returns.{said-cut, held-refused, held-whole}
+use Rattle.plan_judge.proofs.LoadPutReturn.{said-cut, held-refused, held-whole}
 use borrow.Author.Needs.{needs}
 use Rattle.plan_judge.proofs.held_bytes.Statement.{statement}
 use Rattle.plan_judge.proofs.held_bytes.Tie as tie

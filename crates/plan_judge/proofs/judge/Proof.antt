@@ -9,16 +9,16 @@ use Rattle.models.specs.Layout.{state-count, action-count, prop-count}
 use Rattle.models.specs.Grounds.{read-model}
 use Rattle.questions.specs.Layout.{question-of}
 use Rattle.questions.specs.Grounds.{read-question}
-use Rattle.nodes.specs.promises.Shared.{Shared}
-use Rattle.nodes.proofs.Children.{ordered}
-use Rattle.prepared.specs.promises.Rows.{model-in, Prepares}
-use Rattle.calls.specs.promises.Chains.{do-judge}
+use Rattle.prepared_question.specs.promises.Shared.{Shared}
+use Rattle.prepared_question.proofs.ChildrenBefore.{ordered}
+use Rattle.prepared_model.specs.promises.Rows.{model-in, Prepares}
+use Rattle.protocol.specs.promises.Chains.{do-judge}
 use Rattle.judging.specs.promises.Announced.{root-verdict}
 use Rattle.plan_judge.specs.View.{view}
 use Rattle.plan_judge.specs.promises.State.{verdict-from}
-use Rattle.plan_judge.proofs.Returns.{said-bytes, cut-inside, cut-said}
-use Rattle.plan_judge.proofs.Grounds.{Both, both}
-use Rattle.plan_judge.proofs.Judges.{verdict-told, choices-told, judge-refused, ground-state, limits-prepared, asked-prepared, served, judge-done}
+use Rattle.plan_judge.proofs.LoadPutReturn.{said-bytes, cut-inside, cut-said}
+use Rattle.plan_judge.proofs.StateGrounds.{Both, both}
+use Rattle.plan_judge.proofs.JudgeReturns.{verdict-told, choices-told, judge-refused, ground-state, limits-prepared, asked-prepared, served, judge-done}
 use borrow.Author.Needs.{needs}
 use Rattle.plan_judge.proofs.judge.Statement.{statement}
 use Rattle.plan_judge.proofs.judge.Tie as tie
@@ -34,26 +34,26 @@ cut c = cut-said (c .before .before .before .before .before .args .d) (search ne
 held : (c : tie.Else1) → Both (c .before .before .args .d)
 held c = both (c .before .before .args .d) (sym (c .before .state-ground .ensures) ∙ c .if1 .left)
 
-both-held : (c : tie.After-prepare) → Both (c .before .before .before .before .before .before .before .args .d)
+both-held : (c : tie.After-prepare-model) → Both (c .before .before .before .before .before .before .before .args .d)
 both-held c = held (c .before .before .before .before .before)
 
-prepared : (c : tie.After-prepare) → Prepares (said-bytes (c .before .before .before .before .before .before .before .args .d)) (c .prepare .result)
-prepared c = subst (λ z. Prepares z (c .prepare .result)) (cut (c .before .before)) (c .prepare .ensures)
+prepared : (c : tie.After-prepare-model) → Prepares (said-bytes (c .before .before .before .before .before .before .before .args .d)) (c .prepare-model .result)
+prepared c = subst (λ z. Prepares z (c .prepare-model .result)) (cut (c .before .before)) (c .prepare-model .ensures)
 
 -- The question of the desk is prepared beside it.
-asked : (c : tie.After-prepare) → let a = c .prepare .result in refusal (read-question (state-count a) (action-count a) (prop-count a) (c .before .before .before .before .before .before .before .args .d .question)) ≡ 0
+asked : (c : tie.After-prepare-model) → let a = c .prepare-model .result in refusal (read-question (state-count a) (action-count a) (prop-count a) (c .before .before .before .before .before .before .before .args .d .question)) ≡ 0
 asked c = asked-prepared (c .before .before .before .before .before .before .before .args .d) (both-held c) (prepared c)
 
-shared : (c : tie.After-nodes)
+shared : (c : tie.After-prepare-question)
     → let P = c .before .before in
-    let a = P .prepare .result in
-    Shared (state-count a) (action-count a) (prop-count a) (P .before .before .before .before .before .before .before .args .d .question) (c .nodes .result)
-shared c = c .nodes .ensures _ _ _ (asked (c .before .before))
+    let a = P .prepare-model .result in
+    Shared (state-count a) (action-count a) (prop-count a) (P .before .before .before .before .before .before .before .args .d .question) (c .prepare-question .result)
+shared c = c .prepare-question .ensures _ _ _ (asked (c .before .before))
 
 -- The limits of what is prepared are those of what is held.
-limited : (c : tie.After-nodes)
+limited : (c : tie.After-prepare-question)
     → let P = c .before .before in
-    refusal (limits (model-in (P .prepare .result)) (question-of (c .nodes .result) .nodes)) ≡ refusal (do-judge (view (P .before .before .before .before .before .before .before .args .d)))
+    refusal (limits (model-in (P .prepare-model .result)) (question-of (c .prepare-question .result) .nodes)) ≡ refusal (do-judge (view (P .before .before .before .before .before .before .before .args .d)))
 limited c = let P = c .before .before in limits-prepared (P .before .before .before .before .before .before .before .args .d) (both-held P) (prepared P) (shared c)
 
 -- Past the limits.
@@ -77,17 +77,17 @@ blocks-end-requires c κs = search needs
 array-share-prefix-m : tie.Need-array-share-prefix-m
 array-share-prefix-m c = inside c
 
-slice-aggregate-prepare : tie.Need-slice-aggregate-prepare
-slice-aggregate-prepare c = sym (length-take-le (c .before .blocks-end .result) (c .before .before .before .before .before .before .args .d .model) (inside (c .before)))
+slice-aggregate-prepare-model : tie.Need-slice-aggregate-prepare-model
+slice-aggregate-prepare-model c = sym (length-take-le (c .before .blocks-end .result) (c .before .before .before .before .before .before .args .d .model) (inside (c .before)))
 
-prepare-requires : tie.Need-prepare-requires
-prepare-requires c κs = ap (λ z. refusal (read-model z)) (cut (c .before)) ∙ held (c .before .before .before .before) .passed
+prepare-model-requires : tie.Need-prepare-model-requires
+prepare-model-requires c κs = ap (λ z. refusal (read-model z)) (cut (c .before)) ∙ held (c .before .before .before .before) .passed
 
 slice-aggregate-nodes : tie.Need-slice-aggregate-nodes
 slice-aggregate-nodes c = search needs
 
-nodes-requires : tie.Need-nodes-requires
-nodes-requires c κs = ordered _ _ _ _ (asked (c .before))
+prepare-question-requires : tie.Need-prepare-question-requires
+prepare-question-requires c κs = ordered _ _ _ _ (asked (c .before))
 
 limit-refusal-requires : tie.Need-limit-refusal-requires
 limit-refusal-requires c κs = let N = c .before .before in (prepared (N .before .before) .prepared, shared N .nodes)
@@ -115,7 +115,7 @@ returns-3 : tie.Need-returns-3
 returns-3 c = let N = c .before .before .before .before .before .before .before .before .before .before in
     let P = N .before .before in
     let d = P .before .before .before .before .before .before .before .args .d in
-    let v = root-verdict (model-in (P .prepare .result)) (N .nodes .result) in
+    let v = root-verdict (model-in (P .prepare-model .result)) (N .prepare-question .result) in
     let o = c .before .before .judged .ensures in
     judge-done d (both-held P) (prepared P) (shared N) (past (c .before .before .before .before .before .before)) _ (o .1 ∙ choices-told v) (c .verdict-of .result) (c .verdict-of .ensures ∙ ap verdict-from (o .0) ∙ verdict-told v)
 
@@ -128,10 +128,10 @@ judge-spec =
     returns
     blocks-end-requires
     array-share-prefix-m
-    slice-aggregate-prepare
-    prepare-requires
+    slice-aggregate-prepare-model
+    prepare-model-requires
     slice-aggregate-nodes
-    nodes-requires
+    prepare-question-requires
     limit-refusal-requires
     turned-away-requires-2
     returns-2

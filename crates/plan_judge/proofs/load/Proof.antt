@@ -1,5 +1,5 @@
 use mathlib.Core.Path.{sym, _∙_}
-use Rattle.plan_judge.proofs.Returns.{padded-copy, load-refused, load-fits, load-done}
+use Rattle.plan_judge.proofs.LoadPutReturn.{padded-copy, load-refused, load-fits, load-done}
 use borrow.Author.Needs.{needs}
 use Rattle.plan_judge.proofs.load.Statement.{statement}
 use Rattle.plan_judge.proofs.load.Tie as tie

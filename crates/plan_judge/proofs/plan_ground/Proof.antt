@@ -4,7 +4,7 @@ use borrow.Author.Needs.{needs}
 use borrow.Author.Tests.{eqb-true, eqb-false}
 use Rattle.plan_judge.specs.View.{view}
 use Rattle.plan_judge.specs.promises.State.{held-both, held-goal}
-use Rattle.plan_judge.proofs.Grounds.{bind-refused, both, no-plan, a-plan}
+use Rattle.plan_judge.proofs.StateGrounds.{bind-refused, both, no-plan, a-plan}
 use Rattle.plan_judge.proofs.plan_ground.Statement.{statement}
 use Rattle.plan_judge.proofs.plan_ground.Tie as tie
 

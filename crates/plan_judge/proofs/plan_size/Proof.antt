@@ -2,7 +2,7 @@
 use mathlib.Core.Path.{sym, _∙_}
 use borrow.Author.Needs.{needs}
 use Rattle.models.specs.Layout.{model-of}
-use Rattle.plan_judge.proofs.Sizes.{size-at, size-none}
+use Rattle.plan_judge.proofs.SizeOfPlan.{size-at, size-none}
 use Rattle.plan_judge.proofs.plan_size.Statement.{statement}
 use Rattle.plan_judge.proofs.plan_size.Tie as tie
 

@@ -1,5 +1,5 @@
 use mathlib.Core.Path.{sym, _∙_}
-use Rattle.plan_judge.proofs.Returns.{padded-copy, put-unheld, put-refused, put-fits, put-done}
+use Rattle.plan_judge.proofs.LoadPutReturn.{padded-copy, put-unheld, put-refused, put-fits, put-done}
 use borrow.Author.Needs.{needs}
 use Rattle.plan_judge.proofs.put.Statement.{statement}
 use Rattle.plan_judge.proofs.put.Tie as tie

@@ -7,10 +7,10 @@ use lib.Seq.{length-take-le}
 use borrow.Author.Needs.{needs}
 use Rattle.logic.specs.promises.Refusal.{refusal}
 use Rattle.models.specs.Layout.{model-of}
-use Rattle.questions.proofs.Accepted.{accepted}
-use Rattle.sheets.proofs.Laws.{sheet-passed}
+use Rattle.questions.proofs.AcceptedFacts.{accepted}
+use Rattle.sheets.proofs.BlockTests.{sheet-passed}
 use Rattle.plan_judge.specs.promises.State.{plan-on}
-use Rattle.plan_judge.proofs.Checks.{sheet-refused, gathered}
+use Rattle.plan_judge.proofs.CheckReturns.{sheet-refused, gathered}
 use Rattle.plan_judge.proofs.sheet_ground.Statement.{statement}
 use Rattle.plan_judge.proofs.sheet_ground.Tie as tie
 

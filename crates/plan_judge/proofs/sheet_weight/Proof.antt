@@ -4,9 +4,9 @@ use mathlib.Core.Path.{sym, subst}
 use lib.ListN.{length}
 use lib.Seq.{length-take-le}
 use Rattle.sheets.specs.Layout.{sheet-of}
-use Rattle.prepared.specs.promises.Rows.{model-in}
+use Rattle.prepared_model.specs.promises.Rows.{model-in}
 use Rattle.judging.specs.promises.Announced.{Weighs}
-use Rattle.plan_judge.proofs.Checks.{gathered-are}
+use Rattle.plan_judge.proofs.CheckReturns.{gathered-are}
 use borrow.Author.Needs.{needs}
 use Rattle.plan_judge.proofs.sheet_weight.Statement.{statement}
 use Rattle.plan_judge.proofs.sheet_weight.Tie as tie

@@ -1,6 +1,6 @@
 -- Where a ground of the state applies, no plan is shown.
 use mathlib.Core.Path.{_∙_}
-use Rattle.plan_judge.proofs.Writes.{not-shown}
+use Rattle.plan_judge.proofs.WriteReturns.{not-shown}
 use borrow.Author.Needs.{needs}
 use Rattle.plan_judge.proofs.shown_choices.Statement.{statement}
 use Rattle.plan_judge.proofs.shown_choices.Tie as tie

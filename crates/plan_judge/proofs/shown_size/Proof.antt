@@ -5,8 +5,8 @@ use borrow.Author.Needs.{needs}
 use borrow.Author.Tests.{not-true, not-false}
 use Rattle.plan_judge.specs.View.{verdict-in}
 use Rattle.plan_judge.specs.promises.State.{shown-size}
-use Rattle.plan_judge.proofs.Grounds.{plan-asked}
-use Rattle.plan_judge.proofs.Writes.{verdict-is, shown-found}
+use Rattle.plan_judge.proofs.StateGrounds.{plan-asked}
+use Rattle.plan_judge.proofs.WriteReturns.{verdict-is, shown-found}
 use Rattle.plan_judge.proofs.shown_size.Statement.{statement}
 use Rattle.plan_judge.proofs.shown_size.Tie as tie
 

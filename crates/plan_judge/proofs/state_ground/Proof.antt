@@ -3,7 +3,7 @@ use mathlib.Core.Path.{sym, ap, _∙_}
 use borrow.Author.Needs.{needs}
 use borrow.Author.Tests.{not-true, not-false}
 use Rattle.logic.specs.promises.Refusal.{refusal}
-use Rattle.plan_judge.proofs.Grounds.{no-model, not-asked, not-accepted, both-here, both-held}
+use Rattle.plan_judge.proofs.StateGrounds.{no-model, not-asked, not-accepted, both-here, both-held}
 use Rattle.plan_judge.proofs.state_ground.Statement.{statement}
 use Rattle.plan_judge.proofs.state_ground.Tie as tie
 

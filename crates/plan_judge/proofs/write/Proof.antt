@@ -11,14 +11,14 @@ use Rattle.logic.specs.Choices.{read-plan}
 use Rattle.models.specs.Layout.{state-count, model-of}
 use Rattle.models.specs.Grounds.{read-model}
 use Rattle.questions.specs.Layout.{start-of, node-count, node-of}
-use Rattle.questions.proofs.Accepted.{accepted}
+use Rattle.questions.proofs.AcceptedFacts.{accepted}
 use Rattle.sheets.specs.promises.Ends.{end-of}
 use Rattle.sheets.specs.Layout.{blocks-for, sheet-bytes}
 use Rattle.plan_judge.specs.View.{view}
 use Rattle.plan_judge.specs.promises.State.{held-goal}
-use Rattle.plan_judge.proofs.Returns.{said-bytes, cut-inside, cut-said}
-use Rattle.plan_judge.proofs.Grounds.{plan-asked}
-use Rattle.plan_judge.proofs.Writes.{choices-read, found-shown, write-state, write-none, count-few, write-short, write-done}
+use Rattle.plan_judge.proofs.LoadPutReturn.{said-bytes, cut-inside, cut-said}
+use Rattle.plan_judge.proofs.StateGrounds.{plan-asked}
+use Rattle.plan_judge.proofs.WriteReturns.{choices-read, found-shown, write-state, write-none, count-few, write-short, write-done}
 use Rattle.plan_judge.proofs.write.Statement.{statement}
 use Rattle.plan_judge.proofs.write.Tie as tie
 

@@ -14,7 +14,7 @@ use Rattle.blocks.specs.Bytes.{Bytes}
 use Rattle.models.specs.Grounds.{read-model}
 use Rattle.questions.specs.Layout.{Question}
 use Rattle.sheets.specs.Layout.{sheet-bytes}
-use Rattle.calls.specs.Calls.{question-for}
+use Rattle.protocol.specs.Calls.{question-for}
 
 -- What is told of a question that is not refused: yes or no, and the bytes of the sheet that is written; none where no plan is shown.
 pub record Told : Type 0 where

@@ -4,8 +4,8 @@ use mathlib.Core.Bool.{true}
 use Rattle.logic.specs.Checked.{Checked, ok, _>>=_}
 use Rattle.logic.specs.promises.Refusal.{held}
 use Rattle.blocks.specs.Bytes.{Bytes}
-use Rattle.calls.specs.Calls.{Held, question-for}
-use Rattle.calls.specs.promises.Chains.{do-write}
+use Rattle.protocol.specs.Calls.{Held, question-for}
+use Rattle.protocol.specs.promises.Chains.{do-write}
 use Rattle.plan_judge.specs.promises.CChain.{Told, told-on}
 
 unfoldable pub told-put : Held → Bytes → ℕ → Checked Told

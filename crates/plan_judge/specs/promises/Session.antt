@@ -2,8 +2,8 @@
 -- contract the value of `Values`.
 use mathlib.Core.List.{List, [], _∷_}
 use lib.ListN.{length}
-use Rattle.calls.specs.Calls.{Query, write, check, Call, load, put, judge, query, Reply, says}
-use Rattle.calls.specs.Replies.{Session}
+use Rattle.protocol.specs.Calls.{Query, write, check, Call, load, put, judge, query, Reply, says}
+use Rattle.protocol.specs.Replies.{Session}
 use Rattle.plan_judge.specs.declared.Desk.{Desk}
 use Rattle.plan_judge.specs.View.{view}
 use Rattle.plan_judge.specs.Said.{said-taken, said-judgement, said-written, said-checking}

@@ -20,7 +20,7 @@ use Rattle.models.specs.Grounds.{read-model}
 use Rattle.questions.specs.Layout.{Question, node-count, node-of}
 use Rattle.questions.specs.Grounds.{read-question}
 use Rattle.sheets.specs.Grounds.{read-sheet}
-use Rattle.calls.specs.Calls.{Held}
+use Rattle.protocol.specs.Calls.{Held}
 use Rattle.judging.specs.declared.Outcome.{Outcome}
 use Rattle.plan_judge.specs.declared.Verdict.{Verdict}
 use Rattle.plan_judge.specs.declared.Verdict.the-variants.{No, Yes, YesPlan}

@@ -8,8 +8,8 @@ use Rattle.logic.specs.Verdict as logic
 use Rattle.logic.specs.Formula.{nonnegative}
 use Rattle.blocks.specs.Bytes.{Bytes}
 use Rattle.models.specs.Grounds.{read-model}
-use Rattle.calls.specs.Calls.{Report}
-use Rattle.calls.specs.promises.Chains.{do-put, do-judge, do-write, do-check}
+use Rattle.protocol.specs.Calls.{Report}
+use Rattle.protocol.specs.promises.Chains.{do-put, do-judge, do-write, do-check}
 use Rattle.plan_judge.specs.declared.Desk.{Desk}
 use Rattle.plan_judge.specs.declared.Taken.the-variants.{Done, Refused}
 use Rattle.plan_judge.specs.declared.Taking.{Taking}

@@ -4,8 +4,8 @@ use Prim.Native.Nat.{ℕ}
 use contract.Lifetimes.{Lfts}
 use denote.Ref.{RefT}
 use Rattle.blocks.specs.Bytes.{Bytes}
-use Rattle.lines.specs.Text.{Put}
-use Rattle.lines.specs.Line.{printed}
+use Rattle.verdict_line.specs.Text.{Put}
+use Rattle.verdict_line.specs.Line.{printed}
 use Rattle.printing.proofs.answer.Reads as answer-reads
 
 pub record Answer-printed : Type 0 where

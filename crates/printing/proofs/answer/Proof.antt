@@ -4,8 +4,8 @@ use mathlib.Core.Path.{sym}
 use Prim.Native.Nat.{_-_}
 use lib.ListN.{length}
 use lib.Seq.{length-take-le}
-use Rattle.printing.proofs.Told.{put-as}
-use Rattle.printing.proofs.Inputs.{too-short, too-long, both-parts}
+use Rattle.printing.proofs.CutToShown.{put-as}
+use Rattle.printing.proofs.LineByLength.{too-short, too-long, both-parts}
 use borrow.Author.Needs.{needs}
 use Rattle.printing.proofs.answer.Statement.{statement}
 use Rattle.printing.proofs.answer.Tie as tie

@@ -2,9 +2,9 @@
 use mathlib.Core.Path.{_≡_, sym, ap}
 use lib.ListN.{length}
 use lib.Seq.{length-take-le}
-use Rattle.lines.specs.promises.Chain.{line-of}
-use Rattle.printing.proofs.Desks.{judge-refused}
-use Rattle.printing.proofs.Told.{put-as, Printable, printable}
+use Rattle.verdict_line.specs.promises.Chain.{line-of}
+use Rattle.printing.proofs.LineAfterCall.{judge-refused}
+use Rattle.printing.proofs.CutToShown.{put-as, Printable, printable}
 use borrow.Author.Needs.{needs}
 use Rattle.printing.proofs.judging_line.Statement.{statement}
 use Rattle.printing.proofs.judging_line.Tie as tie

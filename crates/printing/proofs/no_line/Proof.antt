@@ -1,6 +1,6 @@
 -- By the root.
 use mathlib.Core.Path.{sym, _∙_}
-use Rattle.lines.specs.Line.{no-plans-line, plain-line}
+use Rattle.verdict_line.specs.Line.{no-plans-line, plain-line}
 use borrow.Author.Needs.{needs}
 use Rattle.printing.proofs.no_line.Statement.{statement}
 use Rattle.printing.proofs.no_line.Tie as tie

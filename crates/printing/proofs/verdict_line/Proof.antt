@@ -1,7 +1,7 @@
 -- The line of each case of the verdict.
 use mathlib.Core.Path.{sym, subst}
 use Prim.Native.Nat.{_≤_}
-use Rattle.lines.specs.Line.{yes-plan-line}
+use Rattle.verdict_line.specs.Line.{yes-plan-line}
 use Rattle.printing.specs.promises.Printed.{shown-line, shown-steps}
 use borrow.Author.Needs.{needs}
 use Rattle.printing.proofs.verdict_line.Statement.{statement}

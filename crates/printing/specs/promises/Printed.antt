@@ -14,8 +14,8 @@ use Rattle.blocks.specs.Bytes.{Bytes}
 use Rattle.models.specs.Layout.{denominator-of, model-of}
 use Rattle.models.specs.Grounds.{read-model}
 use Rattle.questions.specs.Layout.{Question, node-of, node-count}
-use Rattle.calls.specs.Calls.{load, put, question-for}
-use Rattle.lines.specs.Line.{plain-line, no-plans-line, yes-plan-line, verdict-line}
+use Rattle.protocol.specs.Calls.{load, put, question-for}
+use Rattle.verdict_line.specs.Line.{plain-line, no-plans-line, yes-plan-line, verdict-line}
 use Rattle.plan_judge.specs.declared.Desk.{Desk}
 use Rattle.plan_judge.specs.declared.Verdict.{Verdict}
 use Rattle.plan_judge.specs.declared.Verdict.the-variants.{No, Yes, YesPlan}

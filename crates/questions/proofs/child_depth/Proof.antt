@@ -1,5 +1,5 @@
 -- The first i places hold the child, or it is not before node i.
-use Rattle.questions.proofs.Laws.{read-below, read-beyond}
+use Rattle.questions.proofs.TableNodeByNode.{read-below, read-beyond}
 use borrow.Author.Needs.{needs}
 use Rattle.questions.proofs.child_depth.Statement.{statement}
 use Rattle.questions.proofs.child_depth.Tie as tie

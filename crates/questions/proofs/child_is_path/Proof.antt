@@ -1,6 +1,6 @@
 -- The first i places hold the child, or it is not before node i.
 use mathlib.Core.Bool.{false}
-use Rattle.questions.proofs.Laws.{read-below, read-beyond}
+use Rattle.questions.proofs.TableNodeByNode.{read-below, read-beyond}
 use borrow.Author.Needs.{needs}
 use Rattle.questions.proofs.child_is_path.Statement.{statement}
 use Rattle.questions.proofs.child_is_path.Tie as tie

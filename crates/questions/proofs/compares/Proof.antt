@@ -3,7 +3,7 @@ use mathlib.Core.Path.{_≡_, sym, ap, _∙_}
 use Rattle.blocks.specs.Bytes.{within}
 use Rattle.questions.specs.Layout.{node-of}
 use Rattle.questions.specs.Grounds.{compares}
-use Rattle.questions.proofs.Laws.{both-tests, first-fails}
+use Rattle.questions.proofs.TableNodeByNode.{both-tests, first-fails}
 use borrow.Author.Needs.{needs}
 use Rattle.questions.proofs.compares.Statement.{statement}
 use Rattle.questions.proofs.compares.Tie as tie

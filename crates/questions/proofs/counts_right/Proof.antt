@@ -4,7 +4,7 @@ use mathlib.Core.Path.{ap, subst, _∙_}
 use lib.Dec.{ltb}
 use borrow.Author.Tests.{lt-ltb, le-ltb}
 use Rattle.blocks.specs.Bytes.{within}
-use Rattle.questions.proofs.Laws.{both-tests, first-fails}
+use Rattle.questions.proofs.TableNodeByNode.{both-tests, first-fails}
 use borrow.Author.Needs.{needs}
 use Rattle.questions.proofs.counts_right.Statement.{statement}
 use Rattle.questions.proofs.counts_right.Tie as tie

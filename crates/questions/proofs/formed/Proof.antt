@@ -5,7 +5,7 @@ use mathlib.Core.Path.{sym, ap, _∙_}
 use mathlib.Core.Bool.{not}
 use Rattle.questions.specs.Layout.{question-of}
 use Rattle.questions.specs.Grounds.{formed}
-use Rattle.questions.proofs.Laws.{both-tests, first-fails}
+use Rattle.questions.proofs.TableNodeByNode.{both-tests, first-fails}
 use borrow.Author.Needs.{needs}
 use Rattle.questions.proofs.formed.Statement.{statement}
 use Rattle.questions.proofs.formed.Tie as tie

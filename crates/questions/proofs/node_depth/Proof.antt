@@ -7,9 +7,9 @@ use lib.ListN.{getD}
 use Rattle.logic.specs.Formula.{never, depth}
 use Rattle.questions.specs.Layout.{node-of}
 use Rattle.questions.specs.promises.Tables.{formulas-before}
-use Rattle.questions.proofs.Laws.{child-value}
-use Rattle.questions.proofs.Rows.{row-3, row-4, row-5, row-6, row-7, other-row}
-use Rattle.questions.proofs.Depths.{depth-bound}
+use Rattle.questions.proofs.TableNodeByNode.{child-value}
+use Rattle.questions.proofs.FormulaByOperator.{row-3, row-4, row-5, row-6, row-7, other-row}
+use Rattle.questions.proofs.DepthsSmall.{depth-bound}
 use borrow.Author.Needs.{needs}
 use Rattle.questions.proofs.node_depth.Statement.{statement}
 use Rattle.questions.proofs.node_depth.Tie as tie

@@ -1,4 +1,4 @@
-use Rattle.questions.proofs.Laws.{both-tests, first-fails, other-in-range}
+use Rattle.questions.proofs.TableNodeByNode.{both-tests, first-fails, other-in-range}
 -- Each arm answers its operator's row of the table; the other numbers have no row.
 use mir.Syntax.{w32}
 use mir.Val.{toZ, ofZ}

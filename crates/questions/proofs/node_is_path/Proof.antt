@@ -6,8 +6,8 @@ use lib.ListN.{getD}
 use Rattle.logic.specs.Formula.{never, is-path}
 use Rattle.questions.specs.Layout.{node-of}
 use Rattle.questions.specs.promises.Tables.{formulas-before}
-use Rattle.questions.proofs.Laws.{child-value, either-first}
-use Rattle.questions.proofs.Rows.{row-3, row-4, row-5, row-6, row-7, other-row}
+use Rattle.questions.proofs.TableNodeByNode.{child-value, either-first}
+use Rattle.questions.proofs.FormulaByOperator.{row-3, row-4, row-5, row-6, row-7, other-row}
 use borrow.Author.Needs.{needs}
 use Rattle.questions.proofs.node_is_path.Statement.{statement}
 use Rattle.questions.proofs.node_is_path.Tie as tie

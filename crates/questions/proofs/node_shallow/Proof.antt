@@ -6,8 +6,8 @@ use lib.ListN.{getD}
 use Rattle.logic.specs.Formula.{never, depth, shallow}
 use Rattle.questions.specs.Layout.{node-of, node-count}
 use Rattle.questions.specs.promises.Tables.{formulas-before, table}
-use Rattle.questions.proofs.Laws.{child-value, all-before, formula-here}
-use Rattle.questions.proofs.Rows.{row-8, other-shallow}
+use Rattle.questions.proofs.TableNodeByNode.{child-value, all-before, formula-here}
+use Rattle.questions.proofs.FormulaByOperator.{row-8, other-shallow}
 use borrow.Author.Needs.{needs}
 use Rattle.questions.proofs.node_shallow.Statement.{statement}
 use Rattle.questions.proofs.node_shallow.Tie as tie

@@ -6,7 +6,7 @@ use mathlib.Core.Bool.{_&&_}
 use Rattle.blocks.specs.Bytes.{byte, zeros}
 use Rattle.questions.specs.Layout.{node-at, node-of}
 use Rattle.questions.specs.Grounds.{node-spare}
-use Rattle.questions.proofs.Laws.{both-tests, first-fails, spare-all, other-spare}
+use Rattle.questions.proofs.TableNodeByNode.{both-tests, first-fails, spare-all, other-spare}
 use borrow.Author.Needs.{needs}
 use Rattle.questions.proofs.node_spare.Statement.{statement}
 use Rattle.questions.proofs.node_spare.Tie as tie

@@ -11,7 +11,7 @@ use Rattle.logic.specs.Lists.{every}
 use Rattle.logic.specs.Formula.{never, shallow}
 use Rattle.logic.proofs.Tests.{every-false}
 use Rattle.questions.specs.Layout.{node-count, formulas-of}
-use Rattle.questions.proofs.Rows.{all-shallow}
+use Rattle.questions.proofs.FormulaByOperator.{all-shallow}
 use Rattle.questions.proofs.nodes_shallow.Statement.{statement}
 use Rattle.questions.proofs.nodes_shallow.Tie as tie
 

@@ -1,6 +1,6 @@
 -- The cells right, p and q stand side by side, so one test of nine bytes is a test of each.
 use mathlib.Core.Path.{sym, _∙_}
-use Rattle.questions.proofs.Laws.{spare-right}
+use Rattle.questions.proofs.TableNodeByNode.{spare-right}
 use borrow.Author.Needs.{needs}
 use Rattle.questions.proofs.only_left.Statement.{statement}
 use Rattle.questions.proofs.only_left.Tie as tie

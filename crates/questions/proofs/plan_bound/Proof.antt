@@ -13,7 +13,7 @@ use mir.Val.{toZ, ofZ}
 use mir.ValLaws.{toZ-pos}
 use Rattle.blocks.specs.Bytes.{within}
 use Rattle.questions.specs.Grounds.{plan-bound}
-use Rattle.questions.proofs.Laws.{within-most}
+use Rattle.questions.proofs.TableNodeByNode.{within-most}
 use borrow.Author.Needs.{needs}
 use Rattle.questions.proofs.plan_bound.Statement.{statement}
 use Rattle.questions.proofs.plan_bound.Tie as tie

@@ -10,7 +10,7 @@ use Rattle.blocks.specs.Bytes.{within}
 use Rattle.blocks.specs.Block.{whole-blocks, sums-right, headed}
 use Rattle.questions.specs.Layout.{start-of, node-count, node-of, question-of}
 use Rattle.questions.specs.Grounds.{node-in-range, spare-zero, formed, read-question}
-use Rattle.questions.proofs.Laws.{one-block, within-least, within-most}
+use Rattle.questions.proofs.TableNodeByNode.{one-block, within-least, within-most}
 use Rattle.questions.proofs.question_refusal.Statement.{statement}
 use Rattle.questions.proofs.question_refusal.Tie as tie
 

@@ -8,7 +8,7 @@ use mathlib.Core.Bool.{false}
 use lib.ListN.{getD}
 use Rattle.logic.specs.Formula.{is-path}
 use Rattle.questions.specs.Layout.{node-count, formulas-of, question-of}
-use Rattle.questions.proofs.Laws.{table-at}
+use Rattle.questions.proofs.TableNodeByNode.{table-at}
 use borrow.Author.Needs.{needs}
 use Rattle.questions.proofs.root_is_path.Statement.{statement}
 use Rattle.questions.proofs.root_is_path.Tie as tie

@@ -9,8 +9,8 @@ use borrow.Rule.Slice.PartMut.{same-len-mid}
 use Rattle.logic.specs.Lists.{count-from}
 use Rattle.blocks.specs.Block.{block-count}
 use Rattle.sheets.specs.Layout.{choices-of, sheet-of}
-use Rattle.sheets.proofs.Pieces.{pieces}
-use Rattle.sheets.proofs.Laws.{whole-says, block-says, gather-more}
+use Rattle.sheets.proofs.PiecesInOrder.{pieces}
+use Rattle.sheets.proofs.BlockTests.{whole-says, block-says, gather-more}
 use Rattle.sheets.proofs.gather.Statement.{statement}
 use Rattle.sheets.proofs.gather.Tie as tie
 

@@ -1,7 +1,7 @@
 -- What is remembered is the best total, and a search finds it where nothing is remembered.
 use native.Mathlib.Omega.{arith}
 use mathlib.Core.Path.{refl}
-use Rattle.judging.proofs.Remembering.{best-fits, place-in, recalled, remembers-more}
+use Rattle.judging.proofs.BestTotals.{best-fits, place-in, recalled, remembers-more}
 use borrow.Author.Needs.{needs}
 use Rattle.judging.proofs.conditions.best_value.Statement.{statement}
 use Rattle.judging.proofs.conditions.best_value.Tie as tie

@@ -1,7 +1,7 @@
 -- The invariant: the node reached means the same as c, and r is what is left of it.
 use borrow.Author.Tests.{not-true, ltb-true}
 use Rattle.judging.specs.promises.Conditions.{Peels}
-use Rattle.judging.proofs.Peeling.{Alike, alike-itself, alike-on, peels-on}
+use Rattle.judging.proofs.PeeledMeaning.{Alike, alike-itself, alike-on, peels-on}
 use Rattle.judging.proofs.conditions.peel.Statement.{statement}
 use Rattle.judging.proofs.conditions.peel.Tie as tie
 use Rattle.judging.proofs.conditions.peel.Reads as reads

@@ -1,6 +1,6 @@
 -- A state formula that c joins is read in the table.
 use mathlib.Core.Path.{sym, _∙_}
-use Rattle.judging.proofs.Peeling.{peels-none, peels-left, peels-right}
+use Rattle.judging.proofs.PeeledMeaning.{peels-none, peels-left, peels-right}
 use borrow.Author.Needs.{needs}
 use Rattle.judging.proofs.conditions.peel_one.Statement.{statement}
 use Rattle.judging.proofs.conditions.peel_one.Tie as tie
@@ -10,7 +10,7 @@ use Rattle.blocks.proofs.byte.Reads as byte-reads
 use Rattle.questions.proofs.left.Reads as left-reads
 use Rattle.questions.proofs.operator.Reads as operator-reads
 use Rattle.questions.proofs.right.Reads as right-reads
-use Rattle.tables.proofs.place.Reads as place-reads
+use Rattle.relevance.proofs.place.Reads as place-reads
 
 operator-requires : tie.Need-operator-requires
 operator-requires c κs = search needs

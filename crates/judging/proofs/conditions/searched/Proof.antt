@@ -4,16 +4,16 @@ use native.Mathlib.Omega.{arith}
 use mathlib.Core.Path.{refl, sym, ap, _∙_}
 use lib.Seq.{length-take-le}
 use Rattle.logic.specs.Formula.{depth}
-use Rattle.nodes.specs.promises.Nodes.{formula}
-use Rattle.judging.proofs.Remembering.{looks, ready, finds}
+use Rattle.prepared_question.specs.promises.Nodes.{formula}
+use Rattle.judging.proofs.BestTotals.{looks, ready, finds}
 use borrow.Author.Needs.{needs}
 use Rattle.judging.proofs.conditions.searched.Statement.{statement}
 use Rattle.judging.proofs.conditions.searched.Tie as tie
 use Rattle.judging.proofs.conditions.searched.Reads as reads
 use Rattle.judging.proofs.conditions.searched.Lts as lts
-use Rattle.nodes.proofs.depth.Reads as depth-reads
-use Rattle.search.proofs.find.Reads as find-reads
-use Rattle.tables.proofs.cone.Reads as cone-reads
+use Rattle.prepared_question.proofs.depth.Reads as depth-reads
+use Rattle.best_plan.proofs.find.Reads as find-reads
+use Rattle.relevance.proofs.cone.Reads as cone-reads
 
 depth-requires : tie.Need-depth-requires
 depth-requires c κs = search needs

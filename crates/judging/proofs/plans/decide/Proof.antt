@@ -1,5 +1,5 @@
 -- By the relation, one search or the other.
-use Rattle.judging.proofs.Posing.{asked-equal, asked-other}
+use Rattle.judging.proofs.SearchHanded.{asked-equal, asked-other}
 use borrow.Author.Needs.{needs}
 use Rattle.judging.proofs.plans.decide.Statement.{statement}
 use Rattle.judging.proofs.plans.decide.Tie as tie
@@ -7,7 +7,7 @@ use Rattle.judging.proofs.plans.decide.Reads as reads
 use Rattle.judging.proofs.plans.decide.Lts as lts
 use Rattle.judging.proofs.plans.first.Reads as first-reads
 use Rattle.judging.proofs.plans.led.Reads as led-reads
-use Rattle.nodes.proofs.asks_equal.Reads as asks-equal-reads
+use Rattle.prepared_question.proofs.asks_equal.Reads as asks-equal-reads
 
 asks-equal-requires : tie.Need-asks-equal-requires
 asks-equal-requires c κs = search needs

@@ -7,24 +7,24 @@ use lib.Seq.{length-take-le}
 use borrow.Author.Tests.{not-true, not-false}
 use Rattle.logic.specs.Formula.{depth}
 use Rattle.logic.specs.Limits.{plan-total}
-use Rattle.prepared.specs.promises.Rows.{model-in}
+use Rattle.prepared_model.specs.promises.Rows.{model-in}
 use Rattle.questions.specs.Layout.{node-of}
-use Rattle.nodes.specs.promises.Nodes.{formula}
-use Rattle.equal.proofs.Serving.{counts-right}
-use Rattle.judging.proofs.Deciding.{few-plans, counted-plans}
-use Rattle.judging.proofs.Posing.{planned, bounded, before, looks, ready, placed-never, placed-at}
+use Rattle.prepared_question.specs.promises.Nodes.{formula}
+use Rattle.exact_plan.proofs.CountsBelowCap.{counts-right}
+use Rattle.judging.proofs.SearchDecides.{few-plans, counted-plans}
+use Rattle.judging.proofs.SearchHanded.{planned, bounded, before, looks, ready, placed-never, placed-at}
 use borrow.Author.Needs.{needs}
 use Rattle.judging.proofs.plans.first.Statement.{statement}
 use Rattle.judging.proofs.plans.first.Tie as tie
 use Rattle.judging.proofs.plans.first.Reads as reads
 use Rattle.judging.proofs.plans.first.Lts as lts
 use Rattle.bounds.proofs.exact_total.Reads as exact-total-reads
-use Rattle.equal.proofs.first_equal.Reads as first-equal-reads
+use Rattle.exact_plan.proofs.first_equal.Reads as first-equal-reads
 use Rattle.limits.proofs.plans_counted.Reads as plans-counted-reads
-use Rattle.nodes.proofs.depth.Reads as depth-reads
-use Rattle.nodes.proofs.left.Reads as left-reads
-use Rattle.nodes.proofs.steps.Reads as steps-reads
-use Rattle.tables.proofs.cone.Reads as cone-reads
+use Rattle.prepared_question.proofs.depth.Reads as depth-reads
+use Rattle.prepared_question.proofs.left.Reads as left-reads
+use Rattle.prepared_question.proofs.steps.Reads as steps-reads
+use Rattle.relevance.proofs.cone.Reads as cone-reads
 
 -- The table's number of plans is their number.
 number : (S : tie.Start) {x n : ℕ} → x ≡ getD (S .args .counts .now) (32 * n + S .args .s) 0 → n ≡ (node-of (S .args .q .now) (S .args .j)) .n

@@ -1,5 +1,5 @@
 -- What the search finds is the best plan of the condition's depth; over all steps its total is led-weight.
-use Rattle.judging.proofs.Posing.{bounded, stands-there, few-there, found-small, found-led}
+use Rattle.judging.proofs.SearchHanded.{bounded, stands-there, few-there, found-small, found-led}
 use borrow.Author.Needs.{needs}
 use Rattle.judging.proofs.plans.led.Statement.{statement}
 use Rattle.judging.proofs.plans.led.Tie as tie
@@ -8,8 +8,8 @@ use Rattle.judging.proofs.plans.led.Lts as lts
 use Rattle.bounds.proofs.meets.Reads as meets-reads
 use Rattle.judging.proofs.conditions.searched.Reads as searched-reads
 use Rattle.judging.proofs.plans.over_all_steps.Reads as over-all-steps-reads
-use Rattle.nodes.proofs.asks_less.Reads as asks-less-reads
-use Rattle.nodes.proofs.left.Reads as left-reads
+use Rattle.prepared_question.proofs.asks_less.Reads as asks-less-reads
+use Rattle.prepared_question.proofs.left.Reads as left-reads
 
 left-requires : tie.Need-left-requires
 left-requires c κs = search needs

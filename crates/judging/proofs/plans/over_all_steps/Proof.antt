@@ -1,19 +1,19 @@
 -- The condition looks at most as far ahead as the node has steps, and its total fits over all of them.
 use native.Mathlib.Omega.{arith}
 use native.Mathlib.Nat.{lt-of-le-of-lt}
-use Rattle.bounds.proofs.Meeting.{small}
-use Rattle.judging.proofs.Deciding.{plan-bounded}
-use Rattle.judging.proofs.Posing.{looks-there, power-fits, lengthened}
+use Rattle.bounds.proofs.ProductsFit.{small}
+use Rattle.judging.proofs.SearchDecides.{plan-bounded}
+use Rattle.judging.proofs.SearchHanded.{looks-there, power-fits, lengthened}
 use borrow.Author.Needs.{needs}
 use Rattle.judging.proofs.plans.over_all_steps.Statement.{statement}
 use Rattle.judging.proofs.plans.over_all_steps.Tie as tie
 use Rattle.judging.proofs.plans.over_all_steps.Reads as reads
 use Rattle.judging.proofs.plans.over_all_steps.Lts as lts
 use Rattle.bounds.proofs.power.Reads as power-reads
-use Rattle.nodes.proofs.depth.Reads as depth-reads
-use Rattle.nodes.proofs.left.Reads as left-reads
-use Rattle.nodes.proofs.steps.Reads as steps-reads
-use Rattle.prepared.proofs.denominator.Reads as denominator-reads
+use Rattle.prepared_question.proofs.depth.Reads as depth-reads
+use Rattle.prepared_question.proofs.left.Reads as left-reads
+use Rattle.prepared_question.proofs.steps.Reads as steps-reads
+use Rattle.prepared_model.proofs.denominator.Reads as denominator-reads
 
 left-requires : tie.Need-left-requires
 left-requires c κs = search needs

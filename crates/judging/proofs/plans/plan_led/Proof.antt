@@ -1,6 +1,6 @@
 -- What is left of the condition has its best total; where nothing is left that total is 0.
 use native.Mathlib.Omega.{arith}
-use Rattle.judging.proofs.Posing.{bounded, dead-truth, left-stands, left-few, left-small, left-truth}
+use Rattle.judging.proofs.SearchHanded.{bounded, dead-truth, left-stands, left-few, left-small, left-truth}
 use borrow.Author.Needs.{needs}
 use Rattle.judging.proofs.plans.plan_led.Statement.{statement}
 use Rattle.judging.proofs.plans.plan_led.Tie as tie
@@ -10,8 +10,8 @@ use Rattle.bounds.proofs.meets.Reads as meets-reads
 use Rattle.judging.proofs.conditions.best_value.Reads as best-value-reads
 use Rattle.judging.proofs.conditions.peel.Reads as peel-reads
 use Rattle.judging.proofs.plans.over_all_steps.Reads as over-all-steps-reads
-use Rattle.nodes.proofs.asks_less.Reads as asks-less-reads
-use Rattle.nodes.proofs.left.Reads as left-reads
+use Rattle.prepared_question.proofs.asks_less.Reads as asks-less-reads
+use Rattle.prepared_question.proofs.left.Reads as left-reads
 
 left-requires : tie.Need-left-requires
 left-requires c κs = search needs

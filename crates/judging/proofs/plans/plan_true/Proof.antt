@@ -1,5 +1,5 @@
 -- A "plan" node is true where its search says so.
-use Rattle.judging.proofs.Posing.{posed-at, asked-equal, asked-other, placed-truth}
+use Rattle.judging.proofs.SearchHanded.{posed-at, asked-equal, asked-other, placed-truth}
 use borrow.Author.Needs.{needs}
 use Rattle.judging.proofs.plans.plan_true.Statement.{statement}
 use Rattle.judging.proofs.plans.plan_true.Tie as tie
@@ -7,7 +7,7 @@ use Rattle.judging.proofs.plans.plan_true.Reads as reads
 use Rattle.judging.proofs.plans.plan_true.Lts as lts
 use Rattle.judging.proofs.plans.first.Reads as first-reads
 use Rattle.judging.proofs.plans.plan_led.Reads as plan-led-reads
-use Rattle.nodes.proofs.asks_equal.Reads as asks-equal-reads
+use Rattle.prepared_question.proofs.asks_equal.Reads as asks-equal-reads
 
 asks-equal-requires : tie.Need-asks-equal-requires
 asks-equal-requires c κs = search needs

@@ -6,8 +6,8 @@ use lib.Dec.{eqb}
 use lib.ListN.{getD}
 use Rattle.logic.specs.Model.{prop-in}
 use Rattle.logic.specs.promises.Total.{one-if}
-use Rattle.prepared.specs.promises.Rows.{model-in}
-use Rattle.judging.proofs.Truths.{truth-prop, truth-not, truth-and, truth-none}
+use Rattle.prepared_model.specs.promises.Rows.{model-in}
+use Rattle.judging.proofs.TruthByOperator.{truth-prop, truth-not, truth-and, truth-none}
 use borrow.Author.Needs.{needs}
 use Rattle.judging.proofs.truth.plain_truth.Statement.{statement}
 use Rattle.judging.proofs.truth.plain_truth.Tie as tie
@@ -15,10 +15,10 @@ use Rattle.judging.proofs.truth.plain_truth.Reads as reads
 use Rattle.judging.proofs.truth.plain_truth.Lts as lts
 use Rattle.evaluation.proofs.bit.Reads as bit-reads
 use Rattle.judging.proofs.truth.found.Reads as found-reads
-use Rattle.nodes.proofs.left.Reads as left-reads
-use Rattle.nodes.proofs.operator.Reads as operator-reads
-use Rattle.nodes.proofs.right.Reads as right-reads
-use Rattle.prepared.proofs.holds.Reads as holds-reads
+use Rattle.prepared_question.proofs.left.Reads as left-reads
+use Rattle.prepared_question.proofs.operator.Reads as operator-reads
+use Rattle.prepared_question.proofs.right.Reads as right-reads
+use Rattle.prepared_model.proofs.holds.Reads as holds-reads
 
 -- The truth at the place of a child in s.
 abbrev child-at : tie.Start → ℕ → ℕ

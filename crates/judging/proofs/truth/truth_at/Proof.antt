@@ -8,7 +8,7 @@ use Rattle.judging.proofs.truth.truth_at.Lts as lts
 use Rattle.evaluation.proofs.bit.Reads as bit-reads
 use Rattle.judging.proofs.plans.plan_true.Reads as plan-true-reads
 use Rattle.judging.proofs.truth.plain_truth.Reads as plain-truth-reads
-use Rattle.nodes.proofs.operator.Reads as operator-reads
+use Rattle.prepared_question.proofs.operator.Reads as operator-reads
 
 operator-requires : tie.Need-operator-requires
 operator-requires c κs = search needs

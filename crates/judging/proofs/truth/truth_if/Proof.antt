@@ -2,7 +2,7 @@
 use native.Mathlib.Omega.{arith}
 use mathlib.Core.Path.{sym, _∙_}
 use borrow.Author.Needs.{needs}
-use Rattle.judging.proofs.Truths.{supplied}
+use Rattle.judging.proofs.TruthByOperator.{supplied}
 use Rattle.judging.proofs.truth.truth_if.Statement.{statement}
 use Rattle.judging.proofs.truth.truth_if.Tie as tie
 use Rattle.judging.proofs.truth.truth_if.Reads as reads

@@ -6,15 +6,15 @@ use lib.ListN.{length, length-set, length-replicate}
 use Rattle.questions.specs.Layout.{node-count}
 use Rattle.judging.specs.promises.Truth.{Right}
 use Rattle.judging.specs.promises.Conditions.{Remembers}
-use Rattle.judging.proofs.Remembering.{remembers-none}
-use Rattle.judging.proofs.Truths.{right-none, right-more}
+use Rattle.judging.proofs.BestTotals.{remembers-none}
+use Rattle.judging.proofs.TruthByOperator.{right-none, right-more}
 use Rattle.judging.proofs.truth.truth_table.Statement.{statement}
 use Rattle.judging.proofs.truth.truth_table.Tie as tie
 use Rattle.judging.proofs.truth.truth_table.Reads as reads
 use Rattle.judging.proofs.truth.truth_table.Lts as lts
 use Rattle.judging.proofs.truth.truth_if.Reads as truth-if-reads
-use Rattle.nodes.proofs.count.Reads as count-reads
-use Rattle.tables.proofs.place.Reads as place-reads
+use Rattle.prepared_question.proofs.count.Reads as count-reads
+use Rattle.relevance.proofs.place.Reads as place-reads
 
 abbrev Inv-loop : tie.InvT-loop
 Inv-loop m q counts need end scratch₀ memo₀ truth₀ k₀ scratch memo truth k = (end ≡ 32 * (node-count q - 1)) × (k ≤ end) × (length truth ≡ 1280) × Right m q need truth k × (length scratch ≡ 4095) × Remembers m q memo

@@ -6,7 +6,7 @@ use Rattle.logic.specs.Lists.{every}
 use Rattle.logic.specs.Model.{contradict}
 use Rattle.models.specs.Grounds.{posts-contradict}
 use Rattle.models.specs.Layout.{post-of, post-count}
-use Rattle.models.proofs.Laws.{every-more}
+use Rattle.models.proofs.EveryCell.{every-more}
 use Rattle.models.proofs.consistent.action_contradicts.Statement.{statement}
 use Rattle.models.proofs.consistent.action_contradicts.Tie as tie
 

@@ -5,7 +5,7 @@ use mathlib.Core.Path.{_≡_, refl, ap, _∙_}
 use Rattle.logic.specs.Lists.{every}
 use Rattle.models.specs.Grounds.{cell-consistent}
 use Rattle.models.specs.Layout.{state-count, action-count}
-use Rattle.models.proofs.Laws.{every-more, grid, consistent-past}
+use Rattle.models.proofs.EveryCell.{every-more, grid, consistent-past}
 use Rattle.models.proofs.consistent.cells_consistent.Statement.{statement}
 use Rattle.models.proofs.consistent.cells_consistent.Tie as tie
 

@@ -5,7 +5,7 @@ use mathlib.Core.Path.{_≡_, refl, ap, _∙_}
 use Rattle.logic.specs.Lists.{some-below}
 use Rattle.logic.specs.Model.{true-of}
 use Rattle.models.specs.Layout.{pre-of, state-mask, action-count}
-use Rattle.models.proofs.Laws.{some-more}
+use Rattle.models.proofs.EveryCell.{some-more}
 use Rattle.models.proofs.consistent.has_choice.Statement.{statement}
 use Rattle.models.proofs.consistent.has_choice.Tie as tie
 

@@ -5,7 +5,7 @@ use mathlib.Core.Path.{_≡_, refl, ap, _∙_}
 use Rattle.logic.specs.Lists.{every}
 use Rattle.logic.specs.Model.{true-of}
 use Rattle.models.specs.Layout.{post-of, state-mask, outcome-of}
-use Rattle.models.proofs.Laws.{every-more}
+use Rattle.models.proofs.EveryCell.{every-more}
 use Rattle.models.proofs.consistent.targets_true.Statement.{statement}
 use Rattle.models.proofs.consistent.targets_true.Tie as tie
 

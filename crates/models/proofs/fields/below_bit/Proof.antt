@@ -1,6 +1,6 @@
 -- A number shifted down by n bits is 0 where it is below 2 to the n.
 use native.Mathlib.Omega.{arith}
-use Rattle.models.proofs.Laws.{shift-zero}
+use Rattle.models.proofs.EveryCell.{shift-zero}
 use Rattle.models.proofs.fields.below_bit.Statement.{statement}
 use Rattle.models.proofs.fields.below_bit.Tie as tie
 

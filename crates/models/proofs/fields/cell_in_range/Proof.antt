@@ -5,7 +5,7 @@ use mathlib.Core.Path.{_≡_, refl, ap, _∙_}
 use Rattle.logic.specs.Lists.{every}
 use Rattle.models.specs.Grounds.{outcome-in-range, cell-in-range}
 use Rattle.models.specs.Layout.{outcome-of, entries}
-use Rattle.models.proofs.Laws.{every-more}
+use Rattle.models.proofs.EveryCell.{every-more}
 use Rattle.models.proofs.fields.cell_in_range.Statement.{statement}
 use Rattle.models.proofs.fields.cell_in_range.Tie as tie
 

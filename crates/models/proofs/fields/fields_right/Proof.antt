@@ -1,7 +1,7 @@
 -- The three parts are the definition; the sizes bound what they loop over.
 use mathlib.Core.Path.{refl, sym}
 use Rattle.models.specs.Grounds.{fields-right}
-use Rattle.models.proofs.Laws.{passed, failed, sizes}
+use Rattle.models.proofs.EveryCell.{passed, failed, sizes}
 use Rattle.models.proofs.fields.fields_right.Statement.{statement}
 use Rattle.models.proofs.fields.fields_right.Tie as tie
 

@@ -5,7 +5,7 @@ use mathlib.Core.Path.{_≡_, refl, ap, _∙_}
 use Rattle.logic.specs.Lists.{every}
 use Rattle.models.specs.Grounds.{cell-in-range}
 use Rattle.models.specs.Layout.{state-count, action-count}
-use Rattle.models.proofs.Laws.{every-more, grid, in-range-past}
+use Rattle.models.proofs.EveryCell.{every-more, grid, in-range-past}
 use Rattle.models.proofs.fields.outcomes_in_range.Statement.{statement}
 use Rattle.models.proofs.fields.outcomes_in_range.Tie as tie
 

@@ -6,7 +6,7 @@ use lib.ListN.{length}
 use Rattle.logic.specs.Lists.{every}
 use Rattle.blocks.specs.Block.{block-count}
 use Rattle.models.specs.Grounds.{cell-spare, cells-spare}
-use Rattle.models.proofs.Laws.{every-more, grid, entries-small, cell-inside}
+use Rattle.models.proofs.EveryCell.{every-more, grid, entries-small, cell-inside}
 use Rattle.models.proofs.spare.cells_spare.Statement.{statement}
 use Rattle.models.proofs.spare.cells_spare.Tie as tie
 

@@ -13,7 +13,7 @@ use Rattle.models.specs.Layout.{state-count, action-count, entries, model-of}
 use Rattle.models.proofs.entries.Reads as entries-reads
 use Rattle.models.proofs.target.Reads as target-reads
 use Rattle.sheets.specs.promises.Ends.{end-of}
-use Rattle.sheets.proofs.Ends.{model-small, some-entries, target-inside, end-zero, end-missing, choice-refused, choice-taken, outcome-refused, outcome-read, outcomes-read}
+use Rattle.sheets.proofs.PlanEnds.{model-small, some-entries, target-inside, end-zero, end-missing, choice-refused, choice-taken, outcome-refused, outcome-read, outcomes-read}
 use Rattle.sheets.proofs.plans.below.Reads as below
 use Rattle.sheets.proofs.plans.below.Kinds as below-kinds
 use Rattle.sheets.proofs.plans.+below+plan_end.Lts-below as below-lts

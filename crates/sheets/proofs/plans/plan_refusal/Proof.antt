@@ -2,7 +2,7 @@
 use mathlib.Core.Path.{sym, _∙_}
 use borrow.Author.Needs.{needs}
 use Rattle.models.specs.Layout.{model-of}
-use Rattle.sheets.proofs.Ends.{plan-refused, plan-whole, plan-over}
+use Rattle.sheets.proofs.PlanEnds.{plan-refused, plan-whole, plan-over}
 use Rattle.sheets.proofs.plans.plan_refusal.Statement.{statement}
 use Rattle.sheets.proofs.plans.plan_refusal.Tie as tie
 

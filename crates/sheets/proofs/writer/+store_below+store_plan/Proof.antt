@@ -10,9 +10,9 @@ use Rattle.models.specs.Layout.{state-count, entries}
 use Rattle.models.proofs.entries.Reads as entries-reads
 use Rattle.models.proofs.target.Reads as target-reads
 use Rattle.sheets.specs.Layout.{blocks-for}
-use Rattle.sheets.proofs.Ends.{model-small, target-inside}
-use Rattle.sheets.proofs.Stored.{stored-length}
-use Rattle.sheets.proofs.Walk.{no-step, choice-there, choice-action, below-ahead, choice-stored, Walked, walked-none, outcome-ahead, walked-more, walked-all}
+use Rattle.sheets.proofs.PlanEnds.{model-small, target-inside}
+use Rattle.sheets.proofs.StoredChoices.{stored-length}
+use Rattle.sheets.proofs.StoredBelow.{no-step, choice-there, choice-action, below-ahead, choice-stored, Walked, walked-none, outcome-ahead, walked-more, walked-all}
 use Rattle.sheets.proofs.writer.store_below.Reads as store-below
 use Rattle.sheets.proofs.writer.store_below.Kinds as store-below-kinds
 use Rattle.sheets.proofs.writer.+store_below+store_plan.Lts-store_below as store-below-lts

@@ -2,7 +2,7 @@
 use mathlib.Core.Path.{_≡_, sym, ap, _∙_}
 use lib.ListN.{length, replicate}
 use borrow.Author.Needs.{needs}
-use Rattle.sheets.proofs.Block.{begun-fields}
+use Rattle.sheets.proofs.BlockBegun.{begun-fields}
 use Rattle.sheets.proofs.writer.begin.Statement.{statement}
 use Rattle.sheets.proofs.writer.begin.Tie as tie
 

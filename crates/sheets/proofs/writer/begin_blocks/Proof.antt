@@ -10,8 +10,8 @@ use borrow.Rule.Slice.PartMut.{same-len-mid}
 use Rattle.logic.specs.Lists.{count-from}
 use Rattle.sheets.specs.Layout.{blocks-for}
 use Rattle.sheets.specs.promises.Writer.{unsealed, chunk-size, begun}
-use Rattle.sheets.proofs.Pieces.{pieces, pieces-length, piece-put}
-use Rattle.sheets.proofs.Block.{unsealed-length}
+use Rattle.sheets.proofs.PiecesInOrder.{pieces, pieces-length, piece-put}
+use Rattle.sheets.proofs.BlockBegun.{unsealed-length}
 use Rattle.sheets.proofs.writer.begin_blocks.Statement.{statement}
 use Rattle.sheets.proofs.writer.begin_blocks.Tie as tie
 

@@ -6,7 +6,7 @@ use mathlib.Core.Path.{_≡_, refl, ap, _∙_}
 use lib.ListN.{set, length, drop, replicate, length-set}
 use borrow.Author.Needs.{needs}
 use borrow.Author.Fill.{fill-more}
-use Rattle.sheets.proofs.Parts.{fill-end}
+use Rattle.sheets.proofs.PartPutBack.{fill-end}
 use Rattle.sheets.proofs.writer.clear.Statement.{statement}
 use Rattle.sheets.proofs.writer.clear.Tie as tie
 

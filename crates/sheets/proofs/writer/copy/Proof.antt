@@ -5,7 +5,7 @@ use mathlib.Core.Path.{_≡_, refl, _∙_}
 use lib.ListN.{getD, length, length-set}
 use lib.Seq.{paste, paste-zero}
 use borrow.Author.Needs.{needs}
-use Rattle.sheets.proofs.Parts.{copy-more, copy-end}
+use Rattle.sheets.proofs.PartPutBack.{copy-more, copy-end}
 use Rattle.sheets.proofs.writer.copy.Statement.{statement}
 use Rattle.sheets.proofs.writer.copy.Tie as tie
 

@@ -8,8 +8,8 @@ use lib.ListN.{length, drop, set, length-set}
 use lib.Seq.{paste, paste-zero}
 use borrow.Author.Needs.{needs}
 use Rattle.blocks.specs.Bytes.{little-endian}
-use Rattle.sheets.proofs.Parts.{copy-more, copy-end}
-use Rattle.sheets.proofs.Numbers.{length-bytes, next-byte}
+use Rattle.sheets.proofs.PartPutBack.{copy-more, copy-end}
+use Rattle.sheets.proofs.NumberReadBack.{length-bytes, next-byte}
 use Rattle.sheets.proofs.writer.put_number.Statement.{statement}
 use Rattle.sheets.proofs.writer.put_number.Tie as tie
 

@@ -1,6 +1,6 @@
 -- The last word is zero when the words are summed, so the sum is that of the others.
 use borrow.Author.Needs.{needs}
-use Rattle.sheets.proofs.Words.{sealed}
+use Rattle.sheets.proofs.WordSumSealed.{sealed}
 use Rattle.sheets.proofs.writer.seal.Statement.{statement}
 use Rattle.sheets.proofs.writer.seal.Tie as tie
 

@@ -7,8 +7,8 @@ use lib.ListN.{length, drop}
 use borrow.Author.Needs.{needs}
 use Rattle.sheets.specs.Layout.{blocks-for}
 use Rattle.sheets.specs.promises.Writer.{stored}
-use Rattle.sheets.proofs.Pieces.{pieces}
-use Rattle.sheets.proofs.Stored.{full, all-stored, last-words, all-sealed}
+use Rattle.sheets.proofs.PiecesInOrder.{pieces}
+use Rattle.sheets.proofs.StoredChoices.{full, all-stored, last-words, all-sealed}
 use Rattle.sheets.proofs.writer.write_sheet.Statement.{statement}
 use Rattle.sheets.proofs.writer.write_sheet.Tie as tie
 

@@ -1,0 +1,10 @@
+pub mod ChoiceStack
+pub mod FirstBest
+pub mod BestByFirstStep
+pub mod TotalsBounded
+pub mod ChoicesTried
+pub mod OutcomesWalked
+pub mod HopelessLoses
+pub mod LastStepBest
+pub mod PathOneStepOn
+pub mod LoopsKeepBuffers

@@ -1,0 +1,59 @@
+-- The first place of a number among the totals; and the search at the start, before any step.
+use Prim.Native.Nat.{ℕ, _+_, _≤_, _<_}
+use native.Mathlib.Nat.{zero-add}
+use native.Mathlib.Decide.{ℕ-discrete}
+use native.Mathlib.Omega.{arith}
+use mathlib.Core.Path.{_≡_, refl, sym, ap, subst, _∙_}
+use mathlib.Core.List.{List, []}
+use lib.IntN.{ℤ}
+use lib.ListN.{length, take, getD}
+use lib.Seq.{getD-take, length-take-le}
+use Rattle.logic.specs.promises.Total.{value-of}
+use Rattle.blocks.specs.Bytes.{Bytes}
+use Rattle.prepared_model.specs.promises.Rows.{model-in}
+use Rattle.evaluation.specs.promises.Path.{steps-of, state-after}
+use Rattle.prepared_question.specs.promises.Nodes.{formula}
+use Rattle.evaluation.specs.promises.Reached.{root-of, on-path}
+use Rattle.evaluation.specs.promises.Known.{Knows}
+use Rattle.exact_plan.specs.promises.Totals.{totals}
+use Rattle.exact_plan.specs.promises.Listing.{Given, Here, Written, First}
+
+module _ (buf : List ℕ) (len x : ℕ) (fits : len ≤ length buf) where
+  -- None of the first i numbers is x.
+  abbrev pub Absent : ℕ → Type 0
+  Absent i = (j : ℕ) → j < i → (getD buf j 0 ≡ x → ⊥)
+
+  pub absent-more : (i : ℕ) → Absent i → (getD buf i 0 ≡ x → ⊥) → Absent (i + 1)
+  absent-more i h g j l = go (ℕ-discrete j i)
+    where
+      go : Dec (j ≡ i) → getD buf j 0 ≡ x → ⊥
+      go (yes e) = subst (λ k. getD buf k 0 ≡ x → ⊥) (sym e) g
+      go (no e) = h j (omega arith)
+
+  size : length (take len buf) ≡ len
+  size = length-take-le len buf fits
+
+  pub first-found : (i : ℕ) → i < len → Absent i → getD buf i 0 ≡ x → First (take len buf) x i
+  first-found i h g e =
+      record { few = omega (arith, size); none-before = λ j l p. g j l (sym (getD-take len buf j 0 (omega arith)) ∙ p); there = λ l. getD-take len buf i 0 h ∙ e }
+
+  pub first-nowhere : Absent len → First (take len buf) x len
+  first-nowhere g =
+      record { few = omega (arith, size); none-before = λ j l p. g j l (sym (getD-take len buf j 0 l) ∙ p); there = λ l. absurd (omega (arith, size)) }
+
+-- ---- the start
+
+module _ {m q : Bytes} {start d : ℕ} {truth cone table : List ℕ} (G : Given m q start d truth cone table) where
+  pub begins : {n : ℕ} (trail : List ℕ) (gains : List ℤ) (v : List ℕ) → d ≤ n → n ≤ 6 → Knows m q start cone [] gains v
+      → Here m q start d cone trail gains v 0 start n
+  unfolding state-after
+  begins trail gains v h k K = record { steps = omega arith; deep = omega arith; inside = G .ready .state; whole = refl; state = refl; knows = K }
+
+  -- The list from the start, and the first of it.
+  pub first-listed : (n x : ℕ) {r i : ℕ} {trail trail₁ : List ℕ} {gains₁ : List ℤ} {v₁ buf buf₁ : List ℕ}
+      → Written (totals (model-in m) n start (on-path m q start cone (take 0 trail))) m q start cone 0 0 trail trail₁ gains₁ v₁ buf buf₁ r
+      → First (take r buf₁) x i → First (totals (model-in m) n start (value-of (model-in m) (formula q (root-of cone)) start)) x i
+  unfolding steps-of
+  first-listed n x {r} {i} {buf₁ = buf₁} W F =
+      let X : List ℕ = totals (model-in m) n start (value-of (model-in m) (formula q (root-of cone)) start) in
+      subst (λ l. First l x i) (ap (λ k. take k buf₁) (W .count ∙ sym (zero-add (length X))) ∙ W .listed) F

@@ -1,0 +1,15 @@
+pub mod Parts
+pub mod Grid
+pub mod JoinedInPlace
+pub mod TotalsByFirstStep
+pub mod LongestOutcome
+pub mod OneOutcomeJoined
+pub mod RoomForEach
+pub mod Spans
+pub mod TotalsBounded
+pub mod PreparedChoices
+pub mod ListsWritten
+pub mod OutcomesJoined
+pub mod ChoiceByChoice
+pub mod FirstPlace
+pub mod CountsBelowCap

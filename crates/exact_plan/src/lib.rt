@@ -1,0 +1,107 @@
+// The search for the relation "equal": the totals of all plans in dictionary order, and the first that meets the bound.
+ghost use Prim.Native.Nat.{_+_, _≤_};
+ghost use lib.ListN.{length, take};
+ghost use Rattle.logic.specs.Limits.{plan-total};
+ghost use Rattle.logic.specs.promises.Total.{value-of};
+ghost use Rattle.prepared_model.specs.promises.Rows.{model-in};
+ghost use Rattle.prepared_question.specs.promises.Nodes.{formula};
+ghost use Rattle.evaluation.specs.promises.Reached.{root-of};
+ghost use Rattle.exact_plan.specs.promises.Totals.{totals};
+ghost use Rattle.exact_plan.specs.promises.Listing.{Given, First};
+
+mod lists;
+mod spread;
+
+use crate::lists::Spot;
+use crate::lists::list;
+use evaluation::learn;
+use limits::plans_counted;
+
+// The place of the first x among the first `len` numbers; where there is none, len.
+fn find(buf: &[u64], len: usize, x: u64) -> usize
+    requires { ⌜ len ≤ length (now buf) ⌝ }
+    ensures { λ r. ⌜ First (take len (now (buf .entry))) x r ⌝ }
+{
+    let mut i: usize = 0;
+    while i < len {
+        if buf[i] == x {
+            return i;
+        }
+        i += 1;
+    }
+    len
+}
+
+// `first_equal` in a lent buffer, which has room for the list and for what is made beside it.
+fn first_within(
+    m: &[u16; 8704],
+    q: &[u8; 552],
+    truth: &[u8; 1280],
+    cone: &[u8],
+    table: &[u64; 224],
+    buf: &mut [u64],
+    start: u8,
+    d: u8,
+    n: u8,
+    x: u64,
+) -> usize
+    requires { ⌜ Given (now m) (now q) start d (now truth) (now cone) (now table) ⌝ }
+    requires { ⌜ (d ≤ n) × (n ≤ 6) × (plan-total (model-in (now m)) n start ≤ 65536) × (plan-total (model-in (now m)) n start + 282 ≤ length (now buf)) ⌝ }
+    ensures { λ r. ⌜ First (totals (model-in (now (m .entry))) n start (value-of (model-in (now (m .entry))) (formula (now (q .entry)) (root-of (now (cone .entry)))) start)) x r ⌝ }
+{
+    let mut trail = [0u16; 6];
+    let mut gains = [0i32; 7];
+    let mut v = [0u8; 280];
+    learn(q, truth, &trail, &gains, cone, &mut v, 0, start);
+    let spot = Spot {
+        start: start,
+        d: d,
+        h: 0,
+        s: start,
+        k: n,
+        at: 0,
+    };
+    let len = list(
+        m,
+        q,
+        truth,
+        cone,
+        table,
+        &mut trail,
+        &mut gains,
+        &mut v,
+        buf,
+        spot,
+    );
+    find(buf, len, x)
+}
+
+// The place of the first plan in dictionary order, of all n-step plans from s, whose total is x; where there is none, their number. The
+// buffer has one of three lengths, by their number and 282 beside: to clear the longest takes longer than to search few plans.
+pub fn first_equal(
+    m: &[u16; 8704],
+    q: &[u8; 552],
+    truth: &[u8; 1280],
+    cone: &[u8],
+    table: &[u64; 224],
+    s: u8,
+    d: u8,
+    n: u8,
+    x: u64,
+) -> usize
+    requires { ⌜ Given (now m) (now q) s d (now truth) (now cone) (now table) ⌝ }
+    requires { ⌜ (d ≤ n) × (n ≤ 6) × (plan-total (model-in (now m)) n s ≤ 65536) ⌝ }
+    ensures { λ r. ⌜ First (totals (model-in (now (m .entry))) n s (value-of (model-in (now (m .entry))) (formula (now (q .entry)) (root-of (now (cone .entry)))) s)) x r ⌝ }
+{
+    let all = plans_counted(table, n, s as usize);
+    if all <= 1024 {
+        let mut buf = [0u64; 1306];
+        return first_within(m, q, truth, cone, table, &mut buf, s, d, n, x);
+    }
+    if all <= 8192 {
+        let mut buf = [0u64; 8474];
+        return first_within(m, q, truth, cone, table, &mut buf, s, d, n, x);
+    }
+    let mut buf = [0u64; 65818];
+    first_within(m, q, truth, cone, table, &mut buf, s, d, n, x)
+}

@@ -1,0 +1,285 @@
+// The list of the totals of all plans from a history, made in a lent buffer. Each history is met once.
+ghost use mathlib.Core.Path.{_≡_};
+ghost use mathlib.Core.Logic.{_⊎_};
+ghost use Prim.Native.Nat.{_+_, _*_, _^_, _-_, _≤_, _<_, min, max};
+ghost use mathlib.Core.List.{_∷_};
+ghost use lib.ListN.{getD, length, replicate, take};
+ghost use Rattle.logic.specs.Model.{outcomes};
+ghost use Rattle.logic.specs.Limits.{multiply, plan-total};
+ghost use Rattle.blocks.specs.Splice.{splice};
+ghost use Rattle.models.specs.Layout.{denominator-of};
+ghost use Rattle.prepared_model.specs.promises.Rows.{choices-in, choice-in, step-in, Offers, model-in};
+ghost use Rattle.evaluation.specs.promises.Learnt as learnt;
+ghost use Rattle.evaluation.specs.promises.Reached.{root-of, on-path};
+ghost use Rattle.exact_plan.specs.promises.Totals.{totals, combined, weighed, joined, part};
+ghost use Rattle.exact_plan.specs.promises.Room.{Room};
+ghost use Rattle.exact_plan.specs.promises.Listing.{Given, Here, Written, Longest, Decides, Grows};
+use crate::spread::fill;
+use crate::spread::join;
+use crate::spread::shift;
+use bounds::power;
+use evaluation::Place;
+use evaluation::known;
+use evaluation::step;
+use limits::plans_counted;
+use prepared_model::choices;
+use prepared_model::denominator;
+use prepared_model::outcomes;
+use prepared_model::target;
+use prepared_model::weight;
+
+// Where a list is made: after h steps from the start, in the state s, with k steps to go, and written from `at` on. The condition looks
+// d steps ahead.
+pub struct Spot {
+    pub start: u8,
+    pub d: u8,
+    pub h: u8,
+    pub s: u8,
+    pub k: u8,
+    pub at: usize,
+}
+
+// The outcome o of the choice at place i.
+pub struct Outcome {
+    i: usize,
+    o: usize,
+}
+
+// A further outcome to combine a list of `len` totals with, on its right or on its left.
+pub struct Further {
+    i: usize,
+    o: usize,
+    len: usize,
+    right: bool,
+}
+
+// An outcome with the most plans below it: its list is made first, in its place.
+fn longest(m: &[u16; 8704], table: &[u64; 224], s: usize, i: usize, c: usize, k: u8) -> usize
+    requires { ⌜ (k ≤ 6) × (s < 32) × (i < 8) × (0 < c) × (c ≤ 4) × ((o : _) → o < c → (step-in (now m) s i o) .target < 32) ⌝ }
+    ensures { λ r. ⌜ Longest (now (m .entry)) (now (table .entry)) s i c k r ⌝ }
+{
+    let mut best: usize = 0;
+    let mut o: usize = 1;
+    while o < c {
+        let n = plans_counted(table, k, target(m, s, i, o));
+        if plans_counted(table, k, target(m, s, i, best)) < n {
+            best = o;
+        }
+        o += 1;
+    }
+    best
+}
+
+// The outcome to take next, beside those from lo to hi: on the right as long as there is one.
+fn beside(lo: usize, hi: usize, c: usize) -> usize
+    requires { ⌜ (lo < hi) × (hi ≤ c) × (hi - lo < c) ⌝ }
+    ensures { λ r. ⌜ ((r ≡ hi) × (hi < c)) ⊎ (r + 1 ≡ lo) ⌝ }
+{
+    if hi < c { hi } else { lo - 1 }
+}
+
+fn least(x: usize, y: usize) -> usize
+    ensures { λ r. ⌜ r ≡ min x y ⌝ }
+{
+    if y < x { y } else { x }
+}
+
+fn most(x: usize, y: usize) -> usize
+    ensures { λ r. ⌜ r ≡ max x y ⌝ }
+{
+    if x < y { y } else { x }
+}
+
+// The list where the condition is decided: all plans have the same total.
+fn decided(
+    m: &[u16; 8704],
+    table: &[u64; 224],
+    cone: &[u8],
+    v: &[u8; 280],
+    buf: &mut [u64],
+    s: u8,
+    k: u8,
+    at: usize,
+) -> usize
+    requires { ⌜ Decides (now m) (now cone) (now v) (now table) (now buf) s k at ⌝ }
+    ensures { λ r. ⌜ (r ≡ getD (now (table .entry)) (32 * k + s) 0) × (now (buf .exit) ≡ splice (now (buf .entry)) at (replicate (getD (now (table .entry)) (32 * k + s) 0) (learnt.known (now (v .entry)) (root-of (now (cone .entry))) 0 * denominator-of (now (m .entry)) ^ k))) ⌝ }
+{
+    let n = plans_counted(table, k, s as usize) as usize;
+    let last = cone.len() - 1;
+    let x = known(v, cone[last], 0) as u64 * power(denominator(m), k);
+    fill(buf, at, n, x);
+    n
+}
+
+// Writes the totals of all plans from a spot, and gives their number.
+pub fn list(
+    m: &[u16; 8704],
+    q: &[u8; 552],
+    truth: &[u8; 1280],
+    cone: &[u8],
+    table: &[u64; 224],
+    trail: &mut [u16; 6],
+    gains: &mut [i32; 7],
+    v: &mut [u8; 280],
+    buf: &mut [u64],
+    spot: Spot,
+) -> usize
+    requires { ⌜ Given (now m) (now q) (spot .start) (spot .d) (now truth) (now cone) (now table) ⌝ }
+    requires { ⌜ Here (now m) (now q) (spot .start) (spot .d) (now cone) (now trail) (now gains) (now v) (spot .h) (spot .s) (spot .k) ⌝ }
+    requires { ⌜ Room (spot .k) (plan-total (model-in (now m)) (spot .k) (spot .s)) (spot .at) (length (now buf)) ⌝ }
+    ensures { λ r. ⌜ Written (totals (model-in (now (m .entry))) (spot .k) (spot .s) (on-path (now (m .entry)) (now (q .entry)) (spot .start) (now (cone .entry)) (take (spot .h) (now (trail .entry))))) (now (m .entry)) (now (q .entry)) (spot .start) (now (cone .entry)) (spot .h) (spot .at) (now (trail .entry)) (now (trail .exit)) (now (gains .exit)) (now (v .exit)) (now (buf .entry)) (now (buf .exit)) r ⌝ }
+{
+    if spot.d <= spot.h {
+        return decided(m, table, cone, v, buf, spot.s, spot.k, spot.at);
+    }
+    let n = choices(m, spot.s as usize);
+    let mut len: usize = 0;
+    let mut i: usize = 0;
+    while i < n {
+        let first = Spot {
+            start: spot.start,
+            d: spot.d,
+            h: spot.h,
+            s: spot.s,
+            k: spot.k - 1,
+            at: spot.at + len,
+        };
+        len += combine(m, q, truth, cone, table, trail, gains, v, buf, first, i);
+        i += 1;
+    }
+    len
+}
+
+// Writes the totals of all plans that begin with the choice at place i, with k steps below it: the lists below its outcomes, combined from
+// the longest one on, to the right and then to the left.
+fn combine(
+    m: &[u16; 8704],
+    q: &[u8; 552],
+    truth: &[u8; 1280],
+    cone: &[u8],
+    table: &[u64; 224],
+    trail: &mut [u16; 6],
+    gains: &mut [i32; 7],
+    v: &mut [u8; 280],
+    buf: &mut [u64],
+    spot: Spot,
+    i: usize,
+) -> usize
+    requires { ⌜ Given (now m) (now q) (spot .start) (spot .d) (now truth) (now cone) (now table) ⌝ }
+    requires { ⌜ Here (now m) (now q) (spot .start) (spot .d) (now cone) (now trail) (now gains) (now v) (spot .h) (spot .s) (spot .k + 1) × (i < choices-in (now m) (spot .s)) ⌝ }
+    requires { ⌜ Room (spot .k + 1) (multiply (λ o. plan-total (model-in (now m)) (spot .k) (o .target)) (outcomes (model-in (now m)) (spot .s) (choice-in (now m) (spot .s) i))) (spot .at) (length (now buf)) ⌝ }
+    ensures { λ r. ⌜ Written (combined (weighed (model-in (now (m .entry))) (spot .k) (on-path (now (m .entry)) (now (q .entry)) (spot .start) (now (cone .entry)) (take (spot .h) (now (trail .entry))))) (outcomes (model-in (now (m .entry))) (spot .s) (choice-in (now (m .entry)) (spot .s) i))) (now (m .entry)) (now (q .entry)) (spot .start) (now (cone .entry)) (spot .h) (spot .at) (now (trail .entry)) (now (trail .exit)) (now (gains .exit)) (now (v .exit)) (now (buf .entry)) (now (buf .exit)) r ⌝ }
+{
+    let s = spot.s as usize;
+    let c = outcomes(m, s, i);
+    let mut lo = longest(m, table, s, i, c, spot.k);
+    let mut hi = lo + 1;
+    let first = Outcome { i: i, o: lo };
+    let mut len = below(m, q, truth, cone, table, trail, gains, v, buf, spot, first);
+    shift(buf, spot.at, spot.at, len, weight(m, s, i, lo), 0);
+    while hi - lo < c {
+        let o = beside(lo, hi, c);
+        let more = Further {
+            i: i,
+            o: o,
+            len: len,
+            right: lo < o,
+        };
+        len = grown(m, q, truth, cone, table, trail, gains, v, buf, spot, more);
+        lo = least(lo, o);
+        hi = most(hi, o + 1);
+    }
+    len
+}
+
+// Combines the list at `at` with the totals below a further outcome, which are made behind the product.
+fn grown(
+    m: &[u16; 8704],
+    q: &[u8; 552],
+    truth: &[u8; 1280],
+    cone: &[u8],
+    table: &[u64; 224],
+    trail: &mut [u16; 6],
+    gains: &mut [i32; 7],
+    v: &mut [u8; 280],
+    buf: &mut [u64],
+    spot: Spot,
+    more: Further,
+) -> usize
+    requires { ⌜ Given (now m) (now q) (spot .start) (spot .d) (now truth) (now cone) (now table) ⌝ }
+    requires { ⌜ Here (now m) (now q) (spot .start) (spot .d) (now cone) (now trail) (now gains) (now v) (spot .h) (spot .s) (spot .k + 1) × Offers (now m) (spot .s) (more .i) (more .o) ⌝ }
+    requires { ⌜ Grows (now buf) (spot .at) (more .len) (plan-total (model-in (now m)) (spot .k) ((step-in (now m) (spot .s) (more .i) (more .o)) .target)) (spot .k) ⌝ }
+    ensures { λ r. ⌜ Written (joined (more .right) (part (now (buf .entry)) (spot .at) (more .len)) (weighed (model-in (now (m .entry))) (spot .k) (on-path (now (m .entry)) (now (q .entry)) (spot .start) (now (cone .entry)) (take (spot .h) (now (trail .entry)))) (step-in (now (m .entry)) (spot .s) (more .i) (more .o)))) (now (m .entry)) (now (q .entry)) (spot .start) (now (cone .entry)) (spot .h) (spot .at) (now (trail .entry)) (now (trail .exit)) (now (gains .exit)) (now (v .exit)) (now (buf .entry)) (now (buf .exit)) r ⌝ }
+{
+    let s = spot.s as usize;
+    let n = plans_counted(table, spot.k, target(m, s, more.i, more.o)) as usize;
+    let behind = Spot {
+        start: spot.start,
+        d: spot.d,
+        h: spot.h,
+        s: spot.s,
+        k: spot.k,
+        at: spot.at + more.len * n,
+    };
+    let to = Outcome {
+        i: more.i,
+        o: more.o,
+    };
+    below(m, q, truth, cone, table, trail, gains, v, buf, behind, to);
+    join(
+        buf,
+        spot.at,
+        more.len,
+        n,
+        weight(m, s, more.i, more.o),
+        more.right,
+    );
+    more.len * n
+}
+
+// Writes the totals of all plans of k steps below an outcome.
+fn below(
+    m: &[u16; 8704],
+    q: &[u8; 552],
+    truth: &[u8; 1280],
+    cone: &[u8],
+    table: &[u64; 224],
+    trail: &mut [u16; 6],
+    gains: &mut [i32; 7],
+    v: &mut [u8; 280],
+    buf: &mut [u64],
+    spot: Spot,
+    to: Outcome,
+) -> usize
+    requires { ⌜ Given (now m) (now q) (spot .start) (spot .d) (now truth) (now cone) (now table) ⌝ }
+    requires { ⌜ Here (now m) (now q) (spot .start) (spot .d) (now cone) (now trail) (now gains) (now v) (spot .h) (spot .s) (spot .k + 1) × Offers (now m) (spot .s) (to .i) (to .o) ⌝ }
+    requires { ⌜ Room (spot .k) (plan-total (model-in (now m)) (spot .k) ((step-in (now m) (spot .s) (to .i) (to .o)) .target)) (spot .at) (length (now buf)) ⌝ }
+    ensures { λ r. ⌜ Written (totals (model-in (now (m .entry))) (spot .k) ((step-in (now (m .entry)) (spot .s) (to .i) (to .o)) .target) (λ l. on-path (now (m .entry)) (now (q .entry)) (spot .start) (now (cone .entry)) (take (spot .h) (now (trail .entry))) ((step-in (now (m .entry)) (spot .s) (to .i) (to .o)) ∷ l))) (now (m .entry)) (now (q .entry)) (spot .start) (now (cone .entry)) (spot .h) (spot .at) (now (trail .entry)) (now (trail .exit)) (now (gains .exit)) (now (v .exit)) (now (buf .entry)) (now (buf .exit)) r ⌝ }
+{
+    let here = Place {
+        start: spot.start,
+        h: spot.h,
+        s: spot.s,
+    };
+    let t = step(
+        m,
+        q,
+        truth,
+        cone,
+        trail,
+        gains,
+        v,
+        here,
+        to.i as u8,
+        to.o as u8,
+    );
+    let on = Spot {
+        start: spot.start,
+        d: spot.d,
+        h: spot.h + 1,
+        s: t,
+        k: spot.k,
+        at: spot.at,
+    };
+    list(m, q, truth, cone, table, trail, gains, v, buf, on)
+}

@@ -1,0 +1,4 @@
+pub mod GainFits
+pub mod LaneByLane
+pub mod LateMarks
+pub mod LaneMeaning

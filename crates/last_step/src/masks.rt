@@ -1,0 +1,116 @@
+// The words of a condition's nodes, for all outcomes of the last step at once.
+ghost use mathlib.Core.Path.{_≡_};
+ghost use Prim.Native.Nat.{_<_};
+ghost use lib.ListN.{take, length, getD};
+ghost use Rattle.last_step.specs.promises.Masks.{Before-last, Part, Worded, Masked, Ended};
+use crate::lanes::done;
+use crate::lanes::flipped;
+use crate::lanes::gained;
+use crate::lanes::met;
+use crate::lanes::spread;
+use crate::lanes::told;
+use evaluation::Place;
+use evaluation::gain_at;
+use evaluation::known;
+use prepared_question::bound;
+use prepared_question::depth;
+use prepared_question::left;
+use prepared_question::operator;
+use prepared_question::right;
+
+// The word of node j.
+fn mask_at(masks: &[u32; 40], j: u8) -> u32
+    requires { ⌜ j < 40 ⌝ }
+    ensures { λ r. ⌜ r ≡ getD (now (masks .entry)) j 0 ⌝ }
+{
+    let i = j as usize;
+    masks[i]
+}
+
+// The word of a child of "and", at place k: its own if it looks as far ahead, d steps, else its value, which was known before the last step.
+fn part(q: &[u8; 552], v: &[u8; 280], masks: &[u32; 40], d: u8, k: u8, child: u8) -> u32
+    requires { ⌜ child < 40 ⌝ }
+    ensures { λ r. ⌜ Part (now (q .entry)) (now (v .entry)) (now (masks .entry)) d k child r ⌝ }
+{
+    if depth(q, child) == d {
+        return mask_at(masks, child);
+    }
+    spread(known(v, child, k))
+}
+
+// The word of the node at place i of the cone: each arm has its operator's meaning.
+fn mask_node(
+    m: &[u16; 8704],
+    q: &[u8; 552],
+    truth: &[u8; 1280],
+    cone: &[u8],
+    late: &[u8; 40],
+    trail: &[u16; 6],
+    gains: &[i32; 7],
+    v: &[u8; 280],
+    masks: &[u32; 40],
+    at: Place,
+    i: usize,
+) -> u32
+    requires { ⌜ Before-last (now m) (now q) (at .start) (now truth) (now cone) (now late) (now trail) (now gains) (now v) (at .h) (at .s) ⌝ }
+    requires { ⌜ Masked (now m) (now q) (at .start) (now cone) (now late) (take (at .h) (now trail)) (at .s) i (now masks) × (i < length (now cone)) × (getD (now cone) i 0 < 40) × (getD (now late) (getD (now cone) i 0) 0 ≡ 1) ⌝ }
+    ensures { λ r. ⌜ Worded (now (m .entry)) (now (q .entry)) (at .start) (now (cone .entry)) (take (at .h) (now (trail .entry))) (at .s) (getD (now (cone .entry)) i 0) r ⌝ }
+{
+    let j = cone[i];
+    let d = depth(q, j);
+    let h = at.h;
+    let s = at.s as usize;
+    if d == 0 {
+        return told(m, truth, s, j);
+    }
+    if d > h + 1 {
+        return 0;
+    }
+    let k = h + 1 - d;
+    let op = operator(q, j);
+    match op {
+        3 => flipped(mask_at(masks, left(q, j))),
+        4 => met(
+            part(q, v, masks, d, k, left(q, j)),
+            part(q, v, masks, d, k, right(q, j)),
+        ),
+        5 => done(m, s, left(q, j)),
+        6 => mask_at(masks, left(q, j)),
+        7 => gained(
+            m,
+            s,
+            right(q, j),
+            gain_at(gains, h),
+            gain_at(gains, k),
+            bound(q, j),
+        ),
+        _ => 0,
+    }
+}
+
+// The condition's word: its value on the path that each outcome of the state reached ends.
+pub fn mask(
+    m: &[u16; 8704],
+    q: &[u8; 552],
+    truth: &[u8; 1280],
+    cone: &[u8],
+    late: &[u8; 40],
+    trail: &[u16; 6],
+    gains: &[i32; 7],
+    v: &[u8; 280],
+    at: Place,
+) -> u32
+    requires { ⌜ Before-last (now m) (now q) (at .start) (now truth) (now cone) (now late) (now trail) (now gains) (now v) (at .h) (at .s) ⌝ }
+    ensures { λ r. ⌜ Ended (now (m .entry)) (now (q .entry)) (at .start) (now (cone .entry)) (take (at .h) (now (trail .entry))) (at .s) r ⌝ }
+{
+    let mut masks = [0u32; 40];
+    let mut i: usize = 0;
+    while i < cone.len() {
+        let j = cone[i] as usize;
+        if late[j] == 1 {
+            masks[j] = mask_node(m, q, truth, cone, late, trail, gains, v, &masks, at, i);
+        }
+        i += 1;
+    }
+    mask_at(&masks, cone[cone.len() - 1])
+}

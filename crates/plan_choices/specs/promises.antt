@@ -1,0 +1,5 @@
+-- What the layers above and below promise each other; nobody has to believe it.
+pub mod Extended
+pub mod Numbered
+pub mod Weighed
+pub mod PlanSum

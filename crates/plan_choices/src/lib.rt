@@ -1,0 +1,6 @@
+// The choices of a plan, history by history in depth-first order, as three recursions write or read them: a plan extended by first enabled
+// actions (`extending`), the plan with a number in dictionary order (`ranking`), and the total of a plan (`weighing`).
+
+pub mod extending;
+pub mod ranking;
+pub mod weighing;

@@ -1,0 +1,154 @@
+// Weighing a plan: the summed weights of the paths that it allows and on which the condition is true, each path met once.
+ghost use mathlib.Core.Path.{_≡_};
+ghost use Prim.Native.Nat.{_+_, _*_, _^_, _<_, _≤_};
+ghost use lib.ListN.{length, take, drop};
+ghost use Rattle.logic.specs.Checked.{ok};
+ghost use Rattle.logic.specs.Plan.{Plan};
+ghost use Rattle.logic.specs.Choices.{plan-of};
+ghost use Rattle.logic.specs.Formula.{depth, W};
+ghost use Rattle.prepared_model.specs.promises.Rows.{step-in, model-in};
+ghost use Rattle.prepared_question.specs.promises.Nodes.{formula};
+ghost use Rattle.evaluation.specs.promises.Reached.{root-of, on-path, Ready};
+ghost use Rattle.evaluation.specs.promises.Learnt.{known};
+ghost use Rattle.plan_choices.specs.promises.PlanSum.{weigh};
+ghost use Rattle.plan_choices.specs.promises.Weighed.{Here, Ran};
+use blocks::byte;
+use evaluation::Place;
+use evaluation::learn;
+use evaluation::step;
+use prepared_model::row_of;
+use prepared_model::weight;
+
+// Where a sum is made: after h steps from the start, in the state s, with k steps to go; the choices are read from `at` on.
+pub struct Spot {
+    start: u8,
+    h: u8,
+    s: u8,
+    k: u8,
+    at: usize,
+}
+
+// A sum, and where to read on.
+pub struct Part {
+    value: u64,
+    next: usize,
+}
+
+// One choice further, but not beyond the end.
+fn after(choices: &[u8], at: usize) -> usize
+    requires { ⌜ at ≤ length (now choices) ⌝ }
+    ensures { λ r. ⌜ (r ≤ length (now (choices .entry))) × (drop r (now (choices .entry)) ≡ drop 1 (drop at (now (choices .entry)))) ⌝ }
+{
+    if at < choices.len() {
+        return at + 1;
+    }
+    at
+}
+
+// The value of the condition on the path taken.
+fn leaf(cone: &[u8], v: &[u8; 280]) -> u64
+    requires { ⌜ 0 < length (now cone) ⌝ }
+    ensures { λ r. ⌜ r ≡ known (now (v .entry)) (root-of (now (cone .entry))) 0 ⌝ }
+{
+    let root = byte(cone, cone.len() - 1);
+    evaluation::known(v, root, 0) as u64
+}
+
+// A sum with the weight of an outcome times x.
+fn plus(m: &[u16; 8704], s: u8, i: usize, o: usize, sum: u64, x: u64) -> u64
+    requires { ⌜ (s < 32) × (i < 8) × (o < 4) × (sum + (step-in (now m) s i o) .weight * x < 2 ^ 64) ⌝ }
+    ensures { λ r. ⌜ r ≡ sum + (step-in (now (m .entry)) s i o) .weight * x ⌝ }
+{
+    sum + weight(m, s as usize, i, o) * x
+}
+
+// Sums over the paths from a spot that the choices allow: the choice there is read, and each of its outcomes leads on.
+fn weigh_from(
+    m: &[u16; 8704],
+    q: &[u8; 552],
+    truth: &[u8; 1280],
+    cone: &[u8],
+    choices: &[u8],
+    trail: &mut [u16; 6],
+    gains: &mut [i32; 7],
+    v: &mut [u8; 280],
+    spot: Spot,
+) -> Part
+    requires { ⌜ Ready (now m) (now q) (spot .start) (now truth) (now cone) ⌝ }
+    requires { ⌜ Here (now m) (now q) (spot .start) (now cone) (now trail) (now gains) (now v) (spot .h) (spot .s) (spot .k) × (spot .at ≤ length (now choices)) ⌝ }
+    ensures { λ r. ⌜ Ran (weigh (model-in (now (m .entry))) (spot .k) (spot .s) (on-path (now (m .entry)) (now (q .entry)) (spot .start) (now (cone .entry)) (take (spot .h) (now (trail .entry)))) (drop (spot .at) (now (choices .entry)))) (now (m .entry)) (now (q .entry)) (spot .start) (now (cone .entry)) (spot .h) (now (trail .entry)) (now (trail .exit)) (now (gains .exit)) (now (v .exit)) (now (choices .entry)) (r .value) (r .next) ⌝ }
+{
+    if spot.k == 0 {
+        return Part {
+            value: leaf(cone, v),
+            next: spot.at,
+        };
+    }
+    let row = row_of(m, spot.s as usize, byte(choices, spot.at));
+    let i = row.at as u8;
+    let mut sum: u64 = 0;
+    let mut next = after(choices, spot.at);
+    let mut o: usize = 0;
+    while o < row.count {
+        let here = Place {
+            start: spot.start,
+            h: spot.h,
+            s: spot.s,
+        };
+        let t = step(m, q, truth, cone, trail, gains, v, here, i, o as u8);
+        let on = Spot {
+            start: spot.start,
+            h: spot.h + 1,
+            s: t,
+            k: spot.k - 1,
+            at: next,
+        };
+        let r = weigh_from(m, q, truth, cone, choices, trail, gains, v, on);
+        sum = plus(m, spot.s, row.at, o, sum, r.value);
+        next = r.next;
+        o += 1;
+    }
+    Part {
+        value: sum,
+        next: next,
+    }
+}
+
+// The total of the plan with these choices: the summed weights of the paths that it allows and on which the condition is true.
+pub fn plan_weight(
+    m: &[u16; 8704],
+    q: &[u8; 552],
+    truth: &[u8; 1280],
+    cone: &[u8],
+    choices: &[u8],
+    start: u8,
+    n: u8,
+) -> u64
+    requires { ⌜ Ready (now m) (now q) start (now truth) (now cone) ⌝ }
+    requires { ⌜ (depth (formula (now q) (root-of (now cone))) ≤ n) × (n ≤ 6) ⌝ }
+    ensures { λ r. ⌜ ((π : Plan n) → plan-of (model-in (now (m .entry))) n start (now (choices .entry)) ≡ ok π → r ≡ W (model-in (now (m .entry))) (formula (now (q .entry)) (root-of (now (cone .entry)))) n start π) ⌝ }
+{
+    let mut trail = [0u16; 6];
+    let mut gains = [0i32; 7];
+    let mut v = [0u8; 280];
+    learn(q, truth, &trail, &gains, cone, &mut v, 0, start);
+    let spot = Spot {
+        start: start,
+        h: 0,
+        s: start,
+        k: n,
+        at: 0,
+    };
+    let r = weigh_from(
+        m,
+        q,
+        truth,
+        cone,
+        choices,
+        &mut trail,
+        &mut gains,
+        &mut v,
+        spot,
+    );
+    r.value
+}

@@ -1,0 +1,6 @@
+pub mod RowFilled
+pub mod RowsAreModel
+pub mod ReadByPlace
+pub mod PlacesInRange
+pub mod UnusedWeighNothing
+pub mod BitSums

@@ -1,0 +1,5 @@
+pub mod SameMeaning
+pub mod ChildrenBefore
+pub mod OnlyChildrenChange
+pub mod SameNodeByNode
+pub mod SameVerdict

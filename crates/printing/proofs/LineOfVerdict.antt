@@ -1,0 +1,100 @@
+-- The line of a verdict as judge returns it is the line of the verdict: the root is a "plan" by its operator, a plan record has at most 6
+-- steps, and its choices are the first of those beside it.
+use Prim.Native.Nat.{ℕ, _-_, _^_, _≤_}
+use native.Mathlib.Omega.{arith}
+use mathlib.Core.Path.{_≡_, refl, sym, ap, ap₂, _∙_}
+use mathlib.Core.Bool.{Bool, true, false, cond}
+use mathlib.Core.List.{List, []}
+use mathlib.Core.Option.{Option, none, some}
+use lib.ListN.{length, take, replicate, length-append, length-replicate}
+use lib.Seq.{take-append-seam}
+use borrow.Author.Tests.{eqb-true, eqb-false}
+use Rattle.logic.specs.Checked.{Checked, ok, refused}
+use Rattle.logic.specs.Model.{Model}
+use Rattle.logic.specs.Plan.{Plan}
+use Rattle.logic.specs.Formula.{Formula, never, prop, neg, both, does, next, gain, plan, nonnegative, sat}
+use Rattle.logic.specs.Verdict.{Goal, goal, shown, announced, verdict-by, verdict}
+use Rattle.logic.specs.Verdict as logic
+use Rattle.logic.proofs.Checked.{not-ok, ok-same}
+use Rattle.blocks.specs.Bytes.{Bytes}
+use Rattle.questions.specs.Layout.{node-of, node-count, question-of}
+use Rattle.questions.specs.promises.Formed.{Formed}
+use Rattle.verdict_line.specs.Line.{plain-line, no-plans-line, yes-plan-line, is-plan, verdict-line}
+use Rattle.plan_judge.specs.promises.Values.{padded, verdict-code, choices-code}
+use Rattle.plan_judge.specs.promises.State.{shown-size}
+use Rattle.plan_judge.proofs.StateGrounds.{other-goal, root-goal}
+use Rattle.printing.specs.promises.Printed.{plan-root, shown-line, shown-steps}
+
+-- ---- the root
+
+goal-other : (m : Model) (s : ℕ) (φ : Formula) {k : ℕ} → goal m s φ ≡ refused k → is-plan φ ≡ false
+unfolding goal is-plan
+goal-other m s never e = refl
+goal-other m s (prop i) e = refl
+goal-other m s (neg φ) e = refl
+goal-other m s (both φ ψ) e = refl
+goal-other m s (does a) e = refl
+goal-other m s (next φ) e = refl
+goal-other m s (gain n b p) e = refl
+goal-other m s (plan n φ r p q) e = absurd (not-ok (sym e))
+
+goal-plan : (m : Model) (s : ℕ) (φ : Formula) {g : Goal} → goal m s φ ≡ ok g → is-plan φ ≡ true
+unfolding goal is-plan
+goal-plan m s never e = absurd (not-ok e)
+goal-plan m s (prop i) e = absurd (not-ok e)
+goal-plan m s (neg φ) e = absurd (not-ok e)
+goal-plan m s (both φ ψ) e = absurd (not-ok e)
+goal-plan m s (does a) e = absurd (not-ok e)
+goal-plan m s (next φ) e = absurd (not-ok e)
+goal-plan m s (gain n b p) e = absurd (not-ok e)
+goal-plan m s (plan n φ r p q) e = refl
+
+module _ {S A N : ℕ} {q : Bytes} (a : Formed S A N q) (m : Model) (s : ℕ) where
+  -- The root's formula is a "plan" where its operator says so.
+  pub root-is : is-plan (question-of q .root) ≡ plan-root q
+  root-is = by (plan-root q) refl
+    where
+      by : (t : Bool) → plan-root q ≡ t → is-plan (question-of q .root) ≡ plan-root q
+      by true e = goal-plan m s (question-of q .root) (root-goal a m s (eqb-true _ 8 e)) ∙ sym e
+      by false e = goal-other m s (question-of q .root) (other-goal a m s (eqb-false _ 8 e)) ∙ sym e
+
+  goal-steps : (g : Goal) → goal m s (question-of q .root) ≡ ok g → g .steps ≤ 6
+  goal-steps g e = by (plan-root q) refl
+    where
+      by : (t : Bool) → plan-root q ≡ t → g .steps ≤ 6
+      by false i = absurd (not-ok (sym (other-goal a m s (eqb-false _ 8 i)) ∙ e))
+      by true i =
+          let o = eqb-true (node-of q (node-count q - 1) .operator) 8 i in
+          let few = a .in-range (node-count q - 1) (omega (arith, a .some-node)) .of-plan o .compares .few-steps in
+          omega (arith, ap (λ h. h .steps) (ok-same (sym (root-goal a m s o) ∙ e)))
+
+  -- A shown plan has at most 6 steps.
+  pub few-steps : shown-steps (verdict-code (verdict m s (question-of q .root))) ≤ 6
+  unfolding verdict verdict-code shown-steps
+  few-steps = by (goal m s (question-of q .root)) refl (sat m (question-of q .root) s [])
+    where
+      of-goal : (g : Goal) → g .steps ≤ 6 → (o : Option (ℕ × Plan (g .steps))) → shown-steps (verdict-code (announced m s g o)) ≤ 6
+      of-goal g h none = omega arith
+      of-goal g h (some x) = h
+
+      by : (c : Checked Goal) → goal m s (question-of q .root) ≡ c → (t : Bool) → shown-steps (verdict-code (verdict-by m s t c)) ≤ 6
+      by (ok g) e t = of-goal g (goal-steps g e) (shown m s g)
+      by (refused k) e true = omega arith
+      by (refused k) e false = omega arith
+
+-- ---- the choices and the line
+
+-- They are in the array, since it is no longer than its type says.
+pub few-choices : (v : logic.Verdict) → length (choices-code v) ≡ 1365 → shown-size (some v) ≤ 1365
+unfolding choices-code padded shown-size
+few-choices (logic.no x) e = omega arith
+few-choices logic.yes e = omega arith
+few-choices (logic.yes-plan x) e = let cs : List ℕ = x .choices in omega (arith, length-append cs (replicate (1365 - length cs) 0), length-replicate {A = ℕ} (1365 - length cs) 0)
+
+pub line-is : (m : Model) (φ : Formula) (v : logic.Verdict) (D : ℕ) (t : Bool) → m .denominator ≡ D → is-plan φ ≡ t
+    → shown-line D t (verdict-code v) (take (shown-size (some v)) (choices-code v)) ≡ verdict-line m φ v
+unfolding shown-line verdict-line verdict-code choices-code padded shown-size
+line-is m φ (logic.no x) D t d i = ap (λ u. cond u (no-plans-line (x .count)) (plain-line false)) (sym i)
+line-is m φ logic.yes D t d i = refl
+line-is m φ (logic.yes-plan x) D t d i =
+    ap₂ (λ D cs. yes-plan-line (nonnegative (x .total)) (D ^ x .steps) (x .count) cs) (sym d) (take-append-seam (x .choices) (replicate (1365 - length (x .choices)) 0))

@@ -1,0 +1,9 @@
+pub mod AfterEachCall
+pub mod HeldAccepted
+pub mod Refusals
+pub mod FirstGround
+pub mod Lists
+pub mod ShownPlan
+pub mod Demand2
+pub mod Demand3
+pub mod SheetsReadBack

@@ -1,0 +1,286 @@
+-- A plan's sheet is read back from the bytes written of it: an accepted question asks for 1 to 6 steps, an action of an accepted model has
+-- at most 4 outcomes, so that a plan has 1 to 1,365 choices; and W is at most D to the n, below 2 to the 64. The bytes are bytes: states
+-- are below 32, choices below 8.
+use Prim.Native.Nat.{ℕ, zero, suc, _+_, _*_, _-_, _^_, _≤_, _<_}
+use native.Mathlib.Omega.{arith}
+use native.Mathlib.Nat.{le-refl, le-trans, lt-of-le-of-lt, suc-mul, mul-le-mul-right, pow-le-pow-left, pow-le-pow-right}
+use mathlib.Core.Path.{_≡_, refl, sym, ap, subst, _∙_}
+use mathlib.Core.Bool.{Bool, true, false, cond, false≢true}
+use mathlib.Core.Logic.{⊎-elim}
+use mathlib.Core.List.{List, [], _∷_, flatMap, List·Memᴰ, List·Memᴰ·head, List·Memᴰ·tail, List·Memᴰ·not-nil, List·Memᴰ·cases-cons, List·Memᴰ·append-cases}
+use lib.Dec.{lit<}
+use lib.IntN.{pos}
+use lib.ListN.{length, getD, length-append}
+use Rattle.logic.specs.Checked.{ok}
+use Rattle.logic.specs.promises.Refusal.{refusal}
+use Rattle.logic.specs.Lists.{keep}
+use Rattle.logic.specs.Model.{Model, enabled, outcomes}
+use Rattle.logic.specs.Quantity.{naturals, sum, Relation}
+use Rattle.logic.specs.Plan.{Plan, plans, choices, paths, weight, Match, ends, pair}
+use Rattle.logic.specs.Accepted.{Accepted}
+use Rattle.logic.specs.Order.{Is-plan}
+use Rattle.logic.specs.Formula.{Formula, never, prop, neg, both, does, next, gain, plan, sat, W, nonnegative}
+use Rattle.logic.specs.Verdict.{Goal, goal}
+use Rattle.logic.proofs.Checked.{not-ok, ok-same}
+use Rattle.logic.proofs.Dictionary.{plans-are}
+use Rattle.logic.proofs.PathWeights.{path-weights}
+use Rattle.logic.proofs.Tests.{keep-member, counted-range, length-tabulate}
+use Rattle.blocks.specs.Bytes.{Bytes}
+use Rattle.models.specs.Layout.{state-count, action-count, prop-count, model-of, entries, outcome-of}
+use Rattle.models.specs.Grounds.{read-model}
+use Rattle.models.proofs.EveryCell.{sizes}
+use Rattle.models.proofs.GroundsPassed.{passed-all, read-passed}
+use Rattle.models.proofs.Readable.{readable}
+use Rattle.models.proofs.OutcomesOfCell.{entries-few, outcomes-are}
+use Rattle.models.proofs.ModelOfBytes.{accepted, states-held}
+use Rattle.questions.specs.Layout.{node-of, node-count, formulas-of, question-of}
+use Rattle.questions.specs.Grounds.{read-question}
+use Rattle.questions.specs.promises.Formed.{Formed}
+use Rattle.questions.proofs.AcceptedFacts as questions
+use Rattle.questions.proofs.TableNodeByNode.{by-operator}
+use Rattle.logic.specs.promises.MostChoices.{most-choices}
+use Rattle.logic.proofs.MostChoices.{most-choices-6}
+use Rattle.sheets.proofs.ReadsBack.{reads-back}
+use Rattle.sheets.proofs.BytesWritten.{sheet-small}
+use Rattle.protocol.specs.Calls.{Call, Held, Reply, yields}
+use Rattle.protocol.specs.History.{after}
+use Rattle.protocol.specs.Replies.{Session}
+use Rattle.protocol.specs.Demand3.{Plan-question, Demand-3, Demand-3-always}
+use Rattle.protocol.proofs.AfterEachCall.{Sound, sound}
+use Rattle.protocol.proofs.HeldAccepted as held
+use Rattle.protocol.proofs.Demand3.{Reads-back, demand-3}
+
+-- ---- how many choices
+
+each-few : {A B : Type 0} {R : A → B → Type 0} (key : B → List ℕ) (k : ℕ) → ((x : A) (y : B) → R x y → length (key y) ≤ k)
+    → {l : List A} {ys : List B} → Match R l ys → length (flatMap key ys) ≤ length l * k
+unfolding flatMap
+each-few key k h ends = omega arith
+each-few key k h (pair {x} {y} {xs} {ys} r t) =
+    let i = each-few key k h t in
+    let j = h x y r in
+    simp length-append (omega (arith, suc-mul (length xs) k))
+
+few-choices : (m : Model) → ((s a : ℕ) → length (outcomes m s a) ≤ 4) → (n s : ℕ) (π : Plan n) → Is-plan m n s π → length (choices n π) ≤ most-choices n
+unfolding choices most-choices
+few-choices m few zero s π h = le-refl 0
+few-choices m few (suc n) s π h =
+    let e = each-few (choices n) (most-choices n) (λ o q i. few-choices m few n (o .target) q i) (h .1) in
+    let f = mul-le-mul-right (most-choices n) (few s (π .0)) in
+    omega arith
+
+some-choice : (n : ℕ) (π : Plan n) → 1 ≤ n → 1 ≤ length (choices n π)
+unfolding choices
+some-choice zero π h = h
+some-choice (suc n) π h = omega arith
+
+-- ---- which choices
+
+each-member : {A B : Type 0} {R : A → B → Type 0} (key : B → List ℕ) (k : ℕ) {c : ℕ} → ((x : A) (y : B) → R x y → List·Memᴰ c (key y) → c < k)
+    → {l : List A} {ys : List B} → Match R l ys → List·Memᴰ c (flatMap key ys) → c < k
+unfolding flatMap
+each-member key k h ends i = absurd (List·Memᴰ·not-nil i)
+each-member key k h (pair {x} {y} r t) i = ⊎-elim (λ j. h x y r j) (λ j. each-member key k h t j) (List·Memᴰ·append-cases (key y) i)
+
+enabled-action : (m : Model) (s : ℕ) {c : ℕ} → List·Memᴰ c (enabled m s) → c < length (m .actions)
+unfolding enabled
+enabled-action m s i = let w = keep-member _ _ i in omega (arith, counted-range 0 (length (m .actions)) (w .0) .1)
+
+-- Each choice of a plan is an action of the model.
+choice-action : (m : Model) (n s : ℕ) (π : Plan n) → Is-plan m n s π → {c : ℕ} → List·Memᴰ c (choices n π) → c < length (m .actions)
+unfolding choices
+choice-action m zero s π h i = absurd (List·Memᴰ·not-nil i)
+choice-action m (suc n) s π h {c} i =
+    ⊎-elim (λ e. subst (λ a. a < length (m .actions)) (sym e) (enabled-action m s (h .0)))
+    (λ j. each-member (choices n) (length (m .actions)) (λ o q g k. choice-action m n (o .target) q g k) (h .1) j)
+    (List·Memᴰ·cases-cons i)
+
+small-at : (l : List ℕ) → ((c : ℕ) → List·Memᴰ c l → c < 256) → (i : ℕ) → getD l i 0 < 256
+small-at [] h i = omega arith
+small-at (x ∷ l) h zero = h x (List·Memᴰ·head refl)
+small-at (x ∷ l) h (suc i) = small-at l (λ c j. h c (List·Memᴰ·tail j)) i
+
+-- ---- how large W is
+
+kept-less : {A : Type 0} (w : A → ℕ) (f : A → Bool) (l : List A) → sum naturals w (keep f l) ≤ sum naturals w l
+unfolding sum keep
+kept-less w f [] = le-refl 0
+kept-less w f (x ∷ l) = by (f x) (kept-less w f l)
+  where
+    by : (t : Bool) → sum naturals w (keep f l) ≤ sum naturals w l → sum naturals w (cond t (x ∷ keep f l) (keep f l)) ≤ w x + sum naturals w l
+    by true h = omega arith
+    by false h = omega arith
+
+-- ---- the steps that an accepted question asks for
+
+is-plan : Formula → Bool
+is-plan never = false
+is-plan (prop i) = false
+is-plan (neg φ) = false
+is-plan (both φ ψ) = false
+is-plan (does a) = false
+is-plan (next φ) = false
+is-plan (gain n r p) = false
+is-plan (plan n φ r p q) = true
+
+steps : Formula → ℕ
+steps never = 0
+steps (prop i) = 0
+steps (neg φ) = 0
+steps (both φ ψ) = 0
+steps (does a) = 0
+steps (next φ) = 0
+steps (gain n r p) = 0
+steps (plan n φ r p q) = n
+
+module _ (S A N : ℕ) (c : Bytes) (a : Formed S A N c) (i : ℕ) (h : i < node-count c) (e : is-plan (getD (formulas-of c) i never) ≡ true) where
+  not-here : {φ : Formula} → getD (formulas-of c) i never ≡ φ → is-plan φ ≡ false → node-of c i .operator ≡ 8
+  not-here q f = absurd (false≢true (sym f ∙ ap is-plan (sym q) ∙ e))
+
+  plan-operator : node-of c i .operator ≡ 8
+  unfolding is-plan
+  plan-operator =
+      by-operator (λ o. node-of c i .operator ≡ o → node-of c i .operator ≡ 8)
+      (λ z. absurd (omega (arith, a .in-range i h .operator-from)))
+      (λ z. not-here (questions.at-never S A N c a i h z) refl)
+      (λ z. not-here (questions.at-prop S A N c a i h z) refl)
+      (λ z. not-here (questions.at-neg S A N c a i h z) refl)
+      (λ z. not-here (questions.at-both S A N c a i h z) refl)
+      (λ z. not-here (questions.at-does S A N c a i h z) refl)
+      (λ z. not-here (questions.at-next S A N c a i h z) refl)
+      (λ z. not-here (questions.at-gain S A N c a i h z) refl)
+      (λ z. z)
+      (λ k z. absurd (omega (arith, a .in-range i h .operator-to)))
+      (node-of c i .operator) refl
+
+  plan-steps : (1 ≤ steps (getD (formulas-of c) i never)) × (steps (getD (formulas-of c) i never) ≤ 6)
+  unfolding steps
+  plan-steps =
+      let o = plan-operator in
+      let r = a .in-range i h .of-plan o .compares in
+      subst (λ n. (1 ≤ n) × (n ≤ 6)) (ap steps (sym (questions.at-plan S A N c a i h o))) (r .some-step, r .few-steps)
+
+-- ---- the whole
+
+-- What a goal asks: its root is "plan".
+pub record Asks (m : Model) (s : ℕ) (φ : Formula) (g : Goal) : Type 0 where
+  pub condition : Formula
+  pub relation : Relation
+  pub p : ℕ
+  pub q : ℕ
+  pub root : φ ≡ plan (g .steps) condition relation p q
+  pub totals : (π : Plan (g .steps)) → g .total π ≡ pos (W m condition (g .steps) s π)
+
+asks : (m : Model) (s : ℕ) (φ : Formula) (g : Goal) → goal m s φ ≡ ok g → Asks m s φ g
+unfolding goal
+asks m s never g e = absurd (not-ok e)
+asks m s (prop i) g e = absurd (not-ok e)
+asks m s (neg φ) g e = absurd (not-ok e)
+asks m s (both φ ψ) g e = absurd (not-ok e)
+asks m s (does a) g e = absurd (not-ok e)
+asks m s (next φ) g e = absurd (not-ok e)
+asks m s (gain n r p) g e = absurd (not-ok e)
+asks m s (plan n φ r p q) g e =
+    subst (Asks m s (plan n φ r p q)) (ok-same e) (record { condition = φ; relation = r; p = p; q = q; root = refl; totals = λ π. refl })
+
+module _ {h : Held} (sound-held : Sound h) (x : Plan-question h) where
+  abbrev s : ℕ
+  s = x .question .start
+
+  abbrev n : ℕ
+  n = x .asked .steps
+
+  asked-for : Asks (x .model) s (x .question .root) (x .asked)
+  asked-for = asks (x .model) s (x .question .root) (x .asked) (x .plan-root)
+
+  -- The bytes that the held model and question were read from.
+  model-bytes : (b : Bytes) × (read-model b ≡ ok (x .model))
+  model-bytes = sound-held .model-read (x .model) (x .held-model)
+
+  abbrev b : Bytes
+  b = model-bytes .0
+
+  passed : refusal (read-model b) ≡ 0
+  passed = ap refusal (model-bytes .1)
+
+  same-model : x .model ≡ model-of b
+  same-model = ok-same (sym (model-bytes .1) ∙ read-passed b (passed-all b passed))
+
+  question-bytes : (c : Bytes) × (read-question (length (x .model .states)) (length (x .model .actions)) (x .model .propositions) c ≡ ok (x .question))
+  question-bytes = sound-held .question-read (x .model) (x .question) (x .held-model) (x .held-question)
+
+  abbrev c : Bytes
+  c = question-bytes .0
+
+  asked : questions.Accepted (length (x .model .states)) (length (x .model .actions)) (x .model .propositions) c
+  asked = questions.accepted (length (x .model .states)) (length (x .model .actions)) (x .model .propositions) c (ap refusal (question-bytes .1))
+
+  same-question : x .question ≡ question-of c
+  same-question = ok-same (sym (question-bytes .1) ∙ asked .read)
+
+  last-node : node-count c - 1 < node-count c
+  last-node = omega (arith, asked .formed .some-node)
+
+  root-plan : getD (formulas-of c) (node-count c - 1) never ≡ plan n (asked-for .condition) (asked-for .relation) (asked-for .p) (asked-for .q)
+  unfolding question-of
+  root-plan = sym (ap (λ q. q .root) same-question) ∙ asked-for .root
+
+  steps-asked : (1 ≤ n) × (n ≤ 6)
+  unfolding steps is-plan
+  steps-asked =
+      subst (λ n. (1 ≤ n) × (n ≤ 6)) (ap steps root-plan)
+      (plan-steps (length (x .model .states)) (length (x .model .actions)) (x .model .propositions) c (asked .formed) (node-count c - 1) last-node (ap is-plan root-plan))
+
+  start-inside : s < length (x .model .states)
+  start-inside = held.start-inside sound-held (x .model) (x .held-model) (x .question) (x .held-question)
+
+  outcomes-few : (t a : ℕ) → length (outcomes (x .model) t a) ≤ 4
+  outcomes-few t a =
+      subst (λ m. length (outcomes m t a) ≤ 4) (sym same-model)
+      (subst (λ n. n ≤ 4) (sym (ap length (outcomes-are b t a) ∙ length-tabulate (outcome-of b t a) (entries b t a))) (entries-few b (readable b passed) t a))
+
+  denominator-few : x .model .denominator ≤ 100
+  unfolding model-of
+  denominator-few = subst (λ m. m .denominator ≤ 100) (sym same-model) (sizes b (passed-all b passed .sizes) .parts)
+
+  start-few : s < 256
+  start-few =
+      let n = subst (λ m. s < length (m .states)) same-model start-inside in
+      omega (arith, states-held b, sizes b (passed-all b passed .sizes) .states, n)
+
+  actions-few : length (x .model .actions) ≤ 8
+  unfolding model-of
+  actions-few = subst (λ m. length (m .actions) ≤ 8) (sym same-model) (subst (λ n. n ≤ 8) (sym (length-tabulate _ (action-count b))) (sizes b (passed-all b passed .sizes) .actions))
+
+  module _ (π : Plan (n)) (i : List·Memᴰ π (plans (x .model) (n) s)) where
+    choices-few : length (choices (n) π) ≤ 1365
+    choices-few = le-trans (few-choices (x .model) outcomes-few (n) s π (plans-are (x .model) (n) s π .0 i)) (most-choices-6 (n) (steps-asked .1))
+
+    choices-small : (k : ℕ) → getD (choices (n) π) k 0 < 256
+    choices-small =
+        small-at (choices (n) π)
+        (λ c j. let h = choice-action (x .model) (n) s π (plans-are (x .model) (n) s π .0 i) j in omega (arith, actions-few, h))
+
+    weight-few : W (x .model) (asked-for .condition) (n) s π < 18446744073709551616
+    unfolding W
+    weight-few =
+        let k = kept-less weight (sat (x .model) (asked-for .condition) s) (paths (x .model) (n) s π) in
+        let e = path-weights (x .model) (subst Accepted (sym same-model) (accepted b (passed-all b passed))) (n) s start-inside π i in
+        let d : x .model .denominator ^ n ≤ 100 ^ 6 = le-trans (pow-le-pow-left denominator-few (n)) (pow-le-pow-right (lit< tt) (steps-asked .1)) in
+        lt-of-le-of-lt (le-trans k (subst (λ z. z ≤ 100 ^ 6) (sym e) d)) (lit< tt)
+
+    reads-whole : Reads-back (x .question) (x .asked) (record { weight = x .asked .total π; choices = choices n π })
+    unfolding nonnegative
+    reads-whole =
+        let w : ℕ = W (x .model) (asked-for .condition) n s π in
+        subst (λ z. Reads-back (x .question) (x .asked) (record { weight = z; choices = choices n π })) (sym (asked-for .totals π))
+        (record {
+          sheet = reads-back n s w (choices n π) weight-few (some-choice n π (steps-asked .0)) choices-few;
+          bytes = sheet-small n s w (choices n π) (omega (arith, steps-asked .1)) start-few choices-few (record { below = choices-small }) .below;
+        })
+
+  pub demand-3-held : (reply : Call → Reply) → ((c : Call) → reply c ≡ yields h c) → Demand-3 reply x
+  demand-3-held reply yielding = demand-3 reply yielding x sound-held reads-whole
+
+pub demand-3-always : (session : Session) → ((calls : List Call) (c : Call) → session calls c ≡ yields (after calls) c) → Demand-3-always session
+demand-3-always session yielding calls x = demand-3-held (sound calls) x (session calls) (yielding calls)

@@ -1,0 +1,116 @@
+-- Demand 3 speaks of what is held and of the replies to a next call, and then of every list of calls. Document 00:
+--   "After every list of calls (load, put, judge, write, check, refused ones too) on a desk that began empty, and for every plan question
+--   that the desk then holds with its accepted model, within the path and plan limits: whoever wrote a sheet, if it has no other ground
+--   for refusal, the sheet check accepts it exactly when two weights are equal: the weight claimed on it, and the summed weights of those
+--   paths that its plan allows and on which the condition is true. Judging says yes exactly when some accepted sheet meets the bound, and
+--   each write that is then not refused writes one of these, that of the shown plan."
+-- The clauses stand beside the parts.
+use Prim.Native.Nat.{ℕ, _<_}
+use mathlib.Core.Path.{_≡_}
+use mathlib.Core.Logic.{_↔_, _⊎_}
+use mathlib.Core.Bool.{Bool, true}
+use mathlib.Core.List.{List, List·Memᴰ}
+use mathlib.Core.Option.{none, some}
+use lib.IntN.{ℤ}
+use lib.ListN.{length, take, drop}
+use Rattle.logic.specs.Checked.{ok}
+use Rattle.logic.specs.Grounds.{first}
+use Rattle.logic.specs.Model.{Model}
+use Rattle.logic.specs.Plan.{Plan, plans, choices}
+use Rattle.logic.specs.Verdict.{Goal, goal, shown, Shown-plan, yes-plan}
+use Rattle.logic.specs.Limits.{limit-grounds}
+use Rattle.blocks.specs.Bytes.{Bytes, byte}
+use Rattle.questions.specs.Layout.{Question}
+use Rattle.sheets.specs.Grounds.{read-sheet}
+use Rattle.protocol.specs.Calls.{Call, judge, query, write, check, Held, Report, judged, written, accepted, refuse, Reply}
+use Rattle.protocol.specs.History.{after}
+use Rattle.protocol.specs.Replies.{Session}
+
+-- Every element is a byte: `Bytes` alone are numbers of any size.
+abbrev pub All-bytes : Bytes → Type 0
+All-bytes b = (i : ℕ) → byte b i < 256
+
+-- "for every plan question that the desk then holds with its accepted model, within the path and plan limits": its root is "plan", and
+-- asks of plans what the goal says: their steps, the total of each, and whether that meets the bound.
+pub record Plan-question (h : Held) : Type 0 where
+  pub model : Model
+  pub question : Question
+  pub asked : Goal
+  pub held-model : h .model ≡ some model
+  pub held-question : h .question ≡ some question
+  pub plan-root : goal model (question .start) (question .root) ≡ ok asked
+  pub within-limits : first (limit-grounds model (question .nodes)) ≡ none
+
+module _ {h : Held} (reply : Call → Reply) (x : Plan-question h) where
+  abbrev pub start : ℕ
+  start = x .question .start
+
+  -- the plans of the steps that are asked for
+  abbrev pub Asked-plan : Type 0
+  Asked-plan = Plan (x .asked .steps)
+
+  -- "the summed weights of those paths that its plan allows and on which the condition is true": W of `Formula`, the total of operator 8
+  abbrev pub total : Asked-plan → ℤ
+  total π = x .asked .total π
+
+  -- "A sheet meets the bound when its plan's W does."
+  abbrev pub meets-bound : Asked-plan → Bool
+  meets-bound π = x .asked .met π
+
+  -- "if it has no other ground for refusal" than 11: none of 1 to 6, and its choices are those of a plan, so not 10. It claims the weight
+  -- w for the plan π.
+  pub record Claims (sheet : Bytes) (w : ℤ) (π : Asked-plan) : Type 0 where
+    pub reads : read-sheet (x .asked .steps) start sheet ≡ ok (record { weight = w; choices = choices (x .asked .steps) π })
+    pub is-plan : List·Memᴰ π (plans (x .model) (x .asked .steps) start)
+
+  -- "the sheet check accepts it", and reports of it
+  abbrev pub Accepts : Bytes → Report → Type 0
+  Accepts sheet report = (reply (query (check sheet))) .answer ≡ accepted report
+
+  -- ground 11: "the sheet's weight is not its plan's"
+  abbrev pub Differs : Bytes → Type 0
+  Differs sheet = (reply (query (check sheet))) .answer ≡ refuse 11
+
+  -- an accepted sheet that meets the bound, with its plan
+  pub record Meeting-sheet (sheet : Bytes) (π : Asked-plan) : Type 0 where
+    pub bytes : All-bytes sheet
+    pub claims : Claims sheet (total π) π
+    pub report : Report
+    pub accepts : Accepts sheet report
+    pub reports-it : report .met ≡ true
+    pub meets-it : meets-bound π ≡ true
+
+  -- "Judging says yes"
+  pub record Says-yes : Type 0 where
+    pub shown : Shown-plan
+    pub steps : shown .steps ≡ x .asked .steps
+    pub answers : (reply judge) .answer ≡ judged (yes-plan shown)
+
+  -- "writes one of these, that of the shown plan": the buffer has the bytes filled, these are such a sheet, and no byte beyond has changed
+  pub record Writes-shown (buffer left : Bytes) (filled : ℕ) : Type 0 where
+    pub place : ℕ
+    pub shown-plan : Asked-plan
+    pub is-shown : shown (x .model) start (x .asked) ≡ some (place, shown-plan)
+    pub size : length left ≡ length buffer
+    pub whole : length (take filled left) ≡ filled
+    pub sheet : Meeting-sheet (take filled left) shown-plan
+    pub beyond : drop filled left ≡ drop filled buffer
+
+  pub record Demand-3 : Type 0 where
+    -- "accepts it exactly when two weights are equal"
+    pub check-exact : (sheet : Bytes) (w : ℤ) (π : Asked-plan) → Claims sheet w π → ((report : Report) × Accepts sheet report) ↔ (w ≡ total π)
+    -- and refuses it with 11 when they differ
+    pub check-differs : (sheet : Bytes) (w : ℤ) (π : Asked-plan) → Claims sheet w π → (w ≡ total π → ⊥) → Differs sheet
+    -- "no other ground for refusal": the sheets that claim a weight for some plan are just those that check accepts or refuses with 11
+    pub claims-exact : (sheet : Bytes) → ((w : ℤ) × (π : Asked-plan) × Claims sheet w π) ↔ (((report : Report) × Accepts sheet report) ⊎ Differs sheet)
+    -- What it reports on accepting is whether the sheet's weight meets the bound.
+    pub check-says : (sheet : Bytes) (w : ℤ) (π : Asked-plan) → Claims sheet w π → (report : Report) → Accepts sheet report → report .met ≡ meets-bound π
+    -- "Judging says yes exactly when some accepted sheet meets the bound"
+    pub yes-exact : Says-yes ↔ ((sheet : Bytes) × (π : Asked-plan) × Meeting-sheet sheet π)
+    -- "each write that is then not refused writes one of these, that of the shown plan"
+    pub write-exact : (buffer : Bytes) (filled : ℕ) → (reply (query (write buffer))) .answer ≡ written filled
+        → Writes-shown buffer ((reply (query (write buffer))) .buffer) filled
+
+-- "After every list of calls"
+abbrev pub Demand-3-always : Session → Type 0
+Demand-3-always session = (calls : List Call) (x : Plan-question (after calls)) → Demand-3 (session calls) x

@@ -1,0 +1,2 @@
+pub mod MarksPassedOn
+pub mod ConeListed

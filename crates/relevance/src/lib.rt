@@ -1,0 +1,171 @@
+// What is made ready before anything is judged: which nodes matter in which states, and the nodes of a condition in the order in which
+// their values are made.
+ghost use mathlib.Core.Path.{_≡_};
+ghost use Prim.Native.Nat.{_+_, _*_, _/_, _%_, ℕ, _<_, _≤_};
+ghost use lib.ListN.{getD, set, length, take};
+ghost use Rattle.models.specs.Layout.{state-count};
+ghost use Rattle.prepared_model.specs.promises.Rows.{choices-in, outcomes-in, step-in, Offers, Prepared};
+ghost use Rattle.questions.specs.Layout as question;
+ghost use Rattle.evaluation.specs.promises.Reached.{Cone, root-of};
+ghost use Rattle.relevance.specs.promises.Need.{Given, Marked, Passed-on, Grown, Needs};
+ghost use Rattle.relevance.specs.promises.Chosen.{Asked, Entered, Chosen, Listed};
+use blocks::byte;
+use evaluation::store;
+use prepared_model::choices;
+use prepared_model::outcomes;
+use prepared_model::target;
+use prepared_question::count;
+use prepared_question::depth;
+use prepared_question::left;
+use prepared_question::operator;
+use prepared_question::right;
+use prepared_question::start;
+
+// ---- what the verdict can turn on
+
+// Where a node and a state stand in a table.
+pub fn place(j: u8, s: u8) -> usize
+    ensures { λ r. ⌜ r ≡ 32 * j + s ⌝ }
+{
+    32 * j as usize + s as usize
+}
+
+fn mark(need: &mut [u8], j: u8, s: u8)
+    ensures { λ _. ⌜ now (need .exit) ≡ set (now (need .entry)) (32 * j + s) 1 ⌝ }
+{
+    store(need, place(j, s), 1);
+}
+
+// Marks the child of "next" in the targets of the outcomes of choice i.
+fn mark_outcomes(m: &[u16; 8704], need: &mut [u8; 1280], child: u8, s: u8, i: usize)
+    requires { ⌜ Prepared (now m) × (child < 40) ⌝ }
+    requires { ⌜ (s < state-count (now m)) × (i < choices-in (now m) s) ⌝ }
+    ensures { λ _. ⌜ Grown (state-count (now (m .entry))) (32 * child + 32) (now (need .entry)) (now (need .exit)) × ((o : ℕ) → o < outcomes-in (now (m .entry)) s i → Marked (now (need .exit)) child (step-in (now (m .entry)) s i o .target)) ⌝ }
+{
+    let n = outcomes(m, s as usize, i);
+    let mut o: usize = 0;
+    while o < n {
+        mark(need, child, target(m, s as usize, i, o) as u8);
+        o += 1;
+    }
+}
+
+// Marks the child of "next" wherever a step from s can lead.
+fn mark_next(m: &[u16; 8704], need: &mut [u8; 1280], child: u8, s: u8)
+    requires { ⌜ Prepared (now m) × (child < 40) × (s < state-count (now m)) ⌝ }
+    ensures { λ _. ⌜ Grown (state-count (now (m .entry))) (32 * child + 32) (now (need .entry)) (now (need .exit)) × ((i o : ℕ) → Offers (now (m .entry)) s i o → Marked (now (need .exit)) child (step-in (now (m .entry)) s i o .target)) ⌝ }
+{
+    let n = choices(m, s as usize);
+    let mut i: usize = 0;
+    while i < n {
+        mark_outcomes(m, need, child, s, i);
+        i += 1;
+    }
+}
+
+// Marks what the pair at a place of the table turns on, if it is marked.
+fn pass_on(m: &[u16; 8704], q: &[u8; 552], need: &mut [u8; 1280], k: usize)
+    requires { ⌜ Given (now m) (now q) × (k < 32 * question.node-count (now q)) ⌝ }
+    requires { ⌜ (getD (now need) k 0 ≡ 1 → k % 32 < state-count (now m)) ⌝ }
+    ensures { λ _. ⌜ Grown (state-count (now (m .entry))) (32 * (k / 32)) (now (need .entry)) (now (need .exit)) × (getD (now (need .entry)) k 0 ≡ 1 → Passed-on (now (m .entry)) (now (q .entry)) (now (need .exit)) (k / 32) (k % 32)) ⌝ }
+{
+    if byte(need, k) != 1 {
+        return;
+    }
+    let j = (k / 32) as u8;
+    let s = (k % 32) as u8;
+    let op = operator(q, j);
+    match op {
+        3 | 8 => mark(need, left(q, j), s),
+        4 => {
+            mark(need, left(q, j), s);
+            mark(need, right(q, j), s);
+        }
+        6 => mark_next(m, need, left(q, j), s),
+        _ => {}
+    }
+}
+
+// Marks from the root in the start state downwards: children have smaller numbers.
+pub fn needed(m: &[u16; 8704], q: &[u8; 552]) -> [u8; 1280]
+    requires { ⌜ Given (now m) (now q) ⌝ }
+    ensures { λ r. ⌜ Needs (now (m .entry)) (now (q .entry)) r ⌝ }
+{
+    let mut need = [0u8; 1280];
+    let root = count(q) - 1;
+    let first = place(root, start(q));
+    need[first] = 1;
+    let mut k = place(root, 0) + 32;
+    while k > 0 {
+        k -= 1;
+        pass_on(m, q, &mut need, k);
+    }
+    need
+}
+
+// ---- the nodes of a condition
+
+// Marks the children of node j, if it is marked and no state formula.
+fn enter(q: &[u8; 552], marks: &mut [u8; 40], j: u8)
+    requires { ⌜ Asked (now q) × (j < question.node-count (now q)) ⌝ }
+    ensures { λ _. ⌜ Grown 32 j (now (marks .entry)) (now (marks .exit)) × (getD (now (marks .entry)) j 0 ≡ 1 → Entered (now (q .entry)) (now (marks .exit)) j) ⌝ }
+{
+    if byte(marks, j as usize) != 1 {
+        return;
+    }
+    if depth(q, j) == 0 {
+        return;
+    }
+    let op = operator(q, j);
+    match op {
+        3 | 6 => store(marks, left(q, j) as usize, 1),
+        4 => {
+            store(marks, left(q, j) as usize, 1);
+            store(marks, right(q, j) as usize, 1);
+        }
+        _ => {}
+    }
+}
+
+// Marks from the condition c downwards.
+fn chosen(q: &[u8; 552], c: u8) -> [u8; 40]
+    requires { ⌜ Asked (now q) × (c < question.node-count (now q)) ⌝ }
+    ensures { λ r. ⌜ Chosen (now (q .entry)) c r ⌝ }
+{
+    let mut marks = [0u8; 40];
+    let top = c as usize;
+    marks[top] = 1;
+    let mut j = c + 1;
+    while j > 0 {
+        j -= 1;
+        enter(q, &mut marks, j);
+    }
+    marks
+}
+
+// Lists node i after the first n places, if it is marked; gives the number of places listed.
+fn list_node(marks: &[u8; 40], out: &mut [u8], i: u8, n: usize) -> usize
+    requires { ⌜ Listed (now marks) i n (now out) × (i < 40) × (length (now out) ≡ 40) ⌝ }
+    ensures { λ r. ⌜ Listed (now (marks .entry)) (i + 1) r (now (out .exit)) ⌝ }
+{
+    if byte(marks, i as usize) == 1 {
+        store(out, n, i);
+        return n + 1;
+    }
+    n
+}
+
+// The nodes of the condition c, children before parents; gives their number.
+pub fn cone(q: &[u8; 552], c: u8, out: &mut [u8]) -> usize
+    requires { ⌜ Asked (now q) × (c < question.node-count (now q)) × (length (now out) ≡ 40) ⌝ }
+    ensures { λ r. ⌜ (r ≤ 40) × Cone (now (q .entry)) (take r (now (out .exit))) × (root-of (take r (now (out .exit))) ≡ c) ⌝ }
+{
+    let marks = chosen(q, c);
+    let mut n: usize = 0;
+    let mut i: u8 = 0;
+    while i < c {
+        n = list_node(&marks, out, i, n);
+        i += 1;
+    }
+    list_node(&marks, out, c, n)
+}

@@ -1,0 +1,5 @@
+pub mod Decimal
+pub mod PutInTurn
+pub mod ExampleLines
+pub mod LineIsChain
+pub mod ExampleInputs

@@ -1,0 +1,86 @@
+-- Six writes, one behind the other; 1365 choices take at most 5460 bytes, so that all fit.
+use native.Mathlib.Omega.{arith}
+use borrow.Author.Needs.{needs}
+use Rattle.verdict_line.specs.Text.{text}
+use Rattle.verdict_line.specs.Line.{yes-plan-line}
+use Rattle.verdict_line.proofs.PutInTurn.{put-put}
+use Rattle.verdict_line.proofs.yes_plan_line.Statement.{statement}
+use Rattle.verdict_line.proofs.yes_plan_line.Tie as tie
+
+slice-aggregate-put-number : tie.Need-slice-aggregate-put-number
+slice-aggregate-put-number c = search needs
+
+put-number-requires : tie.Need-put-number-requires
+put-number-requires c κs = search needs
+
+slice-aggregate-put-number-2 : tie.Need-slice-aggregate-put-number-2
+slice-aggregate-put-number-2 c = search needs
+
+put-number-requires-2 : tie.Need-put-number-requires-2
+put-number-requires-2 c κs = omega arith
+
+slice-aggregate-put-number-3 : tie.Need-slice-aggregate-put-number-3
+slice-aggregate-put-number-3 c = search needs
+
+put-number-requires-3 : tie.Need-put-number-requires-3
+put-number-requires-3 c κs = omega arith
+
+slice-aggregate-put-text : tie.Need-slice-aggregate-put-text
+slice-aggregate-put-text c = search needs
+
+put-text-requires : tie.Need-put-text-requires
+put-text-requires c κs = omega arith
+
+put-choices-requires : tie.Need-put-choices-requires
+put-choices-requires c κs = omega arith
+
+slice-aggregate-put-text-2 : tie.Need-slice-aggregate-put-text-2
+slice-aggregate-put-text-2 c = search needs
+
+put-text-requires-2 : tie.Need-put-text-requires-2
+put-text-requires-2 c κs = omega arith
+
+same-length : tie.Need-same-length
+same-length c = search needs
+
+returns : tie.Need-returns
+unfolding yes-plan-line text
+returns c =
+    let S = c .before .before .before .before .before .before .before .before .before .before .before .before .before .before .before .before .before .before .before .before .before .before .before .before .before .before .before .before .before .before .before in
+    let weight = c .before .before .before .before .before .before .before .before .before .before .before .before .before .before .before .before .before .before .before .before .before .before .before .before .before .before .put-number in
+    let whole = c .before .before .before .before .before .before .before .before .before .before .before .before .before .before .before .before .before .before .before .before .before .put-number2 in
+    let count = c .before .before .before .before .before .before .before .before .before .before .before .before .before .before .before .before .put-number3 in
+    let name = c .before .before .before .before .before .before .before .before .before .before .before .put-text in
+    let choices = c .before .before .before .before .before .before .before .put-choices in
+    let end = c .before .before .put-text2 in
+    let long = S .pre .0 in
+    let few = S .pre .1 in
+    let h₁ = weight .ensures .1 in
+    let h₂ = whole .ensures .1 in
+    let h₃ = count .ensures .1 in
+    let h₄ = name .ensures .next in
+    let h₅ = choices .ensures .1 in
+    let h₆ = end .ensures .next in
+    let share = put-put (weight .ensures .0) (whole .ensures .0) (omega arith) in
+    let counted = put-put share (count .ensures .0) (omega arith) in
+    let named = put-put counted (name .ensures) (omega arith) in
+    let chosen = put-put named (choices .ensures .0) (omega arith) in
+    put-put chosen (end .ensures) (omega arith)
+
+pub yes-plan-line-spec : {M : Type 1} → statement M
+yes-plan-line-spec =
+    tie.close
+    (tie.spec
+    slice-aggregate-put-number
+    put-number-requires
+    slice-aggregate-put-number-2
+    put-number-requires-2
+    slice-aggregate-put-number-3
+    put-number-requires-3
+    slice-aggregate-put-text
+    put-text-requires
+    put-choices-requires
+    slice-aggregate-put-text-2
+    put-text-requires-2
+    same-length
+    returns)

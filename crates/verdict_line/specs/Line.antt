@@ -1,0 +1,72 @@
+-- The one line that the program `verdict` prints for its input. Document 01, "The program named verdict".
+use Prim.Native.Nat.{ℕ, _-_, _^_}
+use mathlib.Core.Bool.{Bool, true, false, cond}
+use mathlib.Core.List.{List, [], _∷_, _++_, flatMap}
+use mathlib.Core.Option.{Option, none, some}
+use lib.ListN.{length, take, drop}
+use Rattle.logic.specs.Model.{Model}
+use Rattle.logic.specs.Formula.{Formula, on-plan, nonnegative}
+use Rattle.logic.specs.Verdict.{Verdict, no, yes, yes-plan}
+use Rattle.blocks.specs.Bytes.{Bytes, within}
+use Rattle.questions.specs.Layout.{Question}
+use Rattle.protocol.specs.Calls.{load, put, judge, Held, Answer, done, judged, written, accepted, refuse, Reply}
+use Rattle.protocol.specs.History.{after}
+use Rattle.protocol.specs.Replies.{replies-to}
+use Rattle.verdict_line.specs.Text.{text, numbered}
+
+-- ---- the line of each answer
+
+unfoldable pub refused-line : ℕ → List ℕ
+refused-line k = numbered "refused " k ++ text "\n"
+
+-- Roots other than "plan".
+unfoldable pub plain-line : Bool → List ℕ
+plain-line true = text "yes\n"
+plain-line false = text "no\n"
+
+unfoldable pub no-plans-line : ℕ → List ℕ
+no-plans-line count = numbered "no plans " count ++ text "\n"
+
+-- W over D to the n, unreduced, the count, and the choices.
+unfoldable pub yes-plan-line : (weight whole count : ℕ) → List ℕ → List ℕ
+yes-plan-line w t count cs =
+    numbered "yes " w ++ numbered "/" t ++ numbered " plans " count ++ text " choices" ++ flatMap (numbered " ") cs ++ text "\n"
+
+unfoldable pub is-plan : Formula → Bool
+is-plan φ = on-plan false (λ n ψ r p q. true) φ
+
+-- The line of a verdict on this root.
+unfoldable pub verdict-line : Model → Formula → Verdict → List ℕ
+verdict-line m φ (no x) = cond (is-plan φ) (no-plans-line (x .count)) (plain-line false)
+verdict-line m φ yes = plain-line true
+verdict-line m φ (yes-plan x) = yes-plan-line (nonnegative (x .total)) (m .denominator ^ x .steps) (x .count) (x .choices)
+
+-- ---- the line of each input
+
+-- The line of a verdict on what is held.
+abbrev pub held-line : Option Model → Option Question → Verdict → List ℕ
+held-line (some m) (some q) v = verdict-line m (q .root) v
+held-line (some m) none v = []
+held-line none o v = []
+
+-- The line of the replies, up to the first refusal or the verdict: `rest` is that of the later ones. (Their end is not reached, and there is
+-- no verdict where nothing is held: judge is answered or refused.)
+abbrev pub reply-line : Held → Answer → (rest : List ℕ) → List ℕ
+reply-line h done rest = rest
+reply-line h (judged v) rest = held-line (h .model) (h .question) v
+reply-line h (written bytes) rest = rest
+reply-line h (accepted report) rest = rest
+reply-line h (refuse k) rest = refused-line k
+
+unfoldable pub replies-line : Held → List Reply → List ℕ
+replies-line h [] = []
+replies-line h (r ∷ rs) = reply-line h (r .answer) (replies-line h rs)
+
+-- "loads, puts and judges in turn up to the first refusal"
+unfoldable pub printed-for : (model question : Bytes) → List ℕ
+printed-for model question = replies-line (after (load model ∷ put question ∷ [])) (replies-to (load model ∷ put question ∷ judge ∷ []))
+
+-- What the program prints, of every input: the last 512 bytes are the question, those before it the model. "Input under 512 bytes or over
+-- 13 blocks is refused with 1."
+unfoldable pub printed : Bytes → List ℕ
+printed b = cond (within 512 6656 (length b)) (printed-for (take (length b - 512) b) (drop (length b - 512) b)) (refused-line 1)
