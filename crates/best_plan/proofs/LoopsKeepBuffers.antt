@@ -27,8 +27,8 @@ use Rattle.best_plan.specs.promises.Buffers.{Setting, wins, Keeps, Picke
 use Rattle.best_plan.specs.declared.Best.{Best}
 use Rattle.best_plan.specs.declared.Walked.{Walked}
 use Rattle.best_plan.proofs.TotalsBounded.{choices-few}
-use Rattle.best_plan.proofs.ChoicesTried.{Tried, first, tried-start, tried-most-choices, keeps-inside, turn-taken, picked-all}
-use Rattle.best_plan.proofs.OutcomesWalked.{Walking, walking-more, walking-most-choices, sum-fits, walked-value, walked-wrote}
+use Rattle.best_plan.proofs.ChoicesTried.{Tried, first, tried-start, tried-room, keeps-inside, turn-taken, picked-all}
+use Rattle.best_plan.proofs.OutcomesWalked.{Walking, walking-more, walking-room, sum-fits, walked-value, walked-wrote}
 use Rattle.best_plan.proofs.HopelessLoses.{weighed, rest-less, limit-fits, limit-lost}
 use Rattle.best_plan.proofs.PathOneStepOn.{state-here, Kept, back-none, kept-none, setting-kept, kept-kept, offered, setting-on, back-on, picked-value, picked-wrote}
 
@@ -56,8 +56,8 @@ module _ {m q : Bytes} {truth cone late : List ℕ} {start : ℕ} {trail₀ : Li
   pub step-asked : Ready m q start truth cone × Offered m start trail h s a o × Knows m q start cone (take h trail) gains v
   step-asked = let N = setting-kept S K in (N .ready, offered k N a o here, N .knows)
 
-  pub pick-most-choices : at + 6 * most-choices k ≤ length choices₀ → end + 3 * most-choices k ≤ length choices
-  pick-most-choices r = omega (arith, walking-most-choices least m s a k _ o at sum end choices₀ choices W (S .ready .prepared) (state-here S) here, K .most-choices)
+  pub pick-room : at + 6 * most-choices k ≤ length choices₀ → end + 3 * most-choices k ≤ length choices
+  pick-room r = omega (arith, walking-room least m s a k _ o at sum end choices₀ choices W (S .ready .prepared) (state-here S) here, K .most-choices)
 
   -- `rest` is what this outcome and those after it weigh.
   module _ (rest : ℕ) (left : rest + weighed m s a o ≡ denominator-of m) where
@@ -80,8 +80,8 @@ module _ {m q : Bytes} {truth cone late : List ℕ} {start : ℕ} {trail₀ : Li
     pub rest-fewer : (w : ℕ) → w ≡ (step-in m s a o) .weight → (w ≤ rest) × (rest - w + weighed m s a (o + 1) ≡ denominator-of m)
     rest-fewer w e = rest-less (S .ready .prepared) s a (state-here S) (here .0) o rest w (here .1) left e
 
-  pub last-most-choices : k ≡ 1 → at + 6 * most-choices k ≤ length choices₀ → end + 3 * most-choices 1 ≤ length choices
-  last-most-choices e r = subst (λ j. end + 3 * most-choices j ≤ length choices) e (pick-most-choices r)
+  pub last-room : k ≡ 1 → at + 6 * most-choices k ≤ length choices₀ → end + 3 * most-choices 1 ≤ length choices
+  last-room e r = subst (λ j. end + 3 * most-choices j ≤ length choices) e (pick-room r)
 
   module _ {trail′ : List ℕ} {gains′ : List ℤ} {v′ : List ℕ} {t : ℕ} (T : Stepped m q start cone h s a o trail trail′ gains′ v′ t) where
     pub pick-setting : Setting m q truth cone late start trail′ gains′ v′ (h + 1) t k
@@ -152,9 +152,9 @@ module _ {m q : Bytes} {truth cone late : List ℕ} {start : ℕ} {trail₀ : Li
   one-less = omega (arith, pos-of-ne-zero some)
 
   -- There is room for a choice, and for the search below it.
-  pub walk-most-choices : at + 3 * most-choices k ≤ length choices₀ → (b .end < length choices) × (b .end + 1 + 6 * most-choices (k - 1) ≤ length choices)
-  walk-most-choices r =
-      let n = tried-most-choices least m f s (k - 1) (S .ready .prepared) (state-here S) at choices₀ choices b (first m s a) (U .tried) in
+  pub walk-room : at + 3 * most-choices k ≤ length choices₀ → (b .end < length choices) × (b .end + 1 + 6 * most-choices (k - 1) ≤ length choices)
+  walk-room r =
+      let n = tried-room least m f s (k - 1) (S .ready .prepared) (state-here S) at choices₀ choices b (first m s a) (U .tried) in
       let e : most-choices (suc (k - 1)) ≡ most-choices k = ap most-choices one-less in
       let z = most-choices-step k some in
       (omega (arith, U .kept .most-choices), omega (arith, U .kept .most-choices))
@@ -179,14 +179,14 @@ module _ {m q : Bytes} {truth cone late : List ℕ} {start : ℕ} {trail₀ : Li
         (subst (λ c. Candidate (b .found) (b .value) least m (on-path m q start cone (take h trail)) (row-in m s a) (k - 1) (b .end + 1) (set choices (b .end) c) choices′ w) e W)
 
     pub keep-asked : (at ≤ b .end) × (b .end ≤ w .end) × (w .end ≤ length choices′)
-    keep-asked = keeps-inside least m f s (k - 1) (S .ready .prepared) (state-here S) a place at choices₀ choices choices′ b w (omega arith) (walk-most-choices fits .0) (U .tried) candidate-here
+    keep-asked = keeps-inside least m f s (k - 1) (S .ready .prepared) (state-here S) a place at choices₀ choices choices′ b w (omega arith) (walk-room fits .0) (U .tried) candidate-here
 
     pub turned-taken : {trail′ : List ℕ} {gains′ : List ℤ} {v′ choices″ : List ℕ} {r : Best} → Back m q start cone h trail trail′ gains′ v′ → Keeps b w at least choices′ choices″ r
         → length choices″ ≡ length (set choices (b .end) c) → Turned least m q start cone h s k at trail₀ gains₀ v₀ choices₀ (a + 1) trail′ gains′ v′ choices″ r
     turned-taken {choices″ = choices″} {r} B J n =
         record {
           tried =
-              turn-taken least m f s (k - 1) (S .ready .prepared) (state-here S) a place at choices₀ choices choices′ b w (omega arith) (walk-most-choices fits .0) (U .tried) candidate-here choices″
+              turn-taken least m f s (k - 1) (S .ready .prepared) (state-here S) a place at choices₀ choices choices′ b w (omega arith) (walk-room fits .0) (U .tried) candidate-here choices″
               r J;
           kept = kept-kept (U .kept) B (n ∙ length-set choices (b .end) c);
         }
