@@ -57,7 +57,7 @@ module _ {m q : Bytes} {truth cone late : List ℕ} {start : ℕ} {trail₀ : Li
   step-asked = let N = setting-kept S K in (N .ready, offered k N a o here, N .knows)
 
   pub pick-room : at + 6 * most-choices k ≤ length choices₀ → end + 3 * most-choices k ≤ length choices
-  pick-room r = omega (arith, walking-room least m s a k _ o at sum end choices₀ choices W (S .ready .prepared) (state-here S) here, K .most-choices)
+  pick-room r = omega (arith, walking-room least m s a k _ o at sum end choices₀ choices W (S .ready .prepared) (state-here S) here, K .room)
 
   -- `rest` is what this outcome and those after it weigh.
   module _ (rest : ℕ) (left : rest + weighed m s a o ≡ denominator-of m) where
@@ -96,7 +96,7 @@ module _ {m q : Bytes} {truth cone late : List ℕ} {start : ℕ} {trail₀ : Li
     below-last {choices″} {b} e P ec =
         record {
           picked = subst (λ j. Picked least m (on-path m q start cone (take (h + 1) trail′)) t j end choices choices″ b) (sym e) P;
-          kept = record { back = back-none pick-setting; most-choices = ec };
+          kept = record { back = back-none pick-setting; room = ec };
         }
 
     module _ {trail″ : List ℕ} {gains″ : List ℤ} {v″ choices″ : List ℕ} {b : Best}
@@ -120,7 +120,7 @@ module _ {m q : Bytes} {truth cone late : List ℕ} {start : ℕ} {trail₀ : Li
 
       pub walk-kept : Kept m q start cone h trail₀ gains₀ v₀ choices₀ trail″ gains″ v″ choices″
       walk-kept =
-          kept-kept K (back-on k N a o here T (P .kept .back)) (P .kept .most-choices)
+          kept-kept K (back-on k N a o here T (P .kept .back)) (P .kept .room)
 
 -- All outcomes are walked, whatever the best so far is.
 pub walked-all : {least : Bool} {m : Bytes} {f : List Step → ℕ} {choices₀ choices : List ℕ} {s a o at sum end k : ℕ} → Walking least m s a k f o at choices₀ choices sum end
@@ -157,7 +157,7 @@ module _ {m q : Bytes} {truth cone late : List ℕ} {start : ℕ} {trail₀ : Li
       let n = tried-room least m f s (k - 1) (S .ready .prepared) (state-here S) at choices₀ choices b (first m s a) (U .tried) in
       let e : most-choices (suc (k - 1)) ≡ most-choices k = ap most-choices one-less in
       let z = most-choices-step k some in
-      (omega (arith, U .kept .most-choices), omega (arith, U .kept .most-choices))
+      (omega (arith, U .kept .room), omega (arith, U .kept .room))
 
   pub walk-setting : Setting m q truth cone late start trail gains v h s (k - 1 + 1)
   walk-setting = let e : k - 1 + 1 ≡ k = omega (arith, one-less) in rw e (setting-kept S (U .kept))

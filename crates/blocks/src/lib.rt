@@ -7,6 +7,8 @@ ghost use Rattle.blocks.specs.Bytes as spec;
 ghost use Rattle.blocks.specs.Block.{whole-blocks, word-sum, sums-right};
 ghost use Rattle.blocks.specs.Block as spec-block;
 
+pub mod buffers;
+
 // The byte at i; 0 past the end.
 pub fn byte(b: &[u8], i: usize) -> u8
     ensures { λ r. ⌜ r ≡ spec.byte (now (b .entry)) i ⌝ }
