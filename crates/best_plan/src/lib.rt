@@ -92,7 +92,9 @@ fn wins(found: bool, other: u64, value: u64, least: bool) -> bool
 // Whether a choice cannot win any more: its outcomes walked so far come to `sum`, and `rest` is what those left weigh.
 fn hopeless(m: &[u16; MODEL], best: Best, sum: u64, rest: u64, k: u8, least: bool) -> bool
     requires { ⌜ (denominator-of (now m) ≤ 100) × (k ≤ 6) × (sum + rest * denominator-of (now m) ^ k < 2 ^ 64) ⌝ }
-    ensures value { λ r. ⌜ r ≡ not (spec.wins (best .found) (best .value) (best-left least (denominator-of (now (m .entry))) k sum rest) least) ⌝ }
+    ensures value { λ r.
+        let m = now (m .entry) in
+        ⌜ r ≡ not (spec.wins (best .found) (best .value) (best-left least (denominator-of m) k sum rest) least) ⌝ }
 {
     if least {
         return !wins(best.found, best.value, sum, least);
@@ -108,7 +110,9 @@ fn hopeless(m: &[u16; MODEL], best: Best, sum: u64, rest: u64, k: u8, least: boo
 // Moves n bytes down to a place, which they may overlap.
 fn move_down(choices: &mut [u8], at: usize, from: usize, n: usize)
     requires { ⌜ (at ≤ from) × (from + n ≤ length (now choices)) ⌝ }
-    ensures frame { λ _. ⌜ take (at + n) (now (choices .exit)) ≡ take at (now (choices .entry)) ++ take n (drop from (now (choices .entry))) ⌝ }
+    ensures frame { λ _.
+        let choices′ = now (choices .exit) in let choices = now (choices .entry) in
+        ⌜ take (at + n) choices′ ≡ take at choices ++ take n (drop from choices) ⌝ }
 {
     let mut i: usize = 0;
     while i < n {
@@ -208,9 +212,13 @@ fn pick_last(
     choices: &mut [u8],
     spot: Spot,
 ) -> Best
-    requires { ⌜ Setting (now m) (now q) (now truth) (now cone) (now late) (spot .start) (now trail) (now gains) (now v) (spot .h) (spot .s) 1 ⌝ }
+    requires { ⌜
+        Setting (now m) (now q) (now truth) (now cone) (now late) (spot .start) (now trail) (now gains) (now v) (spot .h) (spot .s) 1 ⌝ }
     requires { ⌜ spot .at + 3 * most-choices 1 ≤ length (now choices) ⌝ }
-    ensures effect { λ r. ⌜ Picked (spot .least) (now (m .entry)) (on-path (now (m .entry)) (now (q .entry)) (spot .start) (now (cone .entry)) (take (spot .h) (now (trail .entry)))) (spot .s) 1 (spot .at) (now (choices .entry)) (now (choices .exit)) r ⌝ }
+    ensures effect { λ r.
+        let choices′ = now (choices .exit) in let m = now (m .entry) in let q = now (q .entry) in let cone = now (cone .entry) in
+        let trail = now (trail .entry) in let choices = now (choices .entry) in
+        ⌜ Picked (spot .least) m (on-path m q (spot .start) cone (take (spot .h) trail)) (spot .s) 1 (spot .at) choices choices′ r ⌝ }
 {
     let here = Place {
         start: spot.start,
@@ -234,10 +242,18 @@ fn pick(
     choices: &mut [u8],
     spot: Spot,
 ) -> Best
-    requires { ⌜ Setting (now m) (now q) (now truth) (now cone) (now late) (spot .start) (now trail) (now gains) (now v) (spot .h) (spot .s) (spot .k) ⌝ }
+    requires { ⌜
+        Setting (now m) (now q) (now truth) (now cone) (now late) (spot .start) (now trail) (now gains) (now v) (spot .h) (spot .s)
+        (spot .k) ⌝ }
     requires { ⌜ spot .at + 3 * most-choices (spot .k) ≤ length (now choices) ⌝ }
-    ensures effect { λ r. ⌜ Picked (spot .least) (now (m .entry)) (on-path (now (m .entry)) (now (q .entry)) (spot .start) (now (cone .entry)) (take (spot .h) (now (trail .entry)))) (spot .s) (spot .k) (spot .at) (now (choices .entry)) (now (choices .exit)) r ⌝ }
-    ensures frame { λ r. ⌜ Back (now (m .entry)) (now (q .entry)) (spot .start) (now (cone .entry)) (spot .h) (now (trail .entry)) (now (trail .exit)) (now (gains .exit)) (now (v .exit)) ⌝ }
+    ensures effect { λ r.
+        let choices′ = now (choices .exit) in let m = now (m .entry) in let q = now (q .entry) in let cone = now (cone .entry) in
+        let trail = now (trail .entry) in let choices = now (choices .entry) in
+        ⌜ Picked (spot .least) m (on-path m q (spot .start) cone (take (spot .h) trail)) (spot .s) (spot .k) (spot .at) choices choices′ r ⌝ }
+    ensures frame { λ r.
+        let trail′ = now (trail .exit) in let gains′ = now (gains .exit) in let v′ = now (v .exit) in let m = now (m .entry) in
+        let q = now (q .entry) in let cone = now (cone .entry) in let trail = now (trail .entry) in
+        ⌜ Back m q (spot .start) cone (spot .h) trail trail′ gains′ v′ ⌝ }
 {
     if spot.k == 0 {
         return leaf(cone, v, spot.at);
@@ -298,10 +314,19 @@ fn walk(
     i: u8,
     best: Best,
 ) -> Walked
-    requires { ⌜ Setting (now m) (now q) (now truth) (now cone) (now late) (spot .start) (now trail) (now gains) (now v) (spot .h) (spot .s) (spot .k + 1) ⌝ }
+    requires { ⌜
+        Setting (now m) (now q) (now truth) (now cone) (now late) (spot .start) (now trail) (now gains) (now v) (spot .h) (spot .s)
+        (spot .k + 1) ⌝ }
     requires { ⌜ (i < choices-in (now m) (spot .s)) × (spot .at + 6 * most-choices (spot .k) ≤ length (now choices)) ⌝ }
-    ensures effect { λ r. ⌜ Candidate (best .found) (best .value) (spot .least) (now (m .entry)) (on-path (now (m .entry)) (now (q .entry)) (spot .start) (now (cone .entry)) (take (spot .h) (now (trail .entry)))) (row-in (now (m .entry)) (spot .s) i) (spot .k) (spot .at) (now (choices .entry)) (now (choices .exit)) r ⌝ }
-    ensures frame { λ r. ⌜ Back (now (m .entry)) (now (q .entry)) (spot .start) (now (cone .entry)) (spot .h) (now (trail .entry)) (now (trail .exit)) (now (gains .exit)) (now (v .exit)) ⌝ }
+    ensures effect { λ r.
+        let choices′ = now (choices .exit) in let m = now (m .entry) in let q = now (q .entry) in let cone = now (cone .entry) in
+        let trail = now (trail .entry) in let choices = now (choices .entry) in
+        ⌜ Candidate (best .found) (best .value) (spot .least) m (on-path m q (spot .start) cone (take (spot .h) trail))
+        (row-in m (spot .s) i) (spot .k) (spot .at) choices choices′ r ⌝ }
+    ensures frame { λ r.
+        let trail′ = now (trail .exit) in let gains′ = now (gains .exit) in let v′ = now (v .exit) in let m = now (m .entry) in
+        let q = now (q .entry) in let cone = now (cone .entry) in let trail = now (trail .entry) in
+        ⌜ Back m q (spot .start) cone (spot .h) trail trail′ gains′ v′ ⌝ }
 {
     let k = spot.k;
     let s = spot.s as usize;

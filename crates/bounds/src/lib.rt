@@ -39,7 +39,9 @@ fn related(kind: u8, a: u64, b: u64) -> bool
 // The denominator to the steps of node j, a "plan", times its p.
 fn bound(m: &[u16; MODEL], q: &[u8; QUESTION], j: u8) -> u64
     requires { ⌜ Bounded (now m) (now q) j ⌝ }
-    ensures value { λ r. ⌜ r ≡ denominator-of (now (m .entry)) ^ (node-of (now (q .entry)) j .n) * nonnegative (node-of (now (q .entry)) j .p) ⌝ }
+    ensures value { λ r.
+        let m = now (m .entry) in let q = now (q .entry) in
+        ⌜ r ≡ denominator-of m ^ (node-of q j .n) * nonnegative (node-of q j .p) ⌝ }
 {
     power(denominator(m), prepared_question::steps(q, j)) * prepared_question::bound(q, j) as u64
 }

@@ -97,7 +97,9 @@ fn value_by(
     j: u8,
 ) -> u8
     requires { ⌜ (j < 40) × (k < h) × (h < 7) ⌝ }
-    ensures value { λ r. ⌜ r ≡ value-by (now (q .entry)) (now (trail .entry)) (now (gains .entry)) h k j (node-of (now (q .entry)) j .operator) (now (v .entry)) ⌝ }
+    ensures value { λ r.
+        let q = now (q .entry) in let trail = now (trail .entry) in let gains = now (gains .entry) in let v = now (v .entry) in
+        ⌜ r ≡ value-by q trail gains h k j (node-of q j .operator) v ⌝ }
 {
     let op = operator(q, j);
     match op {
@@ -122,7 +124,10 @@ fn learn_node(
     j: u8,
 )
     requires { ⌜ (j < 40) × (s < 32) × (h < 7) ⌝ }
-    ensures frame { λ _. ⌜ now (v .exit) ≡ learn-node (now (q .entry)) (now (truth .entry)) (now (trail .entry)) (now (gains .entry)) h s j (now (v .entry)) ⌝ }
+    ensures frame { λ _.
+        let v′ = now (v .exit) in let q = now (q .entry) in let truth = now (truth .entry) in let trail = now (trail .entry) in
+        let gains = now (gains .entry) in let v = now (v .entry) in
+        ⌜ v′ ≡ learn-node q truth trail gains h s j v ⌝ }
 {
     let d = depth(q, j);
     if d > h {
@@ -149,7 +154,10 @@ pub fn learn(
     s: u8,
 )
     requires { ⌜ Below-40 (now cone) × (s < 32) × (h < 7) ⌝ }
-    ensures frame { λ _. ⌜ now (v .exit) ≡ learnt (now (q .entry)) (now (truth .entry)) (now (trail .entry)) (now (gains .entry)) h s (now (cone .entry)) (now (v .entry)) ⌝ }
+    ensures frame { λ _.
+        let v′ = now (v .exit) in let q = now (q .entry) in let truth = now (truth .entry) in let trail = now (trail .entry) in
+        let gains = now (gains .entry) in let cone = now (cone .entry) in let v = now (v .entry) in
+        ⌜ v′ ≡ learnt q truth trail gains h s cone v ⌝ }
 {
     let mut i: usize = 0;
     while i < cone.len() {
@@ -181,7 +189,10 @@ pub fn step(
     requires { ⌜ Ready (now m) (now q) (at .start) (now truth) (now cone) ⌝ }
     requires { ⌜ Offered (now m) (at .start) (now trail) (at .h) (at .s) i o ⌝ }
     requires { ⌜ Knows (now m) (now q) (at .start) (now cone) (take (at .h) (now trail)) (now gains) (now v) ⌝ }
-    ensures effect { λ r. ⌜ Stepped (now (m .entry)) (now (q .entry)) (at .start) (now (cone .entry)) (at .h) (at .s) i o (now (trail .entry)) (now (trail .exit)) (now (gains .exit)) (now (v .exit)) r ⌝ }
+    ensures effect { λ r.
+        let trail′ = now (trail .exit) in let gains′ = now (gains .exit) in let v′ = now (v .exit) in let m = now (m .entry) in
+        let q = now (q .entry) in let cone = now (cone .entry) in let trail = now (trail .entry) in
+        ⌜ Stepped m q (at .start) cone (at .h) (at .s) i o trail trail′ gains′ v′ r ⌝ }
 {
     let h = at.h;
     let n = h as usize;

@@ -53,8 +53,12 @@ fn first_within(
     x: u64,
 ) -> usize
     requires { ⌜ Given (now m) (now q) start d (now truth) (now cone) (now table) ⌝ }
-    requires { ⌜ (d ≤ n) × (n ≤ 6) × (plan-total (model-in (now m)) n start ≤ 65536) × (plan-total (model-in (now m)) n start + 282 ≤ length (now buf)) ⌝ }
-    ensures value { λ r. ⌜ First (totals (model-in (now (m .entry))) n start (value-of (model-in (now (m .entry))) (formula (now (q .entry)) (root-of (now (cone .entry)))) start)) x r ⌝ }
+    requires { ⌜
+        (d ≤ n) × (n ≤ 6) × (plan-total (model-in (now m)) n start ≤ 65536)
+        × (plan-total (model-in (now m)) n start + 282 ≤ length (now buf)) ⌝ }
+    ensures value { λ r.
+        let m = now (m .entry) in let q = now (q .entry) in let cone = now (cone .entry) in
+        ⌜ First (totals (model-in m) n start (value-of (model-in m) (formula q (root-of cone)) start)) x r ⌝ }
 {
     let mut trail = [0u16; STEPS];
     let mut gains = [0i32; PLACES];
@@ -98,7 +102,9 @@ pub fn first_equal(
 ) -> usize
     requires { ⌜ Given (now m) (now q) s d (now truth) (now cone) (now table) ⌝ }
     requires { ⌜ (d ≤ n) × (n ≤ 6) × (plan-total (model-in (now m)) n s ≤ 65536) ⌝ }
-    ensures value { λ r. ⌜ First (totals (model-in (now (m .entry))) n s (value-of (model-in (now (m .entry))) (formula (now (q .entry)) (root-of (now (cone .entry)))) s)) x r ⌝ }
+    ensures value { λ r.
+        let m = now (m .entry) in let q = now (q .entry) in let cone = now (cone .entry) in
+        ⌜ First (totals (model-in m) n s (value-of (model-in m) (formula q (root-of cone)) s)) x r ⌝ }
 {
     let all = plans_counted(table, n, s as usize);
     if all <= 1024 {

@@ -110,7 +110,10 @@ fn decided(
 ) -> usize
     requires { ⌜ Decides (now m) (now cone) (now v) (now table) (now buf) s k at ⌝ }
     ensures value { λ r. ⌜ r ≡ getD (now (table .entry)) (32 * k + s) 0 ⌝ }
-    ensures frame { λ _. ⌜ now (buf .exit) ≡ splice (now (buf .entry)) at (replicate (getD (now (table .entry)) (32 * k + s) 0) (learnt.known (now (v .entry)) (root-of (now (cone .entry))) 0 * denominator-of (now (m .entry)) ^ k)) ⌝ }
+    ensures frame { λ _.
+        let buf′ = now (buf .exit) in let buf = now (buf .entry) in let table = now (table .entry) in let v = now (v .entry) in
+        let cone = now (cone .entry) in let m = now (m .entry) in
+        ⌜ buf′ ≡ splice buf at (replicate (getD table (32 * k + s) 0) (learnt.known v (root-of cone) 0 * denominator-of m ^ k)) ⌝ }
 {
     let n = plans_counted(table, k, s as usize) as usize;
     let last = cone.len() - 1;
@@ -135,7 +138,12 @@ pub fn list(
     requires { ⌜ Given (now m) (now q) (spot .start) (spot .d) (now truth) (now cone) (now table) ⌝ }
     requires { ⌜ Here (now m) (now q) (spot .start) (spot .d) (now cone) (now trail) (now gains) (now v) (spot .h) (spot .s) (spot .k) ⌝ }
     requires { ⌜ Room (spot .k) (plan-total (model-in (now m)) (spot .k) (spot .s)) (spot .at) (length (now buf)) ⌝ }
-    ensures effect { λ r. ⌜ Written (totals (model-in (now (m .entry))) (spot .k) (spot .s) (on-path (now (m .entry)) (now (q .entry)) (spot .start) (now (cone .entry)) (take (spot .h) (now (trail .entry))))) (now (m .entry)) (now (q .entry)) (spot .start) (now (cone .entry)) (spot .h) (spot .at) (now (trail .entry)) (now (trail .exit)) (now (gains .exit)) (now (v .exit)) (now (buf .entry)) (now (buf .exit)) r ⌝ }
+    ensures effect { λ r.
+        let trail′ = now (trail .exit) in let gains′ = now (gains .exit) in let v′ = now (v .exit) in let buf′ = now (buf .exit) in
+        let m = now (m .entry) in let q = now (q .entry) in let cone = now (cone .entry) in let trail = now (trail .entry) in
+        let buf = now (buf .entry) in
+        ⌜ Written (totals (model-in m) (spot .k) (spot .s) (on-path m q (spot .start) cone (take (spot .h) trail))) m q (spot .start) cone
+        (spot .h) (spot .at) trail trail′ gains′ v′ buf buf′ r ⌝ }
 {
     if spot.d <= spot.h {
         return decided(m, table, cone, v, buf, spot.s, spot.k, spot.at);
@@ -174,9 +182,19 @@ fn combine(
     i: usize,
 ) -> usize
     requires { ⌜ Given (now m) (now q) (spot .start) (spot .d) (now truth) (now cone) (now table) ⌝ }
-    requires { ⌜ Here (now m) (now q) (spot .start) (spot .d) (now cone) (now trail) (now gains) (now v) (spot .h) (spot .s) (spot .k + 1) × (i < choices-in (now m) (spot .s)) ⌝ }
-    requires { ⌜ Room (spot .k + 1) (multiply (λ o. plan-total (model-in (now m)) (spot .k) (o .target)) (outcomes (model-in (now m)) (spot .s) (choice-in (now m) (spot .s) i))) (spot .at) (length (now buf)) ⌝ }
-    ensures effect { λ r. ⌜ Written (combined (weighed (model-in (now (m .entry))) (spot .k) (on-path (now (m .entry)) (now (q .entry)) (spot .start) (now (cone .entry)) (take (spot .h) (now (trail .entry))))) (outcomes (model-in (now (m .entry))) (spot .s) (choice-in (now (m .entry)) (spot .s) i))) (now (m .entry)) (now (q .entry)) (spot .start) (now (cone .entry)) (spot .h) (spot .at) (now (trail .entry)) (now (trail .exit)) (now (gains .exit)) (now (v .exit)) (now (buf .entry)) (now (buf .exit)) r ⌝ }
+    requires { ⌜
+        Here (now m) (now q) (spot .start) (spot .d) (now cone) (now trail) (now gains) (now v) (spot .h) (spot .s) (spot .k + 1)
+        × (i < choices-in (now m) (spot .s)) ⌝ }
+    requires { ⌜
+        Room (spot .k + 1) (multiply (λ o. plan-total (model-in (now m)) (spot .k) (o .target))
+        (outcomes (model-in (now m)) (spot .s) (choice-in (now m) (spot .s) i))) (spot .at) (length (now buf)) ⌝ }
+    ensures effect { λ r.
+        let trail′ = now (trail .exit) in let gains′ = now (gains .exit) in let v′ = now (v .exit) in let buf′ = now (buf .exit) in
+        let m = now (m .entry) in let q = now (q .entry) in let cone = now (cone .entry) in let trail = now (trail .entry) in
+        let buf = now (buf .entry) in
+        ⌜ Written (combined (weighed (model-in m) (spot .k) (on-path m q (spot .start) cone (take (spot .h) trail)))
+        (outcomes (model-in m) (spot .s) (choice-in m (spot .s) i))) m q (spot .start) cone (spot .h) (spot .at) trail trail′ gains′ v′ buf
+        buf′ r ⌝ }
 {
     let s = spot.s as usize;
     let c = outcomes(m, s, i);
@@ -215,9 +233,19 @@ fn grown(
     more: Further,
 ) -> usize
     requires { ⌜ Given (now m) (now q) (spot .start) (spot .d) (now truth) (now cone) (now table) ⌝ }
-    requires { ⌜ Here (now m) (now q) (spot .start) (spot .d) (now cone) (now trail) (now gains) (now v) (spot .h) (spot .s) (spot .k + 1) × Offers (now m) (spot .s) (more .i) (more .o) ⌝ }
-    requires { ⌜ Grows (now buf) (spot .at) (more .len) (plan-total (model-in (now m)) (spot .k) ((step-in (now m) (spot .s) (more .i) (more .o)) .target)) (spot .k) ⌝ }
-    ensures effect { λ r. ⌜ Written (joined (more .right) (part (now (buf .entry)) (spot .at) (more .len)) (weighed (model-in (now (m .entry))) (spot .k) (on-path (now (m .entry)) (now (q .entry)) (spot .start) (now (cone .entry)) (take (spot .h) (now (trail .entry)))) (step-in (now (m .entry)) (spot .s) (more .i) (more .o)))) (now (m .entry)) (now (q .entry)) (spot .start) (now (cone .entry)) (spot .h) (spot .at) (now (trail .entry)) (now (trail .exit)) (now (gains .exit)) (now (v .exit)) (now (buf .entry)) (now (buf .exit)) r ⌝ }
+    requires { ⌜
+        Here (now m) (now q) (spot .start) (spot .d) (now cone) (now trail) (now gains) (now v) (spot .h) (spot .s) (spot .k + 1)
+        × Offers (now m) (spot .s) (more .i) (more .o) ⌝ }
+    requires { ⌜
+        Grows (now buf) (spot .at) (more .len)
+        (plan-total (model-in (now m)) (spot .k) ((step-in (now m) (spot .s) (more .i) (more .o)) .target)) (spot .k) ⌝ }
+    ensures effect { λ r.
+        let trail′ = now (trail .exit) in let gains′ = now (gains .exit) in let v′ = now (v .exit) in let buf′ = now (buf .exit) in
+        let buf = now (buf .entry) in let m = now (m .entry) in let q = now (q .entry) in let cone = now (cone .entry) in
+        let trail = now (trail .entry) in
+        ⌜ Written (joined (more .right) (part buf (spot .at) (more .len))
+        (weighed (model-in m) (spot .k) (on-path m q (spot .start) cone (take (spot .h) trail)) (step-in m (spot .s) (more .i) (more .o))))
+        m q (spot .start) cone (spot .h) (spot .at) trail trail′ gains′ v′ buf buf′ r ⌝ }
 {
     let s = spot.s as usize;
     let n = plans_counted(table, spot.k, target(m, s, more.i, more.o)) as usize;
@@ -260,9 +288,19 @@ fn below(
     to: Outcome,
 ) -> usize
     requires { ⌜ Given (now m) (now q) (spot .start) (spot .d) (now truth) (now cone) (now table) ⌝ }
-    requires { ⌜ Here (now m) (now q) (spot .start) (spot .d) (now cone) (now trail) (now gains) (now v) (spot .h) (spot .s) (spot .k + 1) × Offers (now m) (spot .s) (to .i) (to .o) ⌝ }
-    requires { ⌜ Room (spot .k) (plan-total (model-in (now m)) (spot .k) ((step-in (now m) (spot .s) (to .i) (to .o)) .target)) (spot .at) (length (now buf)) ⌝ }
-    ensures effect { λ r. ⌜ Written (totals (model-in (now (m .entry))) (spot .k) ((step-in (now (m .entry)) (spot .s) (to .i) (to .o)) .target) (λ l. on-path (now (m .entry)) (now (q .entry)) (spot .start) (now (cone .entry)) (take (spot .h) (now (trail .entry))) ((step-in (now (m .entry)) (spot .s) (to .i) (to .o)) ∷ l))) (now (m .entry)) (now (q .entry)) (spot .start) (now (cone .entry)) (spot .h) (spot .at) (now (trail .entry)) (now (trail .exit)) (now (gains .exit)) (now (v .exit)) (now (buf .entry)) (now (buf .exit)) r ⌝ }
+    requires { ⌜
+        Here (now m) (now q) (spot .start) (spot .d) (now cone) (now trail) (now gains) (now v) (spot .h) (spot .s) (spot .k + 1)
+        × Offers (now m) (spot .s) (to .i) (to .o) ⌝ }
+    requires { ⌜
+        Room (spot .k) (plan-total (model-in (now m)) (spot .k) ((step-in (now m) (spot .s) (to .i) (to .o)) .target)) (spot .at)
+        (length (now buf)) ⌝ }
+    ensures effect { λ r.
+        let trail′ = now (trail .exit) in let gains′ = now (gains .exit) in let v′ = now (v .exit) in let buf′ = now (buf .exit) in
+        let m = now (m .entry) in let q = now (q .entry) in let cone = now (cone .entry) in let trail = now (trail .entry) in
+        let buf = now (buf .entry) in
+        ⌜ Written (totals (model-in m) (spot .k) ((step-in m (spot .s) (to .i) (to .o)) .target)
+        (λ l. on-path m q (spot .start) cone (take (spot .h) trail) ((step-in m (spot .s) (to .i) (to .o)) ∷ l))) m q (spot .start) cone
+        (spot .h) (spot .at) trail trail′ gains′ v′ buf buf′ r ⌝ }
 {
     let here = Place {
         start: spot.start,

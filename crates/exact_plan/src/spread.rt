@@ -47,7 +47,9 @@ pub fn spread(
 // Combines the `len` numbers at `at` with w times the n numbers that stand behind the product: on the right of them, or on the left.
 pub fn join(buf: &mut [u64], at: usize, len: usize, n: usize, w: u64, right: bool)
     requires { ⌜ Joins (now buf) at len n w ⌝ }
-    ensures frame { λ r. ⌜ now (buf .exit) ≡ splice (now (buf .entry)) at (joined right (part (now (buf .entry)) at len) (map (λ y. w * y) (part (now (buf .entry)) (at + len * n) n))) ⌝ }
+    ensures frame { λ r.
+        let buf′ = now (buf .exit) in let buf = now (buf .entry) in
+        ⌜ buf′ ≡ splice buf at (joined right (part buf at len) (map (λ y. w * y) (part buf (at + len * n) n))) ⌝ }
 {
     let end = at + len * n;
     if right {

@@ -103,8 +103,11 @@ fn show(
     r: Decision,
 ) -> Outcome
     requires { ⌜ Asked (now m) (now q) (now counts) × Decided (now m) (now q) j s (now scratch) r × (r .met ≡ true) ⌝ }
-    requires { ⌜ (j < node-count (now q)) × (node-of (now q) j .operator ≡ 8) × (s < state-count (now m)) × (1365 ≤ length (now choices)) ⌝ }
-    ensures effect { λ x. ⌜ Announces (verdict (model-in (now (m .entry))) s (formula (now (q .entry)) j)) x (now (choices .entry)) (now (choices .exit)) ⌝ }
+    requires { ⌜
+        (j < node-count (now q)) × (node-of (now q) j .operator ≡ 8) × (s < state-count (now m)) × (1365 ≤ length (now choices)) ⌝ }
+    ensures effect { λ x.
+        let choices′ = now (choices .exit) in let m = now (m .entry) in let q = now (q .entry) in let choices = now (choices .entry) in
+        ⌜ Announces (verdict (model-in m) s (formula q j)) x choices choices′ ⌝ }
 {
     let n = steps(q, j);
     let weight = r.weight;
@@ -130,7 +133,9 @@ fn at_node(
 ) -> Outcome
     requires { ⌜ Asked (now m) (now q) (now counts) × (j < node-count (now q)) × (s < state-count (now m)) ⌝ }
     requires { ⌜ Supplied (now m) (now q) (now truth) j s × (formulas.depth (formula (now q) j) ≡ 0) × (1365 ≤ length (now choices)) ⌝ }
-    ensures effect { λ r. ⌜ Announces (verdict (model-in (now (m .entry))) s (formula (now (q .entry)) j)) r (now (choices .entry)) (now (choices .exit)) ⌝ }
+    ensures effect { λ r.
+        let choices′ = now (choices .exit) in let m = now (m .entry) in let q = now (q .entry) in let choices = now (choices .entry) in
+        ⌜ Announces (verdict (model-in m) s (formula q j)) r choices choices′ ⌝ }
 {
     if operator(q, j) != 8 {
         let x = plain_truth(m, q, truth, j, s);
@@ -150,7 +155,9 @@ fn at_node(
 pub fn judged(m: &[u16; MODEL], q: &[u8; QUESTION], choices: &mut [u8]) -> Outcome
     requires { ⌜ Served (now m) (now q) ⌝ }
     requires { ⌜ 1365 ≤ length (now choices) ⌝ }
-    ensures effect { λ r. ⌜ Announces (root-verdict (model-in (now (m .entry))) (now (q .entry))) r (now (choices .entry)) (now (choices .exit)) ⌝ }
+    ensures effect { λ r.
+        let choices′ = now (choices .exit) in let m = now (m .entry) in let q = now (q .entry) in let choices = now (choices .entry) in
+        ⌜ Announces (root-verdict (model-in m) q) r choices choices′ ⌝ }
 {
     let counts = plan_totals(m);
     let truth = root_truth(m, q, &counts);

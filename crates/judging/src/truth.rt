@@ -40,7 +40,9 @@ fn found(truth: &[u8; TRUTHS], j: u8, s: u8) -> u8
 pub fn plain_truth(m: &[u16; MODEL], q: &[u8; QUESTION], truth: &[u8; TRUTHS], j: u8, s: u8) -> u8
     requires { ⌜ Given (now m) (now q) × (j < question.node-count (now q)) × (s < state-count (now m)) ⌝ }
     requires { ⌜ Supplied (now m) (now q) (now truth) j s × (question.node-of (now q) j .operator ≡ 8 → ⊥) ⌝ }
-    ensures value { λ r. ⌜ (depth (formula (now (q .entry)) j) ≡ 0 → r ≡ value-of (model-in (now (m .entry))) (formula (now (q .entry)) j) s []) ⌝ }
+    ensures value { λ r.
+        let q = now (q .entry) in let m = now (m .entry) in
+        ⌜ (depth (formula q j) ≡ 0 → r ≡ value-of (model-in m) (formula q j) s []) ⌝ }
 {
     let op = operator(q, j);
     match op {
@@ -64,7 +66,9 @@ fn truth_at(
 ) -> u8
     requires { ⌜ Asked (now m) (now q) (now counts) × (j < question.node-count (now q)) × (s < state-count (now m)) ⌝ }
     requires { ⌜ Supplied (now m) (now q) (now truth) j s × (4095 ≤ length (now scratch)) × Remembers (now m) (now q) (now memo) ⌝ }
-    ensures value { λ r. ⌜ (depth (formula (now (q .entry)) j) ≡ 0 → r ≡ value-of (model-in (now (m .entry))) (formula (now (q .entry)) j) s []) ⌝ }
+    ensures value { λ r.
+        let q = now (q .entry) in let m = now (m .entry) in
+        ⌜ (depth (formula q j) ≡ 0 → r ≡ value-of (model-in m) (formula q j) s []) ⌝ }
     ensures frame { λ _. ⌜ Remembers (now (m .entry)) (now (q .entry)) (now (memo .exit)) ⌝ }
 {
     if operator(q, j) == 8 {
@@ -85,8 +89,12 @@ fn truth_if(
     k: usize,
 ) -> u8
     requires { ⌜ Asked (now m) (now q) (now counts) × (k < 32 * question.node-count (now q)) ⌝ }
-    requires { ⌜ Needs (now m) (now q) (now need) × Right (now m) (now q) (now need) (now truth) k × (4095 ≤ length (now scratch)) × Remembers (now m) (now q) (now memo) ⌝ }
-    ensures value { λ r. ⌜ (getD (now (need .entry)) k 0 ≡ 1 → depth (formula (now (q .entry)) (k / 32)) ≡ 0 → r ≡ value-of (model-in (now (m .entry))) (formula (now (q .entry)) (k / 32)) (k % 32) []) ⌝ }
+    requires { ⌜
+        Needs (now m) (now q) (now need) × Right (now m) (now q) (now need) (now truth) k × (4095 ≤ length (now scratch))
+        × Remembers (now m) (now q) (now memo) ⌝ }
+    ensures value { λ r.
+        let need = now (need .entry) in let q = now (q .entry) in let m = now (m .entry) in
+        ⌜ (getD need k 0 ≡ 1 → depth (formula q (k / 32)) ≡ 0 → r ≡ value-of (model-in m) (formula q (k / 32)) (k % 32) []) ⌝ }
     ensures frame { λ _. ⌜ Remembers (now (m .entry)) (now (q .entry)) (now (memo .exit)) ⌝ }
 {
     if need[k] != 1 {
@@ -112,7 +120,9 @@ pub fn truth_table(
     need: &[u8; TRUTHS],
 ) -> [u8; TRUTHS]
     requires { ⌜ Asked (now m) (now q) (now counts) × Needs (now m) (now q) (now need) ⌝ }
-    ensures value { λ r. ⌜ Right (now (m .entry)) (now (q .entry)) (now (need .entry)) r (32 * (question.node-count (now (q .entry)) - 1)) ⌝ }
+    ensures value { λ r.
+        let m = now (m .entry) in let q = now (q .entry) in let need = now (need .entry) in
+        ⌜ Right m q need r (32 * (question.node-count q - 1)) ⌝ }
 {
     let end = place(count(q) - 1, 0);
     let mut scratch = [0u8; STACK];

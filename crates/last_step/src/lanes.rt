@@ -40,7 +40,9 @@ fn pushed(x: u32, t: bool) -> u32
 // Of a state formula, node j: whether it is true in each outcome's target.
 pub fn told(m: &[u16; MODEL], truth: &[u8], s: usize, j: u8) -> u32
     requires { ⌜ Prepared (now m) × (s < state-count (now m)) ⌝ }
-    ensures value { λ r. ⌜ Laned (now (m .entry)) s (λ i o. one-if (not (eqb (bytes.byte (now (truth .entry)) (32 * j + (step-in (now (m .entry)) s i o) .target)) 0))) r ⌝ }
+    ensures value { λ r.
+        let m = now (m .entry) in let truth = now (truth .entry) in
+        ⌜ Laned m s (λ i o. one-if (not (eqb (bytes.byte truth (32 * j + (step-in m s i o) .target)) 0))) r ⌝ }
 {
     let mut x: u32 = 0;
     let mut k = 4 * choices(m, s);
@@ -69,7 +71,9 @@ pub fn done(m: &[u16; MODEL], s: usize, a: u8) -> u32
 // Of "gain": whether the rewards since its place, the outcome's among them, stand in the relation to its bound.
 pub fn gained(m: &[u16; MODEL], s: usize, kind: u8, after: i32, before: i32, bound: i32) -> u32
     requires { ⌜ Prepared (now m) × (s < state-count (now m)) ⌝ }
-    ensures value { λ r. ⌜ Laned (now (m .entry)) s (λ i o. one-if (quantity.related integers (relation kind) ((after -ℤ before) +ℤ (step-in (now (m .entry)) s i o) .reward) bound)) r ⌝ }
+    ensures value { λ r.
+        let m = now (m .entry) in
+        ⌜ Laned m s (λ i o. one-if (quantity.related integers (relation kind) ((after -ℤ before) +ℤ (step-in m s i o) .reward) bound)) r ⌝ }
 {
     let gain = after as i64 - before as i64;
     let mut x: u32 = 0;
@@ -115,7 +119,9 @@ pub fn met(x: u32, y: u32) -> u32
 // The weights of the outcomes of the choice at place i whose lanes are 1, summed.
 pub fn total(m: &[u16; MODEL], x: u32, s: usize, i: usize) -> u64
     requires { ⌜ Prepared (now m) × (s < state-count (now m)) × (i < choices-in (now m) s) ⌝ }
-    ensures value { λ r. ⌜ r ≡ sum-below (outcomes-in (now (m .entry)) s i) (λ o. (step-in (now (m .entry)) s i o) .weight * lane x (4 * i + o)) ⌝ }
+    ensures value { λ r.
+        let m = now (m .entry) in
+        ⌜ r ≡ sum-below (outcomes-in m s i) (λ o. (step-in m s i o) .weight * lane x (4 * i + o)) ⌝ }
 {
     let y = (x >> (4 * i as u32)) % 16;
     sum(m, s, i, y as usize)

@@ -25,7 +25,9 @@ fn mark(marks: &mut [u8; 40], j: u8)
 // Marks a child of a node of depth d, if it looks as far ahead.
 fn mark_level(q: &[u8; QUESTION], marks: &mut [u8; 40], d: u8, child: u8)
     requires { ⌜ (child < 40) × (length (now marks) ≡ 40) ⌝ }
-    ensures frame { λ _. ⌜ Grown (λ k. (k ≡ child) × (depth-in (now (q .entry)) child ≡ d)) (now (marks .entry)) (now (marks .exit)) × (depth-in (now (q .entry)) child ≡ d → getD (now (marks .exit)) child 0 ≡ 1) ⌝ }
+    ensures frame { λ _.
+        let marks′ = now (marks .exit) in let q = now (q .entry) in let marks = now (marks .entry) in
+        ⌜ Grown (λ k. (k ≡ child) × (depth-in q child ≡ d)) marks marks′ × (depth-in q child ≡ d → getD marks′ child 0 ≡ 1) ⌝ }
 {
     if depth(q, child) == d {
         mark(marks, child);
@@ -35,7 +37,9 @@ fn mark_level(q: &[u8; QUESTION], marks: &mut [u8; 40], d: u8, child: u8)
 // Marks the children of node j whose values become known with the same step, if j is marked and no state formula.
 fn pass_on(q: &[u8; QUESTION], marks: &mut [u8; 40], j: u8)
     requires { ⌜ Placed (now q) j × (length (now marks) ≡ 40) ⌝ }
-    ensures frame { λ _. ⌜ Grown (Turns-on (now (q .entry)) j) (now (marks .entry)) (now (marks .exit)) × (getD (now (marks .entry)) j 0 ≡ 1 → Passed-on (now (q .entry)) (now (marks .exit)) j) ⌝ }
+    ensures frame { λ _.
+        let marks′ = now (marks .exit) in let q = now (q .entry) in let marks = now (marks .entry) in
+        ⌜ Grown (Turns-on q j) marks marks′ × (getD marks j 0 ≡ 1 → Passed-on q marks′ j) ⌝ }
 {
     let at = j as usize;
     if marks[at] != 1 {

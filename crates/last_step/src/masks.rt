@@ -58,9 +58,14 @@ fn mask_node(
     at: Place,
     i: usize,
 ) -> u32
-    requires { ⌜ Before-last (now m) (now q) (at .start) (now truth) (now cone) (now late) (now trail) (now gains) (now v) (at .h) (at .s) ⌝ }
-    requires { ⌜ Masked (now m) (now q) (at .start) (now cone) (now late) (take (at .h) (now trail)) (at .s) i (now masks) × (i < length (now cone)) × (getD (now cone) i 0 < 40) × (getD (now late) (getD (now cone) i 0) 0 ≡ 1) ⌝ }
-    ensures value { λ r. ⌜ Worded (now (m .entry)) (now (q .entry)) (at .start) (now (cone .entry)) (take (at .h) (now (trail .entry))) (at .s) (getD (now (cone .entry)) i 0) r ⌝ }
+    requires { ⌜
+        Before-last (now m) (now q) (at .start) (now truth) (now cone) (now late) (now trail) (now gains) (now v) (at .h) (at .s) ⌝ }
+    requires { ⌜
+        Masked (now m) (now q) (at .start) (now cone) (now late) (take (at .h) (now trail)) (at .s) i (now masks) × (i < length (now cone))
+        × (getD (now cone) i 0 < 40) × (getD (now late) (getD (now cone) i 0) 0 ≡ 1) ⌝ }
+    ensures value { λ r.
+        let m = now (m .entry) in let q = now (q .entry) in let cone = now (cone .entry) in let trail = now (trail .entry) in
+        ⌜ Worded m q (at .start) cone (take (at .h) trail) (at .s) (getD cone i 0) r ⌝ }
 {
     let j = cone[i];
     let d = depth(q, j);
@@ -106,8 +111,11 @@ pub fn mask(
     v: &[u8; VALUES],
     at: Place,
 ) -> u32
-    requires { ⌜ Before-last (now m) (now q) (at .start) (now truth) (now cone) (now late) (now trail) (now gains) (now v) (at .h) (at .s) ⌝ }
-    ensures value { λ r. ⌜ Ended (now (m .entry)) (now (q .entry)) (at .start) (now (cone .entry)) (take (at .h) (now (trail .entry))) (at .s) r ⌝ }
+    requires { ⌜
+        Before-last (now m) (now q) (at .start) (now truth) (now cone) (now late) (now trail) (now gains) (now v) (at .h) (at .s) ⌝ }
+    ensures value { λ r.
+        let m = now (m .entry) in let q = now (q .entry) in let cone = now (cone .entry) in let trail = now (trail .entry) in
+        ⌜ Ended m q (at .start) cone (take (at .h) trail) (at .s) r ⌝ }
 {
     let mut masks = [0u32; 40];
     let mut i: usize = 0;

@@ -68,7 +68,9 @@ fn choice_total(
 ) -> u64
     requires { ⌜ Prepared (now m) × (at + 32 ≤ 224) × (s < state-count (now m)) × (i < choices-in (now m) s) ⌝ }
     requires { ⌜ ((k : ℕ) → getD (now table) k 0 ≤ spec.cap plans) ⌝ }
-    ensures value { λ r. ⌜ r ≡ min (spec.cap plans) (gather plans (λ o. getD (now (table .entry)) (at + o .target) 0) (outcomes (model-in (now (m .entry))) s (choice-in (now (m .entry)) s i))) ⌝ }
+    ensures value { λ r.
+        let table = now (table .entry) in let m = now (m .entry) in
+        ⌜ r ≡ min (spec.cap plans) (gather plans (λ o. getD table (at + o .target) 0) (outcomes (model-in m) s (choice-in m s i))) ⌝ }
 {
     let count = prepared_model::outcomes(m, s, i);
     let mut total = none(plans);
@@ -85,7 +87,9 @@ fn choice_total(
 fn state_total(m: &[u16; MODEL], plans: bool, table: &[u64; COUNTS], at: usize, s: usize) -> u64
     requires { ⌜ Prepared (now m) × (at + 32 ≤ 224) × (s < state-count (now m)) ⌝ }
     requires { ⌜ ((k : ℕ) → getD (now table) k 0 ≤ spec.cap plans) ⌝ }
-    ensures value { λ r. ⌜ r ≡ min (spec.cap plans) (step-total plans (model-in (now (m .entry))) (λ t. getD (now (table .entry)) (at + t) 0) s) ⌝ }
+    ensures value { λ r.
+        let m = now (m .entry) in let table = now (table .entry) in
+        ⌜ r ≡ min (spec.cap plans) (step-total plans (model-in m) (λ t. getD table (at + t) 0) s) ⌝ }
 {
     let n = prepared_model::choices(m, s);
     let mut total: u64 = 0;
@@ -163,7 +167,9 @@ fn node_fits(
     plans: bool,
     i: u8,
 ) -> bool
-    requires { ⌜ Prepared (now m) × Totals plans (model-in (now m)) (now table) × (i < 40) × (node-of (now q) i .operator ≡ 8 → Compares (node-of (now q) i)) ⌝ }
+    requires { ⌜
+        Prepared (now m) × Totals plans (model-in (now m)) (now table) × (i < 40)
+        × (node-of (now q) i .operator ≡ 8 → Compares (node-of (now q) i)) ⌝ }
     ensures value { λ r. ⌜ r ≡ node-fits plans (model-in (now (m .entry))) (node-of (now (q .entry)) i) ⌝ }
 {
     if !bounded(q, i, plans) {
@@ -180,7 +186,9 @@ fn node_fits(
 // All nodes are checked, used or not.
 fn nodes_fit(m: &[u16; MODEL], q: &[u8; QUESTION], plans: bool) -> bool
     requires { ⌜ Prepared (now m) × Nodes (state-count (now m)) (action-count (now m)) (prop-count (now m)) (now q) ⌝ }
-    ensures value { λ r. ⌜ r ≡ every-plan (fits plans (model-in (now (m .entry)))) (model-in (now (m .entry))) (formulas-of (now (q .entry))) ⌝ }
+    ensures value { λ r.
+        let m = now (m .entry) in let q = now (q .entry) in
+        ⌜ r ≡ every-plan (fits plans (model-in m)) (model-in m) (formulas-of q) ⌝ }
 {
     let table = totals(m, plans);
     let n = prepared_question::count(q);
@@ -196,7 +204,9 @@ fn nodes_fit(m: &[u16; MODEL], q: &[u8; QUESTION], plans: bool) -> bool
 // The test of ground 24: no "plan" node has too many paths.
 pub fn paths_fit(m: &[u16; MODEL], q: &[u8; QUESTION]) -> bool
     requires { ⌜ Prepared (now m) × Nodes (state-count (now m)) (action-count (now m)) (prop-count (now m)) (now q) ⌝ }
-    ensures value { λ r. ⌜ r ≡ every-plan (fits false (model-in (now (m .entry)))) (model-in (now (m .entry))) (formulas-of (now (q .entry))) ⌝ }
+    ensures value { λ r.
+        let m = now (m .entry) in let q = now (q .entry) in
+        ⌜ r ≡ every-plan (fits false (model-in m)) (model-in m) (formulas-of q) ⌝ }
 {
     nodes_fit(m, q, false)
 }
@@ -204,7 +214,9 @@ pub fn paths_fit(m: &[u16; MODEL], q: &[u8; QUESTION]) -> bool
 // The test of ground 25: no "plan" node whose relation is "equal" has too many plans.
 pub fn plans_fit(m: &[u16; MODEL], q: &[u8; QUESTION]) -> bool
     requires { ⌜ Prepared (now m) × Nodes (state-count (now m)) (action-count (now m)) (prop-count (now m)) (now q) ⌝ }
-    ensures value { λ r. ⌜ r ≡ every-plan (fits true (model-in (now (m .entry)))) (model-in (now (m .entry))) (formulas-of (now (q .entry))) ⌝ }
+    ensures value { λ r.
+        let m = now (m .entry) in let q = now (q .entry) in
+        ⌜ r ≡ every-plan (fits true (model-in m)) (model-in m) (formulas-of q) ⌝ }
 {
     nodes_fit(m, q, true)
 }

@@ -50,7 +50,9 @@ fn extend_from(
 ) -> Cursor
     requires { ⌜ Prepared (now m) × (s < state-count (now m)) ⌝ }
     requires { ⌜ (n ≤ 6) × (from + most-choices n ≤ 65536) × (at + most-choices n ≤ length (now dst)) ⌝ }
-    ensures effect { λ r. ⌜ Ran (spec.extend (model-in (now (m .entry))) d n s (drop from (now (src .entry)))) (most-choices n) (now (src .entry)) from (r .from) (now (dst .entry)) (now (dst .exit)) at (r .at) ⌝ }
+    ensures effect { λ r.
+        let dst′ = now (dst .exit) in let m = now (m .entry) in let src = now (src .entry) in let dst = now (dst .entry) in
+        ⌜ Ran (spec.extend (model-in m) d n s (drop from src)) (most-choices n) src from (r .from) dst dst′ at (r .at) ⌝ }
 {
     if n == 0 {
         return Cursor { from: from, at: at };
@@ -76,7 +78,9 @@ fn extend_from(
 pub fn extend(m: &[u16; MODEL], src: &[u8], dst: &mut [u8], s: usize, d: usize, n: usize) -> usize
     requires { ⌜ Prepared (now m) × (s < state-count (now m)) ⌝ }
     requires { ⌜ (n ≤ 6) × (1365 ≤ length (now dst)) ⌝ }
-    ensures frame { λ _. ⌜ now (dst .exit) ≡ splice (now (dst .entry)) 0 (spec.extend (model-in (now (m .entry))) d n s (now (src .entry)) .0) ⌝ }
+    ensures frame { λ _.
+        let dst′ = now (dst .exit) in let dst = now (dst .entry) in let m = now (m .entry) in let src = now (src .entry) in
+        ⌜ dst′ ≡ splice dst 0 (spec.extend (model-in m) d n s src .0) ⌝ }
     ensures value { λ r. ⌜ r ≡ length (spec.extend (model-in (now (m .entry))) d n s (now (src .entry)) .0) ⌝ }
 {
     let r = extend_from(m, src, 0, dst, 0, s, d, n);

@@ -44,8 +44,12 @@ fn ways(m: &[u16; MODEL], counts: &[u64; COUNTS], s: usize, i: usize, n: u8) -> 
 // The choice of plan number i of n + 1 steps: the choices of a state in order, each with as many plans as ways to go on.
 fn block_of(m: &[u16; MODEL], counts: &[u64; COUNTS], s: usize, n: u8, i: u64) -> Block
     requires { ⌜ Prepared (now m) × Totals true (model-in (now m)) (now counts) ⌝ }
-    requires { ⌜ (s < state-count (now m)) × (n < 6) × (plan-total (model-in (now m)) (n + 1) s ≤ 65536) × (i < plan-total (model-in (now m)) (n + 1) s) ⌝ }
-    ensures value { λ r. ⌜ (r .at < choices-in (now (m .entry)) s) × Found (model-in (now (m .entry))) n s i (choice-in (now (m .entry)) s (r .at)) (r .size) (r .place) ⌝ }
+    requires { ⌜
+        (s < state-count (now m)) × (n < 6) × (plan-total (model-in (now m)) (n + 1) s ≤ 65536)
+        × (i < plan-total (model-in (now m)) (n + 1) s) ⌝ }
+    ensures value { λ r.
+        let m = now (m .entry) in
+        ⌜ (r .at < choices-in m s) × Found (model-in m) n s i (choice-in m s (r .at)) (r .size) (r .place) ⌝ }
 {
     let c = prepared_model::choices(m, s);
     let mut rest = i;
@@ -82,8 +86,12 @@ fn nth_from(
     at: usize,
 ) -> usize
     requires { ⌜ Prepared (now m) × Totals true (model-in (now m)) (now counts) ⌝ }
-    requires { ⌜ (s < state-count (now m)) × (n ≤ 6) × (plan-total (model-in (now m)) n s ≤ 65536) × (i < plan-total (model-in (now m)) n s) × (at + most-choices n ≤ length (now choices)) ⌝ }
-    ensures effect { λ r. ⌜ Wrote (plan.choices n (plan-at (model-in (now (m .entry))) n s i)) (most-choices n) (now (choices .entry)) (now (choices .exit)) at r ⌝ }
+    requires { ⌜
+        (s < state-count (now m)) × (n ≤ 6) × (plan-total (model-in (now m)) n s ≤ 65536) × (i < plan-total (model-in (now m)) n s)
+        × (at + most-choices n ≤ length (now choices)) ⌝ }
+    ensures effect { λ r.
+        let choices′ = now (choices .exit) in let m = now (m .entry) in let choices = now (choices .entry) in
+        ⌜ Wrote (plan.choices n (plan-at (model-in m) n s i)) (most-choices n) choices choices′ at r ⌝ }
 {
     if n == 0 {
         return at;
@@ -116,8 +124,12 @@ pub fn nth(
     i: u64,
 ) -> usize
     requires { ⌜ Prepared (now m) × Totals true (model-in (now m)) (now counts) ⌝ }
-    requires { ⌜ (s < state-count (now m)) × (n ≤ 6) × (plan-total (model-in (now m)) n s ≤ 65536) × (i < plan-total (model-in (now m)) n s) × (1365 ≤ length (now choices)) ⌝ }
-    ensures frame { λ _. ⌜ now (choices .exit) ≡ splice (now (choices .entry)) 0 (plan.choices n (listed (model-in (now (m .entry))) n s i)) ⌝ }
+    requires { ⌜
+        (s < state-count (now m)) × (n ≤ 6) × (plan-total (model-in (now m)) n s ≤ 65536) × (i < plan-total (model-in (now m)) n s)
+        × (1365 ≤ length (now choices)) ⌝ }
+    ensures frame { λ _.
+        let choices′ = now (choices .exit) in let choices = now (choices .entry) in let m = now (m .entry) in
+        ⌜ choices′ ≡ splice choices 0 (plan.choices n (listed (model-in m) n s i)) ⌝ }
     ensures value { λ r. ⌜ r ≡ length (plan.choices n (listed (model-in (now (m .entry))) n s i)) ⌝ }
 {
     nth_from(m, counts, choices, s as usize, n, i, 0)

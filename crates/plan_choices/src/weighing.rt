@@ -43,7 +43,9 @@ pub struct Part {
 // One choice further, but not beyond the end.
 fn after(choices: &[u8], at: usize) -> usize
     requires { ⌜ at ≤ length (now choices) ⌝ }
-    ensures value { λ r. ⌜ (r ≤ length (now (choices .entry))) × (drop r (now (choices .entry)) ≡ drop 1 (drop at (now (choices .entry)))) ⌝ }
+    ensures value { λ r.
+        let choices = now (choices .entry) in
+        ⌜ (r ≤ length choices) × (drop r choices ≡ drop 1 (drop at choices)) ⌝ }
 {
     if at < choices.len() {
         return at + 1;
@@ -81,8 +83,14 @@ fn weigh_from(
     spot: Spot,
 ) -> Part
     requires { ⌜ Ready (now m) (now q) (spot .start) (now truth) (now cone) ⌝ }
-    requires { ⌜ Here (now m) (now q) (spot .start) (now cone) (now trail) (now gains) (now v) (spot .h) (spot .s) (spot .k) × (spot .at ≤ length (now choices)) ⌝ }
-    ensures effect { λ r. ⌜ Ran (weigh (model-in (now (m .entry))) (spot .k) (spot .s) (on-path (now (m .entry)) (now (q .entry)) (spot .start) (now (cone .entry)) (take (spot .h) (now (trail .entry)))) (drop (spot .at) (now (choices .entry)))) (now (m .entry)) (now (q .entry)) (spot .start) (now (cone .entry)) (spot .h) (now (trail .entry)) (now (trail .exit)) (now (gains .exit)) (now (v .exit)) (now (choices .entry)) (r .value) (r .next) ⌝ }
+    requires { ⌜
+        Here (now m) (now q) (spot .start) (now cone) (now trail) (now gains) (now v) (spot .h) (spot .s) (spot .k)
+        × (spot .at ≤ length (now choices)) ⌝ }
+    ensures effect { λ r.
+        let trail′ = now (trail .exit) in let gains′ = now (gains .exit) in let v′ = now (v .exit) in let m = now (m .entry) in
+        let q = now (q .entry) in let cone = now (cone .entry) in let trail = now (trail .entry) in let choices = now (choices .entry) in
+        ⌜ Ran (weigh (model-in m) (spot .k) (spot .s) (on-path m q (spot .start) cone (take (spot .h) trail)) (drop (spot .at) choices)) m q
+        (spot .start) cone (spot .h) trail trail′ gains′ v′ choices (r .value) (r .next) ⌝ }
 {
     if spot.k == 0 {
         return Part {
@@ -132,7 +140,9 @@ pub fn plan_weight(
 ) -> u64
     requires { ⌜ Ready (now m) (now q) start (now truth) (now cone) ⌝ }
     requires { ⌜ (depth (formula (now q) (root-of (now cone))) ≤ n) × (n ≤ 6) ⌝ }
-    ensures value { λ r. ⌜ ((π : Plan n) → plan-of (model-in (now (m .entry))) n start (now (choices .entry)) ≡ ok π → r ≡ W (model-in (now (m .entry))) (formula (now (q .entry)) (root-of (now (cone .entry)))) n start π) ⌝ }
+    ensures value { λ r.
+        let m = now (m .entry) in let choices = now (choices .entry) in let q = now (q .entry) in let cone = now (cone .entry) in
+        ⌜ ((π : Plan n) → plan-of (model-in m) n start choices ≡ ok π → r ≡ W (model-in m) (formula q (root-of cone)) n start π) ⌝ }
 {
     let mut trail = [0u16; STEPS];
     let mut gains = [0i32; PLACES];

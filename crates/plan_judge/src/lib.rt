@@ -176,7 +176,9 @@ fn held_bytes(model: &[u8], blocks: usize) -> usize
 
 // The ground on which a question is refused for the model in these bytes: 1 to 6 and 9; 0 where there is none.
 fn question_ground(b: &[u8], model: &[u8]) -> u32
-    ensures value { λ r. ⌜ r ≡ refusal (read-question (byte (now (model .entry)) 2) (byte (now (model .entry)) 3) (byte (now (model .entry)) 4) (now (b .entry))) ⌝ }
+    ensures value { λ r.
+        let model = now (model .entry) in let b = now (b .entry) in
+        ⌜ r ≡ refusal (read-question (byte model 2) (byte model 3) (byte model 4) b) ⌝ }
 {
     let states = blocks::wide(model, 2);
     let actions = blocks::wide(model, 3);
@@ -353,7 +355,9 @@ fn plan_size(m: &[u8], choices: &[u8], n: usize, s: usize) -> usize
 // The same for the plan that a question with a "plan" root asks for.
 fn first_size(model: &[u8], blocks: usize, q: &[u8], choices: &[u8]) -> usize
     requires { ⌜ PlanRoot (take (512 * blocks) (now model)) (now q) ⌝ }
-    ensures value { λ r. ⌜ r ≡ size-in (choices-in (model-of (take (512 * blocks) (now (model .entry)))) (question-of (now (q .entry))) (now (choices .entry))) ⌝ }
+    ensures value { λ r.
+        let model = now (model .entry) in let q = now (q .entry) in let choices = now (choices .entry) in
+        ⌜ r ≡ size-in (choices-in (model-of (take (512 * blocks) model)) (question-of q) choices) ⌝ }
 {
     let n = blocks_end(model.len(), blocks);
     plan_size(
@@ -439,7 +443,9 @@ pub fn write(d: Desk, buf: &mut [u8]) -> Written
 // The first ground, 1 to 6 or 10, on which a sheet is refused for a question with a "plan" root; 0 where it has a plan.
 fn sheet_ground(m: &[u8], q: &[u8], b: &[u8]) -> u32
     requires { ⌜ PlanRoot (now m) (now q) ⌝ }
-    ensures value { λ r. ⌜ r ≡ refusal (plan-on (model-of (now (m .entry))) (node-of (now (q .entry)) (node-count (now (q .entry)) - 1) .n) (start-of (now (q .entry))) (now (b .entry))) ⌝ }
+    ensures value { λ r.
+        let m = now (m .entry) in let q = now (q .entry) in let b = now (b .entry) in
+        ⌜ r ≡ refusal (plan-on (model-of m) (node-of q (node-count q - 1) .n) (start-of q) b) ⌝ }
 {
     let n = root_steps(q) as usize;
     let s = questions::start(q) as usize;

@@ -35,7 +35,9 @@ fn number(x: u16) -> usize
 // Lists the action a, which has c outcomes, behind the i choices listed, if it has any; gives the number listed.
 fn list(row: &mut [u16], i: usize, a: usize, c: usize) -> usize
     requires { ⌜ (i < 8) × (a < 256) × (c < 256) × (length (now row) ≡ 256) ⌝ }
-    ensures effect { λ r. ⌜ (c ≡ 0 → (r ≡ i) × (now (row .exit) ≡ now (row .entry))) × (0 < c → (r ≡ i + 1) × (now (row .exit) ≡ set (set (now (row .entry)) i a) (8 + i) c)) ⌝ }
+    ensures effect { λ r.
+        let row′ = now (row .exit) in let row = now (row .entry) in
+        ⌜ (c ≡ 0 → (r ≡ i) × (row′ ≡ row)) × (0 < c → (r ≡ i + 1) × (row′ ≡ set (set row i a) (8 + i) c)) ⌝ }
 {
     if c == 0 {
         return i;
@@ -75,7 +77,9 @@ fn put(b: &[u8], row: &mut [u16], at: usize, k: usize)
 // Spells out the outcomes of the choices listed, 4 to a choice.
 fn spell(b: &[u8], row: &mut [u16], s: usize)
     requires { ⌜ (refusal (read-model (now b)) ≡ 0) × (s < state-count (now b)) × (length (now row) ≡ 256) × Chosen (now b) s (now row) ⌝ }
-    ensures frame { λ _. ⌜ Chosen (now (b .entry)) s (now (row .exit)) × Spelled (now (b .entry)) s (4 * getD (now (row .exit)) 16 0) (now (row .exit)) ⌝ }
+    ensures frame { λ _.
+        let row′ = now (row .exit) in let b = now (b .entry) in
+        ⌜ Chosen b s row′ × Spelled b s (4 * getD row′ 16 0) row′ ⌝ }
 {
     let n = 4 * number(row[COUNT]);
     let mut k: usize = 0;

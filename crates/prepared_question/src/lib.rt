@@ -151,7 +151,8 @@ fn right_for(q: &[u8], b: &[u8], i: u8) -> u8
 
 // Node i gets its new cells and its depth.
 fn put(q: &[u8], b: &mut [u8; QUESTION], i: u8, d: u8)
-    requires { ⌜ Ordered (now q) × (i < layout.node-count (now q)) × Pointed (now q) (now b) i × (d ≡ formulas.depth (formula (now q) i)) ⌝ }
+    requires { ⌜
+        Ordered (now q) × (i < layout.node-count (now q)) × Pointed (now q) (now b) i × (d ≡ formulas.depth (formula (now q) i)) ⌝ }
     ensures frame { λ _. ⌜ Pointed (now (q .entry)) (now (b .exit)) (i + 1) ⌝ }
 {
     let l = left_for(q, b, i);

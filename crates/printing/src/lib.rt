@@ -25,7 +25,9 @@ fn root_is_plan(q: &[u8]) -> bool
 // The line of a no.
 fn no_line(out: &mut [u8], q: &[u8], count: u32) -> usize
     requires { ⌜ (8192 ≤ length (now out)) × (1 ≤ node-count (now q)) ⌝ }
-    ensures effect { λ r. ⌜ Put (cond (plan-root (now (q .entry))) (no-plans-line count) (plain-line false)) (now (out .entry)) (now (out .exit)) 0 r ⌝ }
+    ensures effect { λ r.
+        let out′ = now (out .exit) in let q = now (q .entry) in let out = now (out .entry) in
+        ⌜ Put (cond (plan-root q) (no-plans-line count) (plain-line false)) out out′ 0 r ⌝ }
 {
     if root_is_plan(q) {
         return verdict_line::no_plans_line(out, count);
@@ -44,7 +46,10 @@ fn whole(model: &[u8], steps: u32) -> u64
 // The line of a verdict, with its choices beside it.
 fn verdict_line(out: &mut [u8], model: &[u8], q: &[u8], v: Verdict, choices: &[u8]) -> usize
     requires { ⌜ (8192 ≤ length (now out)) × Shown (now model) (now q) v (now choices) ⌝ }
-    ensures effect { λ r. ⌜ Put (shown-line (denominator-of (now (model .entry))) (plan-root (now (q .entry))) v (now (choices .entry))) (now (out .entry)) (now (out .exit)) 0 r ⌝ }
+    ensures effect { λ r.
+        let out′ = now (out .exit) in let model = now (model .entry) in let q = now (q .entry) in let choices = now (choices .entry) in
+        let out = now (out .entry) in
+        ⌜ Put (shown-line (denominator-of model) (plan-root q) v choices) out out′ 0 r ⌝ }
 {
     match v {
         Verdict::No(x) => no_line(out, q, x.count),
@@ -62,7 +67,9 @@ fn verdict_line(out: &mut [u8], model: &[u8], q: &[u8], v: Verdict, choices: &[u
 // The line where the model and the question are on the desk.
 fn judging_line(out: &mut [u8], model: &[u8], q: &[u8], d: Desk) -> usize
     requires { ⌜ (8192 ≤ length (now out)) × Asked d (now model) (now q) ⌝ }
-    ensures effect { λ r. ⌜ Put (line-of (judging-line (model-of (now (model .entry))) (question-of (now (q .entry))))) (now (out .entry)) (now (out .exit)) 0 r ⌝ }
+    ensures effect { λ r.
+        let out′ = now (out .exit) in let model = now (model .entry) in let q = now (q .entry) in let out = now (out .entry) in
+        ⌜ Put (line-of (judging-line (model-of model) (question-of q))) out out′ 0 r ⌝ }
 {
     let r = plan_judge::judge(d);
     let a = r.answer;
@@ -80,7 +87,9 @@ fn judging_line(out: &mut [u8], model: &[u8], q: &[u8], d: Desk) -> usize
 // The line where the model is on the desk.
 fn asking_line(out: &mut [u8], model: &[u8], q: &[u8], d: Desk) -> usize
     requires { ⌜ (8192 ≤ length (now out)) × Loaded d (now model) ⌝ }
-    ensures effect { λ r. ⌜ Put (line-of (asking-line (model-of (now (model .entry))) (now (q .entry)))) (now (out .entry)) (now (out .exit)) 0 r ⌝ }
+    ensures effect { λ r.
+        let out′ = now (out .exit) in let model = now (model .entry) in let q = now (q .entry) in let out = now (out .entry) in
+        ⌜ Put (line-of (asking-line (model-of model) q)) out out′ 0 r ⌝ }
 {
     let r = plan_judge::put(d, q);
     let a = r.answer;

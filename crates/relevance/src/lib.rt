@@ -10,9 +10,9 @@ ghost use Rattle.evaluation.specs.promises.Reached.{Cone, root-of};
 ghost use Rattle.prepared_question.specs.promises.Marks.{Grown};
 ghost use Rattle.relevance.specs.promises.Need.{Given, Marked, Passed-on, Needs, Below};
 ghost use Rattle.relevance.specs.promises.Chosen.{Asked, Entered, Chosen, Listed};
+use blocks::buffers::store;
 use blocks::byte;
 use evaluation::TRUTHS;
-use blocks::buffers::store;
 use prepared_model::MODEL;
 use prepared_model::choices;
 use prepared_model::outcomes;
@@ -44,7 +44,10 @@ fn mark(need: &mut [u8], j: u8, s: u8)
 fn mark_outcomes(m: &[u16; MODEL], need: &mut [u8; TRUTHS], child: u8, s: u8, i: usize)
     requires { ⌜ Prepared (now m) × (child < 40) ⌝ }
     requires { ⌜ (s < state-count (now m)) × (i < choices-in (now m) s) ⌝ }
-    ensures frame { λ _. ⌜ Grown (Below (state-count (now (m .entry))) (32 * child + 32)) (now (need .entry)) (now (need .exit)) × ((o : ℕ) → o < outcomes-in (now (m .entry)) s i → Marked (now (need .exit)) child (step-in (now (m .entry)) s i o .target)) ⌝ }
+    ensures frame { λ _.
+        let need′ = now (need .exit) in let m = now (m .entry) in let need = now (need .entry) in
+        ⌜ Grown (Below (state-count m) (32 * child + 32)) need need′
+        × ((o : ℕ) → o < outcomes-in m s i → Marked need′ child (step-in m s i o .target)) ⌝ }
 {
     let n = outcomes(m, s as usize, i);
     let mut o: usize = 0;
@@ -57,7 +60,10 @@ fn mark_outcomes(m: &[u16; MODEL], need: &mut [u8; TRUTHS], child: u8, s: u8, i:
 // Marks the child of "next" wherever a step from s can lead.
 fn mark_next(m: &[u16; MODEL], need: &mut [u8; TRUTHS], child: u8, s: u8)
     requires { ⌜ Prepared (now m) × (child < 40) × (s < state-count (now m)) ⌝ }
-    ensures frame { λ _. ⌜ Grown (Below (state-count (now (m .entry))) (32 * child + 32)) (now (need .entry)) (now (need .exit)) × ((i o : ℕ) → Offers (now (m .entry)) s i o → Marked (now (need .exit)) child (step-in (now (m .entry)) s i o .target)) ⌝ }
+    ensures frame { λ _.
+        let need′ = now (need .exit) in let m = now (m .entry) in let need = now (need .entry) in
+        ⌜ Grown (Below (state-count m) (32 * child + 32)) need need′
+        × ((i o : ℕ) → Offers m s i o → Marked need′ child (step-in m s i o .target)) ⌝ }
 {
     let n = choices(m, s as usize);
     let mut i: usize = 0;
@@ -71,7 +77,9 @@ fn mark_next(m: &[u16; MODEL], need: &mut [u8; TRUTHS], child: u8, s: u8)
 fn pass_on(m: &[u16; MODEL], q: &[u8; QUESTION], need: &mut [u8; TRUTHS], k: usize)
     requires { ⌜ Given (now m) (now q) × (k < 32 * question.node-count (now q)) ⌝ }
     requires { ⌜ (getD (now need) k 0 ≡ 1 → k % 32 < state-count (now m)) ⌝ }
-    ensures frame { λ _. ⌜ Grown (Below (state-count (now (m .entry))) (32 * (k / 32))) (now (need .entry)) (now (need .exit)) × (getD (now (need .entry)) k 0 ≡ 1 → Passed-on (now (m .entry)) (now (q .entry)) (now (need .exit)) (k / 32) (k % 32)) ⌝ }
+    ensures frame { λ _.
+        let need′ = now (need .exit) in let m = now (m .entry) in let need = now (need .entry) in let q = now (q .entry) in
+        ⌜ Grown (Below (state-count m) (32 * (k / 32))) need need′ × (getD need k 0 ≡ 1 → Passed-on m q need′ (k / 32) (k % 32)) ⌝ }
 {
     if byte(need, k) != 1 {
         return;
@@ -112,7 +120,9 @@ pub fn needed(m: &[u16; MODEL], q: &[u8; QUESTION]) -> [u8; TRUTHS]
 // Marks the children of node j, if it is marked and no state formula.
 fn enter(q: &[u8; QUESTION], marks: &mut [u8; 40], j: u8)
     requires { ⌜ Asked (now q) × (j < question.node-count (now q)) ⌝ }
-    ensures frame { λ _. ⌜ Grown (Below 32 j) (now (marks .entry)) (now (marks .exit)) × (getD (now (marks .entry)) j 0 ≡ 1 → Entered (now (q .entry)) (now (marks .exit)) j) ⌝ }
+    ensures frame { λ _.
+        let marks′ = now (marks .exit) in let marks = now (marks .entry) in let q = now (q .entry) in
+        ⌜ Grown (Below 32 j) marks marks′ × (getD marks j 0 ≡ 1 → Entered q marks′ j) ⌝ }
 {
     if byte(marks, j as usize) != 1 {
         return;

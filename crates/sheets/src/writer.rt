@@ -99,7 +99,9 @@ fn store_choice(buf: &mut [u8], p: usize, a: u8)
 fn store_plan(buf: &mut [u8], m: &[u8], choices: &[u8], n: usize, s: usize, p: usize) -> usize
     requires { ⌜ (refusal (read-model (now m)) ≡ 0) × (s < state-count (now m)) ⌝ }
     requires { ⌜ Ahead (read-plan (model-of (now m)) n s (drop p (now choices))) (now choices) p (now buf) ⌝ }
-    ensures effect { λ r. ⌜ Stored (read-plan (model-of (now (m .entry))) n s (drop p (now (choices .entry)))) (now (choices .entry)) p r (now (buf .entry)) (now (buf .exit)) ⌝ }
+    ensures effect { λ r.
+        let buf′ = now (buf .exit) in let m = now (m .entry) in let choices = now (choices .entry) in let buf = now (buf .entry) in
+        ⌜ Stored (read-plan (model-of m) n s (drop p choices)) choices p r buf buf′ ⌝ }
 {
     if n == 0 {
         return p;
@@ -120,8 +122,12 @@ fn store_below(
     p: usize,
 ) -> usize
     requires { ⌜ (refusal (read-model (now m)) ≡ 0) × (s < state-count (now m)) × (a < action-count (now m)) ⌝ }
-    requires { ⌜ Ahead (read-each (λ o. read-plan (model-of (now m)) k (o .target)) (outcomes (model-of (now m)) s a) (drop p (now choices))) (now choices) p (now buf) ⌝ }
-    ensures effect { λ r. ⌜ Stored (read-each (λ o. read-plan (model-of (now (m .entry))) k (o .target)) (outcomes (model-of (now (m .entry))) s a) (drop p (now (choices .entry)))) (now (choices .entry)) p r (now (buf .entry)) (now (buf .exit)) ⌝ }
+    requires { ⌜
+        Ahead (read-each (λ o. read-plan (model-of (now m)) k (o .target)) (outcomes (model-of (now m)) s a) (drop p (now choices)))
+        (now choices) p (now buf) ⌝ }
+    ensures effect { λ r.
+        let buf′ = now (buf .exit) in let m = now (m .entry) in let choices = now (choices .entry) in let buf = now (buf .entry) in
+        ⌜ Stored (read-each (λ o. read-plan (model-of m) k (o .target)) (outcomes (model-of m) s a) (drop p choices)) choices p r buf buf′ ⌝ }
 {
     let count = models::entries(m, s, a);
     let mut next = p;
@@ -151,7 +157,9 @@ fn seal_blocks(buf: &mut [u8], blocks: usize)
 
 // The sheet of the n-step plan that these choices are, at the front of buf, and no byte beyond; gives the number of bytes written.
 pub fn write_sheet(buf: &mut [u8], m: &[u8], n: u8, start: u8, weight: u64, choices: &[u8]) -> usize
-    requires { ⌜ (refusal (read-model (now m)) ≡ 0) × (start < state-count (now m)) × all-read (read-plan (model-of (now m)) n start (now choices)) (now choices) ⌝ }
+    requires { ⌜
+        (refusal (read-model (now m)) ≡ 0) × (start < state-count (now m))
+        × all-read (read-plan (model-of (now m)) n start (now choices)) (now choices) ⌝ }
     requires { ⌜ (length (now choices) ≤ 1365) × (512 * blocks-for (length (now choices)) ≤ length (now buf)) ⌝ }
     ensures effect { λ r. ⌜ now (buf .exit) ≡ sheet-bytes n start weight (now (choices .entry)) ++ drop r (now (buf .entry)) ⌝ }
     ensures value { λ r. ⌜ r ≡ 512 * blocks-for (length (now (choices .entry))) ⌝ }
