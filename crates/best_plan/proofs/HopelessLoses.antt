@@ -1,5 +1,5 @@
--- A choice that cannot win any more: what its outcomes left come to is at most what they weigh times D to the number of steps after them,
--- so where even that does not win, neither does all that the choice comes to.
+-- A choice that can no longer win: the outcomes left add at most their weight times D to the number of steps after them. Where even that
+-- does not win, the choice's total does not.
 use Prim.Native.Nat.{ℕ, zero, suc, _+_, _*_, _-_, _^_, _≤_, _<_}
 use native.Mathlib.Omega.{arith}
 use native.Mathlib.Nat.{le-refl, add-zero, add-mul, mul-le-mul, mul-le-mul-left}
@@ -79,7 +79,7 @@ module _ {m : List ℕ} (w : Prepared m) (s a : ℕ) (here : s < state-count m) 
     abbrev all-after : ℕ
     all-after = denominator-of m ^ k
 
-    -- What the first i outcomes come to.
+    -- The total of the first i outcomes.
     abbrev come : ℕ → ℕ
     come i = worth least M k f (tabulate i (step-in m s a))
 
@@ -121,7 +121,7 @@ module _ {m : List ℕ} (w : Prepared m) (s a : ℕ) (here : s < state-count m) 
           let p : rest * all-after ≤ 100 * 100 ^ 5 = mul-le-mul r (power-le (denominator-of m) k 5 d few) in
           (d, omega (arith, w .few-outcomes s a here place))
 
-      -- All of them come to `sum` and more, and to no more than those left can add.
+      -- The total of all of them is at least `sum`, and at most `sum` with what those left can add.
       between : (sum ≤ all) × (all ≤ sum + rest * all-after)
       between =
           let n = outcomes-in m s a in

@@ -63,7 +63,7 @@ pub struct Best {
     end: usize,
 }
 
-// What a choice's outcomes come to: their total, and where the choices below them end.
+// The total of a choice's outcomes, and where the choices below them end.
 pub struct Walked {
     value: u64,
     end: usize,
@@ -89,7 +89,7 @@ fn wins(found: bool, other: u64, value: u64, least: bool) -> bool
     true
 }
 
-// Whether a choice cannot win any more: its outcomes walked so far come to `sum`, and `rest` is what those left weigh.
+// Whether a choice can no longer win: `sum` is the total of its outcomes walked so far, `rest` the weight of those left.
 fn hopeless(m: &[u16; MODEL], best: Best, sum: u64, rest: u64, k: u8, least: bool) -> bool
     requires { ⌜ (denominator-of (now m) ≤ 100) × (k ≤ 6) × (sum + rest * denominator-of (now m) ^ k < 2 ^ 64) ⌝ }
     ensures value { λ r.

@@ -1,14 +1,12 @@
 -- A total against a bound: the numbers of a "plan" node are small, so that the products fit; and a total that equals the bound is
 -- the bound divided by q.
-use Prim.Native.Nat.{ℕ, zero, suc, _*_, _/_, _%_, _^_, _≤_, _<_}
+use Prim.Native.Nat.{ℕ, _*_, _/_, _%_, _^_, _≤_, _<_}
 use native.Mathlib.Omega.{arith}
-use native.Mathlib.Decide.{decLt, ℕ-discrete}
 use native.Mathlib.Nat.{le-trans, mul-le-mul, mul-div-cancel-left, mul-mod-right, div-add-mod}
-use mathlib.Core.Logic.{_⊎_, inl, inr}
-use mathlib.Core.Path.{_≡_, refl, sym, ap, ap₂, _∙_}
-use mathlib.Core.Bool.{Bool, false, not, _&&_}
-use lib.Dec.{eqb, ltb, leb}
-use borrow.Author.Tests.{lt-ltb, le-ltb, le-leb, lt-leb, eq-eqb, ne-eqb, eqb-true, eqb-false}
+use mathlib.Core.Path.{_≡_, refl, sym, ap, _∙_}
+use mathlib.Core.Bool.{Bool, false}
+use lib.Dec.{eqb}
+use borrow.Author.Tests.{eq-eqb, ne-eqb, eqb-true, eqb-false}
 use Rattle.logic.specs.Quantity.{naturals, related, equal}
 use Rattle.logic.specs.Formula.{meets, relation, nonnegative}
 use Rattle.logic.proofs.Tests.{same-test}
@@ -19,31 +17,7 @@ use Rattle.questions.specs.Layout.{node-of}
 use Rattle.questions.specs.promises.Formed.{PlanRange}
 use Rattle.bounds.specs.promises.Bounded.{Bounded, meets-as, meets-at, Exactly}
 use Rattle.bounds.proofs.Powers.{power-le}
-
--- ---- relations of whole numbers
-
-pub less-is : (a b : ℕ) → ltb a b ≡ not (leb b a)
-less-is a b = go (decLt a b)
-  where
-    go : Dec (a < b) → ltb a b ≡ not (leb b a)
-    go (yes l) = lt-ltb a b l ∙ sym (ap not (lt-leb b a l))
-    go (no g) = le-ltb a b (omega arith) ∙ sym (ap not (le-leb b a (omega arith)))
-
-pub equal-is : (a b : ℕ) → eqb a b ≡ (leb a b && leb b a)
-equal-is a b = go (ℕ-discrete a b) (decLt a b)
-  where
-    go : Dec (a ≡ b) → Dec (a < b) → eqb a b ≡ (leb a b && leb b a)
-    go (yes e) d = eq-eqb a b e ∙ sym (ap₂ _&&_ (le-leb a b (omega arith)) (le-leb b a (omega arith)))
-    go (no n) (yes l) = ne-eqb a b n ∙ sym (ap₂ _&&_ (le-leb a b (omega arith)) (lt-leb b a l))
-    go (no n) (no g) = ne-eqb a b n ∙ sym (ap (λ t. t && leb b a) (lt-leb a b (omega arith)))
-
--- Relation numbers other than 0, 1 and 2 stand for "greater".
-pub greater-by : (k a b : ℕ) → (k ≡ 1 → ⊥) → ((k ≡ 0) ⊎ (k ≡ 2) → ⊥) → related naturals (relation k) a b ≡ not (leb a b)
-unfolding related relation
-greater-by zero a b n1 n2 = absurd (n2 (inl refl))
-greater-by (suc zero) a b n1 n2 = absurd (n1 refl)
-greater-by (suc (suc zero)) a b n1 n2 = absurd (n2 (inr refl))
-greater-by (suc (suc (suc k))) a b n1 n2 = refl
+use Rattle.logic.proofs.Naturals.{eqb-leb}
 
 -- ---- division
 
@@ -86,7 +60,7 @@ module _ (m q : Bytes) (j : ℕ) (b : Bounded m q j) where
   pub met : (w x : ℕ) → x ≡ denominator-of m ^ ((node-of q j) .n) * nonnegative ((node-of q j) .p)
       → meets-as equal m q j w ≡ eqb ((node-of q j) .q * w) x
   unfolding meets model-in model-of related
-  met w x e = rw e (sym (equal-is ((node-of q j) .q * w) (denominator-of m ^ ((node-of q j) .n) * nonnegative ((node-of q j) .p))))
+  met w x e = rw e (sym (eqb-leb ((node-of q j) .q * w) (denominator-of m ^ ((node-of q j) .n) * nonnegative ((node-of q j) .p))))
 
   pub exactly : (x k : ℕ) → x ≡ denominator-of m ^ ((node-of q j) .n) * nonnegative ((node-of q j) .p) → k ≡ (node-of q j) .q → Exactly m q j (eqb (x % k) 0) (x / k)
   exactly x k e f =

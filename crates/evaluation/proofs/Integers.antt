@@ -2,34 +2,17 @@
 use Prim.Native.Nat.{ℕ, zero, suc, _+_, _-_, _^_, _≤_, _<_}
 use native.Mathlib.Omega.{arith}
 use native.Mathlib.Nat.{le-trans}
-use native.Mathlib.Decide.{decLt, ℕ-discrete}
+use native.Mathlib.Decide.{ℕ-discrete}
 use mathlib.Core.Path.{_≡_, refl, sym, ap, ap₂, _∙_}
 use mathlib.Core.Bool.{Bool, true, false, not, cond, _&&_}
-use lib.Dec.{eqb, ltb, leb}
+use lib.Dec.{eqb, ltb}
 use lib.IntN.{ℤ, pos, negsuc, negℤ, _+ℤ_, _-ℤ_, +ℤ-comm, +ℤ-negℤ-cancel}
 use lib.Signed.{mag, ltZ, leZ}
-use mathlib.Core.Logic.{_⊎_, inl, inr}
 use mir.Syntax.{Width, w16, w32, w64}
 use mir.Val.{SFits, toZ, ofZ}
 use mir.ValLaws.{toZ-ofZ}
-use Rattle.logic.specs.Formula.{relation}
-use Rattle.logic.specs.Quantity.{integers, related}
-use borrow.Author.Tests.{lt-ltb, le-ltb, le-leb, lt-leb, eq-eqb, ne-eqb}
-
-ltb-leb : (a b : ℕ) → ltb a b ≡ not (leb b a)
-ltb-leb a b = go (decLt a b)
-  where
-    go : Dec (a < b) → ltb a b ≡ not (leb b a)
-    go (yes l) = lt-ltb a b l ∙ sym (ap not (lt-leb b a l))
-    go (no g) = le-ltb a b (omega arith) ∙ sym (ap not (le-leb b a (omega arith)))
-
-eqb-leb : (a b : ℕ) → eqb a b ≡ (leb a b && leb b a)
-eqb-leb a b = go (ℕ-discrete a b) (decLt a b)
-  where
-    go : Dec (a ≡ b) → Dec (a < b) → eqb a b ≡ (leb a b && leb b a)
-    go (yes e) d = eq-eqb a b e ∙ sym (ap₂ _&&_ (le-leb a b (omega arith)) (le-leb b a (omega arith)))
-    go (no n) (yes l) = ne-eqb a b n ∙ sym (ap₂ _&&_ (le-leb a b (omega arith)) (lt-leb b a l))
-    go (no n) (no g) = ne-eqb a b n ∙ sym (ap (λ t. t && leb b a) (lt-leb a b (omega arith)))
+use borrow.Author.Tests.{eq-eqb, ne-eqb}
+use Rattle.logic.proofs.Naturals.{ltb-leb, eqb-leb}
 
 pub less-is : (a b : ℤ) → ltZ a b ≡ not (leZ b a)
 less-is (pos a) (pos b) = ltb-leb a b
@@ -94,11 +77,3 @@ difference-fits x y h g =
 -- What is left of a sum without its first part.
 pub rest-of-sum : (x y : ℤ) → (x +ℤ y) -ℤ x ≡ y
 rest-of-sum x y = ap (λ z. z -ℤ x) (+ℤ-comm x y) ∙ +ℤ-negℤ-cancel y x
-
--- Relation numbers other than 0, 1 and 2 stand for "greater".
-pub greater-by : (k : ℕ) (a b : ℤ) → (k ≡ 1 → ⊥) → ((k ≡ 0) ⊎ (k ≡ 2) → ⊥) → related integers (relation k) a b ≡ not (leZ a b)
-unfolding related relation
-greater-by zero a b n1 n2 = absurd (n2 (inl refl))
-greater-by (suc zero) a b n1 n2 = absurd (n1 refl)
-greater-by (suc (suc zero)) a b n1 n2 = absurd (n2 (inr refl))
-greater-by (suc (suc (suc k))) a b n1 n2 = refl

@@ -24,14 +24,16 @@ use prepared_question::left;
 use prepared_question::operator;
 use prepared_question::right;
 
-// The most steps of a path, and the places on it, before the first step and after each.
+// The most steps of a path.
 pub const STEPS: usize = 6;
 
+// The places on it: before the first step and after each.
 pub const PLACES: usize = 7;
 
-// The numbers of a table of truths, by node and state, and of a table of values, by node and place.
+// The numbers of a table of truths, by node and state.
 pub const TRUTHS: usize = 1280;
 
+// The numbers of a table of values, by node and place.
 pub const VALUES: usize = 280;
 
 // A place of a path: where it starts, how many steps were taken, and the state that they led to.

@@ -1,9 +1,9 @@
 -- What a prepared model gives to the lists: every state has a plan, and the outcomes of a choice stand in order.
 use Prim.Native.Nat.{ℕ, zero, suc, _*_, _^_, _≤_, _<_}
-use native.Mathlib.Nat.{mul-pos, mul-le-mul}
+use native.Mathlib.Nat.{mul-le-mul}
 use native.Mathlib.Omega.{arith}
 use mathlib.Core.Path.{_≡_, refl, sym, ap, subst, _∙_}
-use mathlib.Core.List.{List, [], _∷_, List·Memᴰ, List·Memᴰ·head, List·Memᴰ·tail}
+use mathlib.Core.List.{List, List·Memᴰ, List·Memᴰ·head}
 use lib.ListN.{length}
 use Rattle.logic.specs.Lists.{count-from, tabulate}
 use Rattle.logic.specs.Model.{Model, Step, outcomes}
@@ -16,6 +16,7 @@ use Rattle.prepared_model.proofs.ReadByPlace.{states-are}
 use Rattle.bounds.proofs.Powers.{power-le}
 use Rattle.exact_plan.specs.promises.Totals.{combined}
 use Rattle.exact_plan.proofs.Spans.{multiply-map, combined-map}
+use Rattle.logic.proofs.Naturals.{multiply-positive}
 
 -- A value of at most 1 times the denominator to the k.
 pub value-fits : {x v y d k : ℕ} → x ≡ v → v ≤ 1 → y ≡ d ^ k → d ≤ 100 → k ≤ 6 → x * y < 2 ^ 64
@@ -23,11 +24,6 @@ value-fits {x} {v} {y} {d} {k} e h f g i =
     let l : y ≤ 100 ^ 6 = rw f (power-le d k 6 g i) in
     let u : x ≤ 1 = omega arith in
     omega (arith, mul-le-mul u l)
-
-multiply-positive : {A : Type 0} (t : A → ℕ) (l : List A) → ((a : A) → List·Memᴰ a l → 0 < t a) → 0 < multiply t l
-unfolding multiply
-multiply-positive t [] h = omega arith
-multiply-positive t (x ∷ l) h = mul-pos (h x (List·Memᴰ·head refl)) (multiply-positive t l (λ a i. h a (List·Memᴰ·tail i)))
 
 -- Every state has a plan.
 pub plans-some : (m : Model) → Accepted m → (n s : ℕ) → s < length (m .states) → 0 < plan-total m n s

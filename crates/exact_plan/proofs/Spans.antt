@@ -3,13 +3,14 @@ use Prim.Native.Nat.{ℕ, zero, suc, _+_, _-_, _*_, _≤_, _<_}
 use native.Mathlib.Nat.{zero-add, mul-one, one-mul, mul-assoc, le-refl, le-trans, le-mul-of-pos-right, mul-comm}
 use native.Mathlib.Omega.{arith}
 use mathlib.Core.Path.{_≡_, refl, sym, ap, subst, _∙_}
-use mathlib.Core.List.{List, [], _∷_, _++_, map, flatMap, append-nil, append-assoc}
+use mathlib.Core.List.{List, [], _∷_, _++_, map, flatMap}
 use lib.ListN.{length, length-append}
 use Rattle.logic.specs.Lists.{count-from, tabulate}
 use Rattle.logic.specs.Limits.{multiply}
 use Rattle.logic.proofs.Tests.{count-more, tabulate-more}
 use Rattle.exact_plan.specs.promises.Totals.{grid, combined}
 use Rattle.exact_plan.proofs.Grid.{combined-append, combined-one}
+use Rattle.logic.proofs.Naturals.{flatMap-last}
 
 multiply-append : {A : Type 0} (t : A → ℕ) (l r : List A) → multiply t (l ++ r) ≡ multiply t l * multiply t r
 unfolding multiply
@@ -72,7 +73,7 @@ module _ (t : ℕ → ℕ) where
         (subst (λ k. k ≤ multiply t (count-from 0 (lo + suc n))) (multiply-left lo n ∙ mul-comm (t lo) (multiply t (count-from (suc lo) n)))
         (more-left lo (suc n) (omega arith))))
 
-    -- Some of the factors come to no more than all.
+    -- The product of some of the factors is at most that of all.
     pub multiply-within : (lo n : ℕ) → lo + n ≤ c → multiply t (count-from lo n) ≤ multiply t (count-from 0 c)
     multiply-within lo n h =
         let e : lo + n + (c - (lo + n)) ≡ c = omega arith in
@@ -82,11 +83,6 @@ module _ (t : ℕ → ℕ) where
     pub multiply-some : (lo n : ℕ) → lo + n ≤ c → 0 < multiply t (count-from lo n)
     unfolding multiply count-from
     multiply-some lo n h = subst (λ k. 0 < multiply t (count-from lo k)) (zero-add n) (more-right lo 0 n (omega arith))
-
-flatMap-last : (g : ℕ → List ℕ) (l : List ℕ) (x : ℕ) → flatMap g (l ++ (x ∷ [])) ≡ flatMap g l ++ g x
-unfolding flatMap
-flatMap-last g [] x = append-nil (g x)
-flatMap-last g (y ∷ l) x = ap (λ r. g y ++ r) (flatMap-last g l x) ∙ sym (append-assoc (g y) (flatMap g l) (g x))
 
 -- ---- lists made for the numbers below n, one after the other
 
@@ -100,7 +96,7 @@ module _ (f : ℕ → List ℕ) (g : ℕ → ℕ) where
       let z : n + suc e ≡ suc (n + e) = omega arith in
       rw (z, flatMap-more (n + e)) (omega (arith, longer n e, length-append (flatMap f (tabulate (n + e) g)) (f (g (n + e)))))
 
-  -- Those below n and the next come to no more than those below c.
+  -- The lists below n and the next one are together no longer than those below c.
   pub flatMap-within : (n c : ℕ) → n < c → length (flatMap f (tabulate n g)) + length (f (g n)) ≤ length (flatMap f (tabulate c g))
   flatMap-within n c h =
       let z : suc n + (c - suc n) ≡ c = omega arith in

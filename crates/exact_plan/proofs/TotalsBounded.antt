@@ -1,13 +1,13 @@
 -- How large totals are: those of conditions, which are 0 or 1 on each path, are at most the denominator to the number of steps; where
 -- the condition is decided already, all are alike.
 use Prim.Native.Nat.{ℕ, _+_, _*_, _^_, _≤_, _<_}
-use native.Mathlib.Nat.{add-le-add, mul-le-mul-left, mul-one, mul-comm, le-refl, le-trans, suc-mul}
+use native.Mathlib.Nat.{add-le-add, mul-le-mul-left, mul-one, mul-comm, le-trans, suc-mul}
 use native.Mathlib.Omega.{arith}
 use mathlib.Core.Path.{_≡_, refl, sym, ap, ap₂, _∙_}
 use mathlib.Core.List.{List, [], _∷_, map, List·Memᴰ, List·Memᴰ·head, List·Memᴰ·tail, List·Memᴰ·eq-of-singleton}
 use lib.ListN.{length, replicate}
 use Rattle.logic.specs.Model.{Model, Step}
-use Rattle.logic.specs.Quantity.{naturals, sum}
+use Rattle.logic.specs.Quantity.{naturals}
 use Rattle.logic.specs.Plan.{plans, paths, weight}
 use Rattle.logic.specs.Limits.{plan-total}
 use Rattle.logic.specs.Accepted.{Accepted}
@@ -17,6 +17,7 @@ use Rattle.logic.proofs.Sums.{naturals-additive, sum-ext, sum-times}
 use Rattle.logic.proofs.PathWeights.{total-ones}
 use Rattle.logic.proofs.Dictionary.{plan-count}
 use Rattle.exact_plan.specs.promises.Totals.{totals, grid, combined}
+use Rattle.logic.proofs.Naturals.{sum-le}
 
 abbrev pub Up-to : ℕ → List ℕ → Type 0
 Up-to b l = (x : ℕ) → List·Memᴰ x l → x ≤ b
@@ -37,11 +38,6 @@ up-combined f b [] h x i = rw (List·Memᴰ·eq-of-singleton i) (omega arith)
 up-combined f b (o ∷ l) h x i =
     let k = up-grid b (length l * b) (f o) (combined f l) (h o (List·Memᴰ·head refl)) (up-combined f b l (λ p j. h p (List·Memᴰ·tail j))) x i in
     omega (arith, suc-mul (length l) b)
-
-sum-le : {A : Type 0} (f g : A → ℕ) (l : List A) → ((a : A) → f a ≤ g a) → sum naturals f l ≤ sum naturals g l
-unfolding sum
-sum-le f g [] h = le-refl 0
-sum-le f g (x ∷ l) h = add-le-add (h x) (sum-le f g l h)
 
 same-map : {A : Type 0} (f : A → ℕ) (c : ℕ) (l : List A) → ((a : A) → List·Memᴰ a l → f a ≡ c) → map f l ≡ replicate (length l) c
 same-map f c [] h = refl

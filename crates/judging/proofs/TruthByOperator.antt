@@ -1,5 +1,5 @@
--- The truth of a state formula in a state is that of its operator on its children's, which stand in the table before it; what a needed pair
--- turns on is needed and stands before it too.
+-- The truth of a state formula in a state is that of its operator on its children's, which stand in the table before it; what a needed pair depends
+-- on is needed and stands before it too.
 use Prim.Native.Nat.{ℕ, _+_, _*_, _-_, _/_, _%_, _≤_, _<_}
 use native.Mathlib.Omega.{arith}
 use native.Mathlib.Nat.{le-max-left, le-max-right}
@@ -100,7 +100,7 @@ module _ {m q : Bytes} (given : Given m q) where
 
   -- ---- by the table
 
-  -- What a node turns on is not after it.
+  -- A node depends on no node after it.
   reached-before : {c s j t : ℕ} → c < node-count q → Reached m q c s j t → j ≤ c
   reached-before {c} h itself = omega arith
   reached-before {c} h (under-not {j} r o) = let w = reached-before h r in omega (arith, given .nodes .formed .in-range j (omega arith) .of-neg o)
@@ -127,7 +127,7 @@ module _ {m q : Bytes} (given : Given m q) where
             let y : (32 * j + t) % 32 ≡ t = omega arith in
             known .at (32 * j + t) a e (ap (λ i. depth (formula q i)) x ∙ d) ∙ ap₂ (λ i u. value-of (model-in m) (formula q i) u []) x y
 
-    -- All that a needed pair turns on is told, where the nodes before it are.
+    -- The table is right for all pairs on which a needed pair depends, where it is right for the nodes before it.
     pub supplied : (x : ℕ) → 32 * (x / 32) ≤ k → x < 32 * node-count q → getD need x 0 ≡ 1 → Supplied m q truth (x / 32) (x % 32)
     supplied x before h e =
         let passed = needs .closed x e in

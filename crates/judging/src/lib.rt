@@ -82,7 +82,7 @@ fn with_plan(weight: u64, steps: u8, count: u32) -> Outcome
     }
 }
 
-// The truth that the root in the start state turns on.
+// The truth of state formulas on which the root in the start state can depend.
 fn root_truth(m: &[u16; MODEL], q: &[u8; QUESTION], counts: &[u64; COUNTS]) -> [u8; TRUTHS]
     requires { ⌜ Asked (now m) (now q) (now counts) ⌝ }
     ensures value { λ r. ⌜ Supplied (now (m .entry)) (now (q .entry)) r (root (now (q .entry))) (start-of (now (q .entry))) ⌝ }

@@ -1,4 +1,4 @@
-// The truth of state formulas, from the first node to the last, where the verdict can turn on it.
+// The truth of state formulas, from the first node to the last, where the verdict can depend on it.
 ghost use mathlib.Core.Path.{_≡_};
 ghost use Prim.Native.Nat.{_+_, _*_, _-_, _/_, _%_, _<_, _≤_};
 ghost use mathlib.Core.List.{[]};

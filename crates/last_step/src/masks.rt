@@ -33,7 +33,8 @@ fn mask_at(masks: &[u32; 40], j: u8) -> u32
     masks[i]
 }
 
-// The word of a child of "and", at place k: its own if it looks as far ahead, d steps, else its value, which was known before the last step.
+// The word of a child of "and", at place k. A child that looks as far ahead, d steps, has a word; another has one value for all outcomes, known
+// before the last step.
 fn part(q: &[u8; QUESTION], v: &[u8; VALUES], masks: &[u32; 40], d: u8, k: u8, child: u8) -> u32
     requires { ⌜ child < 40 ⌝ }
     ensures value { λ r. ⌜ Part (now (q .entry)) (now (v .entry)) (now (masks .entry)) d k child r ⌝ }

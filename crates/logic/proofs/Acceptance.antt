@@ -83,7 +83,7 @@ a-choice [] e = absurd (false≢true e)
 a-choice (a ∷ k) e = (a, k, refl)
 
 -- An enabled action is an action of the model.
-enabled-action : (m : Model) (s : ℕ) {a : ℕ} → List·Memᴰ a (enabled m s) → a < length (m .actions)
+pub enabled-action : (m : Model) (s : ℕ) {a : ℕ} → List·Memᴰ a (enabled m s) → a < length (m .actions)
 unfolding enabled
 enabled-action m s i = let w = keep-member _ _ i in let r = counted-range 0 (length (m .actions)) (w .0) in omega (arith, r .1)
 

@@ -1,5 +1,6 @@
 pub mod Members
 pub mod Sums
+pub mod Naturals
 pub mod Tests
 pub mod Checked
 pub mod Rising
@@ -10,6 +11,7 @@ pub mod Counting
 pub mod Best
 pub mod Recursion
 pub mod Reading
+pub mod OnPlan
 pub mod Shown
 pub mod Search
 pub mod Contradiction

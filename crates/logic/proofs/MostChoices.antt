@@ -1,8 +1,10 @@
--- Laws of `most-choices`: one step more, one outcome more, and that six steps are the most.
+-- How many choices a plan has: laws of `most-choices` (one step more, one outcome more, and that six steps are the most), and at least one.
 use Prim.Native.Nat.{ℕ, zero, suc, _+_, _*_, _-_, _<_, _≤_, zero-le}
 use native.Mathlib.Omega.{arith}
 use mathlib.Core.Path.{_≡_, refl}
 use native.Mathlib.Nat.{suc-mul, mul-le-mul-right, not-suc-le-zero, le-of-suc-le-suc}
+use lib.ListN.{length}
+use Rattle.logic.specs.Plan.{Plan, choices}
 use Rattle.logic.specs.promises.MostChoices.{most-choices}
 
 -- One outcome more.
@@ -25,3 +27,9 @@ most-choices-rises (suc n) (suc k) h = omega (arith, most-choices-rises n k (le-
 pub most-choices-6 : (n : ℕ) → n ≤ 6 → most-choices n ≤ 1365
 unfolding most-choices
 most-choices-6 n h = most-choices-rises n 6 h
+
+-- A plan of at least one step has a choice.
+pub some-choice : (n : ℕ) (π : Plan n) → 1 ≤ n → 1 ≤ length (choices n π)
+unfolding choices
+some-choice zero π h = h
+some-choice (suc n) π h = omega arith

@@ -13,12 +13,13 @@ use Rattle.logic.specs.Plan.{Plan, plans}
 use Rattle.logic.specs.Quantity.{Quantity, naturals, Relation, less, equal, greater, related}
 use Rattle.logic.specs.promises.Orders.{reversed}
 use Rattle.logic.specs.Checked.{ok}
-use Rattle.logic.specs.Formula.{meets, W, sat, Formula, never, prop, neg, both, does, next, gain, plan}
+use Rattle.logic.specs.Formula.{meets, W, sat, Formula, plan}
 use Rattle.logic.specs.Verdict.{leads, Goal, plan-goal, goal, shown}
 use Rattle.logic.specs.promises.Recursion.{first-best}
 use Rattle.logic.proofs.Tests.{T→true, true→T, and-left, and-right, not-true, all-true, all-at, find-sound, find-there, find-none, any-some, any-there}
 use Rattle.logic.proofs.Best.{Ordered, naturals-ordered, reversed-ordered, Le, Lt, Best, here, later, first-best-is, best-le, best-member}
 use Rattle.logic.proofs.Checked.{not-ok, ok-same}
+use Rattle.logic.proofs.OnPlan.{by-plan}
 
 -- A test that passes at the first of the greatest, and at no smaller element, finds it.
 find-first : (Q : Quantity) {A : Type 0} (t : A → Q .Value) (f : A → Bool) (k : ℕ) {l : List A} {x : A}
@@ -83,15 +84,9 @@ pub record Led (m : Model) (s : ℕ) (g : Goal) : Type 0 where
 -- Every goal is such.
 pub goal-led : (m : Model) (s : ℕ) (φ : Formula) (g : Goal) → goal m s φ ≡ ok g → Led m s g
 unfolding goal
-goal-led m s never g e = absurd (not-ok e)
-goal-led m s (prop i) g e = absurd (not-ok e)
-goal-led m s (neg φ) g e = absurd (not-ok e)
-goal-led m s (both φ ψ) g e = absurd (not-ok e)
-goal-led m s (does a) g e = absurd (not-ok e)
-goal-led m s (next φ) g e = absurd (not-ok e)
-goal-led m s (gain n b p) g e = absurd (not-ok e)
-goal-led m s (plan n φ r p q) g e =
-    subst (Led m s) (ok-same e) (record { leader-of = λ π i h. leader naturals naturals-ordered m n p q (W m φ n s) r (plans m n s) i h })
+goal-led m s φ g =
+    by-plan (λ _ c. c ≡ ok g → Led m s g) (λ _ e. absurd (not-ok e))
+    (λ n ψ r p q e. subst (Led m s) (ok-same e) (record { leader-of = λ π i h. leader naturals naturals-ordered m n p q (W m ψ n s) r (plans m n s) i h })) φ
 
 module _ (m : Model) (s : ℕ) (g : Goal) where
   -- There is a shown plan where some plan meets the bound, and the shown plan meets it.

@@ -2,7 +2,7 @@
 -- a condition is 0 or 1 on each path.
 use Prim.Native.Nat.{ℕ, zero, suc, _+_, _*_, _^_, _≤_, _<_}
 use native.Mathlib.Omega.{arith}
-use native.Mathlib.Nat.{le-refl, le-trans, add-le-add, mul-le-mul-left}
+use native.Mathlib.Nat.{le-trans, mul-le-mul-left}
 use mathlib.Core.Path.{_≡_, refl, sym, ap, subst, _∙_}
 use mathlib.Core.Bool.{Bool, true, false}
 use mathlib.Core.List.{List, [], _∷_, List·Memᴰ}
@@ -12,7 +12,7 @@ use Rattle.logic.specs.Lists.{any, is-empty}
 use Rattle.logic.specs.Checked.{Checked, ok, refused, _>>=_, _>>_, guard}
 use Rattle.logic.specs.promises.Refusal.{refusal}
 use Rattle.logic.specs.Model.{Model, Step, enabled, outcomes}
-use Rattle.logic.specs.Quantity.{naturals, sum}
+use Rattle.logic.specs.Quantity.{naturals}
 use Rattle.logic.specs.Plan.{Plan, plans, paths, weight}
 use Rattle.logic.specs.Choices.{read-each, read-plan, plan-of}
 use Rattle.logic.specs.Formula.{Formula, W}
@@ -29,6 +29,7 @@ use Rattle.models.proofs.GroundsPassed.{passed-all}
 use Rattle.models.proofs.ModelOfBytes.{accepted, states-held, denominator-held}
 use Rattle.evaluation.proofs.LearntInOrder.{one-if-small}
 use Rattle.plan_choices.specs.promises.PlanSum.{Run, each, weigh}
+use Rattle.logic.proofs.Naturals.{sum-le}
 
 -- ---- a plan read
 
@@ -109,11 +110,6 @@ unfolding There plan-of
 plan-there M n s cs = bind-there (read-plan M n s cs) _ (read-there M n s cs) (λ x. guard-there 9 (is-empty (x .1)) (ok (x .0)) (λ _. (x .0, refl)))
 
 -- ---- how much a plan weighs
-
-sum-le : {A : Type 0} (f g : A → ℕ) (l : List A) → ((a : A) → f a ≤ g a) → sum naturals f l ≤ sum naturals g l
-unfolding sum
-sum-le f g [] h = le-refl 0
-sum-le f g (x ∷ l) h = add-le-add (h x) (sum-le f g l h)
 
 pub W-most : (M : Model) → Accepted M → (φ : Formula) (n s : ℕ) → s < length (M .states) → (π : Plan n) → List·Memᴰ π (plans M n s) → W M φ n s π ≤ M .denominator ^ n
 unfolding total

@@ -3,8 +3,8 @@
 use Prim.Native.Nat.{ℕ, zero, suc, _+_, _*_, _-_, _≤_, _<_}
 use native.Mathlib.Omega.{arith}
 use native.Mathlib.Numerals.{add-one}
-use native.Mathlib.Nat.{not-suc-le-zero, mul-one, mul-assoc, mul-comm, mul-pos, le-mul-of-pos-right, min-eq-right}
-use mathlib.Core.Path.{_≡_, refl, sym, ap, subst, _∙_}
+use native.Mathlib.Nat.{not-suc-le-zero, mul-one, mul-assoc, mul-comm, le-mul-of-pos-right, min-eq-right}
+use mathlib.Core.Path.{_≡_, sym, ap, subst, _∙_}
 use mathlib.Core.Bool.{true, cond}
 use mathlib.Core.List.{List, [], _∷_, map, List·Memᴰ, List·Memᴰ·head, List·Memᴰ·tail}
 use lib.ListN.{getD}
@@ -20,6 +20,7 @@ use Rattle.prepared_model.proofs.PlacesInRange.{outcome-inside}
 use Rattle.limits.specs.promises.Totals.{Totals, total, limit}
 use Rattle.plan_choices.specs.promises.Numbered.{block-of, below, ways, Found}
 use Rattle.plan_choices.proofs.PlaceByDivision.{positive}
+use Rattle.logic.proofs.Naturals.{multiply-positive}
 
 -- ---- products
 
@@ -29,11 +30,6 @@ factors x y {z} e h =
     let p : 0 < y = positive x y {k = 0} (rw e h) in
     let q : 0 < x = positive y x {k = 0} (rw (mul-comm y x, e) h) in
     (q, p, omega (arith, le-mul-of-pos-right x p, e), omega (arith, le-mul-of-pos-right y q, mul-comm y x, e))
-
-multiply-some : {A : Type 0} (f : A → ℕ) (l : List A) → ((x : A) → List·Memᴰ x l → 0 < f x) → 0 < multiply f l
-unfolding multiply
-multiply-some f [] h = omega arith
-multiply-some f (x ∷ l) h = mul-pos (h x (List·Memᴰ·head refl)) (multiply-some f l (λ y i. h y (List·Memᴰ·tail i)))
 
 member-most : {A : Type 0} (f : A → ℕ) {l : List A} {x : A} → List·Memᴰ x l → f x ≤ sum naturals f l
 unfolding sum
@@ -46,7 +42,7 @@ module _ {m : List ℕ} (w : Prepared m) where
   ways-some : (n : ℕ) → ((t : ℕ) → t < state-count m → 0 < plan-total (model-in m) n t)
       → (s : ℕ) → s < state-count m → (i : ℕ) → i < choices-in m s → 0 < ways (model-in m) n s (choice-in m s i)
   ways-some n f s h i g =
-      multiply-some (below (model-in m) n) (outcomes (model-in m) s (choice-in m s i))
+      multiply-positive (below (model-in m) n) (outcomes (model-in m) s (choice-in m s i))
       (λ o j. f (o .target) (outcome-inside w s h (choice-in m s i) (choice-enabled w s h i g) o j))
 
   -- Below a choice there are at most as many ways as plans from the state.

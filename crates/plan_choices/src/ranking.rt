@@ -23,7 +23,7 @@ struct Block {
     place: u64,
 }
 
-// In how many ways choice i can be gone on with for n steps.
+// How many ways there are to continue for n steps after choice i.
 fn ways(m: &[u16; MODEL], counts: &[u64; COUNTS], s: usize, i: usize, n: u8) -> u64
     requires { ⌜ Prepared (now m) × Totals true (model-in (now m)) (now counts) ⌝ }
     requires { ⌜ (s < state-count (now m)) × (i < choices-in (now m) s) × (n < 6) × (plan-total (model-in (now m)) (n + 1) s ≤ 65536) ⌝ }

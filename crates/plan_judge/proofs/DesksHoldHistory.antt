@@ -12,7 +12,7 @@ use Rattle.logic.specs.Checked.{Checked, ok, refused, _>>=_, got}
 use Rattle.logic.specs.promises.Refusal.{held}
 use Rattle.logic.specs.Model.{Model}
 use Rattle.logic.specs.Plan.{Plan, plans, choices}
-use Rattle.logic.specs.Formula.{Formula, never, prop, neg, both, does, next as then, gain, plan, nonnegative, sat}
+use Rattle.logic.specs.Formula.{Formula, nonnegative, sat}
 use Rattle.logic.specs.Verdict as logic
 use Rattle.logic.specs.Verdict.{Goal, goal, shown, plan-record, announced, verdict-by, verdict}
 use Rattle.logic.specs.Choices.{read-plan}
@@ -39,6 +39,7 @@ use Rattle.plan_judge.specs.View.{model-bytes, question-in, choices-in, 
 use Rattle.plan_judge.specs.promises.Values.{padded, nothing, taking, holding, loaded-by, asking, put-by, verdict-code, choices-code, settling, judging, judged-by, writing, written-by, filling, filled-by, checking, checked-by}
 use Rattle.plan_judge.specs.Said.{said-taken, said-verdict, said-judgement, said-written, said-checking}
 use Rattle.plan_judge.specs.promises.Session.{asked, step, desk-after, session}
+use Rattle.logic.proofs.OnPlan.{by-plan}
 
 -- ---- the replies
 
@@ -79,14 +80,9 @@ reply-check d b = by (do-check (view d) b)
 -- Totals of a goal are natural numbers, so that the record's weight says them whole.
 whole-total : (m : Model) (s : ℕ) (φ : Formula) (g : Goal) → goal m s φ ≡ ok g → (π : Plan (g .steps)) → pos (nonnegative (g .total π)) ≡ g .total π
 unfolding goal nonnegative
-whole-total m s never g e = absurd (not-ok e)
-whole-total m s (prop i) g e = absurd (not-ok e)
-whole-total m s (neg φ) g e = absurd (not-ok e)
-whole-total m s (both φ ψ) g e = absurd (not-ok e)
-whole-total m s (does a) g e = absurd (not-ok e)
-whole-total m s (then φ) g e = absurd (not-ok e)
-whole-total m s (gain n r p) g e = absurd (not-ok e)
-whole-total m s (plan n φ r p q) g e = subst (λ h. (π : Plan (h .steps)) → pos (nonnegative (h .total π)) ≡ h .total π) (ok-same e) (λ π. refl)
+whole-total m s φ g =
+    by-plan (λ _ c. c ≡ ok g → (π : Plan (g .steps)) → pos (nonnegative (g .total π)) ≡ g .total π) (λ _ e. absurd (not-ok e))
+    (λ n ψ r p q e. subst (λ h. (π : Plan (h .steps)) → pos (nonnegative (h .total π)) ≡ h .total π) (ok-same e) (λ π. refl)) φ
 
 module _ (m : Model) (q : Question) where
   abbrev s : ℕ

@@ -1,6 +1,6 @@
 -- What write returns and leaves in the buffer, at each return of the code: past the grounds of the state it is the sheet of the plan with
 -- which the desk's choices begin, or ground 23, then 12.
-use Prim.Native.Nat.{ℕ, zero, suc, _*_, _-_, _≤_, _<_}
+use Prim.Native.Nat.{ℕ, _*_, _-_, _≤_, _<_}
 use native.Mathlib.Omega.{arith}
 use mathlib.Core.Path.{_≡_, refl, sym, ap, ap₂, _∙_}
 use mathlib.Core.Bool.{Bool, true, false, cond}
@@ -40,6 +40,7 @@ use Rattle.plan_judge.specs.promises.Values.{writing, written-by, fillin
 use Rattle.plan_judge.specs.promises.State.{held-both, held-goal, PlanRoot, plan-size, size-in, shown-size, shown-weight}
 use Rattle.plan_judge.proofs.LoadPutReturn.{said-bytes}
 use Rattle.plan_judge.proofs.StateGrounds.{root-goal, both-of, both-asked, plan-asked, goal-refused, root-node, goal-passed}
+use Rattle.logic.proofs.MostChoices.{some-choice}
 
 -- ---- the choices of a "plan" root
 
@@ -60,11 +61,6 @@ module _ (m q : Bytes) (r : PlanRoot m q) (cs : List ℕ) where
       by : (c : Checked (Plan n × List ℕ)) → plan-size n c ≡ size-in (c >>= (λ x. ok (choices n (x .0))))
       by (ok x) = refl
       by (refused k) = refl
-
-  some-choice : (k : ℕ) (π : Plan k) → 1 ≤ k → 1 ≤ length (choices k π)
-  unfolding choices
-  some-choice zero π h = h
-  some-choice (suc k) π h = omega arith
 
   -- They are the first, and at least one.
   first-choices : (l : List ℕ) → choices-in (model-of m) (question-of q) cs ≡ ok l → (1 ≤ length l) × (length l ≤ length cs) × (l ≡ take (length l) cs)

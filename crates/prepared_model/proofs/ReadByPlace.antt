@@ -1,4 +1,4 @@
--- What the law of a prepared model comes to, for those who read it: the model's sizes, and the choices and outcomes of a state by their places.
+-- What those who read a prepared model use of its law: the model's sizes, and the choices and outcomes of a state by their places.
 use Prim.Native.Nat.{ℕ, zero, suc, _/_, _%_, _^_, _<_}
 use native.Mathlib.Omega.{arith}
 use mathlib.Core.Path.{_≡_, sym, ap, subst, _∙_}

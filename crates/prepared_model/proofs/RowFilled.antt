@@ -1,4 +1,4 @@
--- How a row comes to be filled: one choice more is listed, one outcome more is put, the sums of one choice more.
+-- How a row is filled: one choice more is listed, one outcome more is put, the sums of one choice more.
 use Prim.Native.Nat.{ℕ, zero, suc, _+_, _*_, _≤_, _<_}
 use native.Mathlib.Omega.{arith}
 use native.Mathlib.Numerals.{add-one}
@@ -9,7 +9,7 @@ use mathlib.Core.Logic.{_⊎_, inl, inr}
 use mathlib.Core.Bool.{Bool, true, false, cond}
 use mathlib.Core.List.{List, [], _∷_, _++_, append-nil, append-assoc, List·Memᴰ, List·Memᴰ·head, List·Memᴰ·tail}
 use lib.Dec.{ltb}
-use lib.ListN.{length, getD, set, take, drop, length-append, length-set, length-drop, take-append-drop}
+use lib.ListN.{length, getD, set, take, drop, length-append, length-set, length-drop, take-append-drop, List·getD-append}
 use lib.Seq.{length-take-le, getD-append-seam, getD-set-same, getD-set-other, getD-take, take-append-le, drop-append-le, take-at, drop-at}
 use borrow.Rule.Slice.PartMut.{putMid, postOf, take-put}
 use borrow.Author.Count.{below-more}
@@ -24,11 +24,6 @@ use Rattle.models.proofs.GroundsPassed.{passed-all, passed-sized}
 use Rattle.prepared_model.specs.promises.Filled.{listed, Listed, Chosen, source, put-at, Spelled, pattern-sum, Partly, Summed, Row}
 
 -- ---- lists
-
-getD-front : (l r : List ℕ) (i : ℕ) → i < length l → getD (l ++ r) i 0 ≡ getD l i 0
-getD-front [] r i h = absurd (omega arith)
-getD-front (x ∷ l) r zero h = refl
-getD-front (x ∷ l) r (suc i) h = getD-front l r i (omega arith)
 
 module _ (f : ℕ → Bool) where
   kept-next : (n : ℕ) → keep f (count-from 0 (suc n)) ≡ keep f (count-from 0 n) ++ cond (f n) (n ∷ []) []
@@ -107,7 +102,7 @@ module _ {b : Bytes} {s a i : ℕ} {row : List ℕ} (w : Listed b s a i row) whe
       more = kept-one (λ a. ltb 0 (entries b s a)) a ∙ ap (λ t. listed b s a ++ cond t (a ∷ []) []) (lt-ltb 0 (entries b s a) h)
 
       old : (j : ℕ) → j < i → getD (listed b s a) j 0 ≡ getD (listed b s (a + 1)) j 0
-      old j l = sym (ap (λ r. getD r j 0) more ∙ getD-front (listed b s a) (a ∷ []) j (omega (arith, w .many)))
+      old j l = sym (ap (λ r. getD r j 0) more ∙ List·getD-append (listed b s a) (a ∷ []) 0 j (omega (arith, w .many)))
 
       new : a ≡ getD (listed b s (a + 1)) i 0
       new = sym (ap₂ (λ r j. getD r j 0) more (w .many) ∙ getD-append-seam (listed b s a) a [] 0)

@@ -19,23 +19,28 @@ use blocks::wide;
 // The numbers of a prepared model: the head block, and a row for each state.
 pub const MODEL: usize = 8704;
 
-// Where the rows begin, and how many numbers a row has.
+// Where the rows begin.
 const ROWS: usize = 512;
 
+// The numbers of a row. The bytes of its choices, at most eight, come first.
 const ROW: usize = 256;
 
-// What stands in a row. The bytes of its choices come first, at most eight; then the numbers of outcomes of each, and how many choices there
-// are; then the targets, the weights and the rewards of all outcomes, four to a choice; last the sums of weights, sixteen to a choice.
+// Where a row has the number of outcomes of each choice.
 const OUTCOMES: usize = 8;
 
+// Where it has the number of choices.
 const COUNT: usize = 16;
 
+// Where it has the targets of all outcomes, four to a choice.
 const TARGETS: usize = 32;
 
+// Where it has their weights.
 const WEIGHTS: usize = 64;
 
+// Where it has their rewards.
 const REWARDS: usize = 96;
 
+// Where it has the sums of weights, sixteen to a choice, one for each pattern.
 const SUMS: usize = 128;
 
 fn widened(x: u16) -> usize

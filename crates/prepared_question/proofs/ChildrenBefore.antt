@@ -14,7 +14,7 @@ use Rattle.questions.specs.promises.Formed.{Formed}
 use Rattle.questions.proofs.TableNodeByNode.{by-operator}
 use Rattle.questions.proofs.AcceptedFacts.{accepted, at-never, at-prop, at-neg, at-both, at-does, at-next, at-gain, at-plan}
 use Rattle.prepared_question.specs.promises.Nodes.{formula, has-left}
-use Rattle.prepared_question.specs.promises.Replaced.{Ordered}
+use Rattle.prepared_question.specs.promises.Replaced.{Children-before}
 
 -- What holds of the first n numbers and of n holds of the first n + 1.
 pub one-more : (P : ℕ → Type 0) (n : ℕ) → ((j : ℕ) → j < n → P j) → P n → (j : ℕ) → j < suc n → P j
@@ -68,7 +68,7 @@ module _ {S A N : ℕ} {q : Bytes} (f : Formed S A N q) where
   depth-small = depth-below (node-count q) (omega arith)
 
 -- An accepted question can be handed to `nodes`.
-pub ordered : (S A N : ℕ) (q : Bytes) → refusal (read-question S A N q) ≡ 0 → Ordered q
+pub ordered : (S A N : ℕ) (q : Bytes) → refusal (read-question S A N q) ≡ 0 → Children-before q
 ordered S A N q e =
     let a = accepted S A N q e in
     let f = a .formed in

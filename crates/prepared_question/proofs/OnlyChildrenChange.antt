@@ -13,7 +13,7 @@ use Rattle.blocks.specs.Bytes.{Bytes, byte, u16, u32}
 use Rattle.questions.specs.Layout.{node-count, node-at, node-of}
 use Rattle.questions.proofs.TableNodeByNode.{by-operator}
 use Rattle.prepared_question.specs.promises.Nodes.{formula, has-left}
-use Rattle.prepared_question.specs.promises.Replaced.{Ordered, doubled, past, left-for, right-for, Pointed}
+use Rattle.prepared_question.specs.promises.Replaced.{Children-before, doubled, past, left-for, right-for, Pointed}
 use Rattle.prepared_question.proofs.ChildrenBefore.{one-more}
 
 -- ---- the new cells
@@ -62,7 +62,7 @@ past-same : (b r : Bytes) (c : ℕ) → byte r (node-at c) ≡ byte b (node-at c
 unfolding past doubled node-of
 past-same b r c e f g = λ t. cond (eqb (e t) 4 && eqb (f t) (g t)) (f t) c
 
-module _ {q b : Bytes} (i l r d : ℕ) (o : Ordered q) (h : i < node-count q) (c : Pointed q b i) where
+module _ {q b : Bytes} (i l r d : ℕ) (o : Children-before q) (h : i < node-count q) (c : Pointed q b i) where
   abbrev b₁ : Bytes
   b₁ = set b (node-at i + 2) l
 

@@ -21,7 +21,7 @@ use Rattle.questions.proofs.FormulaByOperator.{row-4}
 use Rattle.questions.proofs.AcceptedFacts.{accepted}
 use Rattle.prepared_question.specs.promises.Nodes.{formula, has-left}
 use Rattle.prepared_question.specs.promises.Shared.{Same, Alike, Shared, Doubled}
-use Rattle.prepared_question.specs.promises.Replaced.{Ordered, doubled, past, left-for, right-for, Pointed}
+use Rattle.prepared_question.specs.promises.Replaced.{Children-before, doubled, past, left-for, right-for, Pointed}
 use Rattle.prepared_question.proofs.ChildrenBefore.{one-more}
 use Rattle.prepared_question.proofs.SameMeaning.{same-both, node, alike-node}
 use Rattle.prepared_question.proofs.OnlyChildrenChange.{head-same, cell-same, u32-same}
@@ -82,7 +82,7 @@ past-is : (b : Bytes) (c : ℕ) {t : Bool} → doubled b c ≡ t → past b c �
 unfolding past
 past-is b c e = ap (λ t. cond t (node-of b c .left) c) e
 
-module _ {q q′ : Bytes} (o : Ordered q) (c : Pointed q q′ (node-count q)) where
+module _ {q q′ : Bytes} (o : Children-before q) (c : Pointed q q′ (node-count q)) where
   abbrev n : ℕ
   n = node-count q
 

@@ -1,4 +1,4 @@
--- A question that is another one node by node has its verdict and its limits: both turn on what each node asks of plans.
+-- A question that is another one node by node has its verdict and its limits: both depend only on what each node asks of plans.
 use Prim.Native.Nat.{ℕ, _-_, _≤_}
 use native.Mathlib.Omega.{arith}
 use mathlib.Core.Path.{_≡_, refl, sym, ap, ap₂, _∙_}
@@ -14,7 +14,7 @@ use Rattle.logic.specs.Grounds.{_unless_, decided}
 use Rattle.logic.specs.Model.{Model}
 use Rattle.logic.specs.Quantity.{Relation, naturals, sum}
 use Rattle.logic.specs.Plan.{Plan, plans, paths, weight}
-use Rattle.logic.specs.Formula.{Formula, never, prop, neg, both, does, next, gain, plan, on-plan, W, meets}
+use Rattle.logic.specs.Formula.{Formula, never, on-plan, W, meets}
 use Rattle.logic.specs.Verdict.{Goal, goal, leads, is-equal, verdict, verdict-by}
 use Rattle.logic.specs.Limits.{every-plan, path-total, plan-total, limits}
 use Rattle.blocks.specs.Bytes.{Bytes}
@@ -22,19 +22,13 @@ use Rattle.questions.specs.Layout.{start-of, node-count, formulas-of, question-
 use Rattle.questions.proofs.TableNodeByNode.{all-every, every-same, all-before, before-length}
 use Rattle.prepared_question.specs.promises.Nodes.{formula}
 use Rattle.prepared_question.specs.promises.Shared.{Asked, asked, Alike, Shared}
+use Rattle.logic.proofs.OnPlan.{on-plans}
 
 -- ---- by what is asked of plans
 
 module _ {A B : Type 0} (g : A → B) (other : A) (f : ℕ → Formula → Relation → ℕ → ℕ → A) where
   on-plan-then : (φ : Formula) → g (on-plan other f φ) ≡ on-plan (g other) (λ n ψ r p q. g (f n ψ r p q)) φ
-  on-plan-then never = refl
-  on-plan-then (prop i) = refl
-  on-plan-then (neg φ) = refl
-  on-plan-then (both φ ψ) = refl
-  on-plan-then (does a) = refl
-  on-plan-then (next φ) = refl
-  on-plan-then (gain n b p) = refl
-  on-plan-then (plan n φ r p q) = refl
+  on-plan-then = on-plans (λ _ a b. g a ≡ b) (λ _. refl) (λ n ψ r p q. refl)
 
 module _ (m : Model) (s : ℕ) where
   abbrev goal-by : Option Asked → Checked Goal

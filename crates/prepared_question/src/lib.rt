@@ -11,8 +11,9 @@ ghost use Rattle.questions.specs.Layout as layout;
 ghost use Rattle.questions.specs.Grounds.{read-question};
 ghost use Rattle.prepared_question.specs.promises.Nodes.{formula, depth-in, has-left};
 ghost use Rattle.prepared_question.specs.promises.Shared.{Shared};
-ghost use Rattle.prepared_question.specs.promises.Replaced.{Ordered, left-for, right-for, Pointed};
+ghost use Rattle.prepared_question.specs.promises.Replaced.{Children-before, left-for, right-for, Pointed};
 ghost use Rattle.prepared_question.specs.promises.Replaced as replaced;
+use blocks::buffers::copy;
 
 // The bytes of a prepared question: its block, and the depth of each of 40 nodes.
 pub const QUESTION: usize = 552;
@@ -152,7 +153,7 @@ fn right_for(q: &[u8], b: &[u8], i: u8) -> u8
 // Node i gets its new cells and its depth.
 fn put(q: &[u8], b: &mut [u8; QUESTION], i: u8, d: u8)
     requires { ⌜
-        Ordered (now q) × (i < layout.node-count (now q)) × Pointed (now q) (now b) i × (d ≡ formulas.depth (formula (now q) i)) ⌝ }
+        Children-before (now q) × (i < layout.node-count (now q)) × Pointed (now q) (now b) i × (d ≡ formulas.depth (formula (now q) i)) ⌝ }
     ensures frame { λ _. ⌜ Pointed (now (q .entry)) (now (b .exit)) (i + 1) ⌝ }
 {
     let l = left_for(q, b, i);
@@ -168,17 +169,13 @@ fn copied(q: &[u8]) -> [u8; QUESTION]
     ensures value { λ r. ⌜ Pointed (now (q .entry)) r 0 ⌝ }
 {
     let mut b = [0u8; QUESTION];
-    let mut i: usize = 0;
-    while i < DEPTHS {
-        b[i] = q[i];
-        i += 1;
-    }
+    copy(&mut b, q);
     b
 }
 
 // The question with every child that is an "and" of one node with itself replaced by that node, and with its depths.
 pub fn prepare_question(q: &[u8]) -> [u8; QUESTION]
-    requires { ⌜ Ordered (now q) ⌝ }
+    requires { ⌜ Children-before (now q) ⌝ }
     ensures value { λ r. ⌜ ((S A N : ℕ) → refusal (read-question S A N (now (q .entry))) ≡ 0 → Shared S A N (now (q .entry)) r) ⌝ }
 {
     let n = questions::node_count(q);

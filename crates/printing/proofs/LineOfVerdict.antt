@@ -12,7 +12,7 @@ use borrow.Author.Tests.{eqb-true, eqb-false}
 use Rattle.logic.specs.Checked.{Checked, ok, refused}
 use Rattle.logic.specs.Model.{Model}
 use Rattle.logic.specs.Plan.{Plan}
-use Rattle.logic.specs.Formula.{Formula, never, prop, neg, both, does, next, gain, plan, nonnegative, sat}
+use Rattle.logic.specs.Formula.{Formula, nonnegative, sat}
 use Rattle.logic.specs.Verdict.{Goal, goal, shown, announced, verdict-by, verdict}
 use Rattle.logic.specs.Verdict as logic
 use Rattle.logic.proofs.Checked.{not-ok, ok-same}
@@ -24,30 +24,17 @@ use Rattle.plan_judge.specs.promises.Values.{padded, verdict-code, choices-code
 use Rattle.plan_judge.specs.promises.State.{shown-size}
 use Rattle.plan_judge.proofs.StateGrounds.{other-goal, root-goal}
 use Rattle.printing.specs.promises.Printed.{plan-root, shown-line, shown-steps}
+use Rattle.logic.proofs.OnPlan.{on-plans}
 
 -- ---- the root
 
 goal-other : (m : Model) (s : ℕ) (φ : Formula) {k : ℕ} → goal m s φ ≡ refused k → is-plan φ ≡ false
 unfolding goal is-plan
-goal-other m s never e = refl
-goal-other m s (prop i) e = refl
-goal-other m s (neg φ) e = refl
-goal-other m s (both φ ψ) e = refl
-goal-other m s (does a) e = refl
-goal-other m s (next φ) e = refl
-goal-other m s (gain n b p) e = refl
-goal-other m s (plan n φ r p q) e = absurd (not-ok (sym e))
+goal-other m s φ {k} = on-plans (λ _ c t. c ≡ refused k → t ≡ false) (λ _ e. refl) (λ n ψ r p q e. absurd (not-ok (sym e))) φ
 
 goal-plan : (m : Model) (s : ℕ) (φ : Formula) {g : Goal} → goal m s φ ≡ ok g → is-plan φ ≡ true
 unfolding goal is-plan
-goal-plan m s never e = absurd (not-ok e)
-goal-plan m s (prop i) e = absurd (not-ok e)
-goal-plan m s (neg φ) e = absurd (not-ok e)
-goal-plan m s (both φ ψ) e = absurd (not-ok e)
-goal-plan m s (does a) e = absurd (not-ok e)
-goal-plan m s (next φ) e = absurd (not-ok e)
-goal-plan m s (gain n b p) e = absurd (not-ok e)
-goal-plan m s (plan n φ r p q) e = refl
+goal-plan m s φ {g} = on-plans (λ _ c t. c ≡ ok g → t ≡ true) (λ _ e. absurd (not-ok e)) (λ n ψ r p q e. refl) φ
 
 module _ {S A N : ℕ} {q : Bytes} (a : Formed S A N q) (m : Model) (s : ℕ) where
   -- The root's formula is a "plan" where its operator says so.

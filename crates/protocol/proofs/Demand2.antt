@@ -28,6 +28,7 @@ use Rattle.protocol.proofs.HeldAccepted.{model-accepted}
 use Rattle.protocol.proofs.Refusals.{decided-none}
 use Rattle.protocol.proofs.FirstGround.{yields-is, refuse-first}
 use Rattle.protocol.proofs.ShownPlan.{all-plans, verdict-announces}
+use Rattle.logic.proofs.OnPlan.{by-plan}
 
 -- ---- the verdict says yes exactly where the formula is true
 
@@ -44,16 +45,9 @@ says-shown m s g t (some y) h = sym (h .1 (y, refl))
 
 pub says-true : (m : Model) (s : ℕ) (φ : Formula) → says-yes (verdict m s φ) ≡ sat m φ s []
 unfolding verdict goal
-says-true m s never = says-told m s 22 (sat m never s [])
-says-true m s (prop i) = says-told m s 22 (sat m (prop i) s [])
-says-true m s (neg φ) = says-told m s 22 (sat m (neg φ) s [])
-says-true m s (both φ ψ) = says-told m s 22 (sat m (both φ ψ) s [])
-says-true m s (does a) = says-told m s 22 (sat m (does a) s [])
-says-true m s (next φ) = says-told m s 22 (sat m (next φ) s [])
-says-true m s (gain n b p) = says-told m s 22 (sat m (gain n b p) s [])
-says-true m s (plan n φ r p q) =
-    let g = plan-goal m s n φ r p q in
-    says-shown m s g (sat m (plan n φ r p q) s []) (shown m s g) (sat-shown m s n φ r p q [])
+says-true m s φ =
+    by-plan (λ φ c. says-yes (verdict-by m s (sat m φ s []) c) ≡ sat m φ s []) (λ φ. says-told m s 22 (sat m φ s []))
+    (λ n ψ r p q. let g = plan-goal m s n ψ r p q in says-shown m s g (sat m (plan n ψ r p q) s []) (shown m s g) (sat-shown m s n ψ r p q [])) φ
 
 -- ---- judging by what is held
 

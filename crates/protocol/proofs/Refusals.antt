@@ -11,10 +11,11 @@ use Rattle.logic.specs.Checked.{Checked, ok, refused, _>>=_, _>>_, guard}
 use Rattle.logic.specs.Lists.{all, any, is-empty}
 use Rattle.logic.specs.Grounds.{Ground, first, decided}
 use Rattle.logic.specs.Model.{Model, enabled, outcomes}
-use Rattle.logic.specs.Formula.{Formula, never, prop, neg, both, does, next, gain, plan}
-use Rattle.logic.specs.Verdict.{goal}
+use Rattle.logic.specs.Formula.{Formula}
+use Rattle.logic.specs.Verdict.{Goal, goal}
 use Rattle.logic.specs.Choices.{read-each, read-plan, plan-of}
 use Rattle.logic.proofs.Tests.{and-both, none≢some, some-same}
+use Rattle.logic.proofs.OnPlan.{by-plan}
 
 module _ {A : Type 0} where
   pub refused-same : {j k : ℕ} → _≡_ {A = Checked A} (refused j) (refused k) → j ≡ k
@@ -97,11 +98,4 @@ plan-only m n s cs = only-bind (read-plan m n s cs) _ (only-read m n s cs) (λ x
 -- The goal of a root.
 pub goal-only : (m : Model) (s : ℕ) (φ : Formula) → Only 22 (goal m s φ)
 unfolding goal
-goal-only m s never = only-this
-goal-only m s (prop i) = only-this
-goal-only m s (neg φ) = only-this
-goal-only m s (both φ ψ) = only-this
-goal-only m s (does a) = only-this
-goal-only m s (next φ) = only-this
-goal-only m s (gain n r p) = only-this
-goal-only m s (plan n φ r p q) = only-value _
+goal-only m s φ = by-plan (λ _ (c : Checked Goal). Only 22 c) (λ _. only-this) (λ n ψ r p q. only-value _) φ

@@ -14,19 +14,19 @@ use lib.ListN.{length, getD, length-append}
 use Rattle.logic.specs.Checked.{ok}
 use Rattle.logic.specs.promises.Refusal.{refusal}
 use Rattle.logic.specs.Lists.{keep}
-use Rattle.logic.specs.Model.{Model, enabled, outcomes}
+use Rattle.logic.specs.Model.{Model, outcomes}
 use Rattle.logic.specs.Quantity.{naturals, sum, Relation}
 use Rattle.logic.specs.Plan.{Plan, plans, choices, paths, weight, Match, ends, pair}
 use Rattle.logic.specs.Accepted.{Accepted}
 use Rattle.logic.specs.Order.{Is-plan}
-use Rattle.logic.specs.Formula.{Formula, never, prop, neg, both, does, next, gain, plan, sat, W, nonnegative}
+use Rattle.logic.specs.Formula.{Formula, never, plan, sat, W, nonnegative, on-plan}
 use Rattle.logic.specs.Verdict.{Goal, goal}
 use Rattle.logic.proofs.Checked.{not-ok, ok-same}
 use Rattle.logic.proofs.Dictionary.{plans-are}
 use Rattle.logic.proofs.PathWeights.{path-weights}
-use Rattle.logic.proofs.Tests.{keep-member, counted-range, length-tabulate}
+use Rattle.logic.proofs.Tests.{length-tabulate}
 use Rattle.blocks.specs.Bytes.{Bytes}
-use Rattle.models.specs.Layout.{state-count, action-count, prop-count, model-of, entries, outcome-of}
+use Rattle.models.specs.Layout.{action-count, model-of, entries, outcome-of}
 use Rattle.models.specs.Grounds.{read-model}
 use Rattle.models.proofs.EveryCell.{sizes}
 use Rattle.models.proofs.GroundsPassed.{passed-all, read-passed}
@@ -39,7 +39,7 @@ use Rattle.questions.specs.promises.Formed.{Formed}
 use Rattle.questions.proofs.AcceptedFacts as questions
 use Rattle.questions.proofs.TableNodeByNode.{by-operator}
 use Rattle.logic.specs.promises.MostChoices.{most-choices}
-use Rattle.logic.proofs.MostChoices.{most-choices-6}
+use Rattle.logic.proofs.MostChoices.{most-choices-6, some-choice}
 use Rattle.sheets.proofs.ReadsBack.{reads-back}
 use Rattle.sheets.proofs.BytesWritten.{sheet-small}
 use Rattle.protocol.specs.Calls.{Call, Held, Reply, yields}
@@ -49,6 +49,8 @@ use Rattle.protocol.specs.Demand3.{Plan-question, Demand-3, Demand-3-alw
 use Rattle.protocol.proofs.AfterEachCall.{Sound, sound}
 use Rattle.protocol.proofs.HeldAccepted as held
 use Rattle.protocol.proofs.Demand3.{Reads-back, demand-3}
+use Rattle.logic.proofs.OnPlan.{by-plan}
+use Rattle.logic.proofs.Acceptance.{enabled-action}
 
 -- ---- how many choices
 
@@ -69,11 +71,6 @@ few-choices m few (suc n) s π h =
     let f = mul-le-mul-right (most-choices n) (few s (π .0)) in
     omega arith
 
-some-choice : (n : ℕ) (π : Plan n) → 1 ≤ n → 1 ≤ length (choices n π)
-unfolding choices
-some-choice zero π h = h
-some-choice (suc n) π h = omega arith
-
 -- ---- which choices
 
 each-member : {A B : Type 0} {R : A → B → Type 0} (key : B → List ℕ) (k : ℕ) {c : ℕ} → ((x : A) (y : B) → R x y → List·Memᴰ c (key y) → c < k)
@@ -81,10 +78,6 @@ each-member : {A B : Type 0} {R : A → B → Type 0} (key : B → List ℕ) (k 
 unfolding flatMap
 each-member key k h ends i = absurd (List·Memᴰ·not-nil i)
 each-member key k h (pair {x} {y} r t) i = ⊎-elim (λ j. h x y r j) (λ j. each-member key k h t j) (List·Memᴰ·append-cases (key y) i)
-
-enabled-action : (m : Model) (s : ℕ) {c : ℕ} → List·Memᴰ c (enabled m s) → c < length (m .actions)
-unfolding enabled
-enabled-action m s i = let w = keep-member _ _ i in omega (arith, counted-range 0 (length (m .actions)) (w .0) .1)
 
 -- Each choice of a plan is an action of the model.
 choice-action : (m : Model) (n s : ℕ) (π : Plan n) → Is-plan m n s π → {c : ℕ} → List·Memᴰ c (choices n π) → c < length (m .actions)
@@ -114,24 +107,10 @@ kept-less w f (x ∷ l) = by (f x) (kept-less w f l)
 -- ---- the steps that an accepted question asks for
 
 is-plan : Formula → Bool
-is-plan never = false
-is-plan (prop i) = false
-is-plan (neg φ) = false
-is-plan (both φ ψ) = false
-is-plan (does a) = false
-is-plan (next φ) = false
-is-plan (gain n r p) = false
-is-plan (plan n φ r p q) = true
+is-plan φ = on-plan false (λ n ψ r p q. true) φ
 
 steps : Formula → ℕ
-steps never = 0
-steps (prop i) = 0
-steps (neg φ) = 0
-steps (both φ ψ) = 0
-steps (does a) = 0
-steps (next φ) = 0
-steps (gain n r p) = 0
-steps (plan n φ r p q) = n
+steps φ = on-plan 0 (λ n ψ r p q. n) φ
 
 module _ (S A N : ℕ) (c : Bytes) (a : Formed S A N c) (i : ℕ) (h : i < node-count c) (e : is-plan (getD (formulas-of c) i never) ≡ true) where
   not-here : {φ : Formula} → getD (formulas-of c) i never ≡ φ → is-plan φ ≡ false → node-of c i .operator ≡ 8
@@ -173,15 +152,9 @@ pub record Asks (m : Model) (s : ℕ) (φ : Formula) (g : Goal) : Type 0 where
 
 asks : (m : Model) (s : ℕ) (φ : Formula) (g : Goal) → goal m s φ ≡ ok g → Asks m s φ g
 unfolding goal
-asks m s never g e = absurd (not-ok e)
-asks m s (prop i) g e = absurd (not-ok e)
-asks m s (neg φ) g e = absurd (not-ok e)
-asks m s (both φ ψ) g e = absurd (not-ok e)
-asks m s (does a) g e = absurd (not-ok e)
-asks m s (next φ) g e = absurd (not-ok e)
-asks m s (gain n r p) g e = absurd (not-ok e)
-asks m s (plan n φ r p q) g e =
-    subst (Asks m s (plan n φ r p q)) (ok-same e) (record { condition = φ; relation = r; p = p; q = q; root = refl; totals = λ π. refl })
+asks m s φ g =
+    by-plan (λ φ c. c ≡ ok g → Asks m s φ g) (λ _ e. absurd (not-ok e))
+    (λ n ψ r p q e. subst (Asks m s (plan n ψ r p q)) (ok-same e) (record { condition = ψ; relation = r; p = p; q = q; root = refl; totals = λ π. refl })) φ
 
 module _ {h : Held} (sound-held : Sound h) (x : Plan-question h) where
   abbrev s : ℕ

@@ -1,5 +1,5 @@
 -- Marks are only added, and a pair passes its mark on to pairs of smaller nodes only. So a pass from the last pair to the first leaves every
--- marked pair with all that it turns on marked; and with a pair every pair that its truth can turn on is marked, by induction on the steps
+-- marked pair with all on which it depends marked; and with a pair every pair on which its truth can depend is marked, by induction on the steps
 -- that lead there.
 use Prim.Native.Nat.{ℕ, suc, _+_, _*_, _-_, _/_, _%_, _≤_, _<_}
 use native.Mathlib.Omega.{arith}
@@ -209,7 +209,7 @@ module _ {m q : Bytes} {need : List ℕ} (given : Given m q) (needs : Needs m q 
       let r : (32 * j + t) % 32 ≡ t = omega arith in
       subst (λ x. Passed-on m q need x t) p (subst (λ y. Passed-on m q need ((32 * j + t) / 32) y) r (needs .closed (32 * j + t) e))
 
-  -- The truth of a needed pair turns on needed pairs only.
+  -- The truth of a needed pair depends on needed pairs only.
   pub reached-marked : {c s j t : ℕ} → Marked need c s → s < state-count m → Reached m q c s j t → Marked need j t × (t < state-count m)
   reached-marked e h itself = (e, h)
   reached-marked e h (under-not {j} {t} r o) = let w = reached-marked e h r in (passed-at j t (w .1) (w .0) .under-not o, w .1)

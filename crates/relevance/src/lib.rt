@@ -25,7 +25,7 @@ use prepared_question::operator;
 use prepared_question::right;
 use prepared_question::start;
 
-// ---- what the verdict can turn on
+// ---- what the verdict can depend on
 
 // Where a node and a state stand in a table.
 pub fn place(j: u8, s: u8) -> usize
@@ -73,7 +73,7 @@ fn mark_next(m: &[u16; MODEL], need: &mut [u8; TRUTHS], child: u8, s: u8)
     }
 }
 
-// Marks what the pair at a place of the table turns on, if it is marked.
+// If the pair at a place of the table is marked, marks the pairs on which it depends directly.
 fn pass_on(m: &[u16; MODEL], q: &[u8; QUESTION], need: &mut [u8; TRUTHS], k: usize)
     requires { ⌜ Given (now m) (now q) × (k < 32 * question.node-count (now q)) ⌝ }
     requires { ⌜ (getD (now need) k 0 ≡ 1 → k % 32 < state-count (now m)) ⌝ }

@@ -3,7 +3,7 @@ use Prim.Native.Nat.{ℕ, suc, _+_, _-_, _^_, _≤_, _<_}
 use native.Mathlib.Numerals.{add-one}
 use native.Mathlib.Omega.{arith}
 use mathlib.Core.Path.{_≡_, refl, sym, ap, ap₂, subst, _∙_}
-use mathlib.Core.List.{List, [], _∷_, _++_, flatMap, append-nil, append-assoc}
+use mathlib.Core.List.{List, [], _++_, flatMap, append-nil}
 use lib.ListN.{length, getD, take, drop, length-append, length-drop, drop-of-length-le}
 use lib.Seq.{drop-drop, take-suc, take-all}
 use borrow.Rule.Slice.PartMut.{midOf, putMid}
@@ -12,6 +12,7 @@ use Rattle.blocks.specs.Splice.{splice}
 use Rattle.blocks.proofs.Splice.{splice-none, splice-behind, take-written}
 use Rattle.verdict_line.specs.Text.{decimal, numbered, Put}
 use Rattle.verdict_line.proofs.Decimal.{decimal-is, few-digits}
+use Rattle.logic.proofs.Naturals.{flatMap-last}
 
 -- ---- writes
 
@@ -60,11 +61,6 @@ pub decimal-put : (n r : ℕ) (l : List ℕ) {out out′ : List ℕ} {at at′ :
     → Put (take r l) out out′ at at′ → Put (decimal n) out out′ at at′
 decimal-put n r l {out} {out′} {at} {at′} h f e p = subst (λ x. Put x out out′ at at′) (e ∙ decimal-is n r h f) p
 
-flatMap-more : (f : ℕ → List ℕ) (l : List ℕ) (x : ℕ) → flatMap f (l ++ (x ∷ [])) ≡ flatMap f l ++ f x
-unfolding flatMap
-flatMap-more f [] x = append-nil (f x)
-flatMap-more f (y ∷ l) x = ap (λ z. f y ++ z) (flatMap-more f l x) ∙ sym (append-assoc (f y) (flatMap f l) (f x))
-
 -- The first i choices.
 abbrev pub choices-put : (cs out₀ out : List ℕ) (at next i : ℕ) → Type 0
 choices-put cs out₀ out at next i = Put (flatMap (numbered " ") (take i cs)) out₀ out at next
@@ -72,7 +68,7 @@ choices-put cs out₀ out at next i = Put (flatMap (numbered " ") (take i cs)) o
 pub choices-more : (cs : List ℕ) (i : ℕ) {out₀ out out′ : List ℕ} {at next next′ : ℕ} → i < length cs → next′ ≤ length out₀
     → choices-put cs out₀ out at next i → Put (numbered " " (getD cs i 0)) out out′ next next′ → choices-put cs out₀ out′ at next′ (i + 1)
 choices-more cs i {out₀} {out} {out′} {at} {next} {next′} l h p q =
-    rw (add-one i, take-suc cs i 0 l, flatMap-more (numbered " ") (take i cs) (getD cs i 0)) (put-put p q h)
+    rw (add-one i, take-suc cs i 0 l, flatMap-last (numbered " ") (take i cs) (getD cs i 0)) (put-put p q h)
 
 pub choices-all : (cs : List ℕ) (i : ℕ) {out₀ out : List ℕ} {at next : ℕ} → i ≡ length cs → choices-put cs out₀ out at next i
     → Put (flatMap (numbered " ") cs) out₀ out at next

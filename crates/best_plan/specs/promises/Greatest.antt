@@ -29,7 +29,7 @@ module _ (least : Bool) (M : Model) (k : ℕ) where
     unfoldable pub below : List Step → List ℕ
     below l = flatMap (λ o. best-choices (o .target) (λ r. f (o ∷ r))) l
 
--- What a choice can come to at best: its outcomes walked so far come to `sum`; those left weigh `rest`, and the best total below one of them
+-- The best total that a choice can still reach: its outcomes walked so far total `sum`; those left weigh `rest`, and the best total below one of them
 -- is anything from 0 to D to the k, the weights of k steps.
 unfoldable pub best-left : (least : Bool) (D k sum rest : ℕ) → ℕ
 best-left least D k sum rest = cond least sum (sum + rest * D ^ k)

@@ -1,7 +1,9 @@
 use mathlib.Core.Logic.{⊎-elim}
 use mir.Syntax.{w64}
 use mir.ValLaws.{toZ-ofZ}
-use Rattle.evaluation.proofs.Integers.{less-is, same-bits, greater-by}
+use Rattle.logic.specs.Quantity.{integers}
+use Rattle.logic.proofs.Naturals.{greater-by}
+use Rattle.evaluation.proofs.Integers.{less-is, same-bits}
 use mathlib.Core.Path.{sym, _∙_}
 use Rattle.logic.specs.Quantity.{related}
 use Rattle.logic.specs.Formula.{relation}
@@ -29,7 +31,7 @@ returns-3 c = let a = c .before .args .gain in
     let b = c .before .args .bound in
     let x = c .before .fits .gain in
     let y = c .before .fits .bound in
-    rw (toZ-ofZ w64 a x, toZ-ofZ w64 b y) (less-is b a ∙ sym (greater-by (c .before .args .kind) a b (c .match .rest .0 .1) (c .match .rest .1)))
+    rw (toZ-ofZ w64 a x, toZ-ofZ w64 b y) (less-is b a ∙ sym (greater-by integers (c .before .args .kind) a b (c .match .rest .0 .1) (c .match .rest .1)))
 
 pub related-spec : {M : Type 1} → statement M
 related-spec = tie.close (tie.spec returns returns-2 returns-3)

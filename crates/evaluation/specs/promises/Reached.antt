@@ -14,7 +14,8 @@ use Rattle.questions.specs.Layout.{node-count, node-of}
 use Rattle.prepared_question.specs.promises.Nodes.{formula, reads-left, Nodes}
 use Rattle.evaluation.specs.promises.Path.{steps-of}
 
--- `m` is a prepared model here and above, `q` a prepared question. The pairs of a node and a state that the truth of node c in s, on whatever path, can turn on.
+-- The pairs of a node and a state on which the truth of node c in s can depend, on whatever path. `m` is a prepared model here and above,
+-- `q` a prepared question.
 pub data Reached (m q : Bytes) (c s : ℕ) : ℕ → ℕ → Type 0 where
   itself : Reached m q c s c s
   under-not : {j t : ℕ} → Reached m q c s j t → (node-of q j) .operator ≡ 3 → Reached m q c s ((node-of q j) .left) t

@@ -21,7 +21,7 @@ use Rattle.judging.specs.promises.Truth.{Told}
 use Rattle.judging.specs.promises.Decided.{best}
 use Rattle.judging.specs.declared.conditions.Peeled.{Peeled}
 
--- Node c of a question prepared for the model, in the state s, with a table that is right where its truth there can turn on it.
+-- Node c of a question prepared for the model, in the state s, with a table that is right wherever its truth there can depend on it.
 pub record Stands (m q truth : Bytes) (c s : ℕ) : Type 0 where
   pub nodes : Nodes (state-count m) (action-count m) (prop-count m) q
   pub node : c < node-count q

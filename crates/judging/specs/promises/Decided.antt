@@ -29,7 +29,7 @@ use Rattle.judging.specs.declared.plans.Decision.{Decision}
 abbrev pub condition : Bytes → ℕ → Formula
 condition q j = formula q ((node-of q j) .left)
 
--- Node j is a "plan", to be decided in s by a table that is right where its condition can turn on it.
+-- Node j is a "plan", to be decided in s by a table that is right wherever its condition can depend on it.
 pub record Posed (m q truth : Bytes) (j s : ℕ) : Type 0 where
   pub node : j < node-count q
   pub is-plan : (node-of q j) .operator ≡ 8

@@ -11,11 +11,11 @@ use Rattle.questions.specs.Layout.{node-of}
 use Rattle.prepared_question.specs.promises.Nodes.{formula}
 use Rattle.evaluation.specs.promises.Reached.{Reached}
 
--- The table is right wherever the truth of node c in s can turn on it.
+-- The table is right wherever the truth of node c in s can depend on it.
 pub record Told (m q truth : Bytes) (c s : ℕ) : Type 0 where
   pub right : (j t : ℕ) → Reached m q c s j t → depth (formula q j) ≡ 0 → getD truth (32 * j + t) 0 ≡ value-of (model-in m) (formula q j) t []
 
--- It is right wherever the children of node j, read in s, can turn on it.
+-- It is right wherever the children of node j, read in s, can depend on it.
 pub record Supplied (m q truth : Bytes) (j s : ℕ) : Type 0 where
   pub under-not : (node-of q j) .operator ≡ 3 → Told m q truth ((node-of q j) .left) s
   pub and-left : (node-of q j) .operator ≡ 4 → Told m q truth ((node-of q j) .left) s

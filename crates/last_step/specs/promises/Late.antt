@@ -1,4 +1,4 @@
--- Which nodes of a condition matter with its last step: those whose values there the condition's own turns on.
+-- Which nodes of a condition matter with the last step: those on whose values, known with that step, the condition's value depends.
 use Prim.Native.Nat.{ℕ, _<_, _≤_}
 use mathlib.Core.Path.{_≡_}
 use mathlib.Core.Logic.{_⊎_}
@@ -26,12 +26,12 @@ pub record Passed-on (q marks : List ℕ) (j : ℕ) : Type 0 where
       → getD marks ((node-of q j) .right) 0 ≡ 1
   pub under-next : (depth-in q j ≡ 0 → ⊥) → (node-of q j) .operator ≡ 6 → getD marks ((node-of q j) .left) 0 ≡ 1
 
--- The condition itself is marked, and with each marked node what it turns on.
+-- The condition itself is marked, and with each marked node the children on which it depends.
 pub record Late (q : Bytes) (cone marks : List ℕ) : Type 0 where
   pub root : getD marks (root-of cone) 0 ≡ 1
   pub closed : (i : ℕ) → i < length cone → getD marks (getD cone i 0) 0 ≡ 1 → Passed-on q marks (getD cone i 0)
 
--- Node j directly turns on node k: the same children, from the child's side.
+-- Node j depends directly on node k: the same children, from the child's side.
 abbrev pub Turns-on : (q : Bytes) (j k : ℕ) → Type 0
 Turns-on q j k =
     (depth-in q j ≡ 0 → ⊥)

@@ -35,7 +35,7 @@ extend m d (suc n) s cs =
 
 -- ---- in a buffer
 
--- The run x, read from `src` at `from` and written to `dst` at `at`, has come to other places; neither moved by more than `most`.
+-- The run x was read from `src` at `from` and written to `dst` at `at`; neither place moved by more than `most`.
 pub record Ran (x : Run) (most : ℕ) (src : List ℕ) (from from′ : ℕ) (dst dst′ : List ℕ) (at at′ : ℕ) : Type 0 where
   pub wrote : dst′ ≡ splice dst at (x .0)
   pub next : at′ ≡ at + length (x .0)

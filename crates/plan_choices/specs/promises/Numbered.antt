@@ -25,7 +25,7 @@ unfoldable pub parts-at : {A B : Type 0} → (A → ℕ) → (A → ℕ → B) �
 parts-at size f [] k = []
 parts-at size f (x ∷ l) k = f x (k / multiply size l) ∷ parts-at size f l (k % multiply size l)
 
--- How many plans of n steps lead on from an outcome, and in how many ways a choice can be gone on with.
+-- How many plans of n steps lead on from an outcome, and how many ways there are to continue after a choice.
 abbrev pub below : Model → ℕ → Step → ℕ
 below m n o = plan-total m n (o .target)
 

@@ -10,7 +10,7 @@ use Rattle.questions.specs.Layout.{node-count, node-at, node-of}
 use Rattle.prepared_question.specs.promises.Nodes.{formula, depth-in, has-left}
 
 -- One block of few nodes, of depths that fit a byte; and the children of a node have smaller numbers than its own.
-pub record Ordered (q : Bytes) : Type 0 where
+pub record Children-before (q : Bytes) : Type 0 where
   pub size : length q ≡ 512
   pub few : node-count q ≤ 40
   pub deep : (i : ℕ) → i < node-count q → depth (formula q i) < 256

@@ -1,4 +1,4 @@
--- Which pairs of a node and a state the verdict can turn on: a table of marks, 32 places a node, 1 for such a pair.
+-- On which pairs of a node and a state the verdict can depend: a table of marks, 32 places a node, 1 for such a pair.
 use Prim.Native.Nat.{ℕ, _+_, _*_, _-_, _/_, _%_, _<_}
 use mathlib.Core.Path.{_≡_}
 use mathlib.Core.List.{List}
@@ -17,7 +17,7 @@ pub record Given (m q : Bytes) : Type 0 where
 abbrev pub Marked : List ℕ → ℕ → ℕ → Type 0
 Marked need j s = getD need (32 * j + s) 0 ≡ 1
 
--- The pairs that the truth of node j in s directly turns on are marked.
+-- The pairs on which the truth of node j in s depends directly are marked.
 pub record Passed-on (m q : Bytes) (need : List ℕ) (j s : ℕ) : Type 0 where
   pub under-not : (node-of q j) .operator ≡ 3 → Marked need ((node-of q j) .left) s
   pub and-left : (node-of q j) .operator ≡ 4 → Marked need ((node-of q j) .left) s
@@ -29,7 +29,7 @@ pub record Passed-on (m q : Bytes) (need : List ℕ) (j s : ℕ) : Type 0 where
 abbrev pub Below : (S b k : ℕ) → Type 0
 Below S b k = (k < b) × (k % 32 < S)
 
--- The root in the start state is marked, and with a pair all that it turns on.
+-- The root in the start state is marked, and with a pair all on which it depends.
 pub record Needs (m q : Bytes) (need : List ℕ) : Type 0 where
   pub root : Marked need (node-count q - 1) (start-of q)
   pub inside : (k : ℕ) → getD need k 0 ≡ 1 → (k < 32 * node-count q) × (k % 32 < state-count m)
