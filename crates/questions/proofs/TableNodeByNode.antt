@@ -44,7 +44,7 @@ first-fails b e f = f ∙ e ∙ ap (λ x. x && b) (sym e)
 pub either-first : {a t : Bool} (b : Bool) → a ≡ true → t ≡ a → t ≡ (a || b)
 either-first b e f = f ∙ e ∙ ap (λ x. x || b) (sym e)
 
-and-assoc : (a b c : Bool) → (a && b && c) ≡ (a && (b && c))
+pub and-assoc : (a b c : Bool) → (a && b && c) ≡ (a && (b && c))
 and-assoc true b c = refl
 and-assoc false b c = refl
 

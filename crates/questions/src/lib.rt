@@ -136,16 +136,13 @@ fn relation_in_range(relation: u8) -> bool
 fn compares(b: &[u8], i: u8) -> bool
     ensures { λ r. ⌜ r ≡ spec.compares (node-of (now (b .entry)) i) ⌝ }
 {
-    blocks::within(1, MOST_STEPS, steps(b, i) as usize) && relation_in_range(right(b, i))
+    blocks::within(1, MOST_STEPS, steps(b, i) as usize) & relation_in_range(right(b, i))
 }
 
 fn gain_bound(p: i32, q: u32) -> bool
     ensures { λ r. ⌜ r ≡ gain-bound p q ⌝ }
 {
-    if q != 1 {
-        return false;
-    }
-    LEAST_GAIN <= p && p <= MOST_GAIN
+    (q == 1) & (LEAST_GAIN <= p) & (p <= MOST_GAIN)
 }
 
 fn plan_bound(p: i32, q: u32) -> bool
@@ -154,16 +151,13 @@ fn plan_bound(p: i32, q: u32) -> bool
     if !blocks::within(1, MOST_Q, q as usize) {
         return false;
     }
-    0 <= p && p <= q as i32
+    (0 <= p) & (p <= q as i32)
 }
 
 fn plan_in_range(b: &[u8], i: u8) -> bool
     ensures { λ r. ⌜ r ≡ plan-in-range i (node-of (now (b .entry)) i) ⌝ }
 {
-    if !compares(b, i) {
-        return false;
-    }
-    left(b, i) < i && plan_bound(p(b, i), q(b, i))
+    compares(b, i) & (left(b, i) < i) & plan_bound(p(b, i), q(b, i))
 }
 
 // Ground 5 of node i.
@@ -175,9 +169,9 @@ fn node_in_range(b: &[u8], i: u8, actions: usize, props: usize) -> bool
         FALSE => true,
         PROP => (left(b, i) as usize) < props,
         NOT | NEXT => left(b, i) < i,
-        AND => left(b, i) < i && right(b, i) < i,
+        AND => (left(b, i) < i) & (right(b, i) < i),
         DO => (left(b, i) as usize) < actions,
-        GAIN => compares(b, i) && gain_bound(p(b, i), q(b, i)),
+        GAIN => compares(b, i) & gain_bound(p(b, i), q(b, i)),
         PLAN => plan_in_range(b, i),
         _ => false,
     }
@@ -188,7 +182,7 @@ fn only_left(b: &[u8], at: usize) -> bool
     requires { ⌜ at + 12 ≤ length (now b) ⌝ }
     ensures { λ r. ⌜ r ≡ (spec-bytes.zeros (now (b .entry)) (at + 1) 1 && spec-bytes.zeros (now (b .entry)) (at + 3) 1 && spec-bytes.zeros (now (b .entry)) (at + 4) 8) ⌝ }
 {
-    blocks::zeros(b, at + STEPS_AT, 1) && blocks::zeros(b, at + RIGHT_AT, FROM_RIGHT)
+    blocks::zeros(b, at + STEPS_AT, 1) & blocks::zeros(b, at + RIGHT_AT, FROM_RIGHT)
 }
 
 // Ground 6 of node i.
@@ -202,7 +196,7 @@ fn node_spare(b: &[u8], i: u8) -> bool
         FALSE => blocks::zeros(b, at + STEPS_AT, FROM_STEPS),
         PROP | DO => only_left(b, at),
         NOT | NEXT => only_left(b, at),
-        AND => blocks::zeros(b, at + STEPS_AT, 1) && blocks::zeros(b, at + P_AT, FROM_P),
+        AND => blocks::zeros(b, at + STEPS_AT, 1) & blocks::zeros(b, at + P_AT, FROM_P),
         GAIN => blocks::zeros(b, at + LEFT_AT, 1),
         _ => true,
     }
@@ -345,7 +339,7 @@ fn formed(b: &[u8], actions: usize, props: usize, depths: &[u32; NODES]) -> bool
 fn counts_right(b: &[u8], states: usize) -> bool
     ensures { λ r. ⌜ r ≡ (ltb (start-of (now (b .entry))) states && spec-bytes.within 1 40 (spec-layout.node-count (now (b .entry)))) ⌝ }
 {
-    (start(b) as usize) < states && blocks::within(1, NODES, node_count(b) as usize)
+    ((start(b) as usize) < states) & blocks::within(1, NODES, node_count(b) as usize)
 }
 
 // The first ground on which the question's bytes are refused, for a model of so many states, actions and propositions; 0 for none.
