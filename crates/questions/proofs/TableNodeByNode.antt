@@ -6,7 +6,7 @@ use native.Mathlib.Decide.{decLt, ℕ-discrete}
 use native.Mathlib.Omega.{arith}
 use mathlib.Core.Path.{_≡_, refl, sym, ap, ap₂, _∙_}
 use mathlib.Core.Logic.{_⊎_, inl, inr, ⊎-elim}
-use mathlib.Core.Bool.{Bool, true, false, _&&_, _||_, and-true}
+use mathlib.Core.Bool.{Bool, true, false, _&&_, and-true, and-assoc}
 use mathlib.Core.List.{List, [], _∷_, _++_}
 use lib.Dec.{eqb, leb}
 use lib.ListN.{length, getD, take, set, length-append, length-set, length-take, List·getD-eq-default}
@@ -32,21 +32,6 @@ module _ {A : Type 0} where
   passed k false c e = absurd (omega arith)
 
 -- ---- tests
-
--- What `a && b` answers: b where a passes, and a where it fails.
-pub both-tests : {a b t : Bool} → a ≡ true → t ≡ b → t ≡ (a && b)
-both-tests {b = b} e f = f ∙ ap (λ x. x && b) (sym e)
-
-pub first-fails : {a t : Bool} (b : Bool) → a ≡ false → t ≡ a → t ≡ (a && b)
-first-fails b e f = f ∙ e ∙ ap (λ x. x && b) (sym e)
-
--- What `a || b` answers where a passes.
-pub either-first : {a t : Bool} (b : Bool) → a ≡ true → t ≡ a → t ≡ (a || b)
-either-first b e f = f ∙ e ∙ ap (λ x. x || b) (sym e)
-
-pub and-assoc : (a b c : Bool) → (a && b && c) ≡ (a && (b && c))
-and-assoc true b c = refl
-and-assoc false b c = refl
 
 every-join : (f : ℕ → Bool) (m n : ℕ) → every (m + n) f ≡ (every m f && every n (λ i. f (m + i)))
 unfolding every

@@ -1,6 +1,6 @@
 -- Each arm tests the empty cells of its operator's row; the other numbers have none.
 use Prim.Native.Nat.{ℕ, _+_}
-use mathlib.Core.Path.{_≡_, sym, ap, ap₂, _∙_}
+use mathlib.Core.Path.{_≡_, sym, ap₂, _∙_}
 use mathlib.Core.Logic.{⊎-elim}
 use mathlib.Core.Bool.{Bool, _&&_}
 use Rattle.blocks.specs.Bytes.{Bytes, byte, zeros}

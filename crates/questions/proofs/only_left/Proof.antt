@@ -1,9 +1,9 @@
 -- The cells right, p and q stand side by side, so one test of nine bytes is a test of each.
 use Prim.Native.Nat.{_+_}
 use mathlib.Core.Path.{ap₂, sym, _∙_}
-use mathlib.Core.Bool.{_&&_}
+use mathlib.Core.Bool.{_&&_, and-assoc}
 use Rattle.blocks.specs.Bytes.{zeros}
-use Rattle.questions.proofs.TableNodeByNode.{and-assoc, spare-right}
+use Rattle.questions.proofs.TableNodeByNode.{spare-right}
 use borrow.Author.Needs.{needs}
 use Rattle.questions.proofs.only_left.Statement.{statement}
 use Rattle.questions.proofs.only_left.Tie as tie
