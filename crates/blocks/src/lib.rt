@@ -9,14 +9,20 @@ ghost use Rattle.blocks.specs.Block as spec-block;
 
 // A block's size in bytes and in 16-bit words, and where its last word stands, which makes the words sum to 0.
 pub const BLOCK: usize = 512;
+
 pub const WORDS: usize = 256;
+
 pub const LAST_WORD: usize = 510;
 
 // The kinds of blocks, in byte 0; a block's number is in byte 1.
 pub const HEAD: usize = 1;
+
 pub const ROW: usize = 2;
+
 pub const QUESTION: usize = 3;
+
 pub const SHEET: usize = 4;
+
 pub const NUMBER_AT: usize = 1;
 
 // How many values a word has.

@@ -17,44 +17,68 @@ ghost use Rattle.questions.specs.promises.Passes.{passes, Nodes};
 
 // The operators of nodes, by document 01's words.
 pub const FALSE: u8 = 1;
+
 pub const PROP: u8 = 2;
+
 pub const NOT: u8 = 3;
+
 pub const AND: u8 = 4;
+
 pub const DO: u8 = 5;
+
 pub const NEXT: u8 = 6;
+
 pub const GAIN: u8 = 7;
+
 pub const PLAN: u8 = 8;
 
 // The relations of "gain" and "plan".
 pub const LESS: u8 = 1;
+
 pub const EQUAL: u8 = 2;
+
 pub const GREATER: u8 = 3;
 
 // Where a question's fields stand in its block. Four spare bytes follow the node count; a question has at most 40 nodes of 12 bytes.
 const START_AT: usize = 2;
+
 const NODE_COUNT_AT: usize = 3;
+
 const SPARE_AT: usize = 4;
+
 const SPARE_SIZE: usize = 4;
+
 pub const NODES_AT: usize = 8;
+
 pub const NODE_SIZE: usize = 12;
+
 pub const NODES: usize = 40;
 
 // Where a node's cells stand after its operator, which is its first byte.
 pub const STEPS_AT: usize = 1;
+
 pub const LEFT_AT: usize = 2;
+
 pub const RIGHT_AT: usize = 3;
+
 pub const P_AT: usize = 4;
+
 pub const Q_AT: usize = 8;
 
 // The sizes of a node's cells from one of them to the end.
 const FROM_STEPS: usize = NODE_SIZE - STEPS_AT;
+
 const FROM_RIGHT: usize = NODE_SIZE - RIGHT_AT;
+
 const FROM_P: usize = NODE_SIZE - P_AT;
 
 // The ends of the ranges of n, of p in "gain" and of q in "plan".
 const MOST_STEPS: usize = 6;
+
 const LEAST_GAIN: i32 = -6000;
+
 const MOST_GAIN: i32 = 6000;
+
 const MOST_Q: usize = 1000000;
 
 // The start state.
