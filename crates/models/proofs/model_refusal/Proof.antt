@@ -1,9 +1,10 @@
 -- At each return the tests made so far decide the chain of grounds: those before passed, and the last failed. What a test requires follows from the grounds passed before it.
+use native.Mathlib.Omega.{arith}
 use mathlib.Core.Path.{_≡_, refl, sym}
 use mathlib.Core.Bool.{true, _&&_}
 use Rattle.blocks.specs.Block.{whole-blocks, sums-right}
 use Rattle.models.specs.Grounds.{kinds-right, sizes-right, fields-right, head-spare, rows-spare, cells-spare, consistent, no-dead-ends, read-model}
-use Rattle.models.proofs.EveryCell.{passed, failed, sizes, sized}
+use Rattle.models.proofs.EveryCell.{passed, failed}
 use Rattle.models.proofs.model_refusal.Statement.{statement}
 use Rattle.models.proofs.model_refusal.Tie as tie
 
@@ -64,22 +65,21 @@ used-entries-requires : tie.Need-used-entries-requires
 used-entries-requires c κs = tt
 
 fields-right-requires : tie.Need-fields-right-requires
-fields-right-requires c κs = (passed-4 (c .before .before), c .before .used-entries .ensures)
+fields-right-requires c κs = (record { whole = passed-1 (c .before .before .before .before .before .before .before .before); sizes = passed-4 (c .before .before); fields = λ h. absurd (omega arith) }, c .before .used-entries .ensures)
 
 returns-5 : tie.Need-returns-5
 unfolding read-model
 returns-5 c = sym (rw (passed-1 (c .before .before .before .before .before .before .before .before .before .before), passed-2 (c .before .before .before .before .before .before .before .before), passed-3 (c .before .before .before .before .before .before), passed-4 (c .before .before .before .before), failed (c .before .fields-right .ensures) (c .if5 .taken)) refl)
 
 spare-zero-requires : tie.Need-spare-zero-requires
-spare-zero-requires c κs = (sized (c .before .before .before .before .before .before .before .before .before .before .before .before .before .before .args .b .now) (passed-1 (c .before .before .before .before .before .before .before .before .before .before .before)) (passed-4 (c .before .before .before .before .before)) (passed-5 (c .before)), c .before .before .before .before .used-entries .ensures)
+spare-zero-requires c κs = (record { whole = passed-1 (c .before .before .before .before .before .before .before .before .before .before .before); sizes = passed-4 (c .before .before .before .before .before); fields = λ h. passed-5 (c .before) }, c .before .before .before .before .used-entries .ensures)
 
 returns-6 : tie.Need-returns-6
 unfolding read-model
 returns-6 c = sym (rw (passed-1 (c .before .before .before .before .before .before .before .before .before .before .before .before .before), passed-2 (c .before .before .before .before .before .before .before .before .before .before .before), passed-3 (c .before .before .before .before .before .before .before .before .before), passed-4 (c .before .before .before .before .before .before .before), passed-5 (c .before .before .before), failed (c .before .spare-zero .ensures) (c .if6 .taken)) refl)
 
 consistent-requires : tie.Need-consistent-requires
-consistent-requires c κs = let z = sizes (c .before .before .before .before .before .before .before .before .before .before .before .before .before .before .before .before .before .args .b .now) (passed-4 (c .before .before .before .before .before .before .before .before)) in
-    (z .states, z .actions, c .before .before .before .before .before .before .before .used-entries .ensures)
+consistent-requires c κs = (record { whole = passed-1 (c .before .before .before .before .before .before .before .before .before .before .before .before .before .before); sizes = passed-4 (c .before .before .before .before .before .before .before .before); fields = λ h. passed-5 (c .before .before .before .before) }, c .before .before .before .before .before .before .before .used-entries .ensures)
 
 returns-7 : tie.Need-returns-7
 unfolding read-model

@@ -7,8 +7,8 @@ use Rattle.logic.specs.Model.{true-of}
 use Rattle.models.specs.Grounds.{no-dead-ends}
 use Rattle.models.specs.Layout.{pre-of, state-mask, state-count, action-count}
 use Rattle.models.proofs.EveryCell.{every-more}
-use Rattle.models.proofs.consistent.no_dead_ends.Statement.{statement}
-use Rattle.models.proofs.consistent.no_dead_ends.Tie as tie
+use Rattle.models.proofs.dead_ends.no_dead_ends.Statement.{statement}
+use Rattle.models.proofs.dead_ends.no_dead_ends.Tie as tie
 
 abbrev Inv-loop : tie.InvT-loop
 Inv-loop b states right₀ s₀ right s = (s ≤ states) × (right ≡ every s (λ s. some-below (action-count b) (λ a. true-of (pre-of b a) (state-mask b s))))
@@ -16,8 +16,8 @@ Inv-loop b states right₀ s₀ right s = (s ≤ states) × (right ≡ every s (
 abbrev μ-loop : tie.MeasureT-loop
 μ-loop b states right₀ s₀ right s = states - s
 
-wide-requires : tie.Need-wide-requires Inv-loop μ-loop
-wide-requires c κs = tt
+state-count-requires : tie.Need-state-count-requires Inv-loop μ-loop
+state-count-requires c κs = tt
 
 loop-holds : tie.Need-loop-holds Inv-loop μ-loop
 unfolding every
@@ -50,7 +50,7 @@ no-dead-ends-spec =
     (tie.spec
     Inv-loop
     μ-loop
-    wide-requires
+    state-count-requires
     loop-holds
     has-choice-requires
     add-s
