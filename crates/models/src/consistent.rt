@@ -10,6 +10,9 @@ ghost use Rattle.models.specs.Grounds.{cell-consistent};
 ghost use Rattle.models.specs.Grounds as grounds;
 ghost use Rattle.models.specs.promises.Used.{Used};
 ghost use Rattle.models.specs.promises.Passes.{Earlier};
+use crate::ACTIONS;
+use crate::CELLS;
+use crate::NEGATIVE_AT;
 use crate::denominator;
 use crate::holds;
 use crate::passes::actions_pass;
@@ -20,9 +23,6 @@ use crate::state_count;
 use crate::state_mask;
 use crate::target;
 use crate::weight;
-use crate::ACTIONS;
-use crate::CELLS;
-use crate::NEGATIVE_AT;
 use blocks::u32_at;
 
 // Whether the literals at two places contradict.

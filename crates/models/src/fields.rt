@@ -7,6 +7,11 @@ ghost use Rattle.models.specs.Layout.{literals, state-count, prop-count,
 ghost use Rattle.models.specs.Grounds.{mask-in-range, literals-in-range, action-in-range, outcome-in-range, fields-right};
 ghost use Rattle.models.specs.promises.Used.{Used};
 ghost use Rattle.models.specs.promises.Passes.{Earlier};
+use crate::ACTIONS;
+use crate::CELLS;
+use crate::MOST_WEIGHT;
+use crate::NEGATIVE_AT;
+use crate::POSTS;
 use crate::action_at;
 use crate::passes::actions_pass;
 use crate::passes::cells_pass;
@@ -18,16 +23,12 @@ use crate::state_count;
 use crate::state_mask;
 use crate::target;
 use crate::weight;
-use crate::ACTIONS;
-use crate::CELLS;
-use crate::MOST_WEIGHT;
-use crate::NEGATIVE_AT;
-use crate::POSTS;
 use blocks::u32_at;
 use blocks::within;
 
 // The ends of a reward's range.
 const LEAST_REWARD: i16 = -1000;
+
 const MOST_REWARD: i16 = 1000;
 
 // Whether a mask has no bit from n up.

@@ -1,6 +1,6 @@
 // Models: readers of their bytes, and the grounds on which they are refused (document 01, numbers 1 to 8).
 ghost use mathlib.Core.Path.{_≡_};
-ghost use Prim.Native.Nat.{_+_, _*_, _<_, _≤_};
+ghost use Prim.Native.Nat.{_+_, _*_, _<_};
 ghost use mathlib.Core.Bool.{true};
 ghost use Rattle.logic.specs.Model.{true-of};
 ghost use Rattle.logic.specs.promises.Refusal.{refusal};
@@ -16,6 +16,8 @@ mod fields;
 mod passes;
 mod spare;
 
+use blocks::BLOCK;
+use blocks::HEAD;
 use blocks::headed;
 use blocks::i16_at;
 use blocks::sums_right;
@@ -23,13 +25,14 @@ use blocks::u32_at;
 use blocks::whole_blocks;
 use blocks::wide;
 use blocks::within;
-use blocks::BLOCK;
-use blocks::HEAD;
 
 // The most states, actions and propositions of a model, and the most postconditions of an action.
 pub const STATES: usize = 32;
+
 pub const ACTIONS: usize = 8;
+
 pub const PROPS: usize = 32;
+
 pub const POSTS: usize = 4;
 
 // The most that a weight may be, and the denominator to which the weights of a cell sum.
@@ -37,26 +40,41 @@ pub const MOST_WEIGHT: usize = 100;
 
 // The cells of a model, one for each state and action: a row block holds three states, and eleven row blocks have room for 33.
 pub const ROW_STATES: usize = 3;
+
 pub const ROW_CELLS: usize = ROW_STATES * ACTIONS;
+
 pub const CELLS: usize = 33 * ACTIONS;
 
 // Where the fields of the head stand; two spare bytes follow the denominator.
 const STATE_COUNT_AT: usize = 2;
+
 const ACTION_COUNT_AT: usize = 3;
+
 const PROP_COUNT_AT: usize = 4;
+
 const DENOMINATOR_AT: usize = 5;
+
 const HEAD_SPARE_AT: usize = 6;
+
 const MASKS_AT: usize = 8;
+
 const MASK_SIZE: usize = 4;
+
 const MASKS_SIZE: usize = MASK_SIZE * STATES;
+
 const ACTIONS_AT: usize = MASKS_AT + MASKS_SIZE;
+
 const ACTION_SIZE: usize = 44;
 
 // Where the fields of an action stand after the masks of its precondition; three spare bytes follow the count of postconditions.
 const POST_COUNT_AT: usize = 8;
+
 const ACTION_SPARE_AT: usize = 9;
+
 const POSTS_AT: usize = 12;
+
 const LITERALS_SIZE: usize = 8;
+
 const POSTS_SIZE: usize = LITERALS_SIZE * POSTS;
 
 // Of literals, the false mask stands after the true one.
@@ -64,14 +82,20 @@ const NEGATIVE_AT: usize = MASK_SIZE;
 
 // Where the fields of a row block stand; two spare bytes follow its number.
 const ROW_SPARE_AT: usize = 2;
+
 const CELLS_AT: usize = 4;
+
 const OUTCOME_SIZE: usize = 4;
+
 const CELL_SIZE: usize = OUTCOME_SIZE * POSTS;
+
 const STATE_SIZE: usize = CELL_SIZE * ACTIONS;
+
 const ROW_END: usize = CELLS_AT + STATE_SIZE * ROW_STATES;
 
 // Where the fields of an outcome stand after its target, which is its first byte.
 const WEIGHT_AT: usize = 1;
+
 const REWARD_AT: usize = 2;
 
 // How many states a model has.

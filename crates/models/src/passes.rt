@@ -2,12 +2,13 @@
 ghost use mathlib.Core.Path.{_≡_};
 ghost use Prim.Native.Nat.{_-_, _*_, _/_, _%_, _<_, _≤_};
 ghost use mathlib.Core.Bool.{true};
-ghost use lib.ListN.{length};
 ghost use Rattle.logic.specs.Lists.{every};
 ghost use Rattle.blocks.specs.Block.{whole-blocks, block-count};
-ghost use Rattle.models.specs.Layout.{prop-count, action-count, post-count, entries};
+ghost use Rattle.models.specs.Layout.{prop-count, action-count, post-count};
 ghost use Rattle.models.specs.promises.Used.{Used};
 ghost use Rattle.models.specs.promises.Passes.{Earlier, row-passes, post-passes, action-passes, outcome-passes, cell-passes};
+use crate::ACTIONS;
+use crate::CELLS;
 use crate::action_count;
 use crate::consistent::cell_consistent;
 use crate::consistent::post_contradicts;
@@ -21,11 +22,9 @@ use crate::spare::action_spare;
 use crate::spare::cell_spare;
 use crate::spare::row_spare;
 use crate::widened;
-use crate::ACTIONS;
-use crate::CELLS;
-use blocks::headed;
 use blocks::BLOCK;
 use blocks::ROW;
+use blocks::headed;
 
 // Ground 3 or 6 of row block k + 1.
 fn row_passes(b: &[u8], ground: u32, k: usize) -> bool

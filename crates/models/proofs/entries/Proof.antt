@@ -2,9 +2,8 @@
 use borrow.Author.Needs.{needs}
 use native.Mathlib.Omega.{arith}
 use mathlib.Core.Path.{_≡_, refl, sym, ap₂, _∙_}
-use mathlib.Core.Bool.{Bool, cond}
 use Rattle.logic.specs.Model.{true-of}
-use Rattle.models.specs.Layout.{literals, pre-of, state-mask, post-count, entries}
+use Rattle.models.specs.Layout.{literals, pre-of, state-mask}
 use Rattle.models.proofs.EveryCell.{entries-past-states, entries-past-actions, entries-inside}
 use Rattle.models.proofs.entries.Statement.{statement}
 use Rattle.models.proofs.entries.Tie as tie
