@@ -1,5 +1,5 @@
 -- What the proofs of the reading of questions share: the formulas of the first k nodes are the first k formulas, so a table filled node
--- by node holds what is asked of each; and a refusal is read off the guards one after the other.
+-- by node holds what is asked of each.
 use Prim.Native.Nat.{ℕ, zero, suc, _+_, _/_, _%_, _≤_, _<_, min, zero-le}
 use native.Mathlib.Nat.{le-of-suc-le-suc, eq-or-lt-of-le, add-zero, add-suc, div-add-mod'}
 use native.Mathlib.Decide.{decLt, ℕ-discrete}
@@ -13,8 +13,6 @@ use lib.ListN.{length, getD, take, set, length-append, length-set, length-take, 
 use lib.Seq.{getD-at, getD-take, take-all, take-append-le, ext-getD, getD-set-same, getD-set-other}
 use borrow.Author.Tests.{leb-true, eqb-true}
 use Rattle.logic.specs.Lists.{all, every, count-from, tabulate}
-use Rattle.logic.specs.Checked.{Checked, guard, _>>_}
-use Rattle.logic.specs.promises.Refusal.{refusal}
 use Rattle.logic.specs.Formula.{Formula, never, Node, formula-of, formulas}
 use Rattle.logic.proofs.Tests.{length-tabulate, getD-tabulate, all-tabulate, and-left, and-right, tabulate-more}
 use Rattle.blocks.specs.Bytes.{Bytes, byte, zeros, within}
@@ -22,14 +20,6 @@ use Rattle.blocks.specs.Block.{whole-blocks, block-count}
 use Rattle.questions.specs.Layout.{node-at, node-of, node-count, formulas-of}
 use Rattle.questions.specs.Grounds.{node-in-range, node-spare}
 use Rattle.questions.specs.promises.Tables.{formulas-before, table}
-
--- ---- guards
-
-module _ {A : Type 0} where
-  -- No refusal behind a guard: its test passed, and there is none after it.
-  pub passed : (k : ℕ) (t : Bool) (c : Checked A) → refusal (guard (suc k) t >> c) ≡ 0 → (t ≡ true) × (refusal c ≡ 0)
-  passed k true c e = (refl, e)
-  passed k false c e = absurd (omega arith)
 
 -- ---- tests
 
