@@ -7,9 +7,8 @@ ghost use lib.ListN.{length, getD, take};
 ghost use Rattle.logic.specs.Lists.{every};
 ghost use Rattle.logic.specs.promises.Refusal.{refusal};
 ghost use Rattle.logic.specs.Formula.{depth, shallow, never, formula-of};
-ghost use Rattle.blocks.specs.Bytes as spec-bytes;
-ghost use Rattle.questions.specs.Layout.{start-of, node-of, formulas-of, question-of};
-ghost use Rattle.questions.specs.Layout as spec-layout;
+ghost use Rattle.blocks.specs.Bytes.{byte, zeros, within};
+ghost use Rattle.questions.specs.Layout.{start-of, node-count, node-at, node-of, formulas-of, question-of};
 ghost use Rattle.questions.specs.Grounds.{gain-bound, plan-bound, plan-in-range, node-in-range, node-spare, spare-zero, read-question};
 ghost use Rattle.questions.specs.Grounds as spec;
 ghost use Rattle.questions.specs.promises.Tables.{formulas-before, table};
@@ -89,14 +88,14 @@ pub fn start(b: &[u8]) -> u8
 }
 
 pub fn node_count(b: &[u8]) -> u8
-    ensures { λ r. ⌜ r ≡ spec-layout.node-count (now (b .entry)) ⌝ }
+    ensures { λ r. ⌜ r ≡ node-count (now (b .entry)) ⌝ }
 {
     blocks::byte(b, NODE_COUNT_AT)
 }
 
 // Where node i stands.
 fn node_at(i: u8) -> usize
-    ensures { λ r. ⌜ (r ≡ spec-layout.node-at i) × (r < 3080) ⌝ }
+    ensures { λ r. ⌜ (r ≡ node-at i) × (r < 3080) ⌝ }
 {
     NODES_AT + NODE_SIZE * i as usize
 }
@@ -107,23 +106,31 @@ pub fn operator(b: &[u8], i: u8) -> u8
     blocks::byte(b, node_at(i))
 }
 
+// The byte of node i at a place after its operator.
+fn cell(b: &[u8], i: u8, at: usize) -> u8
+    requires { ⌜ at < 12 ⌝ }
+    ensures { λ r. ⌜ r ≡ byte (now (b .entry)) (node-at i + at) ⌝ }
+{
+    blocks::byte(b, node_at(i) + at)
+}
+
 // The n of "gain" or "plan".
 pub fn steps(b: &[u8], i: u8) -> u8
     ensures { λ r. ⌜ r ≡ node-of (now (b .entry)) i .n ⌝ }
 {
-    blocks::byte(b, node_at(i) + STEPS_AT)
+    cell(b, i, STEPS_AT)
 }
 
 pub fn left(b: &[u8], i: u8) -> u8
     ensures { λ r. ⌜ r ≡ node-of (now (b .entry)) i .left ⌝ }
 {
-    blocks::byte(b, node_at(i) + LEFT_AT)
+    cell(b, i, LEFT_AT)
 }
 
 pub fn right(b: &[u8], i: u8) -> u8
     ensures { λ r. ⌜ r ≡ node-of (now (b .entry)) i .right ⌝ }
 {
-    blocks::byte(b, node_at(i) + RIGHT_AT)
+    cell(b, i, RIGHT_AT)
 }
 
 pub fn p(b: &[u8], i: u8) -> i32
@@ -140,15 +147,15 @@ pub fn q(b: &[u8], i: u8) -> u32
 
 // Whether the root, the last node, is a "plan".
 pub fn root_is_plan(b: &[u8]) -> bool
-    requires { ⌜ 1 ≤ spec-layout.node-count (now b) ⌝ }
-    ensures { λ r. ⌜ r ≡ eqb (node-of (now (b .entry)) (spec-layout.node-count (now (b .entry)) - 1) .operator) 8 ⌝ }
+    requires { ⌜ 1 ≤ node-count (now b) ⌝ }
+    ensures { λ r. ⌜ r ≡ eqb (node-of (now (b .entry)) (node-count (now (b .entry)) - 1) .operator) 8 ⌝ }
 {
     operator(b, node_count(b) - 1) == PLAN
 }
 
 // Whether a number stands for a relation.
 fn relation_in_range(relation: u8) -> bool
-    ensures { λ r. ⌜ r ≡ spec-bytes.within 1 3 relation ⌝ }
+    ensures { λ r. ⌜ r ≡ within 1 3 relation ⌝ }
 {
     match relation {
         LESS | EQUAL | GREATER => true,
@@ -204,7 +211,7 @@ fn node_in_range(b: &[u8], i: u8, actions: usize, props: usize) -> bool
 // Whether the node at a place, which uses the left cell alone, has zeros in the others.
 fn only_left(b: &[u8], at: usize) -> bool
     requires { ⌜ at + 12 ≤ length (now b) ⌝ }
-    ensures { λ r. ⌜ r ≡ (spec-bytes.zeros (now (b .entry)) (at + 1) 1 && spec-bytes.zeros (now (b .entry)) (at + 3) 1 && spec-bytes.zeros (now (b .entry)) (at + 4) 8) ⌝ }
+    ensures { λ r. ⌜ r ≡ (zeros (now (b .entry)) (at + 1) 1 && zeros (now (b .entry)) (at + 3) 1 && zeros (now (b .entry)) (at + 4) 8) ⌝ }
 {
     blocks::zeros(b, at + STEPS_AT, 1) & blocks::zeros(b, at + RIGHT_AT, FROM_RIGHT)
 }
@@ -237,7 +244,7 @@ fn larger(x: u32, y: u32) -> u32
 
 // How many nodes a table holds: the node count, at most 40.
 fn nodes_held(b: &[u8]) -> u8
-    ensures { λ r. ⌜ r ≡ min (spec-layout.node-count (now (b .entry))) 40 ⌝ }
+    ensures { λ r. ⌜ r ≡ min (node-count (now (b .entry))) 40 ⌝ }
 {
     let n = node_count(b);
     if n < NODES as u8 {
@@ -295,7 +302,7 @@ pub fn depth_table(b: &[u8]) -> [u32; NODES]
 
 // Ground 9 of node i: a "plan" has no child too deep.
 fn node_shallow(b: &[u8], depths: &[u32; NODES], i: u8) -> bool
-    requires { ⌜ (i < spec-layout.node-count (now b)) × (i < 40) × (now depths ≡ table depth (formulas-of (now b))) ⌝ }
+    requires { ⌜ (i < node-count (now b)) × (i < 40) × (now depths ≡ table depth (formulas-of (now b))) ⌝ }
     ensures { λ r. ⌜ r ≡ shallow (getD (formulas-of (now (b .entry))) i never) ⌝ }
 {
     let op = operator(b, i);
@@ -314,7 +321,7 @@ fn node_passes(
     props: usize,
     depths: &[u32; NODES],
 ) -> bool
-    requires { ⌜ (i < spec-layout.node-count (now b)) × Nodes (now b) (now depths) ⌝ }
+    requires { ⌜ (i < node-count (now b)) × Nodes (now b) (now depths) ⌝ }
     ensures { λ r. ⌜ r ≡ passes ground actions props (now (b .entry)) i ⌝ }
 {
     match ground {
@@ -327,7 +334,7 @@ fn node_passes(
 // Whether every node passes.
 fn nodes_pass(b: &[u8], ground: u32, actions: usize, props: usize, depths: &[u32; NODES]) -> bool
     requires { ⌜ Nodes (now b) (now depths) ⌝ }
-    ensures { λ r. ⌜ r ≡ every (spec-layout.node-count (now (b .entry))) (passes ground actions props (now (b .entry))) ⌝ }
+    ensures { λ r. ⌜ r ≡ every (node-count (now (b .entry))) (passes ground actions props (now (b .entry))) ⌝ }
 {
     let n = node_count(b);
     let mut right = true;
@@ -352,7 +359,7 @@ fn spare_zero(b: &[u8], actions: usize, props: usize, depths: &[u32; NODES]) -> 
 
 // Ground 9. By ground 5 "gain" has a step, so that the path formulas are those of some depth.
 fn formed(b: &[u8], actions: usize, props: usize, depths: &[u32; NODES]) -> bool
-    requires { ⌜ Nodes (now b) (now depths) × (every (spec-layout.node-count (now b)) (passes 5 actions props (now b)) ≡ true) ⌝ }
+    requires { ⌜ Nodes (now b) (now depths) × (every (node-count (now b)) (passes 5 actions props (now b)) ≡ true) ⌝ }
     ensures { λ r. ⌜ r ≡ spec.formed (question-of (now (b .entry))) ⌝ }
 {
     let root = node_count(b) as usize - 1;
@@ -361,7 +368,7 @@ fn formed(b: &[u8], actions: usize, props: usize, depths: &[u32; NODES]) -> bool
 
 // Ground 4.
 fn counts_right(b: &[u8], states: usize) -> bool
-    ensures { λ r. ⌜ r ≡ (ltb (start-of (now (b .entry))) states && spec-bytes.within 1 40 (spec-layout.node-count (now (b .entry)))) ⌝ }
+    ensures { λ r. ⌜ r ≡ (ltb (start-of (now (b .entry))) states && within 1 40 (node-count (now (b .entry)))) ⌝ }
 {
     ((start(b) as usize) < states) & blocks::within(1, NODES, node_count(b) as usize)
 }
