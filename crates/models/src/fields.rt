@@ -49,6 +49,7 @@ pub fn literals_in_range(b: &[u8], at: usize) -> bool
     below_bit(positive, n) & below_bit(negative, n) & (positive & negative == 0)
 }
 
+// The masks of all states.
 fn masks_in_range(b: &[u8]) -> bool
     requires { ⌜ prop-count (now b) ≤ 32 ⌝ }
     ensures { λ r. ⌜ r ≡ every (state-count (now (b .entry))) (λ s. mask-in-range (now (b .entry)) (state-mask (now (b .entry)) s)) ⌝ }

@@ -35,17 +35,22 @@ pub const PROPS: usize = 32;
 
 pub const POSTS: usize = 4;
 
-// The most that a weight may be, and the denominator to which the weights of a cell sum.
+// The most that a weight and the denominator may be.
 pub const MOST_WEIGHT: usize = 100;
 
-// The cells of a model, one for each state and action: a row block holds three states, and eleven row blocks have room for 33.
+// The least and the most blocks of a model: the head, and row blocks of three states each.
+const LEAST_BLOCKS: usize = 2;
+
+pub const BLOCKS: usize = 12;
+
 pub const ROW_STATES: usize = 3;
 
+// The cells of a row block and of the most row blocks, one for each state and action: there is room for 33 states.
 pub const ROW_CELLS: usize = ROW_STATES * ACTIONS;
 
-pub const CELLS: usize = 33 * ACTIONS;
+pub const CELLS: usize = ROW_CELLS * (BLOCKS - 1);
 
-// Where the fields of the head stand; two spare bytes follow the denominator.
+// Where the fields of the head stand.
 const STATE_COUNT_AT: usize = 2;
 
 const ACTION_COUNT_AT: usize = 3;
@@ -53,8 +58,6 @@ const ACTION_COUNT_AT: usize = 3;
 const PROP_COUNT_AT: usize = 4;
 
 const DENOMINATOR_AT: usize = 5;
-
-const HEAD_SPARE_AT: usize = 6;
 
 const MASKS_AT: usize = 8;
 
@@ -66,23 +69,17 @@ const ACTIONS_AT: usize = MASKS_AT + MASKS_SIZE;
 
 const ACTION_SIZE: usize = 44;
 
-// Where the fields of an action stand after the masks of its precondition; three spare bytes follow the count of postconditions.
+// Where the fields of an action stand after its precondition.
 const POST_COUNT_AT: usize = 8;
-
-const ACTION_SPARE_AT: usize = 9;
 
 const POSTS_AT: usize = 12;
 
-const LITERALS_SIZE: usize = 8;
-
-const POSTS_SIZE: usize = LITERALS_SIZE * POSTS;
-
-// Of literals, the false mask stands after the true one.
+// Literals are a true mask and after it a false mask.
 const NEGATIVE_AT: usize = MASK_SIZE;
 
-// Where the fields of a row block stand; two spare bytes follow its number.
-const ROW_SPARE_AT: usize = 2;
+const LITERALS_SIZE: usize = 2 * MASK_SIZE;
 
+// Where the cells of a row block begin, and the sizes of an outcome, of a cell and of a state's cells.
 const CELLS_AT: usize = 4;
 
 const OUTCOME_SIZE: usize = 4;
@@ -90,8 +87,6 @@ const OUTCOME_SIZE: usize = 4;
 const CELL_SIZE: usize = OUTCOME_SIZE * POSTS;
 
 const STATE_SIZE: usize = CELL_SIZE * ACTIONS;
-
-const ROW_END: usize = CELLS_AT + STATE_SIZE * ROW_STATES;
 
 // Where the fields of an outcome stand after its target, which is its first byte.
 const WEIGHT_AT: usize = 1;
@@ -261,7 +256,7 @@ fn sizes_right(b: &[u8]) -> bool
 pub fn model_refusal(b: &[u8]) -> u32
     ensures { λ r. ⌜ r ≡ refusal (read-model (now (b .entry))) ⌝ }
 {
-    if !whole_blocks(b, 2, 12) {
+    if !whole_blocks(b, LEAST_BLOCKS, BLOCKS) {
         return 1;
     }
     if !sums_right(b) {

@@ -37,6 +37,7 @@ fn row_passes(b: &[u8], ground: u32, k: usize) -> bool
     }
 }
 
+// Whether every row block passes.
 pub fn rows_pass(b: &[u8], ground: u32) -> bool
     requires { ⌜ whole-blocks 2 12 (now b) ≡ true ⌝ }
     ensures { λ r. ⌜ r ≡ every (block-count (now (b .entry)) - 1) (row-passes ground (now (b .entry))) ⌝ }
@@ -62,6 +63,7 @@ fn post_passes(b: &[u8], ground: u32, a: usize, i: usize) -> bool
     }
 }
 
+// Whether every postcondition of an action passes.
 pub fn posts_pass(b: &[u8], ground: u32, a: usize) -> bool
     requires { ⌜ (a < 256) × (prop-count (now b) ≤ 32) ⌝ }
     ensures { λ r. ⌜ r ≡ every (post-count (now (b .entry)) a) (post-passes ground (now (b .entry)) a) ⌝ }
@@ -88,6 +90,7 @@ fn action_passes(b: &[u8], ground: u32, a: usize) -> bool
     }
 }
 
+// Whether every action passes.
 pub fn actions_pass(b: &[u8], ground: u32) -> bool
     requires { ⌜ Earlier ground (now b) ⌝ }
     ensures { λ r. ⌜ r ≡ every (action-count (now (b .entry))) (action-passes ground (now (b .entry))) ⌝ }
@@ -113,7 +116,7 @@ fn outcome_passes(b: &[u8], ground: u32, s: usize, a: usize, i: usize) -> bool
     }
 }
 
-// The first n outcomes of a cell.
+// Whether the first n outcomes of a cell pass.
 pub fn outcomes_pass(b: &[u8], ground: u32, s: usize, a: usize, n: usize) -> bool
     requires { ⌜ (s < 256) × (a < 256) × (n < 256) ⌝ }
     ensures { λ r. ⌜ r ≡ every n (outcome-passes ground (now (b .entry)) s a) ⌝ }
@@ -142,7 +145,7 @@ fn cell_passes(b: &[u8], used: &[u8; CELLS], ground: u32, k: usize) -> bool
     }
 }
 
-// The first cells, as many as are asked for.
+// Whether the first cells pass, as many as are asked for.
 pub fn cells_pass(b: &[u8], used: &[u8; CELLS], ground: u32, cells: usize) -> bool
     requires { ⌜ Earlier ground (now b) × Used (now b) (now used) × (cells ≤ 24 * (block-count (now b) - 1)) ⌝ }
     ensures { λ r. ⌜ r ≡ every cells (λ k. cell-passes ground (now (b .entry)) (k / 8) (k % 8)) ⌝ }

@@ -7,19 +7,19 @@ ghost use Rattle.models.specs.Layout.{post-count, cell-at, entries};
 ghost use Rattle.models.specs.Grounds.{action-spare, head-spare, row-spare, rows-spare, cell-spare, cells-spare};
 ghost use Rattle.models.specs.promises.Used.{Used};
 ghost use Rattle.models.specs.promises.Passes.{Earlier};
-use crate::ACTION_SPARE_AT;
 use crate::CELL_SIZE;
 use crate::CELLS;
-use crate::HEAD_SPARE_AT;
+use crate::CELLS_AT;
 use crate::LITERALS_SIZE;
 use crate::MASK_SIZE;
 use crate::MASKS_AT;
 use crate::MASKS_SIZE;
 use crate::OUTCOME_SIZE;
-use crate::POSTS_SIZE;
+use crate::POSTS;
+use crate::POSTS_AT;
 use crate::ROW_CELLS;
-use crate::ROW_END;
-use crate::ROW_SPARE_AT;
+use crate::ROW_STATES;
+use crate::STATE_SIZE;
 use crate::action_at;
 use crate::action_count;
 use crate::outcome_at;
@@ -33,8 +33,27 @@ use blocks::BLOCK;
 use blocks::LAST_WORD;
 use blocks::zeros;
 
-// The bytes from the last state of a row block to its last word.
-const ROW_REST: usize = LAST_WORD - ROW_END;
+// The spare bytes of the head, which follow the denominator.
+const HEAD_SPARE_AT: usize = 6;
+
+const HEAD_SPARE_SIZE: usize = MASKS_AT - HEAD_SPARE_AT;
+
+// Those of an action, which follow the count of its postconditions.
+const ACTION_SPARE_AT: usize = 9;
+
+const ACTION_SPARE_SIZE: usize = POSTS_AT - ACTION_SPARE_AT;
+
+// The room for an action's postconditions.
+const POSTS_SIZE: usize = LITERALS_SIZE * POSTS;
+
+// Those of a row block, which follow its number, and its cells.
+const ROW_SPARE_AT: usize = 2;
+
+const ROW_SPARE_SIZE: usize = CELLS_AT - ROW_SPARE_AT;
+
+const ROW_END: usize = CELLS_AT + STATE_SIZE * ROW_STATES;
+
+const ROW_END_SIZE: usize = LAST_WORD - ROW_END;
 
 // Of an action: the 3 bytes after the count, and the postconditions beyond it.
 pub fn action_spare(b: &[u8], a: usize) -> bool
@@ -42,7 +61,7 @@ pub fn action_spare(b: &[u8], a: usize) -> bool
     ensures { λ r. ⌜ r ≡ action-spare (now (b .entry)) a ⌝ }
 {
     let n = post_count(b, a);
-    zeros(b, action_at(a) + ACTION_SPARE_AT, 3)
+    zeros(b, action_at(a) + ACTION_SPARE_AT, ACTION_SPARE_SIZE)
         & zeros(b, post_at(a, n), POSTS_SIZE - LITERALS_SIZE * n)
 }
 
@@ -52,7 +71,7 @@ fn head_spare(b: &[u8]) -> bool
 {
     let masks = MASK_SIZE * state_count(b);
     let end = action_at(action_count(b));
-    zeros(b, HEAD_SPARE_AT, 2)
+    zeros(b, HEAD_SPARE_AT, HEAD_SPARE_SIZE)
         & zeros(b, MASKS_AT + masks, MASKS_SIZE - masks)
         & actions_pass(b, 6)
         & zeros(b, end, LAST_WORD - end)
@@ -63,7 +82,7 @@ pub fn row_spare(b: &[u8], k: usize) -> bool
     ensures { λ r. ⌜ r ≡ row-spare (now (b .entry)) k ⌝ }
 {
     let at = BLOCK * k;
-    zeros(b, at + ROW_SPARE_AT, 2) & zeros(b, at + ROW_END, ROW_REST)
+    zeros(b, at + ROW_SPARE_AT, ROW_SPARE_SIZE) & zeros(b, at + ROW_END, ROW_END_SIZE)
 }
 
 // Of a cell with n used outcomes: what follows them.

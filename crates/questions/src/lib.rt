@@ -45,7 +45,7 @@ const NODE_COUNT_AT: usize = 3;
 
 const SPARE_AT: usize = 4;
 
-const SPARE_SIZE: usize = 4;
+const SPARE_SIZE: usize = NODES_AT - SPARE_AT;
 
 pub const NODES_AT: usize = 8;
 
