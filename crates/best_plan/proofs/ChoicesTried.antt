@@ -169,9 +169,9 @@ module _ (least : Bool) (m : List ℕ) (f : List Step → ℕ) (s k : ℕ) where
 
     module _ (at : ℕ) (c0 c : List ℕ) (b : Best) where
       -- The best takes no more room than a plan.
-      pub tried-most-choices : (l : List ℕ) → Tried least (model-in m) k s f l at c0 c b → b .end ≤ at + most-choices (suc k)
+      pub tried-room : (l : List ℕ) → Tried least (model-in m) k s f l at c0 c b → b .end ≤ at + most-choices (suc k)
       unfolding so-far
-      tried-most-choices l T = omega (arith, T .wrote .next, go (is-empty l))
+      tried-room l T = omega (arith, T .wrote .next, go (is-empty l))
         where
           go : (e : Bool) → length (cond e [] (plan-from least (model-in m) k s f (best-of least (model-in m) k s f l))) ≤ most-choices (suc k)
           go true = zero-le

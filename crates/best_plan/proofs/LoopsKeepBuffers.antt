@@ -27,8 +27,8 @@ use Rattle.best_plan.specs.promises.Buffers.{Setting, wins, Keeps, Picke
 use Rattle.best_plan.specs.declared.Best.{Best}
 use Rattle.best_plan.specs.declared.Walked.{Walked}
 use Rattle.best_plan.proofs.TotalsBounded.{choices-few}
-use Rattle.best_plan.proofs.ChoicesTried.{Tried, first, tried-start, tried-most-choices, keeps-inside, turn-taken, picked-all}
-use Rattle.best_plan.proofs.OutcomesWalked.{Walking, walking-more, walking-most-choices, sum-fits, walked-value, walked-wrote}
+use Rattle.best_plan.proofs.ChoicesTried.{Tried, first, tried-start, tried-room, keeps-inside, turn-taken, picked-all}
+use Rattle.best_plan.proofs.OutcomesWalked.{Walking, walking-more, walking-room, sum-fits, walked-value, walked-wrote}
 use Rattle.best_plan.proofs.HopelessLoses.{weighed, rest-less, limit-fits, limit-lost}
 use Rattle.best_plan.proofs.PathOneStepOn.{state-here, Kept, back-none, kept-none, setting-kept, kept-kept, offered, setting-on, back-on, picked-value, picked-wrote}
 
@@ -56,8 +56,8 @@ module _ {m q : Bytes} {truth cone late : List ℕ} {start : ℕ} {trail₀ : Li
   pub step-asked : Ready m q start truth cone × Offered m start trail h s a o × Knows m q start cone (take h trail) gains v
   step-asked = let N = setting-kept S K in (N .ready, offered k N a o here, N .knows)
 
-  pub pick-most-choices : at + 6 * most-choices k ≤ length choices₀ → end + 3 * most-choices k ≤ length choices
-  pick-most-choices r = omega (arith, walking-most-choices least m s a k _ o at sum end choices₀ choices W (S .ready .prepared) (state-here S) here, K .most-choices)
+  pub pick-room : at + 6 * most-choices k ≤ length choices₀ → end + 3 * most-choices k ≤ length choices
+  pick-room r = omega (arith, walking-room least m s a k _ o at sum end choices₀ choices W (S .ready .prepared) (state-here S) here, K .room)
 
   -- `rest` is what this outcome and those after it weigh.
   module _ (rest : ℕ) (left : rest + weighed m s a o ≡ denominator-of m) where
@@ -67,9 +67,9 @@ module _ {m q : Bytes} {truth cone late : List ℕ} {start : ℕ} {trail₀ : Li
         (z .0, omega (arith, S .few), z .1)
 
     -- The choice is given up.
-    pub walked-lost : (found : Bool) (other : ℕ) {r : Bool} → r ≡ not (wins found other (best-left least (denominator-of m) k sum rest) least) → r ≡ true
+    pub hopeless-cannot-win : (found : Bool) (other : ℕ) {r : Bool} → r ≡ not (wins found other (best-left least (denominator-of m) k sum rest) least) → r ≡ true
         → Candidate found other least m (on-path m q start cone (take h trail₀)) (row-in m s a) k at choices₀ choices (record { value = sum; end = end })
-    walked-lost found other e g =
+    hopeless-cannot-win found other e g =
         let z = limit-lost (S .ready .prepared) s a (state-here S) (here .0) least k (on-path m q start cone (take h trail₀)) (λ r. one-if-small _) o sum rest (here .1) (W .value) left found other (not-wins _ (sym e ∙ g)) in
         lost (z .0) (z .1) _ (W .wrote)
       where
@@ -77,11 +77,11 @@ module _ {m q : Bytes} {truth cone late : List ℕ} {start : ℕ} {trail₀ : Li
         not-wins true q = sym q
         not-wins false q = refl
 
-    pub rest-fewer : (w : ℕ) → w ≡ (step-in m s a o) .weight → (w ≤ rest) × (rest - w + weighed m s a (o + 1) ≡ denominator-of m)
-    rest-fewer w e = rest-less (S .ready .prepared) s a (state-here S) (here .0) o rest w (here .1) left e
+    pub rest-after-outcome : (w : ℕ) → w ≡ (step-in m s a o) .weight → (w ≤ rest) × (rest - w + weighed m s a (o + 1) ≡ denominator-of m)
+    rest-after-outcome w e = rest-less (S .ready .prepared) s a (state-here S) (here .0) o rest w (here .1) left e
 
-  pub last-most-choices : k ≡ 1 → at + 6 * most-choices k ≤ length choices₀ → end + 3 * most-choices 1 ≤ length choices
-  last-most-choices e r = subst (λ j. end + 3 * most-choices j ≤ length choices) e (pick-most-choices r)
+  pub last-room : k ≡ 1 → at + 6 * most-choices k ≤ length choices₀ → end + 3 * most-choices 1 ≤ length choices
+  last-room e r = subst (λ j. end + 3 * most-choices j ≤ length choices) e (pick-room r)
 
   module _ {trail′ : List ℕ} {gains′ : List ℤ} {v′ : List ℕ} {t : ℕ} (T : Stepped m q start cone h s a o trail trail′ gains′ v′ t) where
     pub pick-setting : Setting m q truth cone late start trail′ gains′ v′ (h + 1) t k
@@ -96,7 +96,7 @@ module _ {m q : Bytes} {truth cone late : List ℕ} {start : ℕ} {trail₀ : Li
     below-last {choices″} {b} e P ec =
         record {
           picked = subst (λ j. Picked least m (on-path m q start cone (take (h + 1) trail′)) t j end choices choices″ b) (sym e) P;
-          kept = record { back = back-none pick-setting; most-choices = ec };
+          kept = record { back = back-none pick-setting; room = ec };
         }
 
     module _ {trail″ : List ℕ} {gains″ : List ℤ} {v″ choices″ : List ℕ} {b : Best}
@@ -105,46 +105,46 @@ module _ {m q : Bytes} {truth cone late : List ℕ} {start : ℕ} {trail₀ : Li
       N = setting-kept S K
 
       module _ (w : ℕ) (e : w ≡ (step-in m s a o) .weight) where
-        pub walk-fits : sum + w * b .value < 2 ^ 64
-        walk-fits =
+        pub sum-with-outcome-fits : sum + w * b .value < 2 ^ 64
+        sum-with-outcome-fits =
             sum-fits least m s a k (on-path m q start cone (take h trail₀)) (S .ready .prepared) (state-here S) (omega (arith, S .few)) (λ r. one-if-small _)
             o here at end (b .end) sum (b .value) choices₀ choices choices″ W (picked-value k N a o here T (K .back .kept) (P .picked))
             (picked-wrote k N a o here T (K .back .kept) (P .picked)) w e
 
-        pub walk-more : {x : ℕ} → x ≡ sum + w * b .value → Walking least m s a k (on-path m q start cone (take h trail₀)) (o + 1) at choices₀ choices″ x (b .end)
-        walk-more g =
+        pub one-outcome-more-walked : {x : ℕ} → x ≡ sum + w * b .value → Walking least m s a k (on-path m q start cone (take h trail₀)) (o + 1) at choices₀ choices″ x (b .end)
+        one-outcome-more-walked g =
             subst (λ x. Walking least m s a k (on-path m q start cone (take h trail₀)) (o + 1) at choices₀ choices″ x (b .end)) (sym g)
             (walking-more least m s a k (on-path m q start cone (take h trail₀)) (S .ready .prepared) (state-here S) (omega (arith, S .few)) (λ r. one-if-small _)
             o here at end (b .end) sum (b .value) choices₀ choices choices″ W (picked-value k N a o here T (K .back .kept) (P .picked))
             (picked-wrote k N a o here T (K .back .kept) (P .picked)) w e)
 
-      pub walk-kept : Kept m q start cone h trail₀ gains₀ v₀ choices₀ trail″ gains″ v″ choices″
-      walk-kept =
-          kept-kept K (back-on k N a o here T (P .kept .back)) (P .kept .most-choices)
+      pub buffers-kept-below : Kept m q start cone h trail₀ gains₀ v₀ choices₀ trail″ gains″ v″ choices″
+      buffers-kept-below =
+          kept-kept K (back-on k N a o here T (P .kept .back)) (P .kept .room)
 
 -- All outcomes are walked, whatever the best so far is.
-pub walked-all : {least : Bool} {m : Bytes} {f : List Step → ℕ} {choices₀ choices : List ℕ} {s a o at sum end k : ℕ} → Walking least m s a k f o at choices₀ choices sum end
+pub all-outcomes-walked : {least : Bool} {m : Bytes} {f : List Step → ℕ} {choices₀ choices : List ℕ} {s a o at sum end k : ℕ} → Walking least m s a k f o at choices₀ choices sum end
     → o ≡ outcomes-in m s a → {found : Bool} {other : ℕ} → Candidate found other least m f (row-in m s a) k at choices₀ choices (record { value = sum; end = end })
-walked-all {least} {m} {f} {choices₀} {choices} {s} {a} {o} {at} {sum} {end} {k} W e =
+all-outcomes-walked {least} {m} {f} {choices₀} {choices} {s} {a} {o} {at} {sum} {end} {k} W e =
     walked (record { value = walked-value least m s a k f o at sum end choices₀ choices W e; wrote = walked-wrote least m s a k f o at sum end choices₀ choices W e })
 
 -- ---- a choice tried
 
 -- Before the choice at place a is tried.
-pub record Turned (least : Bool) (m q : Bytes) (start : ℕ) (cone : List ℕ) (h s k at : ℕ) (trail₀ : List ℕ) (gains₀ : List ℤ) (v₀ choices₀ : List ℕ) (a : ℕ)
+pub record Choices-tried (least : Bool) (m q : Bytes) (start : ℕ) (cone : List ℕ) (h s k at : ℕ) (trail₀ : List ℕ) (gains₀ : List ℤ) (v₀ choices₀ : List ℕ) (a : ℕ)
     (trail : List ℕ) (gains : List ℤ) (v choices : List ℕ) (b : Best) : Type 0 where
   pub tried : Tried least (model-in m) (k - 1) s (on-path m q start cone (take h trail₀)) (first m s a) at choices₀ choices b
   pub kept : Kept m q start cone h trail₀ gains₀ v₀ choices₀ trail gains v choices
 
 module _ {m q : Bytes} {truth cone late : List ℕ} {start : ℕ} {trail₀ : List ℕ} {gains₀ : List ℤ} {v₀ : List ℕ} {h s k : ℕ}
     (S : Setting m q truth cone late start trail₀ gains₀ v₀ h s k) where
-  pub turned-none : {least : Bool} (at : ℕ) (choices : List ℕ)
-      → Turned least m q start cone h s k at trail₀ gains₀ v₀ choices 0 trail₀ gains₀ v₀ choices (record { found = false; value = 0; end = at })
-  turned-none {least} at choices = record { tried = tried-start least m (on-path m q start cone (take h trail₀)) s (k - 1) at choices; kept = kept-none S choices }
+  pub no-choice-tried : {least : Bool} (at : ℕ) (choices : List ℕ)
+      → Choices-tried least m q start cone h s k at trail₀ gains₀ v₀ choices 0 trail₀ gains₀ v₀ choices (record { found = false; value = 0; end = at })
+  no-choice-tried {least} at choices = record { tried = tried-start least m (on-path m q start cone (take h trail₀)) s (k - 1) at choices; kept = kept-none S choices }
 
 module _ {m q : Bytes} {truth cone late : List ℕ} {start : ℕ} {trail₀ : List ℕ} {gains₀ : List ℤ} {v₀ choices₀ : List ℕ} {h s k : ℕ}
     (S : Setting m q truth cone late start trail₀ gains₀ v₀ h s k) (some : k ≡ 0 → ⊥) {least : Bool} {a at : ℕ} {trail : List ℕ} {gains : List ℤ}
-    {v choices : List ℕ} {b : Best} (U : Turned least m q start cone h s k at trail₀ gains₀ v₀ choices₀ a trail gains v choices b) where
+    {v choices : List ℕ} {b : Best} (U : Choices-tried least m q start cone h s k at trail₀ gains₀ v₀ choices₀ a trail gains v choices b) where
   abbrev f : List Step → ℕ
   f = on-path m q start cone (take h trail₀)
 
@@ -152,19 +152,19 @@ module _ {m q : Bytes} {truth cone late : List ℕ} {start : ℕ} {trail₀ : Li
   one-less = omega (arith, pos-of-ne-zero some)
 
   -- There is room for a choice, and for the search below it.
-  pub walk-most-choices : at + 3 * most-choices k ≤ length choices₀ → (b .end < length choices) × (b .end + 1 + 6 * most-choices (k - 1) ≤ length choices)
-  walk-most-choices r =
-      let n = tried-most-choices least m f s (k - 1) (S .ready .prepared) (state-here S) at choices₀ choices b (first m s a) (U .tried) in
+  pub walk-room : at + 3 * most-choices k ≤ length choices₀ → (b .end < length choices) × (b .end + 1 + 6 * most-choices (k - 1) ≤ length choices)
+  walk-room r =
+      let n = tried-room least m f s (k - 1) (S .ready .prepared) (state-here S) at choices₀ choices b (first m s a) (U .tried) in
       let e : most-choices (suc (k - 1)) ≡ most-choices k = ap most-choices one-less in
       let z = most-choices-step k some in
-      (omega (arith, U .kept .most-choices), omega (arith, U .kept .most-choices))
+      (omega (arith, U .kept .room), omega (arith, U .kept .room))
 
   pub walk-setting : Setting m q truth cone late start trail gains v h s (k - 1 + 1)
   walk-setting = let e : k - 1 + 1 ≡ k = omega (arith, one-less) in rw e (setting-kept S (U .kept))
 
   -- All are tried.
-  pub turned-all : a ≡ choices-in m s → Picked least m f s k at choices₀ choices b
-  turned-all e =
+  pub all-choices-tried : a ≡ choices-in m s → Picked least m f s k at choices₀ choices b
+  all-choices-tried e =
       subst (λ j. Picked least m f s j at choices₀ choices b) one-less
       (picked-all least m f s (k - 1) (S .ready .prepared) (state-here S) at choices₀ choices b
       (subst (λ n. Tried least (model-in m) (k - 1) s f (first m s n) at choices₀ choices b) e (U .tried)))
@@ -179,14 +179,14 @@ module _ {m q : Bytes} {truth cone late : List ℕ} {start : ℕ} {trail₀ : Li
         (subst (λ c. Candidate (b .found) (b .value) least m (on-path m q start cone (take h trail)) (row-in m s a) (k - 1) (b .end + 1) (set choices (b .end) c) choices′ w) e W)
 
     pub keep-asked : (at ≤ b .end) × (b .end ≤ w .end) × (w .end ≤ length choices′)
-    keep-asked = keeps-inside least m f s (k - 1) (S .ready .prepared) (state-here S) a place at choices₀ choices choices′ b w (omega arith) (walk-most-choices fits .0) (U .tried) candidate-here
+    keep-asked = keeps-inside least m f s (k - 1) (S .ready .prepared) (state-here S) a place at choices₀ choices choices′ b w (omega arith) (walk-room fits .0) (U .tried) candidate-here
 
-    pub turned-taken : {trail′ : List ℕ} {gains′ : List ℤ} {v′ choices″ : List ℕ} {r : Best} → Back m q start cone h trail trail′ gains′ v′ → Keeps b w at least choices′ choices″ r
-        → length choices″ ≡ length (set choices (b .end) c) → Turned least m q start cone h s k at trail₀ gains₀ v₀ choices₀ (a + 1) trail′ gains′ v′ choices″ r
-    turned-taken {choices″ = choices″} {r} B J n =
+    pub one-choice-more-tried : {trail′ : List ℕ} {gains′ : List ℤ} {v′ choices″ : List ℕ} {r : Best} → Back m q start cone h trail trail′ gains′ v′ → Keeps b w at least choices′ choices″ r
+        → length choices″ ≡ length (set choices (b .end) c) → Choices-tried least m q start cone h s k at trail₀ gains₀ v₀ choices₀ (a + 1) trail′ gains′ v′ choices″ r
+    one-choice-more-tried {choices″ = choices″} {r} B J n =
         record {
           tried =
-              turn-taken least m f s (k - 1) (S .ready .prepared) (state-here S) a place at choices₀ choices choices′ b w (omega arith) (walk-most-choices fits .0) (U .tried) candidate-here choices″
+              turn-taken least m f s (k - 1) (S .ready .prepared) (state-here S) a place at choices₀ choices choices′ b w (omega arith) (walk-room fits .0) (U .tried) candidate-here choices″
               r J;
           kept = kept-kept (U .kept) B (n ∙ length-set choices (b .end) c);
         }

@@ -90,8 +90,8 @@ module _ (least : Bool) (m : List ℕ) (s a k : ℕ) (f : List Step → ℕ) whe
 
   module _ (i at total e : ℕ) (c0 c : List ℕ) (W : Walking i at c0 c total e) where
     -- Before the last outcome there is room for the search below it.
-    pub walking-most-choices : Prepared m → s < state-count m → Offers m s a i → e + 3 * most-choices k ≤ at + 6 * most-choices k
-    walking-most-choices w here offers =
+    pub walking-room : Prepared m → s < state-count m → Offers m s a i → e + 3 * most-choices k ≤ at + 6 * most-choices k
+    walking-room w here offers =
         let n : length (below least M k f (seen i)) ≤ i * most-choices k =
         subst (λ j. length (below least M k f (seen i)) ≤ j * most-choices k) (length-tabulate (step-in m s a) i) (below-few w least k f (seen i)) in
         omega (arith, n, W .wrote .next, mul-le-mul-right {m = i} {n = 3} (most-choices k) (omega (arith, offers .1, w .few-outcomes s a here (offers .0))))

@@ -50,7 +50,7 @@ module _ {m q : Bytes} {truth cone late : List ℕ} {start : ℕ} {trail : List 
 pub record Kept (m q : Bytes) (start : ℕ) (cone : List ℕ) (h : ℕ) (trail : List ℕ) (gains : List ℤ) (v choices trail′ : List ℕ) (gains′ : List ℤ)
     (v′ choices′ : List ℕ) : Type 0 where
   pub back : Back m q start cone h trail trail′ gains′ v′
-  pub most-choices : length choices′ ≡ length choices
+  pub room : length choices′ ≡ length choices
 
 module _ {m q : Bytes} {truth cone late : List ℕ} {start : ℕ} {trail : List ℕ} {gains : List ℤ} {v : List ℕ} {h s k : ℕ}
     (S : Setting m q truth cone late start trail gains v h s k) where
@@ -58,7 +58,7 @@ module _ {m q : Bytes} {truth cone late : List ℕ} {start : ℕ} {trail : List 
   back-none = record { kept = refl; knows = S .knows }
 
   pub kept-none : (choices : List ℕ) → Kept m q start cone h trail gains v choices trail gains v choices
-  kept-none choices = record { back = back-none; most-choices = refl }
+  kept-none choices = record { back = back-none; room = refl }
 
   pub setting-kept : {choices trail′ : List ℕ} {gains′ : List ℤ} {v′ choices′ : List ℕ} → Kept m q start cone h trail gains v choices trail′ gains′ v′ choices′
       → Setting m q truth cone late start trail′ gains′ v′ h s k
@@ -76,7 +76,7 @@ module _ {m q : Bytes} {truth cone late : List ℕ} {start : ℕ} {trail : List 
 -- Kept by what came before, and by what comes after.
 pub kept-kept : {m q : Bytes} {start h : ℕ} {cone t0 : List ℕ} {g0 : List ℤ} {v0 c0 t1 : List ℕ} {g1 : List ℤ} {v1 c1 t2 : List ℕ} {g2 : List ℤ} {v2 c2 : List ℕ}
     → Kept m q start cone h t0 g0 v0 c0 t1 g1 v1 c1 → Back m q start cone h t1 t2 g2 v2 → length c2 ≡ length c1 → Kept m q start cone h t0 g0 v0 c0 t2 g2 v2 c2
-kept-kept K B e = record { back = back-same (K .back .kept) B; most-choices = e ∙ K .most-choices }
+kept-kept K B e = record { back = back-same (K .back .kept) B; room = e ∙ K .room }
 
 -- ---- a step
 

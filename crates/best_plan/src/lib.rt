@@ -18,17 +18,26 @@ ghost use Rattle.best_plan.specs.promises.Greatest.{Finds, best-left};
 ghost use Rattle.best_plan.specs.promises.Buffers.{Keeps, Setting, Picked, Candidate, Ends};
 ghost use Rattle.best_plan.specs.promises.Buffers as spec;
 use bounds::power;
+use evaluation::PLACES;
 use evaluation::Place;
+use evaluation::STEPS;
+use evaluation::TRUTHS;
+use evaluation::VALUES;
 use evaluation::known;
 use evaluation::learn;
 use evaluation::step;
 use last_step::lanes::total;
 use last_step::late::late;
 use last_step::masks::mask;
+use prepared_model::MODEL;
 use prepared_model::choice;
 use prepared_model::denominator;
 use prepared_model::outcomes;
 use prepared_model::weight;
+use prepared_question::QUESTION;
+
+// The bytes of a search's stack of choices: at each step the best plan's and the candidate's, which are at most three times a plan's.
+pub const STACK: usize = 4095;
 
 // Where a search stands: h steps led from the start to the state s, and k are left; choices are written from `at` on. And whether the least
 // total is looked for.
@@ -62,7 +71,7 @@ pub struct Walked {
 
 // Whether a total is better than another, and not as good.
 fn exceeds(value: u64, other: u64, least: bool) -> bool
-    ensures { λ r. ⌜ r ≡ not (order least value other) ⌝ }
+    ensures value { λ r. ⌜ r ≡ not (order least value other) ⌝ }
 {
     if least {
         return value < other;
@@ -72,7 +81,7 @@ fn exceeds(value: u64, other: u64, least: bool) -> bool
 
 // Whether a total wins over the best so far, if there is one.
 fn wins(found: bool, other: u64, value: u64, least: bool) -> bool
-    ensures { λ r. ⌜ r ≡ spec.wins found other value least ⌝ }
+    ensures value { λ r. ⌜ r ≡ spec.wins found other value least ⌝ }
 {
     if found {
         return exceeds(value, other, least);
@@ -81,9 +90,11 @@ fn wins(found: bool, other: u64, value: u64, least: bool) -> bool
 }
 
 // Whether a choice cannot win any more: its outcomes walked so far come to `sum`, and `rest` is what those left weigh.
-fn hopeless(m: &[u16; 8704], best: Best, sum: u64, rest: u64, k: u8, least: bool) -> bool
+fn hopeless(m: &[u16; MODEL], best: Best, sum: u64, rest: u64, k: u8, least: bool) -> bool
     requires { ⌜ (denominator-of (now m) ≤ 100) × (k ≤ 6) × (sum + rest * denominator-of (now m) ^ k < 2 ^ 64) ⌝ }
-    ensures { λ r. ⌜ r ≡ not (spec.wins (best .found) (best .value) (best-left least (denominator-of (now (m .entry))) k sum rest) least) ⌝ }
+    ensures value { λ r.
+        let m = now (m .entry) in
+        ⌜ r ≡ not (spec.wins (best .found) (best .value) (best-left least (denominator-of m) k sum rest) least) ⌝ }
 {
     if least {
         return !wins(best.found, best.value, sum, least);
@@ -99,7 +110,9 @@ fn hopeless(m: &[u16; 8704], best: Best, sum: u64, rest: u64, k: u8, least: bool
 // Moves n bytes down to a place, which they may overlap.
 fn move_down(choices: &mut [u8], at: usize, from: usize, n: usize)
     requires { ⌜ (at ≤ from) × (from + n ≤ length (now choices)) ⌝ }
-    ensures { λ _. ⌜ take (at + n) (now (choices .exit)) ≡ take at (now (choices .entry)) ++ take n (drop from (now (choices .entry))) ⌝ }
+    ensures frame { λ _.
+        let choices′ = now (choices .exit) in let choices = now (choices .entry) in
+        ⌜ take (at + n) choices′ ≡ take at choices ++ take n (drop from choices) ⌝ }
 {
     let mut i: usize = 0;
     while i < n {
@@ -111,7 +124,7 @@ fn move_down(choices: &mut [u8], at: usize, from: usize, n: usize)
 // Keeps the better of the best so far, whose choices stand from `at` on, and the candidate behind it.
 fn keep(choices: &mut [u8], b: Best, w: Walked, at: usize, least: bool) -> Best
     requires { ⌜ (at ≤ b .end) × (b .end ≤ w .end) × (w .end ≤ length (now choices)) ⌝ }
-    ensures { λ r. ⌜ Keeps b w at least (now (choices .entry)) (now (choices .exit)) r ⌝ }
+    ensures effect { λ r. ⌜ Keeps b w at least (now (choices .entry)) (now (choices .exit)) r ⌝ }
 {
     let value = w.value;
     let from = b.end;
@@ -129,7 +142,7 @@ fn keep(choices: &mut [u8], b: Best, w: Walked, at: usize, least: bool) -> Best
 
 fn add_mul(sum: u64, w: u64, v: u64) -> u64
     requires { ⌜ sum + w * v < 2 ^ 64 ⌝ }
-    ensures { λ r. ⌜ r ≡ sum + w * v ⌝ }
+    ensures value { λ r. ⌜ r ≡ sum + w * v ⌝ }
 {
     sum + w * v
 }
@@ -137,15 +150,15 @@ fn add_mul(sum: u64, w: u64, v: u64) -> u64
 // The condition's own node, the last of its cone.
 fn root(cone: &[u8]) -> u8
     requires { ⌜ 0 < length (now cone) ⌝ }
-    ensures { λ r. ⌜ r ≡ root-of (now (cone .entry)) ⌝ }
+    ensures value { λ r. ⌜ r ≡ root-of (now (cone .entry)) ⌝ }
 {
     cone[cone.len() - 1]
 }
 
 // What is found where no step is left: the condition's value, which is known there.
-fn leaf(cone: &[u8], v: &[u8; 280], at: usize) -> Best
+fn leaf(cone: &[u8], v: &[u8; VALUES], at: usize) -> Best
     requires { ⌜ 0 < length (now cone) ⌝ }
-    ensures { λ r. ⌜ (r .value ≡ learnt.known (now (v .entry)) (root-of (now (cone .entry))) 0) × (r .end ≡ at) ⌝ }
+    ensures value { λ r. ⌜ (r .value ≡ learnt.known (now (v .entry)) (root-of (now (cone .entry))) 0) × (r .end ≡ at) ⌝ }
 {
     Best {
         found: true,
@@ -156,7 +169,7 @@ fn leaf(cone: &[u8], v: &[u8; 280], at: usize) -> Best
 
 // Tries the choices of a state from which one step is left: x has, in the lane of each outcome, the condition's value on its path.
 fn last_choice(
-    m: &[u16; 8704],
+    m: &[u16; MODEL],
     choices: &mut [u8],
     x: u32,
     s: usize,
@@ -164,7 +177,7 @@ fn last_choice(
     least: bool,
 ) -> Best
     requires { ⌜ Prepared (now m) × (s < state-count (now m)) × (at + 3 ≤ length (now choices)) ⌝ }
-    ensures { λ r. ⌜ Ends least (now (m .entry)) s x at (now (choices .entry)) (now (choices .exit)) r ⌝ }
+    ensures effect { λ r. ⌜ Ends least (now (m .entry)) s x at (now (choices .entry)) (now (choices .exit)) r ⌝ }
 {
     let n = prepared_model::choices(m, s);
     let mut value = total(m, x, s, 0);
@@ -188,20 +201,24 @@ fn last_choice(
 
 // Picks the best choice where one step is left, for all outcomes at once. Its one call is in `walk`, into which it is built for speed.
 fn pick_last(
-    m: &[u16; 8704],
-    q: &[u8; 552],
-    truth: &[u8; 1280],
+    m: &[u16; MODEL],
+    q: &[u8; QUESTION],
+    truth: &[u8; TRUTHS],
     cone: &[u8],
     late: &[u8; 40],
-    trail: &[u16; 6],
-    gains: &[i32; 7],
-    v: &[u8; 280],
+    trail: &[u16; STEPS],
+    gains: &[i32; PLACES],
+    v: &[u8; VALUES],
     choices: &mut [u8],
     spot: Spot,
 ) -> Best
-    requires { ⌜ Setting (now m) (now q) (now truth) (now cone) (now late) (spot .start) (now trail) (now gains) (now v) (spot .h) (spot .s) 1 ⌝ }
+    requires { ⌜
+        Setting (now m) (now q) (now truth) (now cone) (now late) (spot .start) (now trail) (now gains) (now v) (spot .h) (spot .s) 1 ⌝ }
     requires { ⌜ spot .at + 3 * most-choices 1 ≤ length (now choices) ⌝ }
-    ensures { λ r. ⌜ Picked (spot .least) (now (m .entry)) (on-path (now (m .entry)) (now (q .entry)) (spot .start) (now (cone .entry)) (take (spot .h) (now (trail .entry)))) (spot .s) 1 (spot .at) (now (choices .entry)) (now (choices .exit)) r ⌝ }
+    ensures effect { λ r.
+        let choices′ = now (choices .exit) in let m = now (m .entry) in let q = now (q .entry) in let cone = now (cone .entry) in
+        let trail = now (trail .entry) in let choices = now (choices .entry) in
+        ⌜ Picked (spot .least) m (on-path m q (spot .start) cone (take (spot .h) trail)) (spot .s) 1 (spot .at) choices choices′ r ⌝ }
 {
     let here = Place {
         start: spot.start,
@@ -214,21 +231,29 @@ fn pick_last(
 
 // Picks the best choice in the state where a search stands, and writes its plan's choices.
 fn pick(
-    m: &[u16; 8704],
-    q: &[u8; 552],
-    truth: &[u8; 1280],
+    m: &[u16; MODEL],
+    q: &[u8; QUESTION],
+    truth: &[u8; TRUTHS],
     cone: &[u8],
     late: &[u8; 40],
-    trail: &mut [u16; 6],
-    gains: &mut [i32; 7],
-    v: &mut [u8; 280],
+    trail: &mut [u16; STEPS],
+    gains: &mut [i32; PLACES],
+    v: &mut [u8; VALUES],
     choices: &mut [u8],
     spot: Spot,
 ) -> Best
-    requires { ⌜ Setting (now m) (now q) (now truth) (now cone) (now late) (spot .start) (now trail) (now gains) (now v) (spot .h) (spot .s) (spot .k) ⌝ }
+    requires { ⌜
+        Setting (now m) (now q) (now truth) (now cone) (now late) (spot .start) (now trail) (now gains) (now v) (spot .h) (spot .s)
+        (spot .k) ⌝ }
     requires { ⌜ spot .at + 3 * most-choices (spot .k) ≤ length (now choices) ⌝ }
-    ensures { λ r. ⌜ Picked (spot .least) (now (m .entry)) (on-path (now (m .entry)) (now (q .entry)) (spot .start) (now (cone .entry)) (take (spot .h) (now (trail .entry)))) (spot .s) (spot .k) (spot .at) (now (choices .entry)) (now (choices .exit)) r ⌝ }
-    ensures { λ r. ⌜ Back (now (m .entry)) (now (q .entry)) (spot .start) (now (cone .entry)) (spot .h) (now (trail .entry)) (now (trail .exit)) (now (gains .exit)) (now (v .exit)) ⌝ }
+    ensures effect { λ r.
+        let choices′ = now (choices .exit) in let m = now (m .entry) in let q = now (q .entry) in let cone = now (cone .entry) in
+        let trail = now (trail .entry) in let choices = now (choices .entry) in
+        ⌜ Picked (spot .least) m (on-path m q (spot .start) cone (take (spot .h) trail)) (spot .s) (spot .k) (spot .at) choices choices′ r ⌝ }
+    ensures frame { λ r.
+        let trail′ = now (trail .exit) in let gains′ = now (gains .exit) in let v′ = now (v .exit) in let m = now (m .entry) in
+        let q = now (q .entry) in let cone = now (cone .entry) in let trail = now (trail .entry) in
+        ⌜ Back m q (spot .start) cone (spot .h) trail trail′ gains′ v′ ⌝ }
 {
     if spot.k == 0 {
         return leaf(cone, v, spot.at);
@@ -276,23 +301,32 @@ fn pick(
 // choices there. Gives up where the choice cannot win any more over the best so far, which it does not ask where one step is left: there it
 // costs more than it saves.
 fn walk(
-    m: &[u16; 8704],
-    q: &[u8; 552],
-    truth: &[u8; 1280],
+    m: &[u16; MODEL],
+    q: &[u8; QUESTION],
+    truth: &[u8; TRUTHS],
     cone: &[u8],
     late: &[u8; 40],
-    trail: &mut [u16; 6],
-    gains: &mut [i32; 7],
-    v: &mut [u8; 280],
+    trail: &mut [u16; STEPS],
+    gains: &mut [i32; PLACES],
+    v: &mut [u8; VALUES],
     choices: &mut [u8],
     spot: Spot,
     i: u8,
     best: Best,
 ) -> Walked
-    requires { ⌜ Setting (now m) (now q) (now truth) (now cone) (now late) (spot .start) (now trail) (now gains) (now v) (spot .h) (spot .s) (spot .k + 1) ⌝ }
+    requires { ⌜
+        Setting (now m) (now q) (now truth) (now cone) (now late) (spot .start) (now trail) (now gains) (now v) (spot .h) (spot .s)
+        (spot .k + 1) ⌝ }
     requires { ⌜ (i < choices-in (now m) (spot .s)) × (spot .at + 6 * most-choices (spot .k) ≤ length (now choices)) ⌝ }
-    ensures { λ r. ⌜ Candidate (best .found) (best .value) (spot .least) (now (m .entry)) (on-path (now (m .entry)) (now (q .entry)) (spot .start) (now (cone .entry)) (take (spot .h) (now (trail .entry)))) (row-in (now (m .entry)) (spot .s) i) (spot .k) (spot .at) (now (choices .entry)) (now (choices .exit)) r ⌝ }
-    ensures { λ r. ⌜ Back (now (m .entry)) (now (q .entry)) (spot .start) (now (cone .entry)) (spot .h) (now (trail .entry)) (now (trail .exit)) (now (gains .exit)) (now (v .exit)) ⌝ }
+    ensures effect { λ r.
+        let choices′ = now (choices .exit) in let m = now (m .entry) in let q = now (q .entry) in let cone = now (cone .entry) in
+        let trail = now (trail .entry) in let choices = now (choices .entry) in
+        ⌜ Candidate (best .found) (best .value) (spot .least) m (on-path m q (spot .start) cone (take (spot .h) trail))
+        (row-in m (spot .s) i) (spot .k) (spot .at) choices choices′ r ⌝ }
+    ensures frame { λ r.
+        let trail′ = now (trail .exit) in let gains′ = now (gains .exit) in let v′ = now (v .exit) in let m = now (m .entry) in
+        let q = now (q .entry) in let cone = now (cone .entry) in let trail = now (trail .entry) in
+        ⌜ Back m q (spot .start) cone (spot .h) trail trail′ gains′ v′ ⌝ }
 {
     let k = spot.k;
     let s = spot.s as usize;
@@ -341,9 +375,9 @@ fn walk(
 
 // Finds the plan of d steps, as many as the condition looks ahead, that has the greatest weight, or the least.
 pub fn find(
-    m: &[u16; 8704],
-    q: &[u8; 552],
-    truth: &[u8; 1280],
+    m: &[u16; MODEL],
+    q: &[u8; QUESTION],
+    truth: &[u8; TRUTHS],
     cone: &[u8],
     choices: &mut [u8],
     start: u8,
@@ -352,12 +386,12 @@ pub fn find(
 ) -> Found
     requires { ⌜ Ready (now m) (now q) start (now truth) (now cone) ⌝ }
     requires { ⌜ (d ≡ depth (formula (now q) (root-of (now cone)))) × (d ≤ 6) × (4095 ≤ length (now choices)) ⌝ }
-    ensures { λ r. ⌜ Finds least (now (m .entry)) (now (q .entry)) start (now (cone .entry)) d (now (choices .exit)) r ⌝ }
+    ensures effect { λ r. ⌜ Finds least (now (m .entry)) (now (q .entry)) start (now (cone .entry)) d (now (choices .exit)) r ⌝ }
 {
     let marks = late(q, cone);
-    let mut trail = [0u16; 6];
-    let mut gains = [0i32; 7];
-    let mut v = [0u8; 280];
+    let mut trail = [0u16; STEPS];
+    let mut gains = [0i32; PLACES];
+    let mut v = [0u8; VALUES];
     learn(q, truth, &trail, &gains, cone, &mut v, 0, start);
     let spot = Spot {
         start: start,

@@ -7,6 +7,8 @@ ghost use Rattle.blocks.specs.Bytes as spec;
 ghost use Rattle.blocks.specs.Block.{whole-blocks, word-sum, sums-right};
 ghost use Rattle.blocks.specs.Block as spec-block;
 
+pub mod buffers;
+
 // A block's size in bytes and in 16-bit words, and where its last word stands, which makes the words sum to 0.
 pub const BLOCK: usize = 512;
 

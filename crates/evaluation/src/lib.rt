@@ -13,14 +13,26 @@ ghost use Rattle.evaluation.specs.promises.Reached.{Ready};
 ghost use Rattle.evaluation.specs.promises.Known.{Knows, Offered, Stepped};
 ghost use Rattle.questions.specs.Layout.{node-of};
 use blocks::byte;
+use prepared_model::MODEL;
 use prepared_model::choice;
 use prepared_model::reward;
 use prepared_model::target;
+use prepared_question::QUESTION;
 use prepared_question::bound;
 use prepared_question::depth;
 use prepared_question::left;
 use prepared_question::operator;
 use prepared_question::right;
+
+// The most steps of a path, and the places on it, before the first step and after each.
+pub const STEPS: usize = 6;
+
+pub const PLACES: usize = 7;
+
+// The numbers of a table of truths, by node and state, and of a table of values, by node and place.
+pub const TRUTHS: usize = 1280;
+
+pub const VALUES: usize = 280;
 
 // A place of a path: where it starts, how many steps were taken, and the state that they led to.
 pub struct Place {
@@ -30,7 +42,7 @@ pub struct Place {
 }
 
 pub fn bit(t: bool) -> u8
-    ensures { λ r. ⌜ r ≡ one-if t ⌝ }
+    ensures value { λ r. ⌜ r ≡ one-if t ⌝ }
 {
     if t {
         return 1;
@@ -39,16 +51,16 @@ pub fn bit(t: bool) -> u8
 }
 
 // The value of node j at place k.
-pub fn known(v: &[u8; 280], j: u8, k: u8) -> u8
-    ensures { λ r. ⌜ r ≡ spec.known (now (v .entry)) j k ⌝ }
+pub fn known(v: &[u8; VALUES], j: u8, k: u8) -> u8
+    ensures value { λ r. ⌜ r ≡ spec.known (now (v .entry)) j k ⌝ }
 {
     byte(v, 7 * j as usize + k as usize)
 }
 
 // The gain after k steps.
-pub fn gain_at(gains: &[i32; 7], k: u8) -> i32
+pub fn gain_at(gains: &[i32; PLACES], k: u8) -> i32
     requires { ⌜ k < 7 ⌝ }
-    ensures { λ r. ⌜ r ≡ getD (now (gains .entry)) k (pos 0) ⌝ }
+    ensures value { λ r. ⌜ r ≡ getD (now (gains .entry)) k (pos 0) ⌝ }
 {
     let i = k as usize;
     gains[i]
@@ -56,7 +68,7 @@ pub fn gain_at(gains: &[i32; 7], k: u8) -> i32
 
 // Whether a gain stands in the relation of this number to a bound.
 pub fn related(kind: u8, gain: i64, bound: i64) -> bool
-    ensures { λ r. ⌜ r ≡ quantity.related integers (relation kind) gain bound ⌝ }
+    ensures value { λ r. ⌜ r ≡ quantity.related integers (relation kind) gain bound ⌝ }
 {
     match kind {
         1 => gain < bound,
@@ -66,9 +78,9 @@ pub fn related(kind: u8, gain: i64, bound: i64) -> bool
 }
 
 // Whether node j, a "gain", is true at place k.
-fn gained(q: &[u8; 552], gains: &[i32; 7], h: u8, k: u8, j: u8) -> bool
+fn gained(q: &[u8; QUESTION], gains: &[i32; PLACES], h: u8, k: u8, j: u8) -> bool
     requires { ⌜ (j < 40) × (h < 7) × (k < 7) ⌝ }
-    ensures { λ r. ⌜ r ≡ spec.gained (now (q .entry)) (now (gains .entry)) h k j ⌝ }
+    ensures value { λ r. ⌜ r ≡ spec.gained (now (q .entry)) (now (gains .entry)) h k j ⌝ }
 {
     let gain = gain_at(gains, h) as i64 - gain_at(gains, k) as i64;
     related(right(q, j), gain, bound(q, j) as i64)
@@ -76,16 +88,18 @@ fn gained(q: &[u8; 552], gains: &[i32; 7], h: u8, k: u8, j: u8) -> bool
 
 // The value at place k of node j, which looks at steps: each arm has its operator's meaning.
 fn value_by(
-    q: &[u8; 552],
-    trail: &[u16; 6],
-    gains: &[i32; 7],
-    v: &[u8; 280],
+    q: &[u8; QUESTION],
+    trail: &[u16; STEPS],
+    gains: &[i32; PLACES],
+    v: &[u8; VALUES],
     h: u8,
     k: u8,
     j: u8,
 ) -> u8
     requires { ⌜ (j < 40) × (k < h) × (h < 7) ⌝ }
-    ensures { λ r. ⌜ r ≡ value-by (now (q .entry)) (now (trail .entry)) (now (gains .entry)) h k j (node-of (now (q .entry)) j .operator) (now (v .entry)) ⌝ }
+    ensures value { λ r.
+        let q = now (q .entry) in let trail = now (trail .entry) in let gains = now (gains .entry) in let v = now (v .entry) in
+        ⌜ r ≡ value-by q trail gains h k j (node-of q j .operator) v ⌝ }
 {
     let op = operator(q, j);
     match op {
@@ -98,27 +112,22 @@ fn value_by(
     }
 }
 
-pub fn store(v: &mut [u8], i: usize, x: u8)
-    ensures { λ _. ⌜ now (v .exit) ≡ set (now (v .entry)) i x ⌝ }
-{
-    if i < v.len() {
-        v[i] = x;
-    }
-}
-
 // The value of node j where it becomes known after h steps, the last of which led to the state s.
 fn learn_node(
-    q: &[u8; 552],
-    truth: &[u8; 1280],
-    trail: &[u16; 6],
-    gains: &[i32; 7],
-    v: &mut [u8; 280],
+    q: &[u8; QUESTION],
+    truth: &[u8; TRUTHS],
+    trail: &[u16; STEPS],
+    gains: &[i32; PLACES],
+    v: &mut [u8; VALUES],
     h: u8,
     s: u8,
     j: u8,
 )
     requires { ⌜ (j < 40) × (s < 32) × (h < 7) ⌝ }
-    ensures { λ _. ⌜ now (v .exit) ≡ learn-node (now (q .entry)) (now (truth .entry)) (now (trail .entry)) (now (gains .entry)) h s j (now (v .entry)) ⌝ }
+    ensures frame { λ _.
+        let v′ = now (v .exit) in let q = now (q .entry) in let truth = now (truth .entry) in let trail = now (trail .entry) in
+        let gains = now (gains .entry) in let v = now (v .entry) in
+        ⌜ v′ ≡ learn-node q truth trail gains h s j v ⌝ }
 {
     let d = depth(q, j);
     if d > h {
@@ -135,17 +144,20 @@ fn learn_node(
 
 // What the last of h steps, which led to the state s, makes known of the nodes of a cone.
 pub fn learn(
-    q: &[u8; 552],
-    truth: &[u8; 1280],
-    trail: &[u16; 6],
-    gains: &[i32; 7],
+    q: &[u8; QUESTION],
+    truth: &[u8; TRUTHS],
+    trail: &[u16; STEPS],
+    gains: &[i32; PLACES],
     cone: &[u8],
-    v: &mut [u8; 280],
+    v: &mut [u8; VALUES],
     h: u8,
     s: u8,
 )
     requires { ⌜ Below-40 (now cone) × (s < 32) × (h < 7) ⌝ }
-    ensures { λ _. ⌜ now (v .exit) ≡ learnt (now (q .entry)) (now (truth .entry)) (now (trail .entry)) (now (gains .entry)) h s (now (cone .entry)) (now (v .entry)) ⌝ }
+    ensures frame { λ _.
+        let v′ = now (v .exit) in let q = now (q .entry) in let truth = now (truth .entry) in let trail = now (trail .entry) in
+        let gains = now (gains .entry) in let cone = now (cone .entry) in let v = now (v .entry) in
+        ⌜ v′ ≡ learnt q truth trail gains h s cone v ⌝ }
 {
     let mut i: usize = 0;
     while i < cone.len() {
@@ -156,20 +168,20 @@ pub fn learn(
 
 fn put(trail: &mut [u16], i: usize, x: u16)
     requires { ⌜ i < length (now trail) ⌝ }
-    ensures { λ _. ⌜ now (trail .exit) ≡ set (now (trail .entry)) i x ⌝ }
+    ensures frame { λ _. ⌜ now (trail .exit) ≡ set (now (trail .entry)) i x ⌝ }
 {
     trail[i] = x;
 }
 
 // Takes a step: the outcome o of the choice at place i of the state there. Gives the state reached.
 pub fn step(
-    m: &[u16; 8704],
-    q: &[u8; 552],
-    truth: &[u8; 1280],
+    m: &[u16; MODEL],
+    q: &[u8; QUESTION],
+    truth: &[u8; TRUTHS],
     cone: &[u8],
-    trail: &mut [u16; 6],
-    gains: &mut [i32; 7],
-    v: &mut [u8; 280],
+    trail: &mut [u16; STEPS],
+    gains: &mut [i32; PLACES],
+    v: &mut [u8; VALUES],
     at: Place,
     i: u8,
     o: u8,
@@ -177,7 +189,10 @@ pub fn step(
     requires { ⌜ Ready (now m) (now q) (at .start) (now truth) (now cone) ⌝ }
     requires { ⌜ Offered (now m) (at .start) (now trail) (at .h) (at .s) i o ⌝ }
     requires { ⌜ Knows (now m) (now q) (at .start) (now cone) (take (at .h) (now trail)) (now gains) (now v) ⌝ }
-    ensures { λ r. ⌜ Stepped (now (m .entry)) (now (q .entry)) (at .start) (now (cone .entry)) (at .h) (at .s) i o (now (trail .entry)) (now (trail .exit)) (now (gains .exit)) (now (v .exit)) r ⌝ }
+    ensures effect { λ r.
+        let trail′ = now (trail .exit) in let gains′ = now (gains .exit) in let v′ = now (v .exit) in let m = now (m .entry) in
+        let q = now (q .entry) in let cone = now (cone .entry) in let trail = now (trail .entry) in
+        ⌜ Stepped m q (at .start) cone (at .h) (at .s) i o trail trail′ gains′ v′ r ⌝ }
 {
     let h = at.h;
     let n = h as usize;

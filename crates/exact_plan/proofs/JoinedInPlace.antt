@@ -30,7 +30,7 @@ abbrev pub shifted : List ℕ → (from to w x i : ℕ) → List ℕ
 shifted buf from to w x i = splice buf to (map (λ y. x + w * y) (part buf from i))
 
 -- A turn: what it reads and writes lies within the buffer and fits, and the next buffer is the one after i + 1 turns.
-pub record Turn (buf b : List ℕ) (from to w x i : ℕ) : Type 0 where
+pub record Next-shift (buf b : List ℕ) (from to w x i : ℕ) : Type 0 where
   pub whole : length b ≡ length buf
   pub fits : x + w * getD b (from + i) 0 < 2 ^ 64
   pub again : set b (to + i) (x + w * getD b (from + i) 0) ≡ shifted buf from to w x (i + 1)
@@ -60,8 +60,8 @@ module _ (buf : List ℕ) (from to count w x : ℕ) (S : Shifts buf from to coun
       (sym (map-append (λ y. x + w * y) (part buf from i) (getD buf (from + i) 0 ∷ []))
       ∙ ap (map (λ y. x + w * y)) (sym (Parts.part-more buf from i (omega (arith, S .source)))))
 
-  pub shift-turn : {b : List ℕ} → b ≡ shifted buf from to w x i → i < count → Turn buf b from to w x i
-  shift-turn {b} e h =
+  pub shift-one-more : {b : List ℕ} → b ≡ shifted buf from to w x i → i < count → Next-shift buf b from to w x i
+  shift-one-more {b} e h =
       let r : getD b (from + i) 0 ≡ getD buf (from + i) 0 = ap (λ l. getD l (from + i) 0) e ∙ shift-reads h in
       record {
         whole = ap length e ∙ shift-whole (omega arith);
@@ -74,7 +74,7 @@ abbrev pub spreading : List ℕ → (at slow n v fast c w i : ℕ) → List ℕ
 spreading buf at slow n v fast c w i =
     splice buf (at + i * c) (grid (map (λ x. v * x) (drop i (part buf slow n))) (map (λ y. w * y) (part buf fast c)))
 
-pub record Row (buf b : List ℕ) (at slow n v fast c w j : ℕ) : Type 0 where
+pub record Next-row (buf b : List ℕ) (at slow n v fast c w j : ℕ) : Type 0 where
   pub whole : length b ≡ length buf
   pub fits : v * getD b (slow + j) 0 < 2 ^ 64
   pub shifts : Shifts b fast (at + j * c) c w (v * getD b (slow + j) 0)
@@ -183,7 +183,7 @@ module _ (buf : List ℕ) (at slow n v fast c w : ℕ) (S : Spreads buf at slow 
         ∙ ap (λ a. grid (v * a ∷ map (λ x. v * x) (drop (suc j) xs)) zs) (sym (Parts.getD-part buf slow n j lt))
         ∙ ap (λ l. grid (map (λ x. v * x) l) zs) d)
 
-    turn-at : {b′ : List ℕ} → b′ ≡ spreading buf at slow n v fast c w (suc j) → Row buf b′ at slow n v fast c w j
+    turn-at : {b′ : List ℕ} → b′ ≡ spreading buf at slow n v fast c w (suc j) → Next-row buf b′ at slow n v fast c w j
     unfolding b later zs
     turn-at {b′} e =
         let r : getD b′ (slow + j) 0 ≡ getD buf (slow + j) 0 = ap (λ l. getD l (slow + j) 0) e ∙ reads in
@@ -201,9 +201,9 @@ module _ (buf : List ℕ) (at slow n v fast c w : ℕ) (S : Spreads buf at slow 
           again = λ d. d ∙ ap₂ (λ l (z : List ℕ × ℕ). splice l (at + j * c) (map (λ y. v * z .1 + w * y) (z .0))) e (λ i. (f i, r i)) ∙ again-at;
         }
 
-  pub spread-turn : (i : ℕ) → 0 < i → i ≤ n → {b : List ℕ} → b ≡ spreading buf at slow n v fast c w i → Row buf b at slow n v fast c w (i - 1)
-  spread-turn zero h le e = absurd (omega arith)
-  spread-turn (suc j) h le e = let k : suc j - 1 ≡ j = omega arith in rw k (turn-at j le e)
+  pub spread-one-row-more : (i : ℕ) → 0 < i → i ≤ n → {b : List ℕ} → b ≡ spreading buf at slow n v fast c w i → Next-row buf b at slow n v fast c w (i - 1)
+  spread-one-row-more zero h le e = absurd (omega arith)
+  spread-one-row-more (suc j) h le e = let k : suc j - 1 ≡ j = omega arith in rw k (turn-at j le e)
 
 -- ---- `join`: two ways to spread
 
@@ -250,8 +250,8 @@ module _ (buf : List ℕ) (at n x : ℕ) (fits : at + n ≤ length buf) (i : ℕ
   pub fill-whole : i ≤ n → length (splice buf at (replicate i x)) ≡ length buf
   fill-whole h = Splice.splice-length buf at (replicate i x) (omega (arith, length-replicate i x))
 
-  pub fill-turn : i < n → {b : List ℕ} → b ≡ splice buf at (replicate i x) → set b (at + i) x ≡ splice buf at (replicate (i + 1) x)
-  fill-turn h e =
+  pub fill-one-more : i < n → {b : List ℕ} → b ≡ splice buf at (replicate i x) → set b (at + i) x ≡ splice buf at (replicate (i + 1) x)
+  fill-one-more h e =
       ap₂ (λ l k. set l (at + k) x) e (sym (length-replicate i x))
       ∙ Splice.splice-set buf at (replicate i x) x (omega (arith, length-replicate i x))
       ∙ ap (splice buf at) (replicate-append-replicate i 1 x)

@@ -14,13 +14,20 @@ mod spread;
 
 use crate::lists::Spot;
 use crate::lists::list;
+use evaluation::PLACES;
+use evaluation::STEPS;
+use evaluation::TRUTHS;
+use evaluation::VALUES;
 use evaluation::learn;
+use limits::COUNTS;
 use limits::plans_counted;
+use prepared_model::MODEL;
+use prepared_question::QUESTION;
 
 // The place of the first x among the first `len` numbers; where there is none, len.
 fn find(buf: &[u64], len: usize, x: u64) -> usize
     requires { ⌜ len ≤ length (now buf) ⌝ }
-    ensures { λ r. ⌜ First (take len (now (buf .entry))) x r ⌝ }
+    ensures value { λ r. ⌜ First (take len (now (buf .entry))) x r ⌝ }
 {
     let mut i: usize = 0;
     while i < len {
@@ -34,11 +41,11 @@ fn find(buf: &[u64], len: usize, x: u64) -> usize
 
 // `first_equal` in a lent buffer, which has room for the list and for what is made beside it.
 fn first_within(
-    m: &[u16; 8704],
-    q: &[u8; 552],
-    truth: &[u8; 1280],
+    m: &[u16; MODEL],
+    q: &[u8; QUESTION],
+    truth: &[u8; TRUTHS],
     cone: &[u8],
-    table: &[u64; 224],
+    table: &[u64; COUNTS],
     buf: &mut [u64],
     start: u8,
     d: u8,
@@ -46,12 +53,16 @@ fn first_within(
     x: u64,
 ) -> usize
     requires { ⌜ Given (now m) (now q) start d (now truth) (now cone) (now table) ⌝ }
-    requires { ⌜ (d ≤ n) × (n ≤ 6) × (plan-total (model-in (now m)) n start ≤ 65536) × (plan-total (model-in (now m)) n start + 282 ≤ length (now buf)) ⌝ }
-    ensures { λ r. ⌜ First (totals (model-in (now (m .entry))) n start (value-of (model-in (now (m .entry))) (formula (now (q .entry)) (root-of (now (cone .entry)))) start)) x r ⌝ }
+    requires { ⌜
+        (d ≤ n) × (n ≤ 6) × (plan-total (model-in (now m)) n start ≤ 65536)
+        × (plan-total (model-in (now m)) n start + 282 ≤ length (now buf)) ⌝ }
+    ensures value { λ r.
+        let m = now (m .entry) in let q = now (q .entry) in let cone = now (cone .entry) in
+        ⌜ First (totals (model-in m) n start (value-of (model-in m) (formula q (root-of cone)) start)) x r ⌝ }
 {
-    let mut trail = [0u16; 6];
-    let mut gains = [0i32; 7];
-    let mut v = [0u8; 280];
+    let mut trail = [0u16; STEPS];
+    let mut gains = [0i32; PLACES];
+    let mut v = [0u8; VALUES];
     learn(q, truth, &trail, &gains, cone, &mut v, 0, start);
     let spot = Spot {
         start: start,
@@ -79,11 +90,11 @@ fn first_within(
 // The place of the first plan in dictionary order, of all n-step plans from s, whose total is x; where there is none, their number. The
 // buffer has one of three lengths, by their number and 282 beside: to clear the longest takes longer than to search few plans.
 pub fn first_equal(
-    m: &[u16; 8704],
-    q: &[u8; 552],
-    truth: &[u8; 1280],
+    m: &[u16; MODEL],
+    q: &[u8; QUESTION],
+    truth: &[u8; TRUTHS],
     cone: &[u8],
-    table: &[u64; 224],
+    table: &[u64; COUNTS],
     s: u8,
     d: u8,
     n: u8,
@@ -91,7 +102,9 @@ pub fn first_equal(
 ) -> usize
     requires { ⌜ Given (now m) (now q) s d (now truth) (now cone) (now table) ⌝ }
     requires { ⌜ (d ≤ n) × (n ≤ 6) × (plan-total (model-in (now m)) n s ≤ 65536) ⌝ }
-    ensures { λ r. ⌜ First (totals (model-in (now (m .entry))) n s (value-of (model-in (now (m .entry))) (formula (now (q .entry)) (root-of (now (cone .entry)))) s)) x r ⌝ }
+    ensures value { λ r.
+        let m = now (m .entry) in let q = now (q .entry) in let cone = now (cone .entry) in
+        ⌜ First (totals (model-in m) n s (value-of (model-in m) (formula q (root-of cone)) s)) x r ⌝ }
 {
     let all = plans_counted(table, n, s as usize);
     if all <= 1024 {

@@ -18,15 +18,22 @@ use crate::spread::fill;
 use crate::spread::join;
 use crate::spread::shift;
 use bounds::power;
+use evaluation::PLACES;
 use evaluation::Place;
+use evaluation::STEPS;
+use evaluation::TRUTHS;
+use evaluation::VALUES;
 use evaluation::known;
 use evaluation::step;
+use limits::COUNTS;
 use limits::plans_counted;
+use prepared_model::MODEL;
 use prepared_model::choices;
 use prepared_model::denominator;
 use prepared_model::outcomes;
 use prepared_model::target;
 use prepared_model::weight;
+use prepared_question::QUESTION;
 
 // Where a list is made: after h steps from the start, in the state s, with k steps to go, and written from `at` on. The condition looks
 // d steps ahead.
@@ -54,9 +61,9 @@ pub struct Further {
 }
 
 // An outcome with the most plans below it: its list is made first, in its place.
-fn longest(m: &[u16; 8704], table: &[u64; 224], s: usize, i: usize, c: usize, k: u8) -> usize
+fn longest(m: &[u16; MODEL], table: &[u64; COUNTS], s: usize, i: usize, c: usize, k: u8) -> usize
     requires { ⌜ (k ≤ 6) × (s < 32) × (i < 8) × (0 < c) × (c ≤ 4) × ((o : _) → o < c → (step-in (now m) s i o) .target < 32) ⌝ }
-    ensures { λ r. ⌜ Longest (now (m .entry)) (now (table .entry)) s i c k r ⌝ }
+    ensures value { λ r. ⌜ Longest (now (m .entry)) (now (table .entry)) s i c k r ⌝ }
 {
     let mut best: usize = 0;
     let mut o: usize = 1;
@@ -73,36 +80,40 @@ fn longest(m: &[u16; 8704], table: &[u64; 224], s: usize, i: usize, c: usize, k:
 // The outcome to take next, beside those from lo to hi: on the right as long as there is one.
 fn beside(lo: usize, hi: usize, c: usize) -> usize
     requires { ⌜ (lo < hi) × (hi ≤ c) × (hi - lo < c) ⌝ }
-    ensures { λ r. ⌜ ((r ≡ hi) × (hi < c)) ⊎ (r + 1 ≡ lo) ⌝ }
+    ensures value { λ r. ⌜ ((r ≡ hi) × (hi < c)) ⊎ (r + 1 ≡ lo) ⌝ }
 {
     if hi < c { hi } else { lo - 1 }
 }
 
 fn least(x: usize, y: usize) -> usize
-    ensures { λ r. ⌜ r ≡ min x y ⌝ }
+    ensures value { λ r. ⌜ r ≡ min x y ⌝ }
 {
     if y < x { y } else { x }
 }
 
 fn most(x: usize, y: usize) -> usize
-    ensures { λ r. ⌜ r ≡ max x y ⌝ }
+    ensures value { λ r. ⌜ r ≡ max x y ⌝ }
 {
     if x < y { y } else { x }
 }
 
 // The list where the condition is decided: all plans have the same total.
 fn decided(
-    m: &[u16; 8704],
-    table: &[u64; 224],
+    m: &[u16; MODEL],
+    table: &[u64; COUNTS],
     cone: &[u8],
-    v: &[u8; 280],
+    v: &[u8; VALUES],
     buf: &mut [u64],
     s: u8,
     k: u8,
     at: usize,
 ) -> usize
     requires { ⌜ Decides (now m) (now cone) (now v) (now table) (now buf) s k at ⌝ }
-    ensures { λ r. ⌜ (r ≡ getD (now (table .entry)) (32 * k + s) 0) × (now (buf .exit) ≡ splice (now (buf .entry)) at (replicate (getD (now (table .entry)) (32 * k + s) 0) (learnt.known (now (v .entry)) (root-of (now (cone .entry))) 0 * denominator-of (now (m .entry)) ^ k))) ⌝ }
+    ensures value { λ r. ⌜ r ≡ getD (now (table .entry)) (32 * k + s) 0 ⌝ }
+    ensures frame { λ _.
+        let buf′ = now (buf .exit) in let buf = now (buf .entry) in let table = now (table .entry) in let v = now (v .entry) in
+        let cone = now (cone .entry) in let m = now (m .entry) in
+        ⌜ buf′ ≡ splice buf at (replicate (getD table (32 * k + s) 0) (learnt.known v (root-of cone) 0 * denominator-of m ^ k)) ⌝ }
 {
     let n = plans_counted(table, k, s as usize) as usize;
     let last = cone.len() - 1;
@@ -113,21 +124,26 @@ fn decided(
 
 // Writes the totals of all plans from a spot, and gives their number.
 pub fn list(
-    m: &[u16; 8704],
-    q: &[u8; 552],
-    truth: &[u8; 1280],
+    m: &[u16; MODEL],
+    q: &[u8; QUESTION],
+    truth: &[u8; TRUTHS],
     cone: &[u8],
-    table: &[u64; 224],
-    trail: &mut [u16; 6],
-    gains: &mut [i32; 7],
-    v: &mut [u8; 280],
+    table: &[u64; COUNTS],
+    trail: &mut [u16; STEPS],
+    gains: &mut [i32; PLACES],
+    v: &mut [u8; VALUES],
     buf: &mut [u64],
     spot: Spot,
 ) -> usize
     requires { ⌜ Given (now m) (now q) (spot .start) (spot .d) (now truth) (now cone) (now table) ⌝ }
     requires { ⌜ Here (now m) (now q) (spot .start) (spot .d) (now cone) (now trail) (now gains) (now v) (spot .h) (spot .s) (spot .k) ⌝ }
     requires { ⌜ Room (spot .k) (plan-total (model-in (now m)) (spot .k) (spot .s)) (spot .at) (length (now buf)) ⌝ }
-    ensures { λ r. ⌜ Written (totals (model-in (now (m .entry))) (spot .k) (spot .s) (on-path (now (m .entry)) (now (q .entry)) (spot .start) (now (cone .entry)) (take (spot .h) (now (trail .entry))))) (now (m .entry)) (now (q .entry)) (spot .start) (now (cone .entry)) (spot .h) (spot .at) (now (trail .entry)) (now (trail .exit)) (now (gains .exit)) (now (v .exit)) (now (buf .entry)) (now (buf .exit)) r ⌝ }
+    ensures effect { λ r.
+        let trail′ = now (trail .exit) in let gains′ = now (gains .exit) in let v′ = now (v .exit) in let buf′ = now (buf .exit) in
+        let m = now (m .entry) in let q = now (q .entry) in let cone = now (cone .entry) in let trail = now (trail .entry) in
+        let buf = now (buf .entry) in
+        ⌜ Written (totals (model-in m) (spot .k) (spot .s) (on-path m q (spot .start) cone (take (spot .h) trail))) m q (spot .start) cone
+        (spot .h) (spot .at) trail trail′ gains′ v′ buf buf′ r ⌝ }
 {
     if spot.d <= spot.h {
         return decided(m, table, cone, v, buf, spot.s, spot.k, spot.at);
@@ -153,22 +169,32 @@ pub fn list(
 // Writes the totals of all plans that begin with the choice at place i, with k steps below it: the lists below its outcomes, combined from
 // the longest one on, to the right and then to the left.
 fn combine(
-    m: &[u16; 8704],
-    q: &[u8; 552],
-    truth: &[u8; 1280],
+    m: &[u16; MODEL],
+    q: &[u8; QUESTION],
+    truth: &[u8; TRUTHS],
     cone: &[u8],
-    table: &[u64; 224],
-    trail: &mut [u16; 6],
-    gains: &mut [i32; 7],
-    v: &mut [u8; 280],
+    table: &[u64; COUNTS],
+    trail: &mut [u16; STEPS],
+    gains: &mut [i32; PLACES],
+    v: &mut [u8; VALUES],
     buf: &mut [u64],
     spot: Spot,
     i: usize,
 ) -> usize
     requires { ⌜ Given (now m) (now q) (spot .start) (spot .d) (now truth) (now cone) (now table) ⌝ }
-    requires { ⌜ Here (now m) (now q) (spot .start) (spot .d) (now cone) (now trail) (now gains) (now v) (spot .h) (spot .s) (spot .k + 1) × (i < choices-in (now m) (spot .s)) ⌝ }
-    requires { ⌜ Room (spot .k + 1) (multiply (λ o. plan-total (model-in (now m)) (spot .k) (o .target)) (outcomes (model-in (now m)) (spot .s) (choice-in (now m) (spot .s) i))) (spot .at) (length (now buf)) ⌝ }
-    ensures { λ r. ⌜ Written (combined (weighed (model-in (now (m .entry))) (spot .k) (on-path (now (m .entry)) (now (q .entry)) (spot .start) (now (cone .entry)) (take (spot .h) (now (trail .entry))))) (outcomes (model-in (now (m .entry))) (spot .s) (choice-in (now (m .entry)) (spot .s) i))) (now (m .entry)) (now (q .entry)) (spot .start) (now (cone .entry)) (spot .h) (spot .at) (now (trail .entry)) (now (trail .exit)) (now (gains .exit)) (now (v .exit)) (now (buf .entry)) (now (buf .exit)) r ⌝ }
+    requires { ⌜
+        Here (now m) (now q) (spot .start) (spot .d) (now cone) (now trail) (now gains) (now v) (spot .h) (spot .s) (spot .k + 1)
+        × (i < choices-in (now m) (spot .s)) ⌝ }
+    requires { ⌜
+        Room (spot .k + 1) (multiply (λ o. plan-total (model-in (now m)) (spot .k) (o .target))
+        (outcomes (model-in (now m)) (spot .s) (choice-in (now m) (spot .s) i))) (spot .at) (length (now buf)) ⌝ }
+    ensures effect { λ r.
+        let trail′ = now (trail .exit) in let gains′ = now (gains .exit) in let v′ = now (v .exit) in let buf′ = now (buf .exit) in
+        let m = now (m .entry) in let q = now (q .entry) in let cone = now (cone .entry) in let trail = now (trail .entry) in
+        let buf = now (buf .entry) in
+        ⌜ Written (combined (weighed (model-in m) (spot .k) (on-path m q (spot .start) cone (take (spot .h) trail)))
+        (outcomes (model-in m) (spot .s) (choice-in m (spot .s) i))) m q (spot .start) cone (spot .h) (spot .at) trail trail′ gains′ v′ buf
+        buf′ r ⌝ }
 {
     let s = spot.s as usize;
     let c = outcomes(m, s, i);
@@ -194,22 +220,32 @@ fn combine(
 
 // Combines the list at `at` with the totals below a further outcome, which are made behind the product.
 fn grown(
-    m: &[u16; 8704],
-    q: &[u8; 552],
-    truth: &[u8; 1280],
+    m: &[u16; MODEL],
+    q: &[u8; QUESTION],
+    truth: &[u8; TRUTHS],
     cone: &[u8],
-    table: &[u64; 224],
-    trail: &mut [u16; 6],
-    gains: &mut [i32; 7],
-    v: &mut [u8; 280],
+    table: &[u64; COUNTS],
+    trail: &mut [u16; STEPS],
+    gains: &mut [i32; PLACES],
+    v: &mut [u8; VALUES],
     buf: &mut [u64],
     spot: Spot,
     more: Further,
 ) -> usize
     requires { ⌜ Given (now m) (now q) (spot .start) (spot .d) (now truth) (now cone) (now table) ⌝ }
-    requires { ⌜ Here (now m) (now q) (spot .start) (spot .d) (now cone) (now trail) (now gains) (now v) (spot .h) (spot .s) (spot .k + 1) × Offers (now m) (spot .s) (more .i) (more .o) ⌝ }
-    requires { ⌜ Grows (now buf) (spot .at) (more .len) (plan-total (model-in (now m)) (spot .k) ((step-in (now m) (spot .s) (more .i) (more .o)) .target)) (spot .k) ⌝ }
-    ensures { λ r. ⌜ Written (joined (more .right) (part (now (buf .entry)) (spot .at) (more .len)) (weighed (model-in (now (m .entry))) (spot .k) (on-path (now (m .entry)) (now (q .entry)) (spot .start) (now (cone .entry)) (take (spot .h) (now (trail .entry)))) (step-in (now (m .entry)) (spot .s) (more .i) (more .o)))) (now (m .entry)) (now (q .entry)) (spot .start) (now (cone .entry)) (spot .h) (spot .at) (now (trail .entry)) (now (trail .exit)) (now (gains .exit)) (now (v .exit)) (now (buf .entry)) (now (buf .exit)) r ⌝ }
+    requires { ⌜
+        Here (now m) (now q) (spot .start) (spot .d) (now cone) (now trail) (now gains) (now v) (spot .h) (spot .s) (spot .k + 1)
+        × Offers (now m) (spot .s) (more .i) (more .o) ⌝ }
+    requires { ⌜
+        Grows (now buf) (spot .at) (more .len)
+        (plan-total (model-in (now m)) (spot .k) ((step-in (now m) (spot .s) (more .i) (more .o)) .target)) (spot .k) ⌝ }
+    ensures effect { λ r.
+        let trail′ = now (trail .exit) in let gains′ = now (gains .exit) in let v′ = now (v .exit) in let buf′ = now (buf .exit) in
+        let buf = now (buf .entry) in let m = now (m .entry) in let q = now (q .entry) in let cone = now (cone .entry) in
+        let trail = now (trail .entry) in
+        ⌜ Written (joined (more .right) (part buf (spot .at) (more .len))
+        (weighed (model-in m) (spot .k) (on-path m q (spot .start) cone (take (spot .h) trail)) (step-in m (spot .s) (more .i) (more .o))))
+        m q (spot .start) cone (spot .h) (spot .at) trail trail′ gains′ v′ buf buf′ r ⌝ }
 {
     let s = spot.s as usize;
     let n = plans_counted(table, spot.k, target(m, s, more.i, more.o)) as usize;
@@ -239,22 +275,32 @@ fn grown(
 
 // Writes the totals of all plans of k steps below an outcome.
 fn below(
-    m: &[u16; 8704],
-    q: &[u8; 552],
-    truth: &[u8; 1280],
+    m: &[u16; MODEL],
+    q: &[u8; QUESTION],
+    truth: &[u8; TRUTHS],
     cone: &[u8],
-    table: &[u64; 224],
-    trail: &mut [u16; 6],
-    gains: &mut [i32; 7],
-    v: &mut [u8; 280],
+    table: &[u64; COUNTS],
+    trail: &mut [u16; STEPS],
+    gains: &mut [i32; PLACES],
+    v: &mut [u8; VALUES],
     buf: &mut [u64],
     spot: Spot,
     to: Outcome,
 ) -> usize
     requires { ⌜ Given (now m) (now q) (spot .start) (spot .d) (now truth) (now cone) (now table) ⌝ }
-    requires { ⌜ Here (now m) (now q) (spot .start) (spot .d) (now cone) (now trail) (now gains) (now v) (spot .h) (spot .s) (spot .k + 1) × Offers (now m) (spot .s) (to .i) (to .o) ⌝ }
-    requires { ⌜ Room (spot .k) (plan-total (model-in (now m)) (spot .k) ((step-in (now m) (spot .s) (to .i) (to .o)) .target)) (spot .at) (length (now buf)) ⌝ }
-    ensures { λ r. ⌜ Written (totals (model-in (now (m .entry))) (spot .k) ((step-in (now (m .entry)) (spot .s) (to .i) (to .o)) .target) (λ l. on-path (now (m .entry)) (now (q .entry)) (spot .start) (now (cone .entry)) (take (spot .h) (now (trail .entry))) ((step-in (now (m .entry)) (spot .s) (to .i) (to .o)) ∷ l))) (now (m .entry)) (now (q .entry)) (spot .start) (now (cone .entry)) (spot .h) (spot .at) (now (trail .entry)) (now (trail .exit)) (now (gains .exit)) (now (v .exit)) (now (buf .entry)) (now (buf .exit)) r ⌝ }
+    requires { ⌜
+        Here (now m) (now q) (spot .start) (spot .d) (now cone) (now trail) (now gains) (now v) (spot .h) (spot .s) (spot .k + 1)
+        × Offers (now m) (spot .s) (to .i) (to .o) ⌝ }
+    requires { ⌜
+        Room (spot .k) (plan-total (model-in (now m)) (spot .k) ((step-in (now m) (spot .s) (to .i) (to .o)) .target)) (spot .at)
+        (length (now buf)) ⌝ }
+    ensures effect { λ r.
+        let trail′ = now (trail .exit) in let gains′ = now (gains .exit) in let v′ = now (v .exit) in let buf′ = now (buf .exit) in
+        let m = now (m .entry) in let q = now (q .entry) in let cone = now (cone .entry) in let trail = now (trail .entry) in
+        let buf = now (buf .entry) in
+        ⌜ Written (totals (model-in m) (spot .k) ((step-in m (spot .s) (to .i) (to .o)) .target)
+        (λ l. on-path m q (spot .start) cone (take (spot .h) trail) ((step-in m (spot .s) (to .i) (to .o)) ∷ l))) m q (spot .start) cone
+        (spot .h) (spot .at) trail trail′ gains′ v′ buf buf′ r ⌝ }
 {
     let here = Place {
         start: spot.start,

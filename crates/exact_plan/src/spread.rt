@@ -10,7 +10,7 @@ ghost use Rattle.exact_plan.specs.promises.Spread.{Shifts, Spreads, Join
 // Writes x + w * y at `to` for each of the numbers y at `from`.
 pub fn shift(buf: &mut [u64], from: usize, to: usize, count: usize, w: u64, x: u64)
     requires { ⌜ Shifts (now buf) from to count w x ⌝ }
-    ensures { λ r. ⌜ now (buf .exit) ≡ splice (now (buf .entry)) to (map (λ y. x + w * y) (part (now (buf .entry)) from count)) ⌝ }
+    ensures frame { λ r. ⌜ now (buf .exit) ≡ splice (now (buf .entry)) to (map (λ y. x + w * y) (part (now (buf .entry)) from count)) ⌝ }
 {
     let mut i: usize = 0;
     while i < count {
@@ -32,7 +32,7 @@ pub fn spread(
     w: u64,
 )
     requires { ⌜ Spreads (now buf) at slow n v fast c w ⌝ }
-    ensures { λ r.
+    ensures frame { λ r.
         ⌜ now (buf .exit)
         ≡ splice (now (buf .entry)) at (grid (map (λ x. v * x) (part (now (buf .entry)) slow n)) (map (λ y. w * y) (part (now (buf .entry)) fast c))) ⌝ }
 {
@@ -47,7 +47,9 @@ pub fn spread(
 // Combines the `len` numbers at `at` with w times the n numbers that stand behind the product: on the right of them, or on the left.
 pub fn join(buf: &mut [u64], at: usize, len: usize, n: usize, w: u64, right: bool)
     requires { ⌜ Joins (now buf) at len n w ⌝ }
-    ensures { λ r. ⌜ now (buf .exit) ≡ splice (now (buf .entry)) at (joined right (part (now (buf .entry)) at len) (map (λ y. w * y) (part (now (buf .entry)) (at + len * n) n))) ⌝ }
+    ensures frame { λ r.
+        let buf′ = now (buf .exit) in let buf = now (buf .entry) in
+        ⌜ buf′ ≡ splice buf at (joined right (part buf at len) (map (λ y. w * y) (part buf (at + len * n) n))) ⌝ }
 {
     let end = at + len * n;
     if right {
@@ -60,7 +62,7 @@ pub fn join(buf: &mut [u64], at: usize, len: usize, n: usize, w: u64, right: boo
 // Writes the same number n times.
 pub fn fill(buf: &mut [u64], at: usize, n: usize, x: u64)
     requires { ⌜ at + n ≤ length (now buf) ⌝ }
-    ensures { λ r. ⌜ now (buf .exit) ≡ splice (now (buf .entry)) at (replicate n x) ⌝ }
+    ensures frame { λ r. ⌜ now (buf .exit) ≡ splice (now (buf .entry)) at (replicate n x) ⌝ }
 {
     let mut i: usize = 0;
     while i < n {

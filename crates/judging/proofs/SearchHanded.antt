@@ -55,8 +55,8 @@ asked-other q j e h = eqb-false ((node-of q j) .right) 2 (sym e ∙ h)
 
 module _ {m q : Bytes} {j : ℕ} (b : Bounded m q j) where
   -- The depth of a "plan" node's condition, as it stands behind the block.
-  pub looks-there : {c d : ℕ} → c ≡ (node-of q j) .left → d ≡ depth-in q c → d ≡ depth (condition q j)
-  looks-there e f = f ∙ ap (depth-in q) e ∙ b .nodes .deep ((node-of q j) .left) (omega (arith, plan-bounded b .range .child, b .node))
+  pub condition-depth : {c d : ℕ} → c ≡ (node-of q j) .left → d ≡ depth-in q c → d ≡ depth (condition q j)
+  condition-depth e f = f ∙ ap (depth-in q) e ∙ b .nodes .deep ((node-of q j) .left) (omega (arith, plan-bounded b .range .child, b .node))
 
   pub power-fits : denominator-of m ^ (node-of q j) .n < 2 ^ 64
   power-fits = let p : denominator-of m ^ (node-of q j) .n ≤ 100 ^ 6 = power-le (denominator-of m) ((node-of q j) .n) 6 (small m q j b) (plan-bounded b .few) in omega arith
@@ -77,7 +77,7 @@ module _ {m q : Bytes} {j : ℕ} (b : Bounded m q j) where
 pub depth-there : {m q : Bytes} {counts : List ℕ} {j : ℕ} → Asked m q counts → j < node-count q → (node-of q j) .operator ≡ 8
     → {c d : ℕ} → c ≡ (node-of q j) .left → d ≡ depth-in q c → d ≡ depth (condition q j)
 depth-there a h o e f =
-    looks-there (record { prepared = a .given .prepared; nodes = a .given .nodes; node = h; is-plan = o }) e f
+    condition-depth (record { prepared = a .given .prepared; nodes = a .given .nodes; node = h; is-plan = o }) e f
 
 module _ {m q : Bytes} {truth : List ℕ} {j s : ℕ} (given : Given m q) (posed : Posed m q truth j s) where
   pub planned : Planned q j
@@ -94,24 +94,24 @@ module _ {m q : Bytes} {truth : List ℕ} {j s : ℕ} (given : Given m q) (posed
       let f : node-count q ≤ 40 = given .nodes .formed .few-nodes in
       (omega arith, omega arith)
 
-  pub stands-there : {c : ℕ} → c ≡ (node-of q j) .left → Stands m q truth c s
-  stands-there e =
+  pub condition-stands : {c : ℕ} → c ≡ (node-of q j) .left → Stands m q truth c s
+  condition-stands e =
       subst (λ i. Stands m q truth i s) (sym e)
       (record { nodes = given .nodes; node = before .0; state = posed .state; told = posed .told })
 
   pub looks : {c d : ℕ} → c ≡ (node-of q j) .left → d ≡ depth-in q c → d ≡ depth (condition q j)
-  looks e f = looks-there bounded e f
+  looks e f = condition-depth bounded e f
 
   pub ready : {l : List ℕ} → Cone q l → root-of l ≡ (node-of q j) .left → Ready m q s truth l
-  ready cone e = remembering.ready given (stands-there refl) cone e
+  ready cone e = remembering.ready given (condition-stands refl) cone e
 
   -- ---- what a search for the least or the greatest weight is handed, and found
 
-  pub few-there : {c : ℕ} → c ≡ (node-of q j) .left → depth (formula q c) ≤ 6
-  few-there e = omega (arith, ap (λ i. depth (formula q i)) e, planned .deep, planned .few)
+  pub condition-few-steps : {c : ℕ} → c ≡ (node-of q j) .left → depth (formula q c) ≤ 6
+  condition-few-steps e = omega (arith, ap (λ i. depth (formula q i)) e, planned .deep, planned .few)
 
   best-there : (least : Bool) → best-total m q ((node-of q j) .left) s least ≤ denominator-of m ^ depth (condition q j)
-  best-there least = best-small given (stands-there refl) least
+  best-there least = best-small given (condition-stands refl) least
 
   module _ {c : ℕ} {least : Bool} (top : c ≡ (node-of q j) .left) (same : least ≡ eqb ((node-of q j) .right) 1) where
     total-there : best-total m q c s least ≡ best-total m q ((node-of q j) .left) s (eqb ((node-of q j) .right) 1)
@@ -138,32 +138,32 @@ module _ {m q : Bytes} {truth : List ℕ} {j s : ℕ} (given : Given m q) (posed
         led-decides given j s (posed .node) (posed .is-plan) e (posed .state)
         (g ∙ ap (λ v. model-in m .denominator ^ ((node-of q j) .n - depth (condition q j)) * v) f)
 
-    pub dead-truth : {r : Peeled} {t : Bool} → Peels q truth c s r → r .dead ≡ true → t ≡ meets-at m q j 0 → t ≡ sat (model-in m) (formula q j) s []
-    dead-truth p d f =
+    pub false-condition-truth : {r : Peeled} {t : Bool} → Peels q truth c s r → r .dead ≡ true → t ≡ meets-at m q j 0 → t ≡ sat (model-in m) (formula q j) s []
+    false-condition-truth p d f =
         f ∙ truth-there
         (sym (ap (λ c. best-total m q c s (eqb ((node-of q j) .right) 1)) (sym top)
-        ∙ never-best m q c s (eqb ((node-of q j) .right) 1) (p .never m (stands-there top) d)))
+        ∙ never-best m q c s (eqb ((node-of q j) .right) 1) (p .never m (condition-stands top) d)))
         (sym (mul-zero (model-in m .denominator ^ ((node-of q j) .n - depth (condition q j)))))
 
     module _ {r : Peeled} (p : Peels q truth c s r) (d : r .dead ≡ false) where
       left-there : Same m q truth c s (r .node)
-      left-there = p .left m (stands-there top) d
+      left-there = p .left m (condition-stands top) d
 
-      pub left-stands : Stands m q truth (r .node) s
-      left-stands = left-there .stands
+      pub peeled-stands : Stands m q truth (r .node) s
+      peeled-stands = left-there .stands
 
-      pub left-few : depth (formula q (r .node)) ≤ 6
-      left-few = omega (arith, left-there .looks, few-there top)
+      pub peeled-few-steps : depth (formula q (r .node)) ≤ 6
+      peeled-few-steps = omega (arith, left-there .looks, condition-few-steps top)
 
       module _ {least : Bool} {v : ℕ} (same : least ≡ eqb ((node-of q j) .right) 1) (f : v ≡ best-total m q (r .node) s least) where
         left-total : v ≡ best-total m q ((node-of q j) .left) s (eqb ((node-of q j) .right) 1)
         left-total = f ∙ same-best least left-there ∙ total-there top same
 
-        pub left-small : v ≤ denominator-of m ^ depth (condition q j)
-        left-small = subst (λ v. v ≤ denominator-of m ^ depth (condition q j)) (sym left-total) (best-there (eqb ((node-of q j) .right) 1))
+        pub peeled-total-small : v ≤ denominator-of m ^ depth (condition q j)
+        peeled-total-small = subst (λ v. v ≤ denominator-of m ^ depth (condition q j)) (sym left-total) (best-there (eqb ((node-of q j) .right) 1))
 
-        pub left-truth : {w : ℕ} {t : Bool} → Lengthened m q j v w → t ≡ meets-at m q j w → t ≡ sat (model-in m) (formula q j) s []
-        left-truth l g = g ∙ truth-there left-total (l .weighs)
+        pub peeled-condition-truth : {w : ℕ} {t : Bool} → Lengthened m q j v w → t ≡ meets-at m q j w → t ≡ sat (model-in m) (formula q j) s []
+        peeled-condition-truth l g = g ∙ truth-there left-total (l .weighs)
 
   -- ---- what a search for a total found
 

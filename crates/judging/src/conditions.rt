@@ -6,10 +6,15 @@ ghost use Rattle.logic.specs.Formula as formulas;
 ghost use Rattle.prepared_question.specs.promises.Nodes.{formula};
 ghost use Rattle.relevance.specs.promises.Need.{Given};
 ghost use Rattle.judging.specs.promises.Conditions.{Stands, Peels, best-total, Searched, memo-place, Remembers};
+use crate::BESTS;
 use best_plan::Found;
 use best_plan::find;
 use blocks::byte;
+use evaluation::TRUTHS;
 use evaluation::bit;
+use prepared_model::MODEL;
+use prepared_question::DEPTHS;
+use prepared_question::QUESTION;
 use prepared_question::depth;
 use relevance::cone;
 use relevance::place;
@@ -21,8 +26,8 @@ pub struct Peeled {
 }
 
 // Takes one state formula off c, where c is "and" of one and another node. It asks nothing of its numbers, so it reads them with a test.
-fn peel_one(q: &[u8; 552], truth: &[u8; 1280], c: u8, s: u8) -> Peeled
-    ensures { λ r. ⌜ Peels (now (q .entry)) (now (truth .entry)) c s r ⌝ }
+fn peel_one(q: &[u8; QUESTION], truth: &[u8; TRUTHS], c: u8, s: u8) -> Peeled
+    ensures value { λ r. ⌜ Peels (now (q .entry)) (now (truth .entry)) c s r ⌝ }
 {
     if questions::operator(q, c) != 4 {
         return Peeled {
@@ -32,14 +37,14 @@ fn peel_one(q: &[u8; 552], truth: &[u8; 1280], c: u8, s: u8) -> Peeled
     }
     let a = questions::left(q, c);
     let b = questions::right(q, c);
-    if byte(q, 512 + a as usize) == 0 {
+    if byte(q, DEPTHS + a as usize) == 0 {
         let x = byte(truth, place(a, s));
         return Peeled {
             dead: x == 0,
             node: b,
         };
     }
-    if byte(q, 512 + b as usize) == 0 {
+    if byte(q, DEPTHS + b as usize) == 0 {
         let x = byte(truth, place(b, s));
         return Peeled {
             dead: x == 0,
@@ -53,8 +58,8 @@ fn peel_one(q: &[u8; 552], truth: &[u8; 1280], c: u8, s: u8) -> Peeled
 }
 
 // Takes all state formulas off c that it joins.
-pub fn peel(q: &[u8; 552], truth: &[u8; 1280], c: u8, s: u8) -> Peeled
-    ensures { λ r. ⌜ Peels (now (q .entry)) (now (truth .entry)) c s r ⌝ }
+pub fn peel(q: &[u8; QUESTION], truth: &[u8; TRUTHS], c: u8, s: u8) -> Peeled
+    ensures value { λ r. ⌜ Peels (now (q .entry)) (now (truth .entry)) c s r ⌝ }
 {
     let mut at = c;
     let mut r = peel_one(q, truth, at, s);
@@ -67,9 +72,9 @@ pub fn peel(q: &[u8; 552], truth: &[u8; 1280], c: u8, s: u8) -> Peeled
 
 // Searches for the plan of greatest weight, or of least, as deep as condition c looks.
 pub fn searched(
-    m: &[u16; 8704],
-    q: &[u8; 552],
-    truth: &[u8; 1280],
+    m: &[u16; MODEL],
+    q: &[u8; QUESTION],
+    truth: &[u8; TRUTHS],
     scratch: &mut [u8],
     c: u8,
     s: u8,
@@ -77,7 +82,7 @@ pub fn searched(
 ) -> Found
     requires { ⌜ Given (now m) (now q) × Stands (now m) (now q) (now truth) c s ⌝ }
     requires { ⌜ (formulas.depth (formula (now q) c) ≤ 6) × (4095 ≤ length (now scratch)) ⌝ }
-    ensures { λ r. ⌜ Searched (now (m .entry)) (now (q .entry)) c s least (now (scratch .exit)) r ⌝ }
+    ensures effect { λ r. ⌜ Searched (now (m .entry)) (now (q .entry)) c s least (now (scratch .exit)) r ⌝ }
 {
     let d = depth(q, c);
     let mut nodes = [0u8; 40];
@@ -87,25 +92,26 @@ pub fn searched(
 
 // Where the best total of c in s is remembered.
 fn memo_at(c: u8, s: u8, least: bool) -> usize
-    ensures { λ r. ⌜ r ≡ memo-place c s least ⌝ }
+    ensures value { λ r. ⌜ r ≡ memo-place c s least ⌝ }
 {
     64 * c as usize + 2 * s as usize + bit(least) as usize
 }
 
 // The best total of condition c in s: remembered, or searched and remembered.
 pub fn best_value(
-    m: &[u16; 8704],
-    q: &[u8; 552],
-    truth: &[u8; 1280],
+    m: &[u16; MODEL],
+    q: &[u8; QUESTION],
+    truth: &[u8; TRUTHS],
     scratch: &mut [u8],
-    memo: &mut [u64; 2560],
+    memo: &mut [u64; BESTS],
     c: u8,
     s: u8,
     least: bool,
 ) -> u64
     requires { ⌜ Given (now m) (now q) × Stands (now m) (now q) (now truth) c s ⌝ }
     requires { ⌜ (formulas.depth (formula (now q) c) ≤ 6) × (4095 ≤ length (now scratch)) × Remembers (now m) (now q) (now memo) ⌝ }
-    ensures { λ r. ⌜ (r ≡ best-total (now (m .entry)) (now (q .entry)) c s least) × Remembers (now (m .entry)) (now (q .entry)) (now (memo .exit)) ⌝ }
+    ensures value { λ r. ⌜ r ≡ best-total (now (m .entry)) (now (q .entry)) c s least ⌝ }
+    ensures frame { λ _. ⌜ Remembers (now (m .entry)) (now (q .entry)) (now (memo .exit)) ⌝ }
 {
     let k = memo_at(c, s, least);
     let known = memo[k];

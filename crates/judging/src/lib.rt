@@ -24,10 +24,15 @@ use crate::plans::Decision;
 use crate::plans::decide;
 use crate::truth::plain_truth;
 use crate::truth::truth_table;
+use best_plan::STACK;
+use evaluation::TRUTHS;
+use limits::COUNTS;
 use limits::plan_totals;
 use plan_choices::extending::extend;
 use plan_choices::ranking::nth;
 use plan_choices::weighing::plan_weight;
+use prepared_model::MODEL;
+use prepared_question::QUESTION;
 use prepared_question::asks_equal;
 use prepared_question::count;
 use prepared_question::depth;
@@ -37,6 +42,9 @@ use prepared_question::start;
 use prepared_question::steps;
 use relevance::cone;
 use relevance::needed;
+
+// The numbers of a table of best totals: by condition and state, the greatest and the least.
+const BESTS: usize = 2560;
 
 // What judging came to. `plan`: the root is "plan" and true, and then weight, steps and count are the shown plan's; on no, count is the
 // number of all plans for "equal", else 0.
@@ -50,7 +58,7 @@ pub struct Outcome {
 
 // An outcome without a plan.
 fn plain(yes: bool, count: u32) -> Outcome
-    ensures { λ r. ⌜ r ≡ record { yes = yes; plan = false; weight = 0; steps = 0; count = count } ⌝ }
+    ensures value { λ r. ⌜ r ≡ record { yes = yes; plan = false; weight = 0; steps = 0; count = count } ⌝ }
 {
     Outcome {
         yes: yes,
@@ -63,7 +71,7 @@ fn plain(yes: bool, count: u32) -> Outcome
 
 // An outcome with a plan: yes.
 fn with_plan(weight: u64, steps: u8, count: u32) -> Outcome
-    ensures { λ r. ⌜ r ≡ record { yes = true; plan = true; weight = weight; steps = steps; count = count } ⌝ }
+    ensures value { λ r. ⌜ r ≡ record { yes = true; plan = true; weight = weight; steps = steps; count = count } ⌝ }
 {
     Outcome {
         yes: true,
@@ -75,9 +83,9 @@ fn with_plan(weight: u64, steps: u8, count: u32) -> Outcome
 }
 
 // The truth that the root in the start state turns on.
-fn root_truth(m: &[u16; 8704], q: &[u8; 552], counts: &[u64; 224]) -> [u8; 1280]
+fn root_truth(m: &[u16; MODEL], q: &[u8; QUESTION], counts: &[u64; COUNTS]) -> [u8; TRUTHS]
     requires { ⌜ Asked (now m) (now q) (now counts) ⌝ }
-    ensures { λ r. ⌜ Supplied (now (m .entry)) (now (q .entry)) r (root (now (q .entry))) (start-of (now (q .entry))) ⌝ }
+    ensures value { λ r. ⌜ Supplied (now (m .entry)) (now (q .entry)) r (root (now (q .entry))) (start-of (now (q .entry))) ⌝ }
 {
     let need = needed(m, q);
     truth_table(m, q, counts, &need)
@@ -85,9 +93,9 @@ fn root_truth(m: &[u16; 8704], q: &[u8; 552], counts: &[u64; 224]) -> [u8; 1280]
 
 // Writes the choices of the plan that a search found for node j in s, and tells of it.
 fn show(
-    m: &[u16; 8704],
-    q: &[u8; 552],
-    counts: &[u64; 224],
+    m: &[u16; MODEL],
+    q: &[u8; QUESTION],
+    counts: &[u64; COUNTS],
     scratch: &[u8],
     choices: &mut [u8],
     j: u8,
@@ -95,8 +103,11 @@ fn show(
     r: Decision,
 ) -> Outcome
     requires { ⌜ Asked (now m) (now q) (now counts) × Decided (now m) (now q) j s (now scratch) r × (r .met ≡ true) ⌝ }
-    requires { ⌜ (j < node-count (now q)) × (node-of (now q) j .operator ≡ 8) × (s < state-count (now m)) × (1365 ≤ length (now choices)) ⌝ }
-    ensures { λ x. ⌜ Announces (verdict (model-in (now (m .entry))) s (formula (now (q .entry)) j)) x (now (choices .entry)) (now (choices .exit)) ⌝ }
+    requires { ⌜
+        (j < node-count (now q)) × (node-of (now q) j .operator ≡ 8) × (s < state-count (now m)) × (1365 ≤ length (now choices)) ⌝ }
+    ensures effect { λ x.
+        let choices′ = now (choices .exit) in let m = now (m .entry) in let q = now (q .entry) in let choices = now (choices .entry) in
+        ⌜ Announces (verdict (model-in m) s (formula q j)) x choices choices′ ⌝ }
 {
     let n = steps(q, j);
     let weight = r.weight;
@@ -112,23 +123,25 @@ fn show(
 
 // The verdict on node j, a state formula, in s.
 fn at_node(
-    m: &[u16; 8704],
-    q: &[u8; 552],
-    counts: &[u64; 224],
-    truth: &[u8; 1280],
+    m: &[u16; MODEL],
+    q: &[u8; QUESTION],
+    counts: &[u64; COUNTS],
+    truth: &[u8; TRUTHS],
     choices: &mut [u8],
     j: u8,
     s: u8,
 ) -> Outcome
     requires { ⌜ Asked (now m) (now q) (now counts) × (j < node-count (now q)) × (s < state-count (now m)) ⌝ }
     requires { ⌜ Supplied (now m) (now q) (now truth) j s × (formulas.depth (formula (now q) j) ≡ 0) × (1365 ≤ length (now choices)) ⌝ }
-    ensures { λ r. ⌜ Announces (verdict (model-in (now (m .entry))) s (formula (now (q .entry)) j)) r (now (choices .entry)) (now (choices .exit)) ⌝ }
+    ensures effect { λ r.
+        let choices′ = now (choices .exit) in let m = now (m .entry) in let q = now (q .entry) in let choices = now (choices .entry) in
+        ⌜ Announces (verdict (model-in m) s (formula q j)) r choices choices′ ⌝ }
 {
     if operator(q, j) != 8 {
         let x = plain_truth(m, q, truth, j, s);
         return plain(x == 1, 0);
     }
-    let mut scratch = [0u8; 4095];
+    let mut scratch = [0u8; STACK];
     let r = decide(m, q, counts, truth, &mut scratch, j, s);
     let met = r.met;
     let place = r.place;
@@ -139,10 +152,12 @@ fn at_node(
 }
 
 // Judges a question: the verdict on its root in its start state, and the choices of a shown plan from the beginning of `choices` on.
-pub fn judged(m: &[u16; 8704], q: &[u8; 552], choices: &mut [u8]) -> Outcome
+pub fn judged(m: &[u16; MODEL], q: &[u8; QUESTION], choices: &mut [u8]) -> Outcome
     requires { ⌜ Served (now m) (now q) ⌝ }
     requires { ⌜ 1365 ≤ length (now choices) ⌝ }
-    ensures { λ r. ⌜ Announces (root-verdict (model-in (now (m .entry))) (now (q .entry))) r (now (choices .entry)) (now (choices .exit)) ⌝ }
+    ensures effect { λ r.
+        let choices′ = now (choices .exit) in let m = now (m .entry) in let q = now (q .entry) in let choices = now (choices .entry) in
+        ⌜ Announces (root-verdict (model-in m) q) r choices choices′ ⌝ }
 {
     let counts = plan_totals(m);
     let truth = root_truth(m, q, &counts);
@@ -151,10 +166,10 @@ pub fn judged(m: &[u16; 8704], q: &[u8; 552], choices: &mut [u8]) -> Outcome
 }
 
 // The total of the plan with these choices, by the tables.
-fn root_weight(m: &[u16; 8704], q: &[u8; 552], truth: &[u8; 1280], choices: &[u8]) -> u64
+fn root_weight(m: &[u16; MODEL], q: &[u8; QUESTION], truth: &[u8; TRUTHS], choices: &[u8]) -> u64
     requires { ⌜ Given (now m) (now q) ⌝ }
     requires { ⌜ Posed (now m) (now q) (now truth) (root (now q)) (start-of (now q)) ⌝ }
-    ensures { λ r. ⌜ Weighs (model-in (now (m .entry))) (now (q .entry)) (now (choices .entry)) r ⌝ }
+    ensures value { λ r. ⌜ Weighs (model-in (now (m .entry))) (now (q .entry)) (now (choices .entry)) r ⌝ }
 {
     let j = count(q) - 1;
     let mut nodes = [0u8; 40];
@@ -163,9 +178,9 @@ fn root_weight(m: &[u16; 8704], q: &[u8; 552], truth: &[u8; 1280], choices: &[u8
 }
 
 // The total of the plan with these choices, for the condition of the root, which is a "plan".
-pub fn sheet_weight(m: &[u16; 8704], q: &[u8; 552], choices: &[u8]) -> u64
+pub fn sheet_weight(m: &[u16; MODEL], q: &[u8; QUESTION], choices: &[u8]) -> u64
     requires { ⌜ Served (now m) (now q) × (node-of (now q) (root (now q)) .operator ≡ 8) ⌝ }
-    ensures { λ r. ⌜ Weighs (model-in (now (m .entry))) (now (q .entry)) (now (choices .entry)) r ⌝ }
+    ensures value { λ r. ⌜ Weighs (model-in (now (m .entry))) (now (q .entry)) (now (choices .entry)) r ⌝ }
 {
     let counts = plan_totals(m);
     let truth = root_truth(m, q, &counts);

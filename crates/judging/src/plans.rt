@@ -15,15 +15,20 @@ ghost use Rattle.judging.specs.promises.Asked.{Asked};
 ghost use Rattle.judging.specs.promises.Truth.{Told};
 ghost use Rattle.judging.specs.promises.Decided.{condition, Posed, Lengthened, Led, Placed, Decided};
 ghost use Rattle.judging.specs.promises.Conditions.{Remembers};
+use crate::BESTS;
 use crate::conditions::best_value;
 use crate::conditions::peel;
 use crate::conditions::searched;
 use bounds::exact_total;
 use bounds::meets;
 use bounds::power;
+use evaluation::TRUTHS;
 use exact_plan::first_equal;
+use limits::COUNTS;
 use limits::plans_counted;
+use prepared_model::MODEL;
 use prepared_model::denominator;
+use prepared_question::QUESTION;
 use prepared_question::asks_equal;
 use prepared_question::asks_less;
 use prepared_question::depth;
@@ -41,10 +46,10 @@ pub struct Decision {
 }
 
 // A total of the condition of node j, over as many steps as it looks ahead, as one over all steps of the node.
-fn over_all_steps(m: &[u16; 8704], q: &[u8; 552], j: u8, value: u64) -> u64
+fn over_all_steps(m: &[u16; MODEL], q: &[u8; QUESTION], j: u8, value: u64) -> u64
     requires { ⌜ Bounded (now m) (now q) j ⌝ }
     requires { ⌜ value ≤ denominator-of (now m) ^ formulas.depth (condition (now q) j) ⌝ }
-    ensures { λ r. ⌜ Lengthened (now (m .entry)) (now (q .entry)) j value r ⌝ }
+    ensures value { λ r. ⌜ Lengthened (now (m .entry)) (now (q .entry)) j value r ⌝ }
 {
     let d = depth(q, left(q, j));
     power(denominator(m), steps(q, j) - d) * value
@@ -52,16 +57,16 @@ fn over_all_steps(m: &[u16; 8704], q: &[u8; 552], j: u8, value: u64) -> u64
 
 // "less" and "greater": the plan of least or of greatest weight decides, and a search as deep as the condition looks finds it.
 fn led(
-    m: &[u16; 8704],
-    q: &[u8; 552],
-    truth: &[u8; 1280],
+    m: &[u16; MODEL],
+    q: &[u8; QUESTION],
+    truth: &[u8; TRUTHS],
     scratch: &mut [u8],
     j: u8,
     s: u8,
 ) -> Decision
     requires { ⌜ Given (now m) (now q) × Posed (now m) (now q) (now truth) j s ⌝ }
     requires { ⌜ (node-of (now q) j .right ≡ 2 → ⊥) × (4095 ≤ length (now scratch)) ⌝ }
-    ensures { λ r. ⌜ Led (now (m .entry)) (now (q .entry)) j s (now (scratch .exit)) r ⌝ }
+    ensures effect { λ r. ⌜ Led (now (m .entry)) (now (q .entry)) j s (now (scratch .exit)) r ⌝ }
 {
     let r = searched(m, q, truth, scratch, left(q, j), s, asks_less(q, j));
     let weight = over_all_steps(m, q, j, r.value);
@@ -75,17 +80,18 @@ fn led(
 
 // Whether the "plan" node j, "less" or "greater", is true in s: by what is left of its condition there, searched once.
 fn plan_led(
-    m: &[u16; 8704],
-    q: &[u8; 552],
-    truth: &[u8; 1280],
+    m: &[u16; MODEL],
+    q: &[u8; QUESTION],
+    truth: &[u8; TRUTHS],
     scratch: &mut [u8],
-    memo: &mut [u64; 2560],
+    memo: &mut [u64; BESTS],
     j: u8,
     s: u8,
 ) -> bool
     requires { ⌜ Given (now m) (now q) × Posed (now m) (now q) (now truth) j s ⌝ }
     requires { ⌜ (node-of (now q) j .right ≡ 2 → ⊥) × (4095 ≤ length (now scratch)) × Remembers (now m) (now q) (now memo) ⌝ }
-    ensures { λ r. ⌜ (r ≡ sat (model-in (now (m .entry))) (formula (now (q .entry)) j) s []) × Remembers (now (m .entry)) (now (q .entry)) (now (memo .exit)) ⌝ }
+    ensures value { λ r. ⌜ r ≡ sat (model-in (now (m .entry))) (formula (now (q .entry)) j) s [] ⌝ }
+    ensures frame { λ _. ⌜ Remembers (now (m .entry)) (now (q .entry)) (now (memo .exit)) ⌝ }
 {
     let rest = peel(q, truth, left(q, j), s);
     let c = rest.node;
@@ -99,16 +105,16 @@ fn plan_led(
 
 // "equal": the first plan decides that has the one total that meets the bound, if there is such a total.
 fn first(
-    m: &[u16; 8704],
-    q: &[u8; 552],
-    counts: &[u64; 224],
-    truth: &[u8; 1280],
+    m: &[u16; MODEL],
+    q: &[u8; QUESTION],
+    counts: &[u64; COUNTS],
+    truth: &[u8; TRUTHS],
     j: u8,
     s: u8,
 ) -> Decision
     requires { ⌜ Asked (now m) (now q) (now counts) × Posed (now m) (now q) (now truth) j s ⌝ }
     requires { ⌜ node-of (now q) j .right ≡ 2 ⌝ }
-    ensures { λ r. ⌜ Placed (now (m .entry)) (now (q .entry)) j s r ⌝ }
+    ensures value { λ r. ⌜ Placed (now (m .entry)) (now (q .entry)) j s r ⌝ }
 {
     let n = steps(q, j);
     let all = plans_counted(counts, n, s as usize) as usize;
@@ -137,17 +143,17 @@ fn first(
 
 // Decides the "plan" node j in s.
 pub fn decide(
-    m: &[u16; 8704],
-    q: &[u8; 552],
-    counts: &[u64; 224],
-    truth: &[u8; 1280],
+    m: &[u16; MODEL],
+    q: &[u8; QUESTION],
+    counts: &[u64; COUNTS],
+    truth: &[u8; TRUTHS],
     scratch: &mut [u8],
     j: u8,
     s: u8,
 ) -> Decision
     requires { ⌜ Asked (now m) (now q) (now counts) × Posed (now m) (now q) (now truth) j s ⌝ }
     requires { ⌜ (4095 ≤ length (now scratch)) ⌝ }
-    ensures { λ r. ⌜ Decided (now (m .entry)) (now (q .entry)) j s (now (scratch .exit)) r ⌝ }
+    ensures effect { λ r. ⌜ Decided (now (m .entry)) (now (q .entry)) j s (now (scratch .exit)) r ⌝ }
 {
     if asks_equal(q, j) {
         return first(m, q, counts, truth, j, s);
@@ -157,19 +163,20 @@ pub fn decide(
 
 // Whether the "plan" node j is true in s.
 pub fn plan_true(
-    m: &[u16; 8704],
-    q: &[u8; 552],
-    counts: &[u64; 224],
-    truth: &[u8; 1280],
+    m: &[u16; MODEL],
+    q: &[u8; QUESTION],
+    counts: &[u64; COUNTS],
+    truth: &[u8; TRUTHS],
     scratch: &mut [u8],
-    memo: &mut [u64; 2560],
+    memo: &mut [u64; BESTS],
     j: u8,
     s: u8,
 ) -> bool
     requires { ⌜ Asked (now m) (now q) (now counts) × (j < node-count (now q)) × (s < state-count (now m)) ⌝ }
     requires { ⌜ (node-of (now q) j .operator ≡ 8) × Told (now m) (now q) (now truth) (node-of (now q) j .left) s ⌝ }
     requires { ⌜ (4095 ≤ length (now scratch)) × Remembers (now m) (now q) (now memo) ⌝ }
-    ensures { λ r. ⌜ (r ≡ sat (model-in (now (m .entry))) (formula (now (q .entry)) j) s []) × Remembers (now (m .entry)) (now (q .entry)) (now (memo .exit)) ⌝ }
+    ensures value { λ r. ⌜ r ≡ sat (model-in (now (m .entry))) (formula (now (q .entry)) j) s [] ⌝ }
+    ensures frame { λ _. ⌜ Remembers (now (m .entry)) (now (q .entry)) (now (memo .exit)) ⌝ }
 {
     if asks_equal(q, j) {
         let r = first(m, q, counts, truth, j, s);

@@ -13,9 +13,15 @@ ghost use Rattle.relevance.specs.promises.Need.{Given, Needs};
 ghost use Rattle.judging.specs.promises.Asked.{Asked};
 ghost use Rattle.judging.specs.promises.Truth.{Supplied, Right};
 ghost use Rattle.judging.specs.promises.Conditions.{Remembers};
+use crate::BESTS;
 use crate::plans::plan_true;
+use best_plan::STACK;
+use evaluation::TRUTHS;
 use evaluation::bit;
+use limits::COUNTS;
+use prepared_model::MODEL;
 use prepared_model::holds;
+use prepared_question::QUESTION;
 use prepared_question::count;
 use prepared_question::left;
 use prepared_question::operator;
@@ -23,18 +29,20 @@ use prepared_question::right;
 use relevance::place;
 
 // The truth of node j in s, as it was found.
-fn found(truth: &[u8; 1280], j: u8, s: u8) -> u8
+fn found(truth: &[u8; TRUTHS], j: u8, s: u8) -> u8
     requires { ⌜ (j < 40) × (s < 32) ⌝ }
-    ensures { λ r. ⌜ r ≡ getD (now (truth .entry)) (32 * j + s) 0 ⌝ }
+    ensures value { λ r. ⌜ r ≡ getD (now (truth .entry)) (32 * j + s) 0 ⌝ }
 {
     truth[32 * j as usize + s as usize]
 }
 
 // The truth of node j, which is no "plan", in s, from that of its children; of a path formula, nothing is said.
-pub fn plain_truth(m: &[u16; 8704], q: &[u8; 552], truth: &[u8; 1280], j: u8, s: u8) -> u8
+pub fn plain_truth(m: &[u16; MODEL], q: &[u8; QUESTION], truth: &[u8; TRUTHS], j: u8, s: u8) -> u8
     requires { ⌜ Given (now m) (now q) × (j < question.node-count (now q)) × (s < state-count (now m)) ⌝ }
     requires { ⌜ Supplied (now m) (now q) (now truth) j s × (question.node-of (now q) j .operator ≡ 8 → ⊥) ⌝ }
-    ensures { λ r. ⌜ (depth (formula (now (q .entry)) j) ≡ 0 → r ≡ value-of (model-in (now (m .entry))) (formula (now (q .entry)) j) s []) ⌝ }
+    ensures value { λ r.
+        let q = now (q .entry) in let m = now (m .entry) in
+        ⌜ (depth (formula q j) ≡ 0 → r ≡ value-of (model-in m) (formula q j) s []) ⌝ }
 {
     let op = operator(q, j);
     match op {
@@ -47,18 +55,21 @@ pub fn plain_truth(m: &[u16; 8704], q: &[u8; 552], truth: &[u8; 1280], j: u8, s:
 
 // The truth of node j in s.
 fn truth_at(
-    m: &[u16; 8704],
-    q: &[u8; 552],
-    counts: &[u64; 224],
-    truth: &[u8; 1280],
+    m: &[u16; MODEL],
+    q: &[u8; QUESTION],
+    counts: &[u64; COUNTS],
+    truth: &[u8; TRUTHS],
     scratch: &mut [u8],
-    memo: &mut [u64; 2560],
+    memo: &mut [u64; BESTS],
     j: u8,
     s: u8,
 ) -> u8
     requires { ⌜ Asked (now m) (now q) (now counts) × (j < question.node-count (now q)) × (s < state-count (now m)) ⌝ }
     requires { ⌜ Supplied (now m) (now q) (now truth) j s × (4095 ≤ length (now scratch)) × Remembers (now m) (now q) (now memo) ⌝ }
-    ensures { λ r. ⌜ (depth (formula (now (q .entry)) j) ≡ 0 → r ≡ value-of (model-in (now (m .entry))) (formula (now (q .entry)) j) s []) × Remembers (now (m .entry)) (now (q .entry)) (now (memo .exit)) ⌝ }
+    ensures value { λ r.
+        let q = now (q .entry) in let m = now (m .entry) in
+        ⌜ (depth (formula q j) ≡ 0 → r ≡ value-of (model-in m) (formula q j) s []) ⌝ }
+    ensures frame { λ _. ⌜ Remembers (now (m .entry)) (now (q .entry)) (now (memo .exit)) ⌝ }
 {
     if operator(q, j) == 8 {
         return bit(plan_true(m, q, counts, truth, scratch, memo, j, s));
@@ -68,18 +79,23 @@ fn truth_at(
 
 // The truth at a place of the table, if it is needed.
 fn truth_if(
-    m: &[u16; 8704],
-    q: &[u8; 552],
-    counts: &[u64; 224],
-    need: &[u8; 1280],
-    truth: &[u8; 1280],
+    m: &[u16; MODEL],
+    q: &[u8; QUESTION],
+    counts: &[u64; COUNTS],
+    need: &[u8; TRUTHS],
+    truth: &[u8; TRUTHS],
     scratch: &mut [u8],
-    memo: &mut [u64; 2560],
+    memo: &mut [u64; BESTS],
     k: usize,
 ) -> u8
     requires { ⌜ Asked (now m) (now q) (now counts) × (k < 32 * question.node-count (now q)) ⌝ }
-    requires { ⌜ Needs (now m) (now q) (now need) × Right (now m) (now q) (now need) (now truth) k × (4095 ≤ length (now scratch)) × Remembers (now m) (now q) (now memo) ⌝ }
-    ensures { λ r. ⌜ (getD (now (need .entry)) k 0 ≡ 1 → depth (formula (now (q .entry)) (k / 32)) ≡ 0 → r ≡ value-of (model-in (now (m .entry))) (formula (now (q .entry)) (k / 32)) (k % 32) []) × Remembers (now (m .entry)) (now (q .entry)) (now (memo .exit)) ⌝ }
+    requires { ⌜
+        Needs (now m) (now q) (now need) × Right (now m) (now q) (now need) (now truth) k × (4095 ≤ length (now scratch))
+        × Remembers (now m) (now q) (now memo) ⌝ }
+    ensures value { λ r.
+        let need = now (need .entry) in let q = now (q .entry) in let m = now (m .entry) in
+        ⌜ (getD need k 0 ≡ 1 → depth (formula q (k / 32)) ≡ 0 → r ≡ value-of (model-in m) (formula q (k / 32)) (k % 32) []) ⌝ }
+    ensures frame { λ _. ⌜ Remembers (now (m .entry)) (now (q .entry)) (now (memo .exit)) ⌝ }
 {
     if need[k] != 1 {
         return 0;
@@ -98,18 +114,20 @@ fn truth_if(
 
 // The truth of all nodes before the root, where it is needed.
 pub fn truth_table(
-    m: &[u16; 8704],
-    q: &[u8; 552],
-    counts: &[u64; 224],
-    need: &[u8; 1280],
-) -> [u8; 1280]
+    m: &[u16; MODEL],
+    q: &[u8; QUESTION],
+    counts: &[u64; COUNTS],
+    need: &[u8; TRUTHS],
+) -> [u8; TRUTHS]
     requires { ⌜ Asked (now m) (now q) (now counts) × Needs (now m) (now q) (now need) ⌝ }
-    ensures { λ r. ⌜ Right (now (m .entry)) (now (q .entry)) (now (need .entry)) r (32 * (question.node-count (now (q .entry)) - 1)) ⌝ }
+    ensures value { λ r.
+        let m = now (m .entry) in let q = now (q .entry) in let need = now (need .entry) in
+        ⌜ Right m q need r (32 * (question.node-count q - 1)) ⌝ }
 {
     let end = place(count(q) - 1, 0);
-    let mut scratch = [0u8; 4095];
-    let mut memo = [0u64; 2560];
-    let mut truth = [0u8; 1280];
+    let mut scratch = [0u8; STACK];
+    let mut memo = [0u64; BESTS];
+    let mut truth = [0u8; TRUTHS];
     let mut k: usize = 0;
     while k < end {
         let x = truth_if(m, q, counts, need, &truth, &mut scratch, &mut memo, k);

@@ -1,44 +1,22 @@
 -- Marks are only added, and a node passes its mark on to children, which stand earlier in the cone. So on the way from the cone's last place
 -- to its first, a marked node has passed its mark on or still stands ahead, also one that the cone lists more than once.
-use Prim.Native.Nat.{ℕ, suc, _-_, _≤_, _<_}
+use Prim.Native.Nat.{ℕ, suc, _-_, _<_}
 use native.Mathlib.Omega.{arith}
-use native.Mathlib.Decide.{decLt, ℕ-discrete}
+use native.Mathlib.Decide.{ℕ-discrete}
 use mathlib.Core.Path.{_≡_, refl, sym, ap, subst, _∙_}
 use mathlib.Core.Logic.{_⊎_, inl, inr, ⊎-elim}
 use mathlib.Core.Bool.{true}
 use mathlib.Core.List.{List}
-use lib.ListN.{getD, length, set, length-set, replicate, length-replicate, getD-replicate, List·getD-eq-default}
-use lib.Seq.{getD-set-same, getD-set-other}
+use lib.ListN.{getD, length, set, length-set, length-replicate}
+use lib.Seq.{getD-set-same}
 use Rattle.logic.specs.Formula.{Node, depth}
 use Rattle.blocks.specs.Bytes.{Bytes}
 use Rattle.questions.specs.Layout.{node-of}
 use Rattle.prepared_question.specs.promises.Nodes.{formula, depth-in, reads-left}
 use Rattle.evaluation.specs.promises.Reached.{Earlier, Cone, root-of}
-use Rattle.last_step.specs.promises.Late.{Passed-on, Late, Turns-on, Grown, Placed, Deep}
-
--- ---- marks added
-
-pub grown-none : (P : ℕ → Type 0) (l : List ℕ) → Grown P l l
-grown-none P l = record { size = refl; stays = λ k e. e; new = λ k e. inl e }
-
-grown-mark : (P : ℕ → Type 0) (l : List ℕ) (x : ℕ) → x < length l → P x → Grown P l (set l x 1)
-grown-mark P l x z h = record { size = length-set l x 1; stays = λ k e. kept k e (ℕ-discrete k x); new = λ k e. made k e (ℕ-discrete k x) }
-  where
-    kept : (k : ℕ) → getD l k 0 ≡ 1 → Dec (k ≡ x) → getD (set l x 1) k 0 ≡ 1
-    kept k e (yes p) = ap (λ y. getD (set l x 1) y 0) p ∙ getD-set-same l x 1 0 z
-    kept k e (no n) = getD-set-other l x k 1 0 n ∙ e
-
-    made : (k : ℕ) → getD (set l x 1) k 0 ≡ 1 → Dec (k ≡ x) → (getD l k 0 ≡ 1) ⊎ P k
-    made k e (yes p) = inr (subst P (sym p) h)
-    made k e (no n) = inl (sym (getD-set-other l x k 1 0 n) ∙ e)
-
-grown-then : (P Q R : ℕ → Type 0) {x y z : List ℕ} → ((k : ℕ) → P k → R k) → ((k : ℕ) → Q k → R k) → Grown P x y → Grown Q y z → Grown R x z
-grown-then P Q R f g p q =
-    record {
-      size = q .size ∙ p .size;
-      stays = λ k e. q .stays k (p .stays k e);
-      new = λ k e. ⊎-elim (λ w. ⊎-elim (λ u. inl u) (λ v. inr (f k v)) (p .new k w)) (λ v. inr (g k v)) (q .new k e);
-    }
+use Rattle.prepared_question.specs.promises.Marks.{Grown}
+use Rattle.last_step.specs.promises.Late.{Passed-on, Late, Turns-on, Placed, Deep}
+use Rattle.prepared_question.proofs.Marks.{blank, grown-mark, grown-none, grown-then, one-only, one-there}
 
 -- ---- one node
 
@@ -124,16 +102,6 @@ pub record Passing (q : Bytes) (cone marks : List ℕ) (i : ℕ) : Type 0 where
   pub root : getD marks (root-of cone) 0 ≡ 1
   pub closed : (k : ℕ) → getD marks k 0 ≡ 1 → Passed-on q marks k ⊎ Earlier cone i k
 
-abbrev blank : List ℕ
-blank = replicate {A = ℕ} 40 0
-
-blank-unmarked : (k : ℕ) → getD blank k 0 ≡ 1 → ⊥
-blank-unmarked k e = go (decLt k 40)
-  where
-    go : Dec (k < 40) → ⊥
-    go (yes l) = omega (arith, e, getD-replicate {A = ℕ} 40 k 0 0 l)
-    go (no l) = omega (arith, e, List·getD-eq-default blank 0 (subst (λ n. n ≤ k) (sym (length-replicate {A = ℕ} 40 0)) (omega arith)))
-
 module _ {q : Bytes} {cone : List ℕ} (w : Deep q × Cone q cone) where
   abbrev ordered : Cone q cone
   ordered = w .1
@@ -158,14 +126,12 @@ module _ {q : Bytes} {cone : List ℕ} (w : Deep q × Cone q cone) where
   pub root-node : root-of cone < 40
   root-node = cone-node (length cone - 1) (omega (arith, ordered .some))
 
-  pub passing-start : Passing q cone (set blank (root-of cone) 1) (length cone)
+  pub passing-start : Passing q cone (set (blank 40) (root-of cone) 1) (length cone)
   passing-start =
-      let h : root-of cone < length blank = subst (λ n. root-of cone < n) (sym (length-replicate {A = ℕ} 40 0)) root-node in
-      let g = grown-mark (λ k. k ≡ root-of cone) blank (root-of cone) h refl in
       record {
-        size = length-set blank (root-of cone) 1 ∙ length-replicate {A = ℕ} 40 0;
-        root = getD-set-same blank (root-of cone) 1 0 h;
-        closed = λ k e. ⊎-elim (λ w. absurd (blank-unmarked k w)) (λ w. inr (length cone - 1, omega (arith, ordered .some), sym w)) (g .new k e);
+        size = length-set (blank 40) (root-of cone) 1 ∙ length-replicate {A = ℕ} 40 0;
+        root = one-there 40 (root-of cone) root-node;
+        closed = λ k e. inr (length cone - 1, omega (arith, ordered .some), sym (one-only 40 (root-of cone) root-node k e));
       }
 
   turned-earlier : (i k : ℕ) → i < length cone → Turns-on q (getD cone i 0) k → Earlier cone i k

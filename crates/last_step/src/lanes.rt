@@ -17,6 +17,7 @@ ghost use Rattle.prepared_model.specs.promises.Rows.{choices-in, choice-in, out
 ghost use Rattle.last_step.specs.promises.Lanes.{Lanes, Laned};
 use blocks::byte;
 use evaluation::related;
+use prepared_model::MODEL;
 use prepared_model::choice;
 use prepared_model::choices;
 use prepared_model::lane_reward;
@@ -26,7 +27,7 @@ use prepared_model::sum;
 // A word with one lane more, the lowest.
 fn pushed(x: u32, t: bool) -> u32
     requires { ⌜ x < 2147483648 ⌝ }
-    ensures { λ r. ⌜ r ≡ 2 * x + one-if t ⌝ }
+    ensures value { λ r. ⌜ r ≡ 2 * x + one-if t ⌝ }
 {
     if t {
         return 2 * x + 1;
@@ -37,9 +38,11 @@ fn pushed(x: u32, t: bool) -> u32
 // ---- words made lane by lane
 
 // Of a state formula, node j: whether it is true in each outcome's target.
-pub fn told(m: &[u16; 8704], truth: &[u8], s: usize, j: u8) -> u32
+pub fn told(m: &[u16; MODEL], truth: &[u8], s: usize, j: u8) -> u32
     requires { ⌜ Prepared (now m) × (s < state-count (now m)) ⌝ }
-    ensures { λ r. ⌜ Laned (now (m .entry)) s (λ i o. one-if (not (eqb (bytes.byte (now (truth .entry)) (32 * j + (step-in (now (m .entry)) s i o) .target)) 0))) r ⌝ }
+    ensures value { λ r.
+        let m = now (m .entry) in let truth = now (truth .entry) in
+        ⌜ Laned m s (λ i o. one-if (not (eqb (bytes.byte truth (32 * j + (step-in m s i o) .target)) 0))) r ⌝ }
 {
     let mut x: u32 = 0;
     let mut k = 4 * choices(m, s);
@@ -52,9 +55,9 @@ pub fn told(m: &[u16; 8704], truth: &[u8], s: usize, j: u8) -> u32
 }
 
 // Of "do": whether an outcome is one of the action a.
-pub fn done(m: &[u16; 8704], s: usize, a: u8) -> u32
+pub fn done(m: &[u16; MODEL], s: usize, a: u8) -> u32
     requires { ⌜ Prepared (now m) × (s < state-count (now m)) ⌝ }
-    ensures { λ r. ⌜ Laned (now (m .entry)) s (λ i o. one-if (eqb (choice-in (now (m .entry)) s i) a)) r ⌝ }
+    ensures value { λ r. ⌜ Laned (now (m .entry)) s (λ i o. one-if (eqb (choice-in (now (m .entry)) s i) a)) r ⌝ }
 {
     let mut x: u32 = 0;
     let mut k = 4 * choices(m, s);
@@ -66,9 +69,11 @@ pub fn done(m: &[u16; 8704], s: usize, a: u8) -> u32
 }
 
 // Of "gain": whether the rewards since its place, the outcome's among them, stand in the relation to its bound.
-pub fn gained(m: &[u16; 8704], s: usize, kind: u8, after: i32, before: i32, bound: i32) -> u32
+pub fn gained(m: &[u16; MODEL], s: usize, kind: u8, after: i32, before: i32, bound: i32) -> u32
     requires { ⌜ Prepared (now m) × (s < state-count (now m)) ⌝ }
-    ensures { λ r. ⌜ Laned (now (m .entry)) s (λ i o. one-if (quantity.related integers (relation kind) ((after -ℤ before) +ℤ (step-in (now (m .entry)) s i o) .reward) bound)) r ⌝ }
+    ensures value { λ r.
+        let m = now (m .entry) in
+        ⌜ Laned m s (λ i o. one-if (quantity.related integers (relation kind) ((after -ℤ before) +ℤ (step-in m s i o) .reward) bound)) r ⌝ }
 {
     let gain = after as i64 - before as i64;
     let mut x: u32 = 0;
@@ -87,7 +92,7 @@ pub fn gained(m: &[u16; 8704], s: usize, kind: u8, after: i32, before: i32, boun
 
 // The same value in all lanes.
 pub fn spread(t: u8) -> u32
-    ensures { λ r. ⌜ Lanes (λ _. one-if (not (eqb t 0))) r ⌝ }
+    ensures value { λ r. ⌜ Lanes (λ _. one-if (not (eqb t 0))) r ⌝ }
 {
     if t == 0 {
         return 0;
@@ -97,14 +102,14 @@ pub fn spread(t: u8) -> u32
 
 // Of "not".
 pub fn flipped(x: u32) -> u32
-    ensures { λ r. ⌜ Lanes (λ i. one-if (eqb (lane x i) 0)) r ⌝ }
+    ensures value { λ r. ⌜ Lanes (λ i. one-if (eqb (lane x i) 0)) r ⌝ }
 {
     x ^ 4294967295
 }
 
 // Of "and".
 pub fn met(x: u32, y: u32) -> u32
-    ensures { λ r. ⌜ Lanes (λ i. bitAnd (lane x i) (lane y i)) r ⌝ }
+    ensures value { λ r. ⌜ Lanes (λ i. bitAnd (lane x i) (lane y i)) r ⌝ }
 {
     x & y
 }
@@ -112,9 +117,11 @@ pub fn met(x: u32, y: u32) -> u32
 // ---- what the lanes weigh
 
 // The weights of the outcomes of the choice at place i whose lanes are 1, summed.
-pub fn total(m: &[u16; 8704], x: u32, s: usize, i: usize) -> u64
+pub fn total(m: &[u16; MODEL], x: u32, s: usize, i: usize) -> u64
     requires { ⌜ Prepared (now m) × (s < state-count (now m)) × (i < choices-in (now m) s) ⌝ }
-    ensures { λ r. ⌜ r ≡ sum-below (outcomes-in (now (m .entry)) s i) (λ o. (step-in (now (m .entry)) s i o) .weight * lane x (4 * i + o)) ⌝ }
+    ensures value { λ r.
+        let m = now (m .entry) in
+        ⌜ r ≡ sum-below (outcomes-in m s i) (λ o. (step-in m s i o) .weight * lane x (4 * i + o)) ⌝ }
 {
     let y = (x >> (4 * i as u32)) % 16;
     sum(m, s, i, y as usize)

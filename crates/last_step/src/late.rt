@@ -4,7 +4,9 @@ ghost use Prim.Native.Nat.{_<_};
 ghost use lib.ListN.{length, getD, set};
 ghost use Rattle.prepared_question.specs.promises.Nodes.{depth-in};
 ghost use Rattle.evaluation.specs.promises.Reached.{Cone};
-ghost use Rattle.last_step.specs.promises.Late.{Passed-on, Late, Turns-on, Grown, Placed, Deep};
+ghost use Rattle.prepared_question.specs.promises.Marks.{Grown};
+ghost use Rattle.last_step.specs.promises.Late.{Passed-on, Late, Turns-on, Placed, Deep};
+use prepared_question::QUESTION;
 use prepared_question::depth;
 use prepared_question::left;
 use prepared_question::operator;
@@ -14,16 +16,18 @@ use prepared_question::right;
 
 fn mark(marks: &mut [u8; 40], j: u8)
     requires { ⌜ j < 40 ⌝ }
-    ensures { λ _. ⌜ now (marks .exit) ≡ set (now (marks .entry)) j 1 ⌝ }
+    ensures frame { λ _. ⌜ now (marks .exit) ≡ set (now (marks .entry)) j 1 ⌝ }
 {
     let at = j as usize;
     marks[at] = 1;
 }
 
 // Marks a child of a node of depth d, if it looks as far ahead.
-fn mark_level(q: &[u8; 552], marks: &mut [u8; 40], d: u8, child: u8)
+fn mark_level(q: &[u8; QUESTION], marks: &mut [u8; 40], d: u8, child: u8)
     requires { ⌜ (child < 40) × (length (now marks) ≡ 40) ⌝ }
-    ensures { λ _. ⌜ Grown (λ k. (k ≡ child) × (depth-in (now (q .entry)) child ≡ d)) (now (marks .entry)) (now (marks .exit)) × (depth-in (now (q .entry)) child ≡ d → getD (now (marks .exit)) child 0 ≡ 1) ⌝ }
+    ensures frame { λ _.
+        let marks′ = now (marks .exit) in let q = now (q .entry) in let marks = now (marks .entry) in
+        ⌜ Grown (λ k. (k ≡ child) × (depth-in q child ≡ d)) marks marks′ × (depth-in q child ≡ d → getD marks′ child 0 ≡ 1) ⌝ }
 {
     if depth(q, child) == d {
         mark(marks, child);
@@ -31,9 +35,11 @@ fn mark_level(q: &[u8; 552], marks: &mut [u8; 40], d: u8, child: u8)
 }
 
 // Marks the children of node j whose values become known with the same step, if j is marked and no state formula.
-fn pass_on(q: &[u8; 552], marks: &mut [u8; 40], j: u8)
+fn pass_on(q: &[u8; QUESTION], marks: &mut [u8; 40], j: u8)
     requires { ⌜ Placed (now q) j × (length (now marks) ≡ 40) ⌝ }
-    ensures { λ _. ⌜ Grown (Turns-on (now (q .entry)) j) (now (marks .entry)) (now (marks .exit)) × (getD (now (marks .entry)) j 0 ≡ 1 → Passed-on (now (q .entry)) (now (marks .exit)) j) ⌝ }
+    ensures frame { λ _.
+        let marks′ = now (marks .exit) in let q = now (q .entry) in let marks = now (marks .entry) in
+        ⌜ Grown (Turns-on q j) marks marks′ × (getD marks j 0 ≡ 1 → Passed-on q marks′ j) ⌝ }
 {
     let at = j as usize;
     if marks[at] != 1 {
@@ -55,9 +61,9 @@ fn pass_on(q: &[u8; 552], marks: &mut [u8; 40], j: u8)
 }
 
 // Marks from the condition downwards: children stand before their parents.
-pub fn late(q: &[u8; 552], cone: &[u8]) -> [u8; 40]
+pub fn late(q: &[u8; QUESTION], cone: &[u8]) -> [u8; 40]
     requires { ⌜ Deep (now q) × Cone (now q) (now cone) ⌝ }
-    ensures { λ r. ⌜ Late (now (q .entry)) (now (cone .entry)) r ⌝ }
+    ensures value { λ r. ⌜ Late (now (q .entry)) (now (cone .entry)) r ⌝ }
 {
     let mut marks = [0u8; 40];
     let root = cone[cone.len() - 1] as usize;

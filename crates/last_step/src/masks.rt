@@ -9,9 +9,15 @@ use crate::lanes::gained;
 use crate::lanes::met;
 use crate::lanes::spread;
 use crate::lanes::told;
+use evaluation::PLACES;
 use evaluation::Place;
+use evaluation::STEPS;
+use evaluation::TRUTHS;
+use evaluation::VALUES;
 use evaluation::gain_at;
 use evaluation::known;
+use prepared_model::MODEL;
+use prepared_question::QUESTION;
 use prepared_question::bound;
 use prepared_question::depth;
 use prepared_question::left;
@@ -21,16 +27,16 @@ use prepared_question::right;
 // The word of node j.
 fn mask_at(masks: &[u32; 40], j: u8) -> u32
     requires { ⌜ j < 40 ⌝ }
-    ensures { λ r. ⌜ r ≡ getD (now (masks .entry)) j 0 ⌝ }
+    ensures value { λ r. ⌜ r ≡ getD (now (masks .entry)) j 0 ⌝ }
 {
     let i = j as usize;
     masks[i]
 }
 
 // The word of a child of "and", at place k: its own if it looks as far ahead, d steps, else its value, which was known before the last step.
-fn part(q: &[u8; 552], v: &[u8; 280], masks: &[u32; 40], d: u8, k: u8, child: u8) -> u32
+fn part(q: &[u8; QUESTION], v: &[u8; VALUES], masks: &[u32; 40], d: u8, k: u8, child: u8) -> u32
     requires { ⌜ child < 40 ⌝ }
-    ensures { λ r. ⌜ Part (now (q .entry)) (now (v .entry)) (now (masks .entry)) d k child r ⌝ }
+    ensures value { λ r. ⌜ Part (now (q .entry)) (now (v .entry)) (now (masks .entry)) d k child r ⌝ }
 {
     if depth(q, child) == d {
         return mask_at(masks, child);
@@ -40,21 +46,26 @@ fn part(q: &[u8; 552], v: &[u8; 280], masks: &[u32; 40], d: u8, k: u8, child: u8
 
 // The word of the node at place i of the cone: each arm has its operator's meaning.
 fn mask_node(
-    m: &[u16; 8704],
-    q: &[u8; 552],
-    truth: &[u8; 1280],
+    m: &[u16; MODEL],
+    q: &[u8; QUESTION],
+    truth: &[u8; TRUTHS],
     cone: &[u8],
     late: &[u8; 40],
-    trail: &[u16; 6],
-    gains: &[i32; 7],
-    v: &[u8; 280],
+    trail: &[u16; STEPS],
+    gains: &[i32; PLACES],
+    v: &[u8; VALUES],
     masks: &[u32; 40],
     at: Place,
     i: usize,
 ) -> u32
-    requires { ⌜ Before-last (now m) (now q) (at .start) (now truth) (now cone) (now late) (now trail) (now gains) (now v) (at .h) (at .s) ⌝ }
-    requires { ⌜ Masked (now m) (now q) (at .start) (now cone) (now late) (take (at .h) (now trail)) (at .s) i (now masks) × (i < length (now cone)) × (getD (now cone) i 0 < 40) × (getD (now late) (getD (now cone) i 0) 0 ≡ 1) ⌝ }
-    ensures { λ r. ⌜ Worded (now (m .entry)) (now (q .entry)) (at .start) (now (cone .entry)) (take (at .h) (now (trail .entry))) (at .s) (getD (now (cone .entry)) i 0) r ⌝ }
+    requires { ⌜
+        Before-last (now m) (now q) (at .start) (now truth) (now cone) (now late) (now trail) (now gains) (now v) (at .h) (at .s) ⌝ }
+    requires { ⌜
+        Masked (now m) (now q) (at .start) (now cone) (now late) (take (at .h) (now trail)) (at .s) i (now masks) × (i < length (now cone))
+        × (getD (now cone) i 0 < 40) × (getD (now late) (getD (now cone) i 0) 0 ≡ 1) ⌝ }
+    ensures value { λ r.
+        let m = now (m .entry) in let q = now (q .entry) in let cone = now (cone .entry) in let trail = now (trail .entry) in
+        ⌜ Worded m q (at .start) cone (take (at .h) trail) (at .s) (getD cone i 0) r ⌝ }
 {
     let j = cone[i];
     let d = depth(q, j);
@@ -90,18 +101,21 @@ fn mask_node(
 
 // The condition's word: its value on the path that each outcome of the state reached ends.
 pub fn mask(
-    m: &[u16; 8704],
-    q: &[u8; 552],
-    truth: &[u8; 1280],
+    m: &[u16; MODEL],
+    q: &[u8; QUESTION],
+    truth: &[u8; TRUTHS],
     cone: &[u8],
     late: &[u8; 40],
-    trail: &[u16; 6],
-    gains: &[i32; 7],
-    v: &[u8; 280],
+    trail: &[u16; STEPS],
+    gains: &[i32; PLACES],
+    v: &[u8; VALUES],
     at: Place,
 ) -> u32
-    requires { ⌜ Before-last (now m) (now q) (at .start) (now truth) (now cone) (now late) (now trail) (now gains) (now v) (at .h) (at .s) ⌝ }
-    ensures { λ r. ⌜ Ended (now (m .entry)) (now (q .entry)) (at .start) (now (cone .entry)) (take (at .h) (now (trail .entry))) (at .s) r ⌝ }
+    requires { ⌜
+        Before-last (now m) (now q) (at .start) (now truth) (now cone) (now late) (now trail) (now gains) (now v) (at .h) (at .s) ⌝ }
+    ensures value { λ r.
+        let m = now (m .entry) in let q = now (q .entry) in let cone = now (cone .entry) in let trail = now (trail .entry) in
+        ⌜ Ended m q (at .start) cone (take (at .h) trail) (at .s) r ⌝ }
 {
     let mut masks = [0u32; 40];
     let mut i: usize = 0;

@@ -15,20 +15,25 @@ ghost use Rattle.questions.specs.promises.Formed.{Compares};
 ghost use Rattle.prepared_question.specs.promises.Nodes.{Nodes};
 ghost use Rattle.limits.specs.promises.Totals.{gather, step-total, Totals, fits, node-fits};
 ghost use Rattle.limits.specs.promises.Totals as spec;
+use prepared_model::MODEL;
+use prepared_question::QUESTION;
 use prepared_question::asks_equal;
 use prepared_question::operator;
 use prepared_question::steps;
 
+// The numbers of a table of totals: for 0 to 6 steps, from each of 32 states.
+pub const COUNTS: usize = 224;
+
 // The most that is served: plans, or else paths.
 fn limit(plans: bool) -> u64
-    ensures { λ r. ⌜ r ≡ spec.limit plans ⌝ }
+    ensures value { λ r. ⌜ r ≡ spec.limit plans ⌝ }
 {
     if plans { 65536 } else { 1000000 }
 }
 
 // x, counted up to the cap.
 fn capped(plans: bool, x: u64) -> u64
-    ensures { λ r. ⌜ r ≡ min (spec.cap plans) x ⌝ }
+    ensures value { λ r. ⌜ r ≡ min (spec.cap plans) x ⌝ }
 {
     let cap = limit(plans) + 1;
     if x < cap { x } else { cap }
@@ -36,7 +41,7 @@ fn capped(plans: bool, x: u64) -> u64
 
 // The total of no outcomes.
 fn none(plans: bool) -> u64
-    ensures { λ r. ⌜ r ≡ spec.none plans ⌝ }
+    ensures value { λ r. ⌜ r ≡ spec.none plans ⌝ }
 {
     if plans { 1 } else { 0 }
 }
@@ -44,7 +49,7 @@ fn none(plans: bool) -> u64
 // The totals of two outcomes together.
 fn joined(plans: bool, x: u64, y: u64) -> u64
     requires { ⌜ (x ≤ 1000001) × (y ≤ 1000001) ⌝ }
-    ensures { λ r. ⌜ r ≡ min (spec.cap plans) (spec.joined plans x y) ⌝ }
+    ensures value { λ r. ⌜ r ≡ min (spec.cap plans) (spec.joined plans x y) ⌝ }
 {
     if plans {
         return capped(plans, x * y);
@@ -54,16 +59,18 @@ fn joined(plans: bool, x: u64, y: u64) -> u64
 
 // The total below choice i, from the totals of the states that stand in the table from `at` on.
 fn choice_total(
-    m: &[u16; 8704],
+    m: &[u16; MODEL],
     plans: bool,
-    table: &[u64; 224],
+    table: &[u64; COUNTS],
     at: usize,
     s: usize,
     i: usize,
 ) -> u64
     requires { ⌜ Prepared (now m) × (at + 32 ≤ 224) × (s < state-count (now m)) × (i < choices-in (now m) s) ⌝ }
     requires { ⌜ ((k : ℕ) → getD (now table) k 0 ≤ spec.cap plans) ⌝ }
-    ensures { λ r. ⌜ r ≡ min (spec.cap plans) (gather plans (λ o. getD (now (table .entry)) (at + o .target) 0) (outcomes (model-in (now (m .entry))) s (choice-in (now (m .entry)) s i))) ⌝ }
+    ensures value { λ r.
+        let table = now (table .entry) in let m = now (m .entry) in
+        ⌜ r ≡ min (spec.cap plans) (gather plans (λ o. getD table (at + o .target) 0) (outcomes (model-in m) s (choice-in m s i))) ⌝ }
 {
     let count = prepared_model::outcomes(m, s, i);
     let mut total = none(plans);
@@ -77,10 +84,12 @@ fn choice_total(
 }
 
 // The total of a state, from those of the states after a step.
-fn state_total(m: &[u16; 8704], plans: bool, table: &[u64; 224], at: usize, s: usize) -> u64
+fn state_total(m: &[u16; MODEL], plans: bool, table: &[u64; COUNTS], at: usize, s: usize) -> u64
     requires { ⌜ Prepared (now m) × (at + 32 ≤ 224) × (s < state-count (now m)) ⌝ }
     requires { ⌜ ((k : ℕ) → getD (now table) k 0 ≤ spec.cap plans) ⌝ }
-    ensures { λ r. ⌜ r ≡ min (spec.cap plans) (step-total plans (model-in (now (m .entry))) (λ t. getD (now (table .entry)) (at + t) 0) s) ⌝ }
+    ensures value { λ r.
+        let m = now (m .entry) in let table = now (table .entry) in
+        ⌜ r ≡ min (spec.cap plans) (step-total plans (model-in m) (λ t. getD table (at + t) 0) s) ⌝ }
 {
     let n = prepared_model::choices(m, s);
     let mut total: u64 = 0;
@@ -93,12 +102,12 @@ fn state_total(m: &[u16; 8704], plans: bool, table: &[u64; 224], at: usize, s: u
 }
 
 // The totals of 0 to 6 steps from each state: those of k / 32 steps from the state k % 32 stand at k.
-fn totals(m: &[u16; 8704], plans: bool) -> [u64; 224]
+fn totals(m: &[u16; MODEL], plans: bool) -> [u64; COUNTS]
     requires { ⌜ Prepared (now m) ⌝ }
-    ensures { λ r. ⌜ Totals plans (model-in (now (m .entry))) r ⌝ }
+    ensures value { λ r. ⌜ Totals plans (model-in (now (m .entry))) r ⌝ }
 {
     let states = prepared_model::states(m);
-    let mut table = [1u64; 224];
+    let mut table = [1u64; COUNTS];
     let mut k: usize = 32;
     while k < 224 {
         if k % 32 < states {
@@ -110,25 +119,25 @@ fn totals(m: &[u16; 8704], plans: bool) -> [u64; 224]
 }
 
 // The numbers of plans, for those who count them.
-pub fn plan_totals(m: &[u16; 8704]) -> [u64; 224]
+pub fn plan_totals(m: &[u16; MODEL]) -> [u64; COUNTS]
     requires { ⌜ Prepared (now m) ⌝ }
-    ensures { λ r. ⌜ Totals true (model-in (now (m .entry))) r ⌝ }
+    ensures value { λ r. ⌜ Totals true (model-in (now (m .entry))) r ⌝ }
 {
     totals(m, true)
 }
 
 // How many plans of n steps there are from s, by that table.
-pub fn plans_counted(counts: &[u64; 224], n: u8, s: usize) -> u64
+pub fn plans_counted(counts: &[u64; COUNTS], n: u8, s: usize) -> u64
     requires { ⌜ (n ≤ 6) × (s < 32) ⌝ }
-    ensures { λ r. ⌜ r ≡ getD (now (counts .entry)) (32 * n + s) 0 ⌝ }
+    ensures value { λ r. ⌜ r ≡ getD (now (counts .entry)) (32 * n + s) 0 ⌝ }
 {
     counts[32 * n as usize + s]
 }
 
 // Whether the totals of n steps are within the limit, for each of the first states.
-fn row_fits(table: &[u64; 224], n: usize, states: usize, plans: bool) -> bool
+fn row_fits(table: &[u64; COUNTS], n: usize, states: usize, plans: bool) -> bool
     requires { ⌜ (n ≤ 6) × (states ≤ 32) ⌝ }
-    ensures { λ r. ⌜ r ≡ every states (λ s. leb (getD (now (table .entry)) (32 * n + s) 0) (spec.limit plans)) ⌝ }
+    ensures value { λ r. ⌜ r ≡ every states (λ s. leb (getD (now (table .entry)) (32 * n + s) 0) (spec.limit plans)) ⌝ }
 {
     let most = limit(plans);
     let mut right = true;
@@ -141,9 +150,9 @@ fn row_fits(table: &[u64; 224], n: usize, states: usize, plans: bool) -> bool
 }
 
 // Whether a limit is set to node i: it is a "plan" node, and where plans are counted its relation is "equal".
-fn bounded(q: &[u8; 552], i: u8, plans: bool) -> bool
+fn bounded(q: &[u8; QUESTION], i: u8, plans: bool) -> bool
     requires { ⌜ i < 40 ⌝ }
-    ensures { λ r. ⌜ r ≡ spec.bounded plans (node-of (now (q .entry)) i) ⌝ }
+    ensures value { λ r. ⌜ r ≡ spec.bounded plans (node-of (now (q .entry)) i) ⌝ }
 {
     if operator(q, i) != 8 {
         return false;
@@ -151,9 +160,17 @@ fn bounded(q: &[u8; 552], i: u8, plans: bool) -> bool
     !plans || asks_equal(q, i)
 }
 
-fn node_fits(m: &[u16; 8704], q: &[u8; 552], table: &[u64; 224], plans: bool, i: u8) -> bool
-    requires { ⌜ Prepared (now m) × Totals plans (model-in (now m)) (now table) × (i < 40) × (node-of (now q) i .operator ≡ 8 → Compares (node-of (now q) i)) ⌝ }
-    ensures { λ r. ⌜ r ≡ node-fits plans (model-in (now (m .entry))) (node-of (now (q .entry)) i) ⌝ }
+fn node_fits(
+    m: &[u16; MODEL],
+    q: &[u8; QUESTION],
+    table: &[u64; COUNTS],
+    plans: bool,
+    i: u8,
+) -> bool
+    requires { ⌜
+        Prepared (now m) × Totals plans (model-in (now m)) (now table) × (i < 40)
+        × (node-of (now q) i .operator ≡ 8 → Compares (node-of (now q) i)) ⌝ }
+    ensures value { λ r. ⌜ r ≡ node-fits plans (model-in (now (m .entry))) (node-of (now (q .entry)) i) ⌝ }
 {
     if !bounded(q, i, plans) {
         return true;
@@ -167,9 +184,11 @@ fn node_fits(m: &[u16; 8704], q: &[u8; 552], table: &[u64; 224], plans: bool, i:
 }
 
 // All nodes are checked, used or not.
-fn nodes_fit(m: &[u16; 8704], q: &[u8; 552], plans: bool) -> bool
+fn nodes_fit(m: &[u16; MODEL], q: &[u8; QUESTION], plans: bool) -> bool
     requires { ⌜ Prepared (now m) × Nodes (state-count (now m)) (action-count (now m)) (prop-count (now m)) (now q) ⌝ }
-    ensures { λ r. ⌜ r ≡ every-plan (fits plans (model-in (now (m .entry)))) (model-in (now (m .entry))) (formulas-of (now (q .entry))) ⌝ }
+    ensures value { λ r.
+        let m = now (m .entry) in let q = now (q .entry) in
+        ⌜ r ≡ every-plan (fits plans (model-in m)) (model-in m) (formulas-of q) ⌝ }
 {
     let table = totals(m, plans);
     let n = prepared_question::count(q);
@@ -183,25 +202,29 @@ fn nodes_fit(m: &[u16; 8704], q: &[u8; 552], plans: bool) -> bool
 }
 
 // The test of ground 24: no "plan" node has too many paths.
-pub fn paths_fit(m: &[u16; 8704], q: &[u8; 552]) -> bool
+pub fn paths_fit(m: &[u16; MODEL], q: &[u8; QUESTION]) -> bool
     requires { ⌜ Prepared (now m) × Nodes (state-count (now m)) (action-count (now m)) (prop-count (now m)) (now q) ⌝ }
-    ensures { λ r. ⌜ r ≡ every-plan (fits false (model-in (now (m .entry)))) (model-in (now (m .entry))) (formulas-of (now (q .entry))) ⌝ }
+    ensures value { λ r.
+        let m = now (m .entry) in let q = now (q .entry) in
+        ⌜ r ≡ every-plan (fits false (model-in m)) (model-in m) (formulas-of q) ⌝ }
 {
     nodes_fit(m, q, false)
 }
 
 // The test of ground 25: no "plan" node whose relation is "equal" has too many plans.
-pub fn plans_fit(m: &[u16; 8704], q: &[u8; 552]) -> bool
+pub fn plans_fit(m: &[u16; MODEL], q: &[u8; QUESTION]) -> bool
     requires { ⌜ Prepared (now m) × Nodes (state-count (now m)) (action-count (now m)) (prop-count (now m)) (now q) ⌝ }
-    ensures { λ r. ⌜ r ≡ every-plan (fits true (model-in (now (m .entry)))) (model-in (now (m .entry))) (formulas-of (now (q .entry))) ⌝ }
+    ensures value { λ r.
+        let m = now (m .entry) in let q = now (q .entry) in
+        ⌜ r ≡ every-plan (fits true (model-in m)) (model-in m) (formulas-of q) ⌝ }
 {
     nodes_fit(m, q, true)
 }
 
 // The ground, 24 or 25, on which a prepared question is not judged on a prepared model; 0 where there is none.
-pub fn limit_refusal(m: &[u16; 8704], q: &[u8; 552]) -> u32
+pub fn limit_refusal(m: &[u16; MODEL], q: &[u8; QUESTION]) -> u32
     requires { ⌜ Prepared (now m) × Nodes (state-count (now m)) (action-count (now m)) (prop-count (now m)) (now q) ⌝ }
-    ensures { λ r. ⌜ r ≡ refusal (limits (model-in (now (m .entry))) ((question-of (now (q .entry))) .nodes)) ⌝ }
+    ensures value { λ r. ⌜ r ≡ refusal (limits (model-in (now (m .entry))) ((question-of (now (q .entry))) .nodes)) ⌝ }
 {
     if !paths_fit(m, q) {
         return 24;

@@ -1,4 +1,4 @@
--- What an accepted model promises: Definition 1 of source document 001 in whole numbers, each of its conditions, and that postconditions
+-- What an accepted model promises: Definition 1 of the PLBP paper in whole numbers, each of its conditions, and that postconditions
 -- contradict. (The ranges of document 01 are grounds 4 and 5.)
 use Prim.Native.Nat.{ℕ, _<_}
 use mathlib.Core.Path.{_≡_}

@@ -1,4 +1,4 @@
--- Formulas and their meaning. Document 01, "Formulas"; Definitions 3 and 4 of source document 001; Definition 12 of 000 for "gain".
+-- Formulas and their meaning. Document 01, "Formulas"; Definitions 3 and 4 of the PLBP paper; Definition 12 of the r-PLBP thesis for "gain".
 use Prim.Native.Nat.{ℕ, zero, suc, _^_, max}
 use mathlib.Core.Bool.{Bool, true, false, not, _&&_, _||_}
 use mathlib.Core.List.{List, [], _∷_, _++_}

@@ -1,4 +1,4 @@
--- Models: states, actions, outcomes. Document 01, "The model"; Definition 1 of source document 001.
+-- Models: states, actions, outcomes. Document 01, "The model"; Definition 1 of the PLBP paper.
 use Prim.Native.Nat.{ℕ, _/_, _%_, _^_}
 use mathlib.Core.Bool.{Bool, not, _&&_, _||_}
 use mathlib.Core.List.{List, []}

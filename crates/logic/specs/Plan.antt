@@ -1,5 +1,5 @@
 -- Plans and the paths that they allow. Document 01, "The model". A plan is document 01's word for a bounded policy (Definition 2 of
--- source document 001) on the histories that it can meet; `Policy` has the published functions on histories.
+-- the PLBP paper) on the histories that it can meet; `Policy` has the published functions on histories.
 use Prim.Native.Nat.{ℕ, zero, suc, _*_}
 use mathlib.Core.List.{List, [], _∷_, map, flatMap}
 use Rattle.logic.specs.Lists.{product, join}
@@ -27,12 +27,12 @@ plans m zero s = tt ∷ []
 plans m (suc n) s = flatMap (λ a. map (λ qs. (a, qs)) (product (map (λ o. plans m n (o .target)) (outcomes m s a)))) (enabled m s)
 
 -- The paths that a plan allows from a state: each takes one outcome of the choice made after each history. A path is the list of its
--- steps (Definition 10 of source document 000, without its first state).
+-- steps (Definition 10 of the r-PLBP thesis, without its first state).
 unfoldable pub paths : Model → (n : ℕ) → ℕ → Plan n → List (List Step)
 paths m zero s p = [] ∷ []
 paths m (suc n) s p = join (λ o q. map (λ r. o ∷ r) (paths m n (o .target) q)) (outcomes m s (p .0)) (p .1)
 
--- A path's weight: the product of its weights (Definition 11 of source document 000, times the denominator to the n).
+-- A path's weight: the product of its weights (Definition 11 of the r-PLBP thesis, times the denominator to the n).
 unfoldable pub weight : List Step → ℕ
 weight [] = 1
 weight (o ∷ r) = o .weight * weight r

@@ -1,4 +1,4 @@
--- Bounded policies as published: Definition 2 of source document 001 (Definitions 9 to 11 of 000).
+-- Bounded policies as published: Definition 2 of the PLBP paper (Definitions 9 to 11 of the r-PLBP thesis); docs/PAPERS.md says which these are.
 use Prim.Native.Nat.{ℕ, zero, suc, _<_}
 use mathlib.Core.List.{List, [], _∷_, _++_, map, flatMap, List·Memᴰ}
 use lib.ListN.{length}

@@ -104,7 +104,7 @@ module _ {m q : List ℕ} {start : ℕ} {truth cone : List ℕ} (ready : Ready m
 
 -- ---- a turn: the outcome o of the choice at place i, after the sum below the outcomes before it
 
-pub record Turn (m q : List ℕ) (start : ℕ) (truth cone trail₀ : List ℕ) (gains₀ : List ℤ) (v₀ : List ℕ) (h s k : ℕ) (choices : List ℕ) (at i c o : ℕ)
+pub record Before-outcome (m q : List ℕ) (start : ℕ) (truth cone trail₀ : List ℕ) (gains₀ : List ℤ) (v₀ : List ℕ) (h s k : ℕ) (choices : List ℕ) (at i c o : ℕ)
     (trail : List ℕ) (gains : List ℤ) (v : List ℕ) (sum next : ℕ) : Type 0 where
   pub ready : Ready m q start truth cone
   pub here : Here m q start cone trail₀ gains₀ v₀ h s k
@@ -114,7 +114,7 @@ pub record Turn (m q : List ℕ) (start : ℕ) (truth cone trail₀ : List ℕ) 
   pub ran : Ran (runs m q start cone (take h trail₀) (k - 1) s i o (drop at choices)) m q start cone h trail₀ trail gains v choices sum next
 
 module _ {m q : List ℕ} {start : ℕ} {truth cone trail₀ : List ℕ} {gains₀ : List ℤ} {v₀ : List ℕ} {h s k : ℕ} {choices : List ℕ} {at i c o : ℕ}
-    {trail : List ℕ} {gains : List ℤ} {v : List ℕ} {sum next : ℕ} (T : Turn m q start truth cone trail₀ gains₀ v₀ h s k choices at i c o trail gains v sum next) where
+    {trail : List ℕ} {gains : List ℤ} {v : List ℕ} {sum next : ℕ} (T : Before-outcome m q start truth cone trail₀ gains₀ v₀ h s k choices at i c o trail gains v sum next) where
   abbrev under : Step → List ℕ → Run
   under = below m q start cone (take h trail₀) (k - 1)
 

@@ -88,7 +88,7 @@ abbrev pub ways-left : List ℕ → (s i n j : ℕ) → ℕ
 ways-left m s i n j = multiply (below (model-in m) n) (later m s i j)
 
 -- Outcome j leads to t: its count splits off from what is left of the ways, and is the table's.
-pub record Turn (m counts : List ℕ) (n s i j t : ℕ) : Type 0 where
+pub record Outcome-counted (m counts : List ℕ) (n s i j t : ℕ) : Type 0 where
   pub target : t ≡ (step-in m s i j) .target
   pub state : t < state-count m
   pub split : ways-left m s i n j ≡ plan-total (model-in m) n t * ways-left m s i n (j + 1)
@@ -109,9 +109,9 @@ module _ {m : List ℕ} (w : Prepared m) (s : ℕ) (h : s < state-count m) (i : 
     unfolding total limit
     exact t l f = totals .at n t k (rw (states-are m) l) ∙ min-eq-right (omega arith)
 
-    pub turn : {j t : ℕ} → t ≡ (step-in m s i j) .target → j < outcomes-in m s i → 0 < ways-left m s i n j → ways-left m s i n j ≤ 65536 → Turn m counts n s i j t
+    pub outcome-counted : {j t : ℕ} → t ≡ (step-in m s i j) .target → j < outcomes-in m s i → 0 < ways-left m s i n j → ways-left m s i n j ≤ 65536 → Outcome-counted m counts n s i j t
     unfolding multiply
-    turn {j} {t} e l some few =
+    outcome-counted {j} {t} e l some few =
         let state : t < state-count m = rw e (w .inside s i j h (g, l)) in
         let split : ways-left m s i n j ≡ plan-total (model-in m) n t * ways-left m s i n (j + 1) =
         ap (multiply (below (model-in m) n)) (left-step (step-in m s i) (outcomes-in m s i) j l) ∙ ap (λ t. plan-total (model-in m) n t * ways-left m s i n (j + 1)) (sym e) in
@@ -123,16 +123,16 @@ module _ {m : List ℕ} (w : Prepared m) (s : ℕ) (h : s < state-count m) (i : 
 
     -- Every factor of the ways is in range, so that the count of outcome j is the table's.
     pub count-here : {j t size : ℕ} → plan-total (model-in m) (n + 1) s ≤ 65536 → size * ways-left m s i n j ≡ ways (model-in m) n s (choice-in m s i)
-        → t ≡ (step-in m s i j) .target → j < outcomes-in m s i → (size ≤ 65536) × Turn m counts n s i j t
+        → t ≡ (step-in m s i j) .target → j < outcomes-in m s i → (size ≤ 65536) × Outcome-counted m counts n s i j t
     count-here {j} {t} {size} f p e l =
         let x = factors size (ways-left m s i n j) p (ways-some w n (plan-some w n) s h i g) in
         let most = ways-most w n s h i g in
-        (omega (arith, x .2, most), turn e l (x .1) (omega (arith, x .3, most)))
+        (omega (arith, x .2, most), outcome-counted e l (x .1) (omega (arith, x .3, most)))
 
 module _ (m : List ℕ) (s i n : ℕ) {x : ℕ} where
-  pub count-turn : {counts : List ℕ} {j t : ℕ} (size : ℕ) → Turn m counts n s i j t → size * ways-left m s i n j ≡ x
+  pub ways-one-outcome-more : {counts : List ℕ} {j t : ℕ} (size : ℕ) → Outcome-counted m counts n s i j t → size * ways-left m s i n j ≡ x
       → (size * getD counts (32 * n + t) 0) * ways-left m s i n (j + 1) ≡ x
-  count-turn {j = j} {t} size u h =
+  ways-one-outcome-more {j = j} {t} size u h =
       let z : ℕ = ways-left m s i n (j + 1) in
       ap (λ v. (size * v) * z) (u .counted)
       ∙ mul-assoc size (plan-total (model-in m) n t) z

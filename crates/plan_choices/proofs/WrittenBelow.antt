@@ -1,4 +1,4 @@
--- What the code writes. With what is still to be written below the outcomes that are left, the buffer is as it is to be; each turn writes a part of that,
+-- What the code writes. With what is still to be written below the outcomes that are left, the buffer is as it is to be; each outcome-counted writes a part of that,
 -- and at the end nothing is left.
 use Prim.Native.Nat.{ℕ, zero, suc, _+_, _*_, _-_, _/_, _%_, _≤_, _<_}
 use native.Mathlib.Omega.{arith}
@@ -20,7 +20,7 @@ use Rattle.limits.specs.promises.Totals.{Totals}
 use Rattle.logic.specs.promises.MostChoices.{most-choices}
 use Rattle.plan_choices.specs.promises.Numbered.{listed, parts-at, below, plan-at, Found, Wrote}
 use Rattle.plan_choices.proofs.PlaceByDivision.{plan-at-is}
-use Rattle.plan_choices.proofs.Ways.{factors, left-step, left-end, later, ways-left, Turn, turn}
+use Rattle.plan_choices.proofs.Ways.{factors, left-step, left-end, later, ways-left, Outcome-counted, outcome-counted}
 
 -- ---- a choice
 
@@ -89,19 +89,19 @@ module _ (m : List ℕ) (n s i place : ℕ) (old : List ℕ) (at : ℕ) where
         size = omega (arith, here .to, ap length none, here .near, most);
       }
 
--- A turn of the loop, for an outcome that leads to t.
+-- A outcome-counted of the loop, for an outcome that leads to t.
 module _ {m : List ℕ} {n s i place : ℕ} {old : List ℕ} {at j size rest next : ℕ} {new : List ℕ}
     (here : Underway m n s i place old at j size rest new next) (l : j < outcomes-in m s i) where
   pub below-turn : {counts : List ℕ} → Prepared m × Totals true (model-in m) counts → s < state-count m → i < choices-in m s → n ≤ 6
-      → {t : ℕ} → t ≡ (step-in m s i j) .target → Turn m counts n s i j t
-  below-turn p h g k e = turn (p .0) s h i g (p .1) n k e l (omega (arith, here .sized, here .inside)) (omega (arith, here .sized, here .few))
+      → {t : ℕ} → t ≡ (step-in m s i j) .target → Outcome-counted m counts n s i j t
+  below-turn p h g k e = outcome-counted (p .0) s h i g (p .1) n k e l (omega (arith, here .sized, here .inside)) (omega (arith, here .sized, here .few))
 
   pub fits : outcomes-in m s i ≤ 4 → at + 4 * most-choices n ≤ length old → next + most-choices n ≤ length new
   fits f h =
       let most : suc j * most-choices n ≤ 4 * most-choices n = mul-le-mul-right (most-choices n) (omega arith) in
       omega (arith, here .near, here .kept, suc-mul j (most-choices n), most)
 
-  module _ {counts : List ℕ} {t : ℕ} (u : Turn m counts n s i j t) where
+  module _ {counts : List ℕ} {t : ℕ} (u : Outcome-counted m counts n s i j t) where
     -- The division is exact, and both parts of the place are in range.
     pub divides : {y : ℕ} → y ≡ getD counts (32 * n + t) 0 → size / y ≡ ways-left m s i n (j + 1)
     divides e = ap₂ (λ x y. x / y) (here .sized ∙ u .split) (e ∙ u .counted) ∙ mul-div-right (ways-left m s i n (j + 1)) (u .some)

@@ -10,6 +10,7 @@ ghost use Rattle.logic.specs.promises.MostChoices.{most-choices};
 ghost use Rattle.plan_choices.specs.promises.Extended.{choice-at, Ran};
 ghost use Rattle.plan_choices.specs.promises.Extended as spec;
 use blocks::byte;
+use prepared_model::MODEL;
 
 // Where to read on, and where to write on.
 pub struct Cursor {
@@ -18,9 +19,9 @@ pub struct Cursor {
 }
 
 // The choice at a history of which d steps are given by `src`.
-fn choice(m: &[u16; 8704], src: &[u8], s: usize, d: usize, from: usize) -> u8
+fn choice(m: &[u16; MODEL], src: &[u8], s: usize, d: usize, from: usize) -> u8
     requires { ⌜ Prepared (now m) × (s < state-count (now m)) ⌝ }
-    ensures { λ r. ⌜ r ≡ choice-at (first-choice (model-in (now (m .entry))) s) d (drop from (now (src .entry))) ⌝ }
+    ensures value { λ r. ⌜ r ≡ choice-at (first-choice (model-in (now (m .entry))) s) d (drop from (now (src .entry))) ⌝ }
 {
     if d == 0 {
         return prepared_model::first_choice(m, s);
@@ -30,7 +31,7 @@ fn choice(m: &[u16; 8704], src: &[u8], s: usize, d: usize, from: usize) -> u8
 
 // One choice is read while there are steps to read.
 fn taken(d: usize) -> usize
-    ensures { λ r. ⌜ r ≡ min 1 d ⌝ }
+    ensures value { λ r. ⌜ r ≡ min 1 d ⌝ }
 {
     if d == 0 { 0 } else { 1 }
 }
@@ -38,7 +39,7 @@ fn taken(d: usize) -> usize
 // Writes the choices of n steps from s, of which d are read: the choice in s, then those below each of its outcomes. The two places stand
 // apart: side by side they are handed on as one word right after its halves were written, and the processor waits for that.
 fn extend_from(
-    m: &[u16; 8704],
+    m: &[u16; MODEL],
     src: &[u8],
     from: usize,
     dst: &mut [u8],
@@ -49,7 +50,9 @@ fn extend_from(
 ) -> Cursor
     requires { ⌜ Prepared (now m) × (s < state-count (now m)) ⌝ }
     requires { ⌜ (n ≤ 6) × (from + most-choices n ≤ 65536) × (at + most-choices n ≤ length (now dst)) ⌝ }
-    ensures { λ r. ⌜ Ran (spec.extend (model-in (now (m .entry))) d n s (drop from (now (src .entry)))) (most-choices n) (now (src .entry)) from (r .from) (now (dst .entry)) (now (dst .exit)) at (r .at) ⌝ }
+    ensures effect { λ r.
+        let dst′ = now (dst .exit) in let m = now (m .entry) in let src = now (src .entry) in let dst = now (dst .entry) in
+        ⌜ Ran (spec.extend (model-in m) d n s (drop from src)) (most-choices n) src from (r .from) dst dst′ at (r .at) ⌝ }
 {
     if n == 0 {
         return Cursor { from: from, at: at };
@@ -72,10 +75,13 @@ fn extend_from(
 }
 
 // Writes the choices of the n-step plan that extends the d-step plan whose choices `src` begins with; gives their number.
-pub fn extend(m: &[u16; 8704], src: &[u8], dst: &mut [u8], s: usize, d: usize, n: usize) -> usize
+pub fn extend(m: &[u16; MODEL], src: &[u8], dst: &mut [u8], s: usize, d: usize, n: usize) -> usize
     requires { ⌜ Prepared (now m) × (s < state-count (now m)) ⌝ }
     requires { ⌜ (n ≤ 6) × (1365 ≤ length (now dst)) ⌝ }
-    ensures { λ r. ⌜ (now (dst .exit) ≡ splice (now (dst .entry)) 0 (spec.extend (model-in (now (m .entry))) d n s (now (src .entry)) .0)) × (r ≡ length (spec.extend (model-in (now (m .entry))) d n s (now (src .entry)) .0)) ⌝ }
+    ensures frame { λ _.
+        let dst′ = now (dst .exit) in let dst = now (dst .entry) in let m = now (m .entry) in let src = now (src .entry) in
+        ⌜ dst′ ≡ splice dst 0 (spec.extend (model-in m) d n s src .0) ⌝ }
+    ensures value { λ r. ⌜ r ≡ length (spec.extend (model-in (now (m .entry))) d n s (now (src .entry)) .0) ⌝ }
 {
     let r = extend_from(m, src, 0, dst, 0, s, d, n);
     r.at

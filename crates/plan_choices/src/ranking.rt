@@ -12,7 +12,9 @@ ghost use Rattle.limits.specs.promises.Totals.{Totals};
 ghost use Rattle.logic.specs.promises.MostChoices.{most-choices};
 ghost use Rattle.plan_choices.specs.promises.Numbered.{listed, plan-at, Found, Wrote};
 ghost use Rattle.plan_choices.specs.promises.Numbered as spec;
+use limits::COUNTS;
 use limits::plans_counted;
+use prepared_model::MODEL;
 
 // The place of a choice in the row of its state, and which of the `size` ways to go on below it.
 struct Block {
@@ -22,10 +24,11 @@ struct Block {
 }
 
 // In how many ways choice i can be gone on with for n steps.
-fn ways(m: &[u16; 8704], counts: &[u64; 224], s: usize, i: usize, n: u8) -> u64
+fn ways(m: &[u16; MODEL], counts: &[u64; COUNTS], s: usize, i: usize, n: u8) -> u64
     requires { ⌜ Prepared (now m) × Totals true (model-in (now m)) (now counts) ⌝ }
     requires { ⌜ (s < state-count (now m)) × (i < choices-in (now m) s) × (n < 6) × (plan-total (model-in (now m)) (n + 1) s ≤ 65536) ⌝ }
-    ensures { λ r. ⌜ (r ≡ spec.ways (model-in (now (m .entry))) n s (choice-in (now (m .entry)) s i)) × (r ≤ 65536) ⌝ }
+    ensures value { λ r. ⌜ r ≡ spec.ways (model-in (now (m .entry))) n s (choice-in (now (m .entry)) s i) ⌝ }
+    ensures range { λ r. ⌜ r ≤ 65536 ⌝ }
 {
     let c = prepared_model::outcomes(m, s, i);
     let mut size: u64 = 1;
@@ -39,10 +42,14 @@ fn ways(m: &[u16; 8704], counts: &[u64; 224], s: usize, i: usize, n: u8) -> u64
 }
 
 // The choice of plan number i of n + 1 steps: the choices of a state in order, each with as many plans as ways to go on.
-fn block_of(m: &[u16; 8704], counts: &[u64; 224], s: usize, n: u8, i: u64) -> Block
+fn block_of(m: &[u16; MODEL], counts: &[u64; COUNTS], s: usize, n: u8, i: u64) -> Block
     requires { ⌜ Prepared (now m) × Totals true (model-in (now m)) (now counts) ⌝ }
-    requires { ⌜ (s < state-count (now m)) × (n < 6) × (plan-total (model-in (now m)) (n + 1) s ≤ 65536) × (i < plan-total (model-in (now m)) (n + 1) s) ⌝ }
-    ensures { λ r. ⌜ (r .at < choices-in (now (m .entry)) s) × Found (model-in (now (m .entry))) n s i (choice-in (now (m .entry)) s (r .at)) (r .size) (r .place) ⌝ }
+    requires { ⌜
+        (s < state-count (now m)) × (n < 6) × (plan-total (model-in (now m)) (n + 1) s ≤ 65536)
+        × (i < plan-total (model-in (now m)) (n + 1) s) ⌝ }
+    ensures value { λ r.
+        let m = now (m .entry) in
+        ⌜ (r .at < choices-in m s) × Found (model-in m) n s i (choice-in m s (r .at)) (r .size) (r .place) ⌝ }
 {
     let c = prepared_model::choices(m, s);
     let mut rest = i;
@@ -70,8 +77,8 @@ fn block_of(m: &[u16; 8704], counts: &[u64; 224], s: usize, n: u8, i: u64) -> Bl
 // Writes the choices of plan number i of n steps from s; gives the next place. Below each outcome of the choice in s, what is left of the
 // plan's place is divided by the ways of the outcomes after it.
 fn nth_from(
-    m: &[u16; 8704],
-    counts: &[u64; 224],
+    m: &[u16; MODEL],
+    counts: &[u64; COUNTS],
     choices: &mut [u8],
     s: usize,
     n: u8,
@@ -79,8 +86,12 @@ fn nth_from(
     at: usize,
 ) -> usize
     requires { ⌜ Prepared (now m) × Totals true (model-in (now m)) (now counts) ⌝ }
-    requires { ⌜ (s < state-count (now m)) × (n ≤ 6) × (plan-total (model-in (now m)) n s ≤ 65536) × (i < plan-total (model-in (now m)) n s) × (at + most-choices n ≤ length (now choices)) ⌝ }
-    ensures { λ r. ⌜ Wrote (plan.choices n (plan-at (model-in (now (m .entry))) n s i)) (most-choices n) (now (choices .entry)) (now (choices .exit)) at r ⌝ }
+    requires { ⌜
+        (s < state-count (now m)) × (n ≤ 6) × (plan-total (model-in (now m)) n s ≤ 65536) × (i < plan-total (model-in (now m)) n s)
+        × (at + most-choices n ≤ length (now choices)) ⌝ }
+    ensures effect { λ r.
+        let choices′ = now (choices .exit) in let m = now (m .entry) in let choices = now (choices .entry) in
+        ⌜ Wrote (plan.choices n (plan-at (model-in m) n s i)) (most-choices n) choices choices′ at r ⌝ }
 {
     if n == 0 {
         return at;
@@ -104,10 +115,22 @@ fn nth_from(
 }
 
 // Writes the choices of plan number i, from 0, of all n-step plans from s in dictionary order; gives their number.
-pub fn nth(m: &[u16; 8704], counts: &[u64; 224], choices: &mut [u8], s: u8, n: u8, i: u64) -> usize
+pub fn nth(
+    m: &[u16; MODEL],
+    counts: &[u64; COUNTS],
+    choices: &mut [u8],
+    s: u8,
+    n: u8,
+    i: u64,
+) -> usize
     requires { ⌜ Prepared (now m) × Totals true (model-in (now m)) (now counts) ⌝ }
-    requires { ⌜ (s < state-count (now m)) × (n ≤ 6) × (plan-total (model-in (now m)) n s ≤ 65536) × (i < plan-total (model-in (now m)) n s) × (1365 ≤ length (now choices)) ⌝ }
-    ensures { λ r. ⌜ (now (choices .exit) ≡ splice (now (choices .entry)) 0 (plan.choices n (listed (model-in (now (m .entry))) n s i))) × (r ≡ length (plan.choices n (listed (model-in (now (m .entry))) n s i))) ⌝ }
+    requires { ⌜
+        (s < state-count (now m)) × (n ≤ 6) × (plan-total (model-in (now m)) n s ≤ 65536) × (i < plan-total (model-in (now m)) n s)
+        × (1365 ≤ length (now choices)) ⌝ }
+    ensures frame { λ _.
+        let choices′ = now (choices .exit) in let choices = now (choices .entry) in let m = now (m .entry) in
+        ⌜ choices′ ≡ splice choices 0 (plan.choices n (listed (model-in m) n s i)) ⌝ }
+    ensures value { λ r. ⌜ r ≡ length (plan.choices n (listed (model-in (now (m .entry))) n s i)) ⌝ }
 {
     nth_from(m, counts, choices, s as usize, n, i, 0)
 }

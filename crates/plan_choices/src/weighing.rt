@@ -13,11 +13,17 @@ ghost use Rattle.evaluation.specs.promises.Learnt.{known};
 ghost use Rattle.plan_choices.specs.promises.PlanSum.{weigh};
 ghost use Rattle.plan_choices.specs.promises.Weighed.{Here, Ran};
 use blocks::byte;
+use evaluation::PLACES;
 use evaluation::Place;
+use evaluation::STEPS;
+use evaluation::TRUTHS;
+use evaluation::VALUES;
 use evaluation::learn;
 use evaluation::step;
+use prepared_model::MODEL;
 use prepared_model::row_of;
 use prepared_model::weight;
+use prepared_question::QUESTION;
 
 // Where a sum is made: after h steps from the start, in the state s, with k steps to go; the choices are read from `at` on.
 pub struct Spot {
@@ -37,7 +43,9 @@ pub struct Part {
 // One choice further, but not beyond the end.
 fn after(choices: &[u8], at: usize) -> usize
     requires { ⌜ at ≤ length (now choices) ⌝ }
-    ensures { λ r. ⌜ (r ≤ length (now (choices .entry))) × (drop r (now (choices .entry)) ≡ drop 1 (drop at (now (choices .entry)))) ⌝ }
+    ensures value { λ r.
+        let choices = now (choices .entry) in
+        ⌜ (r ≤ length choices) × (drop r choices ≡ drop 1 (drop at choices)) ⌝ }
 {
     if at < choices.len() {
         return at + 1;
@@ -46,37 +54,43 @@ fn after(choices: &[u8], at: usize) -> usize
 }
 
 // The value of the condition on the path taken.
-fn leaf(cone: &[u8], v: &[u8; 280]) -> u64
+fn leaf(cone: &[u8], v: &[u8; VALUES]) -> u64
     requires { ⌜ 0 < length (now cone) ⌝ }
-    ensures { λ r. ⌜ r ≡ known (now (v .entry)) (root-of (now (cone .entry))) 0 ⌝ }
+    ensures value { λ r. ⌜ r ≡ known (now (v .entry)) (root-of (now (cone .entry))) 0 ⌝ }
 {
     let root = byte(cone, cone.len() - 1);
     evaluation::known(v, root, 0) as u64
 }
 
 // A sum with the weight of an outcome times x.
-fn plus(m: &[u16; 8704], s: u8, i: usize, o: usize, sum: u64, x: u64) -> u64
+fn plus(m: &[u16; MODEL], s: u8, i: usize, o: usize, sum: u64, x: u64) -> u64
     requires { ⌜ (s < 32) × (i < 8) × (o < 4) × (sum + (step-in (now m) s i o) .weight * x < 2 ^ 64) ⌝ }
-    ensures { λ r. ⌜ r ≡ sum + (step-in (now (m .entry)) s i o) .weight * x ⌝ }
+    ensures value { λ r. ⌜ r ≡ sum + (step-in (now (m .entry)) s i o) .weight * x ⌝ }
 {
     sum + weight(m, s as usize, i, o) * x
 }
 
 // Sums over the paths from a spot that the choices allow: the choice there is read, and each of its outcomes leads on.
 fn weigh_from(
-    m: &[u16; 8704],
-    q: &[u8; 552],
-    truth: &[u8; 1280],
+    m: &[u16; MODEL],
+    q: &[u8; QUESTION],
+    truth: &[u8; TRUTHS],
     cone: &[u8],
     choices: &[u8],
-    trail: &mut [u16; 6],
-    gains: &mut [i32; 7],
-    v: &mut [u8; 280],
+    trail: &mut [u16; STEPS],
+    gains: &mut [i32; PLACES],
+    v: &mut [u8; VALUES],
     spot: Spot,
 ) -> Part
     requires { ⌜ Ready (now m) (now q) (spot .start) (now truth) (now cone) ⌝ }
-    requires { ⌜ Here (now m) (now q) (spot .start) (now cone) (now trail) (now gains) (now v) (spot .h) (spot .s) (spot .k) × (spot .at ≤ length (now choices)) ⌝ }
-    ensures { λ r. ⌜ Ran (weigh (model-in (now (m .entry))) (spot .k) (spot .s) (on-path (now (m .entry)) (now (q .entry)) (spot .start) (now (cone .entry)) (take (spot .h) (now (trail .entry)))) (drop (spot .at) (now (choices .entry)))) (now (m .entry)) (now (q .entry)) (spot .start) (now (cone .entry)) (spot .h) (now (trail .entry)) (now (trail .exit)) (now (gains .exit)) (now (v .exit)) (now (choices .entry)) (r .value) (r .next) ⌝ }
+    requires { ⌜
+        Here (now m) (now q) (spot .start) (now cone) (now trail) (now gains) (now v) (spot .h) (spot .s) (spot .k)
+        × (spot .at ≤ length (now choices)) ⌝ }
+    ensures effect { λ r.
+        let trail′ = now (trail .exit) in let gains′ = now (gains .exit) in let v′ = now (v .exit) in let m = now (m .entry) in
+        let q = now (q .entry) in let cone = now (cone .entry) in let trail = now (trail .entry) in let choices = now (choices .entry) in
+        ⌜ Ran (weigh (model-in m) (spot .k) (spot .s) (on-path m q (spot .start) cone (take (spot .h) trail)) (drop (spot .at) choices)) m q
+        (spot .start) cone (spot .h) trail trail′ gains′ v′ choices (r .value) (r .next) ⌝ }
 {
     if spot.k == 0 {
         return Part {
@@ -116,9 +130,9 @@ fn weigh_from(
 
 // The total of the plan with these choices: the summed weights of the paths that it allows and on which the condition is true.
 pub fn plan_weight(
-    m: &[u16; 8704],
-    q: &[u8; 552],
-    truth: &[u8; 1280],
+    m: &[u16; MODEL],
+    q: &[u8; QUESTION],
+    truth: &[u8; TRUTHS],
     cone: &[u8],
     choices: &[u8],
     start: u8,
@@ -126,11 +140,13 @@ pub fn plan_weight(
 ) -> u64
     requires { ⌜ Ready (now m) (now q) start (now truth) (now cone) ⌝ }
     requires { ⌜ (depth (formula (now q) (root-of (now cone))) ≤ n) × (n ≤ 6) ⌝ }
-    ensures { λ r. ⌜ ((π : Plan n) → plan-of (model-in (now (m .entry))) n start (now (choices .entry)) ≡ ok π → r ≡ W (model-in (now (m .entry))) (formula (now (q .entry)) (root-of (now (cone .entry)))) n start π) ⌝ }
+    ensures value { λ r.
+        let m = now (m .entry) in let choices = now (choices .entry) in let q = now (q .entry) in let cone = now (cone .entry) in
+        ⌜ ((π : Plan n) → plan-of (model-in m) n start choices ≡ ok π → r ≡ W (model-in m) (formula q (root-of cone)) n start π) ⌝ }
 {
-    let mut trail = [0u16; 6];
-    let mut gains = [0i32; 7];
-    let mut v = [0u8; 280];
+    let mut trail = [0u16; STEPS];
+    let mut gains = [0i32; PLACES];
+    let mut v = [0u8; VALUES];
     learn(q, truth, &trail, &gains, cone, &mut v, 0, start);
     let spot = Spot {
         start: start,

@@ -13,7 +13,10 @@ use crate::Written;
 // Gives 0 for no, 1 for yes, or 100 plus the refusal. The sheet buffer changes only by the write.
 #[no_mangle]
 pub extern "C" fn plan_judge(model: &[u8], question: &[u8], sheet: &mut [u8]) -> u32
-    ensures { λ r. ⌜ Tells (c-chain (now (model .entry)) (now (question .entry)) (length (now (sheet .entry)))) (now (sheet .entry)) (now (sheet .exit)) r ⌝ }
+    ensures effect { λ r.
+        let sheet′ = now (sheet .exit) in let model = now (model .entry) in let question = now (question .entry) in
+        let sheet = now (sheet .entry) in
+        ⌜ Tells (c-chain model question (length sheet)) sheet sheet′ r ⌝ }
 {
     let loaded = crate::load(crate::empty(), model);
     let a = loaded.answer;
@@ -25,7 +28,9 @@ pub extern "C" fn plan_judge(model: &[u8], question: &[u8], sheet: &mut [u8]) ->
 
 // From the desk that load gave.
 fn then_put(d: Desk, question: &[u8], sheet: &mut [u8]) -> u32
-    ensures { λ r. ⌜ Tells (told-put (view d) (now (question .entry)) (length (now (sheet .entry)))) (now (sheet .entry)) (now (sheet .exit)) r ⌝ }
+    ensures effect { λ r.
+        let sheet′ = now (sheet .exit) in let question = now (question .entry) in let sheet = now (sheet .entry) in
+        ⌜ Tells (told-put (view d) question (length sheet)) sheet sheet′ r ⌝ }
 {
     let asked = crate::put(d, question);
     let a = asked.answer;
@@ -37,7 +42,7 @@ fn then_put(d: Desk, question: &[u8], sheet: &mut [u8]) -> u32
 
 // From the desk that put gave.
 fn then_judge(d: Desk, sheet: &mut [u8]) -> u32
-    ensures { λ r. ⌜ Tells (told-judge (view d) (length (now (sheet .entry)))) (now (sheet .entry)) (now (sheet .exit)) r ⌝ }
+    ensures effect { λ r. ⌜ Tells (told-judge (view d) (length (now (sheet .entry)))) (now (sheet .entry)) (now (sheet .exit)) r ⌝ }
 {
     let judged = crate::judge(d);
     let a = judged.answer;
@@ -53,7 +58,7 @@ fn then_judge(d: Desk, sheet: &mut [u8]) -> u32
 
 // From the desk that judge gave, with a shown plan.
 fn then_write(d: Desk, sheet: &mut [u8]) -> u32
-    ensures { λ r. ⌜ Tells (told-write (view d) (length (now (sheet .entry)))) (now (sheet .entry)) (now (sheet .exit)) r ⌝ }
+    ensures effect { λ r. ⌜ Tells (told-write (view d) (length (now (sheet .entry)))) (now (sheet .entry)) (now (sheet .exit)) r ⌝ }
 {
     let w = crate::write(d, sheet);
     match w {

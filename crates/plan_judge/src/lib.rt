@@ -26,7 +26,10 @@ ghost use Rattle.plan_judge.specs.promises.State.{held-both, held-goal, 
 pub mod c_call;
 
 use limits::limit_refusal;
+use plan_choices::CHOICES;
+use prepared_model::MODEL;
 use prepared_model::prepare_model;
+use prepared_question::QUESTION;
 use prepared_question::prepare_question;
 
 // The record of a shown plan: its total W, its steps, and its place in dictionary order for "equal", else 0.
@@ -56,7 +59,7 @@ pub struct Desk {
     pub question: [u8; 512],
     pub judged: bool,
     pub verdict: Verdict,
-    pub choices: [u8; 1365],
+    pub choices: [u8; CHOICES],
 }
 
 // The answer of load and put.
@@ -78,7 +81,7 @@ pub enum Judgement {
 
 pub struct Judging {
     pub answer: Judgement,
-    pub choices: [u8; 1365],
+    pub choices: [u8; CHOICES],
     pub desk: Desk,
 }
 
@@ -101,14 +104,14 @@ pub enum Checking {
 
 // What stands for a verdict where a desk is not judged.
 fn unjudged() -> Verdict
-    ensures { λ r. ⌜ r ≡ unjudged ⌝ }
+    ensures value { λ r. ⌜ r ≡ unjudged ⌝ }
 {
     Verdict::No(Denial { count: 0 })
 }
 
 // A desk that holds nothing.
 pub fn empty() -> Desk
-    ensures { λ r. ⌜ r ≡ nothing ⌝ }
+    ensures value { λ r. ⌜ r ≡ nothing ⌝ }
 {
     Desk {
         blocks: 0,
@@ -117,13 +120,13 @@ pub fn empty() -> Desk
         question: [0u8; 512],
         judged: false,
         verdict: unjudged(),
-        choices: [0u8; 1365],
+        choices: [0u8; CHOICES],
     }
 }
 
 // Loads a model, which clears the question and the verdict; or refuses it by grounds 1 to 8.
 pub fn load(d: Desk, b: &[u8]) -> Taking
-    ensures { λ r. ⌜ r ≡ loaded-by d (now (b .entry)) ⌝ }
+    ensures value { λ r. ⌜ r ≡ loaded-by d (now (b .entry)) ⌝ }
 {
     let k = models::model_refusal(b);
     if k != 0 {
@@ -133,9 +136,9 @@ pub fn load(d: Desk, b: &[u8]) -> Taking
         };
     }
     let mut m = [0u8; 6144];
-    sheets::writer::copy(&mut m, b);
+    blocks::buffers::copy(&mut m, b);
     let q = [0u8; 512];
-    let c = [0u8; 1365];
+    let c = [0u8; CHOICES];
     Taking {
         answer: Taken::Done,
         desk: Desk {
@@ -152,7 +155,7 @@ pub fn load(d: Desk, b: &[u8]) -> Taking
 
 // Where the bytes of so many blocks end in a slice of this length.
 fn blocks_end(len: usize, blocks: usize) -> usize
-    ensures { λ r. ⌜ r ≡ min (512 * blocks) len ⌝ }
+    ensures value { λ r. ⌜ r ≡ min (512 * blocks) len ⌝ }
 {
     if blocks <= len / 512 {
         return 512 * blocks;
@@ -162,7 +165,7 @@ fn blocks_end(len: usize, blocks: usize) -> usize
 
 // How many bytes of a desk's model are held: all that it says, if they are a model that load would accept, else none.
 fn held_bytes(model: &[u8], blocks: usize) -> usize
-    ensures { λ r. ⌜ r ≡ held-size (now (model .entry)) blocks ⌝ }
+    ensures value { λ r. ⌜ r ≡ held-size (now (model .entry)) blocks ⌝ }
 {
     let n = blocks_end(model.len(), blocks);
     if models::model_refusal(&model[..n]) != 0 {
@@ -173,7 +176,9 @@ fn held_bytes(model: &[u8], blocks: usize) -> usize
 
 // The ground on which a question is refused for the model in these bytes: 1 to 6 and 9; 0 where there is none.
 fn question_ground(b: &[u8], model: &[u8]) -> u32
-    ensures { λ r. ⌜ r ≡ refusal (read-question (byte (now (model .entry)) 2) (byte (now (model .entry)) 3) (byte (now (model .entry)) 4) (now (b .entry))) ⌝ }
+    ensures value { λ r.
+        let model = now (model .entry) in let b = now (b .entry) in
+        ⌜ r ≡ refusal (read-question (byte model 2) (byte model 3) (byte model 4) b) ⌝ }
 {
     let states = blocks::wide(model, 2);
     let actions = blocks::wide(model, 3);
@@ -183,7 +188,7 @@ fn question_ground(b: &[u8], model: &[u8]) -> u32
 
 // Puts a question, which clears the verdict; or refuses it by grounds 20, then 1 to 6 and 9.
 pub fn put(d: Desk, b: &[u8]) -> Taking
-    ensures { λ r. ⌜ r ≡ put-by d (now (b .entry)) ⌝ }
+    ensures value { λ r. ⌜ r ≡ put-by d (now (b .entry)) ⌝ }
 {
     if held_bytes(&d.model, d.blocks) == 0 {
         return Taking {
@@ -200,8 +205,8 @@ pub fn put(d: Desk, b: &[u8]) -> Taking
     }
     let m = d.model;
     let mut q = [0u8; 512];
-    sheets::writer::copy(&mut q, b);
-    let c = [0u8; 1365];
+    blocks::buffers::copy(&mut q, b);
+    let c = [0u8; CHOICES];
     Taking {
         answer: Taken::Done,
         desk: Desk {
@@ -218,7 +223,7 @@ pub fn put(d: Desk, b: &[u8]) -> Taking
 
 // The ground of the desk on which judge is refused: no model, no question; 0 where both are held.
 fn state_ground(d: Desk) -> u32
-    ensures { λ r. ⌜ r ≡ refusal (held-both (view d)) ⌝ }
+    ensures value { λ r. ⌜ r ≡ refusal (held-both (view d)) ⌝ }
 {
     if held_bytes(&d.model, d.blocks) == 0 {
         return 20;
@@ -235,7 +240,7 @@ fn state_ground(d: Desk) -> u32
 
 // The verdict that an outcome tells.
 fn verdict_of(o: judging::Outcome) -> Verdict
-    ensures { λ r. ⌜ r ≡ verdict-from o ⌝ }
+    ensures value { λ r. ⌜ r ≡ verdict-from o ⌝ }
 {
     if !o.yes {
         return Verdict::No(Denial { count: o.count });
@@ -252,9 +257,9 @@ fn verdict_of(o: judging::Outcome) -> Verdict
 
 // The answer where judging is refused: the desk stays.
 fn turned_away(d: Desk, k: u32) -> Judging
-    ensures { λ r. ⌜ r ≡ judging d (refused k) ⌝ }
+    ensures value { λ r. ⌜ r ≡ judging d (refused k) ⌝ }
 {
-    let choices = [0u8; 1365];
+    let choices = [0u8; CHOICES];
     Judging {
         answer: Judgement::Refused(k),
         choices: choices,
@@ -264,7 +269,7 @@ fn turned_away(d: Desk, k: u32) -> Judging
 
 // Judges the question that is held and sets the verdict; or refuses by grounds 20, 21, 24, 25.
 pub fn judge(d: Desk) -> Judging
-    ensures { λ r. ⌜ r ≡ judged-by d ⌝ }
+    ensures value { λ r. ⌜ r ≡ judged-by d ⌝ }
 {
     let k = state_ground(d);
     if k != 0 {
@@ -279,7 +284,7 @@ pub fn judge(d: Desk) -> Judging
     if ground != 0 {
         return turned_away(d, ground);
     }
-    let mut choices = [0u8; 1365];
+    let mut choices = [0u8; CHOICES];
     let o = judging::judged(&model, &query, &mut choices);
     let v = verdict_of(o);
     Judging {
@@ -299,7 +304,7 @@ pub fn judge(d: Desk) -> Judging
 
 // The number of a question's root, its last node.
 fn root(q: &[u8]) -> u8
-    ensures { λ r. ⌜ r ≡ node-count (now (q .entry)) - 1 ⌝ }
+    ensures value { λ r. ⌜ r ≡ node-count (now (q .entry)) - 1 ⌝ }
 {
     let count = questions::node_count(q);
     if count == 0 {
@@ -309,21 +314,21 @@ fn root(q: &[u8]) -> u8
 }
 
 fn root_is_plan(q: &[u8]) -> bool
-    ensures { λ r. ⌜ r ≡ eqb (node-of (now (q .entry)) (node-count (now (q .entry)) - 1) .operator) 8 ⌝ }
+    ensures value { λ r. ⌜ r ≡ eqb (node-of (now (q .entry)) (node-count (now (q .entry)) - 1) .operator) 8 ⌝ }
 {
     questions::operator(q, root(q)) == 8
 }
 
 // The steps of a "plan" root.
 fn root_steps(q: &[u8]) -> u8
-    ensures { λ r. ⌜ r ≡ node-of (now (q .entry)) (node-count (now (q .entry)) - 1) .n ⌝ }
+    ensures value { λ r. ⌜ r ≡ node-of (now (q .entry)) (node-count (now (q .entry)) - 1) .n ⌝ }
 {
     questions::steps(q, root(q))
 }
 
 // The ground of the desk on which write and check are refused: no model, no question, a root that is no "plan"; else 0.
 fn plan_ground(d: Desk) -> u32
-    ensures { λ r. ⌜ r ≡ refusal (held-goal (view d)) ⌝ }
+    ensures value { λ r. ⌜ r ≡ refusal (held-goal (view d)) ⌝ }
 {
     let k = state_ground(d);
     if k != 0 {
@@ -338,7 +343,7 @@ fn plan_ground(d: Desk) -> u32
 // How many choices the n-step plan has with which these choices begin; 0 where they begin with none.
 fn plan_size(m: &[u8], choices: &[u8], n: usize, s: usize) -> usize
     requires { ⌜ (refusal (read-model (now m)) ≡ 0) × (s < state-count (now m)) ⌝ }
-    ensures { λ r. ⌜ r ≡ plan-size n (read-plan (model-of (now (m .entry))) n s (now (choices .entry))) ⌝ }
+    ensures value { λ r. ⌜ r ≡ plan-size n (read-plan (model-of (now (m .entry))) n s (now (choices .entry))) ⌝ }
 {
     let end = sheets::plans::plan_end(m, choices, n, s, 0);
     match end {
@@ -350,7 +355,9 @@ fn plan_size(m: &[u8], choices: &[u8], n: usize, s: usize) -> usize
 // The same for the plan that a question with a "plan" root asks for.
 fn first_size(model: &[u8], blocks: usize, q: &[u8], choices: &[u8]) -> usize
     requires { ⌜ PlanRoot (take (512 * blocks) (now model)) (now q) ⌝ }
-    ensures { λ r. ⌜ r ≡ size-in (choices-in (model-of (take (512 * blocks) (now (model .entry)))) (question-of (now (q .entry))) (now (choices .entry))) ⌝ }
+    ensures value { λ r.
+        let model = now (model .entry) in let q = now (q .entry) in let choices = now (choices .entry) in
+        ⌜ r ≡ size-in (choices-in (model-of (take (512 * blocks) model)) (question-of q) choices) ⌝ }
 {
     let n = blocks_end(model.len(), blocks);
     plan_size(
@@ -364,7 +371,7 @@ fn first_size(model: &[u8], blocks: usize, q: &[u8], choices: &[u8]) -> usize
 // How many choices the shown plan has; 0 where none is shown.
 fn shown_size(d: Desk) -> usize
     requires { ⌜ refusal (held-goal (view d)) ≡ 0 ⌝ }
-    ensures { λ r. ⌜ r ≡ shown-size ((view d) .verdict) ⌝ }
+    ensures value { λ r. ⌜ r ≡ shown-size ((view d) .verdict) ⌝ }
 {
     if !d.judged {
         return 0;
@@ -381,7 +388,7 @@ fn shown_size(d: Desk) -> usize
 
 // How many choices the plan has that is held as shown; 0 where there is none.
 pub fn shown_choices(d: Desk) -> usize
-    ensures { λ r. ⌜ r ≡ shown-size ((view d) .verdict) ⌝ }
+    ensures value { λ r. ⌜ r ≡ shown-size ((view d) .verdict) ⌝ }
 {
     if plan_ground(d) != 0 {
         return 0;
@@ -391,7 +398,7 @@ pub fn shown_choices(d: Desk) -> usize
 
 // The weight in the record of a shown plan.
 fn shown_weight(v: Verdict) -> u64
-    ensures { λ r. ⌜ r ≡ shown-weight v ⌝ }
+    ensures value { λ r. ⌜ r ≡ shown-weight v ⌝ }
 {
     match v {
         Verdict::YesPlan(p) => p.weight,
@@ -403,14 +410,15 @@ fn shown_weight(v: Verdict) -> u64
 // The bytes of a sheet with so many choices.
 fn sheet_size(count: usize) -> usize
     requires { ⌜ count ≤ 1365 ⌝ }
-    ensures { λ r. ⌜ r ≡ 512 * blocks-for count ⌝ }
+    ensures value { λ r. ⌜ r ≡ 512 * blocks-for count ⌝ }
 {
     512 * ((count + 489) / 490)
 }
 
 // Writes the shown plan's sheet into the first blocks of a lent buffer; or refuses by grounds 20 to 23, then 12, and leaves the buffer.
 pub fn write(d: Desk, buf: &mut [u8]) -> Written
-    ensures { λ r. ⌜ (r ≡ written-by d (length (now (buf .entry)))) × (now (buf .exit) ≡ filled-by d (now (buf .entry))) ⌝ }
+    ensures value { λ r. ⌜ r ≡ written-by d (length (now (buf .entry))) ⌝ }
+    ensures frame { λ _. ⌜ now (buf .exit) ≡ filled-by d (now (buf .entry)) ⌝ }
 {
     let k = plan_ground(d);
     if k != 0 {
@@ -435,7 +443,9 @@ pub fn write(d: Desk, buf: &mut [u8]) -> Written
 // The first ground, 1 to 6 or 10, on which a sheet is refused for a question with a "plan" root; 0 where it has a plan.
 fn sheet_ground(m: &[u8], q: &[u8], b: &[u8]) -> u32
     requires { ⌜ PlanRoot (now m) (now q) ⌝ }
-    ensures { λ r. ⌜ r ≡ refusal (plan-on (model-of (now (m .entry))) (node-of (now (q .entry)) (node-count (now (q .entry)) - 1) .n) (start-of (now (q .entry))) (now (b .entry))) ⌝ }
+    ensures value { λ r.
+        let m = now (m .entry) in let q = now (q .entry) in let b = now (b .entry) in
+        ⌜ r ≡ refusal (plan-on (model-of m) (node-of q (node-count q - 1) .n) (start-of q) b) ⌝ }
 {
     let n = root_steps(q) as usize;
     let s = questions::start(q) as usize;
@@ -449,9 +459,9 @@ fn sheet_ground(m: &[u8], q: &[u8], b: &[u8]) -> u32
 }
 
 // The total of the plan on a sheet, for a question with a "plan" root.
-fn sheet_weight(m: &[u16; 8704], q: &[u8; 552], b: &[u8]) -> u64
+fn sheet_weight(m: &[u16; MODEL], q: &[u8; QUESTION], b: &[u8]) -> u64
     requires { ⌜ Served (now m) (now q) × (node-of (now q) (node-count (now q) - 1) .operator ≡ 8) × Blocks 6 (now b) ⌝ }
-    ensures { λ r. ⌜ Weighs (model-in (now (m .entry))) (now (q .entry)) ((sheet-of (now (b .entry))) .choices) r ⌝ }
+    ensures value { λ r. ⌜ Weighs (model-in (now (m .entry))) (now (q .entry)) ((sheet-of (now (b .entry))) .choices) r ⌝ }
 {
     let mut choices = [0u8; 1470];
     let count = sheets::gather(b, &mut choices);
@@ -461,7 +471,7 @@ fn sheet_weight(m: &[u16; 8704], q: &[u8; 552], b: &[u8]) -> u64
 // Checks a sheet for a question with a "plan" root: grounds 24 and 25, those of the sheet, then 11.
 fn check_on(m: &[u8], q: &[u8], b: &[u8]) -> Checking
     requires { ⌜ PlanRoot (now m) (now q) ⌝ }
-    ensures { λ r. ⌜ r ≡ checking (check-on (model-of (now (m .entry))) (question-of (now (q .entry))) (now (b .entry))) ⌝ }
+    ensures value { λ r. ⌜ r ≡ checking (check-on (model-of (now (m .entry))) (question-of (now (q .entry))) (now (b .entry))) ⌝ }
 {
     let model = prepare_model(m);
     let query = prepare_question(q);
@@ -486,7 +496,7 @@ fn check_on(m: &[u8], q: &[u8], b: &[u8]) -> Checking
 // Checks a sheet for the question that is held, and says whether its weight meets the bound; or refuses it by grounds 20, 21, 22, 24, 25,
 // then 1 to 6, 10, 11.
 pub fn check(d: Desk, b: &[u8]) -> Checking
-    ensures { λ r. ⌜ r ≡ checked-by d (now (b .entry)) ⌝ }
+    ensures value { λ r. ⌜ r ≡ checked-by d (now (b .entry)) ⌝ }
 {
     let k = plan_ground(d);
     if k != 0 {

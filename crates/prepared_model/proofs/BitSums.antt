@@ -2,7 +2,7 @@
 use Prim.Native.Nat.{ℕ, zero, suc, _+_, _-_, _/_, _%_, _^_, _≤_, _<_}
 use native.Mathlib.Omega.{arith}
 use native.Mathlib.Nat.{pow-suc, pow-succ', zero-div, div-one, div-div-eq-div-mul, eq-or-lt-of-le}
-use mathlib.Core.Path.{_≡_, refl, sym, ap, ap₂, _∙_}
+use mathlib.Core.Path.{_≡_, refl, sym, ap, _∙_}
 use mathlib.Core.Logic.{_⊎_, inl, inr, ⊎-elim}
 use lib.Bits.{bitXor, xor-shr, xor-mod}
 use lib.Dec.{eqb}
@@ -62,11 +62,6 @@ lane-low x (suc zero) h = omega arith
 lane-low x (suc (suc zero)) h = omega arith
 lane-low x (suc (suc (suc zero))) h = omega arith
 lane-low x (suc (suc (suc (suc o)))) h = absurd (omega arith)
-
-pub sum-same : (f g : ℕ → ℕ) (n : ℕ) → ((o : ℕ) → o < n → f o ≡ g o) → sum-below n f ≡ sum-below n g
-unfolding sum-below
-sum-same f g zero h = refl
-sum-same f g (suc n) h = ap₂ _+_ (sum-same f g n (λ o l. h o (omega arith))) (h n (omega arith))
 
 -- ---- sums
 

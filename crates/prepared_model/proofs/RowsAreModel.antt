@@ -17,14 +17,14 @@ use Rattle.logic.proofs.Tests.{and-both, length-tabulate, getD-tabulate, tabula
 use Rattle.blocks.specs.Bytes.{Bytes, byte, u16, u32, i16, signed, within}
 use Rattle.blocks.specs.Block.{sum-below}
 use Rattle.models.specs.Grounds.{outcome-in-range, read-model}
-use Rattle.models.specs.Layout.{state-count, action-count, prop-count, denominator-of, literals, state-mask, pre-of, post-count, post-of, cell-at, outcome-of, entries, model-of}
+use Rattle.models.specs.Layout.{state-count, action-count, literals, state-mask, pre-of, post-count, post-of, cell-at, outcome-of, entries, model-of}
 use Rattle.models.proofs.EveryCell.{sizes, entries-inside, entries-small}
 use Rattle.models.proofs.GroundsPassed.{Passed, passed-all, passed-sized, some-post, outcome-passed}
 use Rattle.models.proofs.OutcomesOfCell.{outcomes-are}
 use Rattle.models.proofs.ModelOfBytes.{enabled-entries, accepted}
 use Rattle.prepared_model.specs.promises.Rows.{choices-in, choice-in, outcomes-in, step-in, row-in, Offers, sum-in, weighed, lane, enabled-in, place-of, model-in, Prepared, Prepares}
 use Rattle.prepared_model.specs.promises.Filled.{listed, source, Row}
-use Rattle.prepared_model.proofs.BitSums.{sum-same}
+use Rattle.blocks.proofs.Sums.{sum-same}
 use Rattle.prepared_model.proofs.UnusedWeighNothing.{used-only}
 use Rattle.prepared_model.proofs.RowFilled.{listed-few, listed-below, listed-place, row-at}
 

@@ -16,46 +16,70 @@ use crate::rows::fill;
 use blocks::signed16;
 use blocks::wide;
 
+// The numbers of a prepared model: the head block, and a row for each state.
+pub const MODEL: usize = 8704;
+
+// Where the rows begin, and how many numbers a row has.
+const ROWS: usize = 512;
+
+const ROW: usize = 256;
+
+// What stands in a row. The bytes of its choices come first, at most eight; then the numbers of outcomes of each, and how many choices there
+// are; then the targets, the weights and the rewards of all outcomes, four to a choice; last the sums of weights, sixteen to a choice.
+const OUTCOMES: usize = 8;
+
+const COUNT: usize = 16;
+
+const TARGETS: usize = 32;
+
+const WEIGHTS: usize = 64;
+
+const REWARDS: usize = 96;
+
+const SUMS: usize = 128;
+
 fn widened(x: u16) -> usize
-    ensures { λ r. ⌜ (r ≡ x) × (r < 65536) ⌝ }
+    ensures value { λ r. ⌜ r ≡ x ⌝ }
+    ensures range { λ r. ⌜ r < 65536 ⌝ }
 {
     x as usize
 }
 
 // ---- the head
 
-pub fn states(m: &[u16; 8704]) -> usize
-    ensures { λ r. ⌜ r ≡ state-count (now (m .entry)) ⌝ }
+pub fn states(m: &[u16; MODEL]) -> usize
+    ensures value { λ r. ⌜ r ≡ state-count (now (m .entry)) ⌝ }
 {
     widened(m[2])
 }
 
-pub fn denominator(m: &[u16; 8704]) -> usize
-    ensures { λ r. ⌜ r ≡ denominator-of (now (m .entry)) ⌝ }
+pub fn denominator(m: &[u16; MODEL]) -> usize
+    ensures value { λ r. ⌜ r ≡ denominator-of (now (m .entry)) ⌝ }
 {
     widened(m[5])
 }
 
 // Two bytes of the head as a number.
-fn pair(m: &[u16; 8704], k: usize) -> u32
+fn pair(m: &[u16; MODEL], k: usize) -> u32
     requires { ⌜ Prepared (now m) × (k < 510) ⌝ }
-    ensures { λ r. ⌜ (r ≡ bytes.u16 (now (m .entry)) k) × (r < 65536) ⌝ }
+    ensures value { λ r. ⌜ r ≡ bytes.u16 (now (m .entry)) k ⌝ }
+    ensures range { λ r. ⌜ r < 65536 ⌝ }
 {
     m[k] as u32 + 256 * m[k + 1] as u32
 }
 
 // The mask of a state.
-fn mask(m: &[u16; 8704], s: usize) -> u32
+fn mask(m: &[u16; MODEL], s: usize) -> u32
     requires { ⌜ Prepared (now m) × (s < 32) ⌝ }
-    ensures { λ r. ⌜ r ≡ state-mask (now (m .entry)) s ⌝ }
+    ensures value { λ r. ⌜ r ≡ state-mask (now (m .entry)) s ⌝ }
 {
     pair(m, 8 + 4 * s) + 65536 * pair(m, 10 + 4 * s)
 }
 
 // Whether proposition i is true in s.
-pub fn holds(m: &[u16; 8704], s: usize, i: u8) -> bool
+pub fn holds(m: &[u16; MODEL], s: usize, i: u8) -> bool
     requires { ⌜ Prepared (now m) × (s < state-count (now m)) × (i < 32) ⌝ }
-    ensures { λ r. ⌜ r ≡ prop-in (model-in (now (m .entry))) s i ⌝ }
+    ensures value { λ r. ⌜ r ≡ prop-in (model-in (now (m .entry))) s i ⌝ }
 {
     (mask(m, s) >> i as u32) % 2 == 1
 }
@@ -63,92 +87,96 @@ pub fn holds(m: &[u16; 8704], s: usize, i: u8) -> bool
 // ---- the rows
 
 // How many choices a state has.
-pub fn choices(m: &[u16; 8704], s: usize) -> usize
+pub fn choices(m: &[u16; MODEL], s: usize) -> usize
     requires { ⌜ s < 32 ⌝ }
-    ensures { λ r. ⌜ r ≡ choices-in (now (m .entry)) s ⌝ }
+    ensures value { λ r. ⌜ r ≡ choices-in (now (m .entry)) s ⌝ }
 {
-    widened(m[512 + 256 * s + 16])
+    widened(m[ROWS + ROW * s + COUNT])
 }
 
 // The byte of choice i: its action.
-pub fn choice(m: &[u16; 8704], s: usize, i: usize) -> u8
+pub fn choice(m: &[u16; MODEL], s: usize, i: usize) -> u8
     requires { ⌜ Prepared (now m) × (s < state-count (now m)) × (i < choices-in (now m) s) ⌝ }
-    ensures { λ r. ⌜ r ≡ choice-in (now (m .entry)) s i ⌝ }
+    ensures value { λ r. ⌜ r ≡ choice-in (now (m .entry)) s i ⌝ }
 {
-    m[512 + 256 * s + i] as u8
+    m[ROWS + ROW * s + i] as u8
 }
 
 // How many outcomes it has.
-pub fn outcomes(m: &[u16; 8704], s: usize, i: usize) -> usize
+pub fn outcomes(m: &[u16; MODEL], s: usize, i: usize) -> usize
     requires { ⌜ (s < 32) × (i < 8) ⌝ }
-    ensures { λ r. ⌜ r ≡ outcomes-in (now (m .entry)) s i ⌝ }
+    ensures value { λ r. ⌜ r ≡ outcomes-in (now (m .entry)) s i ⌝ }
 {
-    widened(m[512 + 256 * s + 8 + i])
+    widened(m[ROWS + ROW * s + OUTCOMES + i])
 }
 
-pub fn target(m: &[u16; 8704], s: usize, i: usize, o: usize) -> usize
+pub fn target(m: &[u16; MODEL], s: usize, i: usize, o: usize) -> usize
     requires { ⌜ (s < 32) × (i < 8) × (o < 4) ⌝ }
-    ensures { λ r. ⌜ r ≡ (step-in (now (m .entry)) s i o) .target ⌝ }
+    ensures value { λ r. ⌜ r ≡ (step-in (now (m .entry)) s i o) .target ⌝ }
 {
-    widened(m[512 + 256 * s + 32 + 4 * i + o])
+    widened(m[ROWS + ROW * s + TARGETS + 4 * i + o])
 }
 
-pub fn weight(m: &[u16; 8704], s: usize, i: usize, o: usize) -> u64
+pub fn weight(m: &[u16; MODEL], s: usize, i: usize, o: usize) -> u64
     requires { ⌜ (s < 32) × (i < 8) × (o < 4) ⌝ }
-    ensures { λ r. ⌜ (r ≡ (step-in (now (m .entry)) s i o) .weight) × (r < 65536) ⌝ }
+    ensures value { λ r. ⌜ r ≡ (step-in (now (m .entry)) s i o) .weight ⌝ }
+    ensures range { λ r. ⌜ r < 65536 ⌝ }
 {
-    long(m[512 + 256 * s + 64 + 4 * i + o])
+    long(m[ROWS + ROW * s + WEIGHTS + 4 * i + o])
 }
 
 fn long(x: u16) -> u64
-    ensures { λ r. ⌜ (r ≡ x) × (r < 65536) ⌝ }
+    ensures value { λ r. ⌜ r ≡ x ⌝ }
+    ensures range { λ r. ⌜ r < 65536 ⌝ }
 {
     x as u64
 }
 
 // A reward of its two bytes, which stand in the row as they are.
 fn signed(x: u16) -> i16
-    ensures { λ r. ⌜ r ≡ bytes.signed 15 x ⌝ }
+    ensures value { λ r. ⌜ r ≡ bytes.signed 15 x ⌝ }
 {
     signed16(x as u32)
 }
 
-pub fn reward(m: &[u16; 8704], s: usize, i: usize, o: usize) -> i16
+pub fn reward(m: &[u16; MODEL], s: usize, i: usize, o: usize) -> i16
     requires { ⌜ (s < 32) × (i < 8) × (o < 4) ⌝ }
-    ensures { λ r. ⌜ r ≡ (step-in (now (m .entry)) s i o) .reward ⌝ }
+    ensures value { λ r. ⌜ r ≡ (step-in (now (m .entry)) s i o) .reward ⌝ }
 {
-    signed(m[512 + 256 * s + 96 + 4 * i + o])
+    signed(m[ROWS + ROW * s + REWARDS + 4 * i + o])
 }
 
 // The outcomes of a state by lanes: lane k is outcome k % 4 of choice k / 4.
-pub fn lane_target(m: &[u16; 8704], s: usize, k: usize) -> usize
+pub fn lane_target(m: &[u16; MODEL], s: usize, k: usize) -> usize
     requires { ⌜ (s < 32) × (k < 32) ⌝ }
-    ensures { λ r. ⌜ (r ≡ (step-in (now (m .entry)) s (k / 4) (k % 4)) .target) × (r < 65536) ⌝ }
+    ensures value { λ r. ⌜ r ≡ (step-in (now (m .entry)) s (k / 4) (k % 4)) .target ⌝ }
+    ensures range { λ r. ⌜ r < 65536 ⌝ }
 {
-    widened(m[512 + 256 * s + 32 + k])
+    widened(m[ROWS + ROW * s + TARGETS + k])
 }
 
-pub fn lane_reward(m: &[u16; 8704], s: usize, k: usize) -> i16
+pub fn lane_reward(m: &[u16; MODEL], s: usize, k: usize) -> i16
     requires { ⌜ (s < 32) × (k < 32) ⌝ }
-    ensures { λ r. ⌜ r ≡ (step-in (now (m .entry)) s (k / 4) (k % 4)) .reward ⌝ }
+    ensures value { λ r. ⌜ r ≡ (step-in (now (m .entry)) s (k / 4) (k % 4)) .reward ⌝ }
 {
-    signed(m[512 + 256 * s + 96 + k])
+    signed(m[ROWS + ROW * s + REWARDS + k])
 }
 
 // The summed weights of the outcomes of choice i whose bits in the pattern y are 1.
-pub fn sum(m: &[u16; 8704], s: usize, i: usize, y: usize) -> u64
+pub fn sum(m: &[u16; MODEL], s: usize, i: usize, y: usize) -> u64
     requires { ⌜ (s < 32) × (i < 8) × (y < 16) ⌝ }
-    ensures { λ r. ⌜ (r ≡ sum-in (now (m .entry)) s i y) × (r < 65536) ⌝ }
+    ensures value { λ r. ⌜ r ≡ sum-in (now (m .entry)) s i y ⌝ }
+    ensures range { λ r. ⌜ r < 65536 ⌝ }
 {
-    long(m[512 + 256 * s + 128 + 16 * i + y])
+    long(m[ROWS + ROW * s + SUMS + 16 * i + y])
 }
 
 // ---- a choice by its byte
 
 // The choice that stands first.
-pub fn first_choice(m: &[u16; 8704], s: usize) -> u8
+pub fn first_choice(m: &[u16; MODEL], s: usize) -> u8
     requires { ⌜ Prepared (now m) × (s < state-count (now m)) ⌝ }
-    ensures { λ r. ⌜ r ≡ first-choice (model-in (now (m .entry))) s ⌝ }
+    ensures value { λ r. ⌜ r ≡ first-choice (model-in (now (m .entry))) s ⌝ }
 {
     choice(m, s, 0)
 }
@@ -159,9 +187,9 @@ pub struct Row {
     pub count: usize,
 }
 
-pub fn row_of(m: &[u16; 8704], s: usize, a: u8) -> Row
+pub fn row_of(m: &[u16; MODEL], s: usize, a: u8) -> Row
     requires { ⌜ Prepared (now m) × (s < state-count (now m)) ⌝ }
-    ensures { λ r. ⌜ Row-of (now (m .entry)) s a (r .at) (r .count) ⌝ }
+    ensures value { λ r. ⌜ Row-of (now (m .entry)) s a (r .at) (r .count) ⌝ }
 {
     let n = choices(m, s);
     let mut i: usize = 0;
@@ -180,19 +208,20 @@ pub fn row_of(m: &[u16; 8704], s: usize, a: u8) -> Row
 // ---- how it is made
 
 fn short(x: u8) -> u16
-    ensures { λ r. ⌜ (r ≡ x) × (r < 256) ⌝ }
+    ensures value { λ r. ⌜ r ≡ x ⌝ }
+    ensures range { λ r. ⌜ r < 256 ⌝ }
 {
     x as u16
 }
 
 // The head block, and room for the rows.
-fn head(b: &[u8]) -> [u16; 8704]
+fn head(b: &[u8]) -> [u16; MODEL]
     requires { ⌜ 512 ≤ length (now b) ⌝ }
-    ensures { λ r. ⌜ (length r ≡ 8704) × ((k : ℕ) → k < 512 → (getD r k 0 ≡ getD (now (b .entry)) k 0) × (getD r k 0 < 256)) ⌝ }
+    ensures value { λ r. ⌜ (length r ≡ 8704) × ((k : ℕ) → k < 512 → (getD r k 0 ≡ getD (now (b .entry)) k 0) × (getD r k 0 < 256)) ⌝ }
 {
-    let mut m = [0u16; 8704];
+    let mut m = [0u16; MODEL];
     let mut k: usize = 0;
-    while k < 512 {
+    while k < ROWS {
         m[k] = short(b[k]);
         k += 1;
     }
@@ -200,16 +229,16 @@ fn head(b: &[u8]) -> [u16; 8704]
 }
 
 // Prepares the model of accepted blocks: the one maker of what every search, count and weighing reads.
-pub fn prepare_model(b: &[u8]) -> [u16; 8704]
+pub fn prepare_model(b: &[u8]) -> [u16; MODEL]
     requires { ⌜ refusal (read-model (now b)) ≡ 0 ⌝ }
-    ensures { λ r. ⌜ Prepares (now (b .entry)) r ⌝ }
+    ensures value { λ r. ⌜ Prepares (now (b .entry)) r ⌝ }
 {
     let mut m = head(b);
     let states = wide(b, 2);
     let mut s: usize = 0;
     while s < states {
-        let from = 512 + 256 * s;
-        let end = from + 256;
+        let from = ROWS + ROW * s;
+        let end = from + ROW;
         fill(b, &mut m[from..end], s);
         s += 1;
     }

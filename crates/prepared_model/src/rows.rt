@@ -8,6 +8,12 @@ ghost use Rattle.models.specs.Grounds.{read-model};
 ghost use Rattle.models.specs.Layout.{state-count};
 ghost use Rattle.prepared_model.specs.promises.Rows.{lane};
 ghost use Rattle.prepared_model.specs.promises.Filled.{put-at, Chosen, Spelled, Partly, Summed, Row};
+use crate::COUNT;
+use crate::OUTCOMES;
+use crate::REWARDS;
+use crate::SUMS;
+use crate::TARGETS;
+use crate::WEIGHTS;
 use blocks::u16_at;
 use blocks::wide;
 use models::entries;
@@ -15,13 +21,13 @@ use models::outcome_at;
 
 fn short(x: usize) -> u16
     requires { ⌜ x < 65536 ⌝ }
-    ensures { λ r. ⌜ r ≡ x ⌝ }
+    ensures value { λ r. ⌜ r ≡ x ⌝ }
 {
     x as u16
 }
 
 fn number(x: u16) -> usize
-    ensures { λ r. ⌜ r ≡ x ⌝ }
+    ensures value { λ r. ⌜ r ≡ x ⌝ }
 {
     x as usize
 }
@@ -29,20 +35,22 @@ fn number(x: u16) -> usize
 // Lists the action a, which has c outcomes, behind the i choices listed, if it has any; gives the number listed.
 fn list(row: &mut [u16], i: usize, a: usize, c: usize) -> usize
     requires { ⌜ (i < 8) × (a < 256) × (c < 256) × (length (now row) ≡ 256) ⌝ }
-    ensures { λ r. ⌜ (c ≡ 0 → (r ≡ i) × (now (row .exit) ≡ now (row .entry))) × (0 < c → (r ≡ i + 1) × (now (row .exit) ≡ set (set (now (row .entry)) i a) (8 + i) c)) ⌝ }
+    ensures effect { λ r.
+        let row′ = now (row .exit) in let row = now (row .entry) in
+        ⌜ (c ≡ 0 → (r ≡ i) × (row′ ≡ row)) × (0 < c → (r ≡ i + 1) × (row′ ≡ set (set row i a) (8 + i) c)) ⌝ }
 {
     if c == 0 {
         return i;
     }
     row[i] = short(a);
-    row[8 + i] = short(c);
+    row[OUTCOMES + i] = short(c);
     i + 1
 }
 
 // Lists the choices of the state s in order, each with the number of its outcomes, and counts them.
 fn choose(b: &[u8], row: &mut [u16], s: usize)
     requires { ⌜ (refusal (read-model (now b)) ≡ 0) × (s < state-count (now b)) × (length (now row) ≡ 256) ⌝ }
-    ensures { λ _. ⌜ Chosen (now (b .entry)) s (now (row .exit)) ⌝ }
+    ensures frame { λ _. ⌜ Chosen (now (b .entry)) s (now (row .exit)) ⌝ }
 {
     let n = wide(b, 3);
     let mut i: usize = 0;
@@ -52,25 +60,28 @@ fn choose(b: &[u8], row: &mut [u16], s: usize)
         i = list(row, i, a, c);
         a += 1;
     }
-    row[16] = short(i);
+    row[COUNT] = short(i);
 }
 
 // Puts the target, the weight and the reward of an outcome, which stands at `at` in the blocks, in lane k.
 fn put(b: &[u8], row: &mut [u16], at: usize, k: usize)
     requires { ⌜ (at < 65000) × (k < 32) × (length (now row) ≡ 256) ⌝ }
-    ensures { λ _. ⌜ (now (row .exit) ≡ put-at (now (b .entry)) (now (row .entry)) at k) × (bytes.byte (now (b .entry)) (at + 1) < 256) ⌝ }
+    ensures frame { λ _. ⌜ now (row .exit) ≡ put-at (now (b .entry)) (now (row .entry)) at k ⌝ }
+    ensures value { λ _. ⌜ bytes.byte (now (b .entry)) (at + 1) < 256 ⌝ }
 {
-    row[32 + k] = short(wide(b, at));
-    row[64 + k] = short(wide(b, at + 1));
-    row[96 + k] = u16_at(b, at + 2) as u16;
+    row[TARGETS + k] = short(wide(b, at));
+    row[WEIGHTS + k] = short(wide(b, at + 1));
+    row[REWARDS + k] = u16_at(b, at + 2) as u16;
 }
 
 // Spells out the outcomes of the choices listed, 4 to a choice.
 fn spell(b: &[u8], row: &mut [u16], s: usize)
     requires { ⌜ (refusal (read-model (now b)) ≡ 0) × (s < state-count (now b)) × (length (now row) ≡ 256) × Chosen (now b) s (now row) ⌝ }
-    ensures { λ _. ⌜ Chosen (now (b .entry)) s (now (row .exit)) × Spelled (now (b .entry)) s (4 * getD (now (row .exit)) 16 0) (now (row .exit)) ⌝ }
+    ensures frame { λ _.
+        let row′ = now (row .exit) in let b = now (b .entry) in
+        ⌜ Chosen b s row′ × Spelled b s (4 * getD row′ 16 0) row′ ⌝ }
 {
-    let n = 4 * number(row[16]);
+    let n = 4 * number(row[COUNT]);
     let mut k: usize = 0;
     while k < n {
         let at = outcome_at(s, number(row[k / 4]), k % 4);
@@ -82,7 +93,8 @@ fn spell(b: &[u8], row: &mut [u16], s: usize)
 // A weight, if the lowest bit is 1.
 fn part(w: u16, y: u16) -> u16
     requires { ⌜ w < 256 ⌝ }
-    ensures { λ r. ⌜ (r ≡ w * lane y 0) × (r < 256) ⌝ }
+    ensures value { λ r. ⌜ r ≡ w * lane y 0 ⌝ }
+    ensures range { λ r. ⌜ r < 256 ⌝ }
 {
     w * (y & 1)
 }
@@ -90,7 +102,7 @@ fn part(w: u16, y: u16) -> u16
 // The four weights whose bits are 1, summed.
 fn parts(w0: u16, w1: u16, w2: u16, w3: u16, y: u16) -> u16
     requires { ⌜ (w0 < 256) × (w1 < 256) × (w2 < 256) × (w3 < 256) ⌝ }
-    ensures { λ r. ⌜ r ≡ w0 * lane y 0 + w1 * lane y 1 + w2 * lane y 2 + w3 * lane y 3 ⌝ }
+    ensures value { λ r. ⌜ r ≡ w0 * lane y 0 + w1 * lane y 1 + w2 * lane y 2 + w3 * lane y 3 ⌝ }
 {
     part(w0, y) + part(w1, y >> 1) + part(w2, y >> 2) + part(w3, y >> 3)
 }
@@ -98,16 +110,16 @@ fn parts(w0: u16, w1: u16, w2: u16, w3: u16, y: u16) -> u16
 // Puts the sums of the weights of the choice at place i, by pattern.
 fn sum_choice(row: &mut [u16], i: usize)
     requires { ⌜ (i < 8) × (length (now row) ≡ 256) × ((o : ℕ) → o < 4 → getD (now row) (64 + 4 * i + o) 0 < 256) ⌝ }
-    ensures { λ _. ⌜ Partly i 16 (now (row .entry)) (now (row .exit)) ⌝ }
+    ensures frame { λ _. ⌜ Partly i 16 (now (row .entry)) (now (row .exit)) ⌝ }
 {
-    let from = 64 + 4 * i;
+    let from = WEIGHTS + 4 * i;
     let w0 = row[from];
     let w1 = row[from + 1];
     let w2 = row[from + 2];
     let w3 = row[from + 3];
     let mut y: u16 = 0;
     while y < 16 {
-        row[128 + 16 * i + y as usize] = parts(w0, w1, w2, w3, y);
+        row[SUMS + 16 * i + y as usize] = parts(w0, w1, w2, w3, y);
         y += 1;
     }
 }
@@ -115,7 +127,7 @@ fn sum_choice(row: &mut [u16], i: usize)
 // Puts the sums of all n choices.
 fn sum_choices(row: &mut [u16], n: usize)
     requires { ⌜ (n ≤ 8) × (length (now row) ≡ 256) × ((j : ℕ) → j < 4 * n → getD (now row) (64 + j) 0 < 256) ⌝ }
-    ensures { λ _. ⌜ Summed n (now (row .entry)) (now (row .exit)) ⌝ }
+    ensures frame { λ _. ⌜ Summed n (now (row .entry)) (now (row .exit)) ⌝ }
 {
     let mut i: usize = 0;
     while i < n {
@@ -127,10 +139,10 @@ fn sum_choices(row: &mut [u16], n: usize)
 // Fills the row of the state s.
 pub fn fill(b: &[u8], row: &mut [u16], s: usize)
     requires { ⌜ (refusal (read-model (now b)) ≡ 0) × (s < state-count (now b)) × (length (now row) ≡ 256) ⌝ }
-    ensures { λ _. ⌜ Row (now (b .entry)) s (now (row .exit)) ⌝ }
+    ensures frame { λ _. ⌜ Row (now (b .entry)) s (now (row .exit)) ⌝ }
 {
     choose(b, row, s);
     spell(b, row, s);
-    let n = number(row[16]);
+    let n = number(row[COUNT]);
     sum_choices(row, n);
 }

@@ -3,3 +3,4 @@ pub mod ChildrenBefore
 pub mod OnlyChildrenChange
 pub mod SameNodeByNode
 pub mod SameVerdict
+pub mod Marks

@@ -2,3 +2,4 @@
 pub mod Nodes
 pub mod Replaced
 pub mod Shared
+pub mod Marks

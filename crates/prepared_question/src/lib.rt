@@ -14,92 +14,98 @@ ghost use Rattle.prepared_question.specs.promises.Shared.{Shared};
 ghost use Rattle.prepared_question.specs.promises.Replaced.{Ordered, left-for, right-for, Pointed};
 ghost use Rattle.prepared_question.specs.promises.Replaced as replaced;
 
+// The bytes of a prepared question: its block, and the depth of each of 40 nodes.
+pub const QUESTION: usize = 552;
+
+// Where the depths begin.
+pub const DEPTHS: usize = 512;
+
 // ---- reading it
 
-pub fn start(q: &[u8; 552]) -> u8
-    ensures { λ r. ⌜ r ≡ start-of (now (q .entry)) ⌝ }
+pub fn start(q: &[u8; QUESTION]) -> u8
+    ensures value { λ r. ⌜ r ≡ start-of (now (q .entry)) ⌝ }
 {
     q[2]
 }
 
-pub fn count(q: &[u8; 552]) -> u8
-    ensures { λ r. ⌜ r ≡ layout.node-count (now (q .entry)) ⌝ }
+pub fn count(q: &[u8; QUESTION]) -> u8
+    ensures value { λ r. ⌜ r ≡ layout.node-count (now (q .entry)) ⌝ }
 {
     q[3]
 }
 
-pub fn operator(q: &[u8; 552], j: u8) -> u8
+pub fn operator(q: &[u8; QUESTION], j: u8) -> u8
     requires { ⌜ j < 40 ⌝ }
-    ensures { λ r. ⌜ r ≡ node-of (now (q .entry)) j .operator ⌝ }
+    ensures value { λ r. ⌜ r ≡ node-of (now (q .entry)) j .operator ⌝ }
 {
     q[8 + 12 * j as usize]
 }
 
 // Another byte of node j.
-fn cell(q: &[u8; 552], j: u8, k: usize) -> u8
+fn cell(q: &[u8; QUESTION], j: u8, k: usize) -> u8
     requires { ⌜ (j < 40) × (k < 12) ⌝ }
-    ensures { λ r. ⌜ r ≡ getD (now (q .entry)) (node-at j + k) 0 ⌝ }
+    ensures value { λ r. ⌜ r ≡ getD (now (q .entry)) (node-at j + k) 0 ⌝ }
 {
     q[8 + 12 * j as usize + k]
 }
 
 // The n of "gain" or "plan".
-pub fn steps(q: &[u8; 552], j: u8) -> u8
+pub fn steps(q: &[u8; QUESTION], j: u8) -> u8
     requires { ⌜ j < 40 ⌝ }
-    ensures { λ r. ⌜ r ≡ node-of (now (q .entry)) j .n ⌝ }
+    ensures value { λ r. ⌜ r ≡ node-of (now (q .entry)) j .n ⌝ }
 {
     cell(q, j, 1)
 }
 
-pub fn left(q: &[u8; 552], j: u8) -> u8
+pub fn left(q: &[u8; QUESTION], j: u8) -> u8
     requires { ⌜ j < 40 ⌝ }
-    ensures { λ r. ⌜ r ≡ node-of (now (q .entry)) j .left ⌝ }
+    ensures value { λ r. ⌜ r ≡ node-of (now (q .entry)) j .left ⌝ }
 {
     cell(q, j, 2)
 }
 
-pub fn right(q: &[u8; 552], j: u8) -> u8
+pub fn right(q: &[u8; QUESTION], j: u8) -> u8
     requires { ⌜ j < 40 ⌝ }
-    ensures { λ r. ⌜ r ≡ node-of (now (q .entry)) j .right ⌝ }
+    ensures value { λ r. ⌜ r ≡ node-of (now (q .entry)) j .right ⌝ }
 {
     cell(q, j, 3)
 }
 
 // The bound of "gain", or the p of the bound of "plan".
-pub fn bound(q: &[u8; 552], j: u8) -> i32
+pub fn bound(q: &[u8; QUESTION], j: u8) -> i32
     requires { ⌜ j < 40 ⌝ }
-    ensures { λ r. ⌜ r ≡ node-of (now (q .entry)) j .p ⌝ }
+    ensures value { λ r. ⌜ r ≡ node-of (now (q .entry)) j .p ⌝ }
 {
     blocks::i32_at(q, 8 + 12 * j as usize + 4)
 }
 
 // The q of the bound of "plan".
-pub fn parts(q: &[u8; 552], j: u8) -> u32
+pub fn parts(q: &[u8; QUESTION], j: u8) -> u32
     requires { ⌜ j < 40 ⌝ }
-    ensures { λ r. ⌜ r ≡ node-of (now (q .entry)) j .q ⌝ }
+    ensures value { λ r. ⌜ r ≡ node-of (now (q .entry)) j .q ⌝ }
 {
     blocks::u32_at(q, 8 + 12 * j as usize + 8)
 }
 
-pub fn depth(q: &[u8; 552], j: u8) -> u8
+pub fn depth(q: &[u8; QUESTION], j: u8) -> u8
     requires { ⌜ j < 40 ⌝ }
-    ensures { λ r. ⌜ r ≡ depth-in (now (q .entry)) j ⌝ }
+    ensures value { λ r. ⌜ r ≡ depth-in (now (q .entry)) j ⌝ }
 {
-    q[512 + j as usize]
+    q[DEPTHS + j as usize]
 }
 
 // Whether node j, a "gain" or a "plan", asks for less than its bound.
-pub fn asks_less(q: &[u8; 552], j: u8) -> bool
+pub fn asks_less(q: &[u8; QUESTION], j: u8) -> bool
     requires { ⌜ j < 40 ⌝ }
-    ensures { λ r. ⌜ r ≡ eqb (node-of (now (q .entry)) j .right) 1 ⌝ }
+    ensures value { λ r. ⌜ r ≡ eqb (node-of (now (q .entry)) j .right) 1 ⌝ }
 {
     right(q, j) == 1
 }
 
 // Whether it asks for just its bound.
-pub fn asks_equal(q: &[u8; 552], j: u8) -> bool
+pub fn asks_equal(q: &[u8; QUESTION], j: u8) -> bool
     requires { ⌜ j < 40 ⌝ }
-    ensures { λ r. ⌜ r ≡ eqb (node-of (now (q .entry)) j .right) 2 ⌝ }
+    ensures value { λ r. ⌜ r ≡ eqb (node-of (now (q .entry)) j .right) 2 ⌝ }
 {
     right(q, j) == 2
 }
@@ -108,7 +114,7 @@ pub fn asks_equal(q: &[u8; 552], j: u8) -> bool
 
 // The node that node c comes down to: of an "and" of one node with itself, that node.
 fn past(b: &[u8], c: u8) -> u8
-    ensures { λ r. ⌜ r ≡ replaced.past (now (b .entry)) c ⌝ }
+    ensures value { λ r. ⌜ r ≡ replaced.past (now (b .entry)) c ⌝ }
 {
     let l = questions::left(b, c);
     if (questions::operator(b, c) == 4) & (l == questions::right(b, c)) {
@@ -119,14 +125,14 @@ fn past(b: &[u8], c: u8) -> u8
 
 // Whether a node has a child in the left cell, by its operator.
 fn has_left(op: u8) -> bool
-    ensures { λ r. ⌜ r ≡ has-left op ⌝ }
+    ensures value { λ r. ⌜ r ≡ has-left op ⌝ }
 {
     (op == 3) | (op == 4) | (op == 6) | (op == 8)
 }
 
 // The cells of node i of q; b is what the nodes before it have become.
 fn left_for(q: &[u8], b: &[u8], i: u8) -> u8
-    ensures { λ r. ⌜ r ≡ left-for (now (q .entry)) (now (b .entry)) i ⌝ }
+    ensures value { λ r. ⌜ r ≡ left-for (now (q .entry)) (now (b .entry)) i ⌝ }
 {
     if has_left(questions::operator(q, i)) {
         return past(b, questions::left(q, i));
@@ -135,7 +141,7 @@ fn left_for(q: &[u8], b: &[u8], i: u8) -> u8
 }
 
 fn right_for(q: &[u8], b: &[u8], i: u8) -> u8
-    ensures { λ r. ⌜ r ≡ right-for (now (q .entry)) (now (b .entry)) i ⌝ }
+    ensures value { λ r. ⌜ r ≡ right-for (now (q .entry)) (now (b .entry)) i ⌝ }
 {
     if questions::operator(q, i) == 4 {
         return past(b, questions::right(q, i));
@@ -144,25 +150,26 @@ fn right_for(q: &[u8], b: &[u8], i: u8) -> u8
 }
 
 // Node i gets its new cells and its depth.
-fn put(q: &[u8], b: &mut [u8; 552], i: u8, d: u8)
-    requires { ⌜ Ordered (now q) × (i < layout.node-count (now q)) × Pointed (now q) (now b) i × (d ≡ formulas.depth (formula (now q) i)) ⌝ }
-    ensures { λ _. ⌜ Pointed (now (q .entry)) (now (b .exit)) (i + 1) ⌝ }
+fn put(q: &[u8], b: &mut [u8; QUESTION], i: u8, d: u8)
+    requires { ⌜
+        Ordered (now q) × (i < layout.node-count (now q)) × Pointed (now q) (now b) i × (d ≡ formulas.depth (formula (now q) i)) ⌝ }
+    ensures frame { λ _. ⌜ Pointed (now (q .entry)) (now (b .exit)) (i + 1) ⌝ }
 {
     let l = left_for(q, b, i);
     let r = right_for(q, b, i);
     let at = 8 + 12 * i as usize;
     b[at + 2] = l;
     b[at + 3] = r;
-    b[512 + i as usize] = d;
+    b[DEPTHS + i as usize] = d;
 }
 
-fn copied(q: &[u8]) -> [u8; 552]
+fn copied(q: &[u8]) -> [u8; QUESTION]
     requires { ⌜ length (now q) ≡ 512 ⌝ }
-    ensures { λ r. ⌜ Pointed (now (q .entry)) r 0 ⌝ }
+    ensures value { λ r. ⌜ Pointed (now (q .entry)) r 0 ⌝ }
 {
-    let mut b = [0u8; 552];
+    let mut b = [0u8; QUESTION];
     let mut i: usize = 0;
-    while i < 512 {
+    while i < DEPTHS {
         b[i] = q[i];
         i += 1;
     }
@@ -170,9 +177,9 @@ fn copied(q: &[u8]) -> [u8; 552]
 }
 
 // The question with every child that is an "and" of one node with itself replaced by that node, and with its depths.
-pub fn prepare_question(q: &[u8]) -> [u8; 552]
+pub fn prepare_question(q: &[u8]) -> [u8; QUESTION]
     requires { ⌜ Ordered (now q) ⌝ }
-    ensures { λ r. ⌜ ((S A N : ℕ) → refusal (read-question S A N (now (q .entry))) ≡ 0 → Shared S A N (now (q .entry)) r) ⌝ }
+    ensures value { λ r. ⌜ ((S A N : ℕ) → refusal (read-question S A N (now (q .entry))) ≡ 0 → Shared S A N (now (q .entry)) r) ⌝ }
 {
     let n = questions::node_count(q);
     let depths = questions::depth_table(q);

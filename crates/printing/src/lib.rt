@@ -17,7 +17,7 @@ use plan_judge::Verdict;
 // Whether a question's root, its last node, is a "plan".
 fn root_is_plan(q: &[u8]) -> bool
     requires { ⌜ 1 ≤ node-count (now q) ⌝ }
-    ensures { λ r. ⌜ r ≡ plan-root (now (q .entry)) ⌝ }
+    ensures value { λ r. ⌜ r ≡ plan-root (now (q .entry)) ⌝ }
 {
     questions::operator(q, questions::node_count(q) - 1) == 8
 }
@@ -25,7 +25,9 @@ fn root_is_plan(q: &[u8]) -> bool
 // The line of a no.
 fn no_line(out: &mut [u8], q: &[u8], count: u32) -> usize
     requires { ⌜ (8192 ≤ length (now out)) × (1 ≤ node-count (now q)) ⌝ }
-    ensures { λ r. ⌜ Put (cond (plan-root (now (q .entry))) (no-plans-line count) (plain-line false)) (now (out .entry)) (now (out .exit)) 0 r ⌝ }
+    ensures effect { λ r.
+        let out′ = now (out .exit) in let q = now (q .entry) in let out = now (out .entry) in
+        ⌜ Put (cond (plan-root q) (no-plans-line count) (plain-line false)) out out′ 0 r ⌝ }
 {
     if root_is_plan(q) {
         return verdict_line::no_plans_line(out, count);
@@ -36,7 +38,7 @@ fn no_line(out: &mut [u8], q: &[u8], count: u32) -> usize
 // D to the n: the total weight of all paths of a plan.
 fn whole(model: &[u8], steps: u32) -> u64
     requires { ⌜ (denominator-of (now model) ≤ 100) × (steps ≤ 6) ⌝ }
-    ensures { λ r. ⌜ r ≡ denominator-of (now (model .entry)) ^ steps ⌝ }
+    ensures value { λ r. ⌜ r ≡ denominator-of (now (model .entry)) ^ steps ⌝ }
 {
     bounds::power(blocks::wide(model, 5), steps as u8)
 }
@@ -44,7 +46,10 @@ fn whole(model: &[u8], steps: u32) -> u64
 // The line of a verdict, with its choices beside it.
 fn verdict_line(out: &mut [u8], model: &[u8], q: &[u8], v: Verdict, choices: &[u8]) -> usize
     requires { ⌜ (8192 ≤ length (now out)) × Shown (now model) (now q) v (now choices) ⌝ }
-    ensures { λ r. ⌜ Put (shown-line (denominator-of (now (model .entry))) (plan-root (now (q .entry))) v (now (choices .entry))) (now (out .entry)) (now (out .exit)) 0 r ⌝ }
+    ensures effect { λ r.
+        let out′ = now (out .exit) in let model = now (model .entry) in let q = now (q .entry) in let choices = now (choices .entry) in
+        let out = now (out .entry) in
+        ⌜ Put (shown-line (denominator-of model) (plan-root q) v choices) out out′ 0 r ⌝ }
 {
     match v {
         Verdict::No(x) => no_line(out, q, x.count),
@@ -62,7 +67,9 @@ fn verdict_line(out: &mut [u8], model: &[u8], q: &[u8], v: Verdict, choices: &[u
 // The line where the model and the question are on the desk.
 fn judging_line(out: &mut [u8], model: &[u8], q: &[u8], d: Desk) -> usize
     requires { ⌜ (8192 ≤ length (now out)) × Asked d (now model) (now q) ⌝ }
-    ensures { λ r. ⌜ Put (line-of (judging-line (model-of (now (model .entry))) (question-of (now (q .entry))))) (now (out .entry)) (now (out .exit)) 0 r ⌝ }
+    ensures effect { λ r.
+        let out′ = now (out .exit) in let model = now (model .entry) in let q = now (q .entry) in let out = now (out .entry) in
+        ⌜ Put (line-of (judging-line (model-of model) (question-of q))) out out′ 0 r ⌝ }
 {
     let r = plan_judge::judge(d);
     let a = r.answer;
@@ -80,7 +87,9 @@ fn judging_line(out: &mut [u8], model: &[u8], q: &[u8], d: Desk) -> usize
 // The line where the model is on the desk.
 fn asking_line(out: &mut [u8], model: &[u8], q: &[u8], d: Desk) -> usize
     requires { ⌜ (8192 ≤ length (now out)) × Loaded d (now model) ⌝ }
-    ensures { λ r. ⌜ Put (line-of (asking-line (model-of (now (model .entry))) (now (q .entry)))) (now (out .entry)) (now (out .exit)) 0 r ⌝ }
+    ensures effect { λ r.
+        let out′ = now (out .exit) in let model = now (model .entry) in let q = now (q .entry) in let out = now (out .entry) in
+        ⌜ Put (line-of (asking-line (model-of model) q)) out out′ 0 r ⌝ }
 {
     let r = plan_judge::put(d, q);
     let a = r.answer;
@@ -94,7 +103,7 @@ fn asking_line(out: &mut [u8], model: &[u8], q: &[u8], d: Desk) -> usize
 // The line of a model and a question.
 fn loading_line(out: &mut [u8], model: &[u8], q: &[u8]) -> usize
     requires { ⌜ 8192 ≤ length (now out) ⌝ }
-    ensures { λ r. ⌜ Put (line-of (loading-line (now (model .entry)) (now (q .entry)))) (now (out .entry)) (now (out .exit)) 0 r ⌝ }
+    ensures effect { λ r. ⌜ Put (line-of (loading-line (now (model .entry)) (now (q .entry)))) (now (out .entry)) (now (out .exit)) 0 r ⌝ }
 {
     let r = plan_judge::load(plan_judge::empty(), model);
     let a = r.answer;
@@ -107,7 +116,7 @@ fn loading_line(out: &mut [u8], model: &[u8], q: &[u8]) -> usize
 
 // The line that the program verdict prints for its input: a model followed by a question in the last 512 bytes.
 pub fn answer(input: &[u8], out: &mut [u8; 8192]) -> usize
-    ensures { λ r. ⌜ Put (answer-line (now (input .entry))) (now (out .entry)) (now (out .exit)) 0 r ⌝ }
+    ensures effect { λ r. ⌜ Put (answer-line (now (input .entry))) (now (out .entry)) (now (out .exit)) 0 r ⌝ }
 {
     let n = input.len();
     if n < 512 {

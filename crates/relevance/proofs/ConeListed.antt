@@ -16,9 +16,11 @@ use Rattle.questions.specs.promises.Formed.{InRange}
 use Rattle.questions.proofs.TableNodeByNode.{by-operator}
 use Rattle.prepared_question.specs.promises.Nodes.{formula, reads-left}
 use Rattle.evaluation.specs.promises.Reached.{Earlier, Cone, root-of}
-use Rattle.relevance.specs.promises.Need.{Grown}
+use Rattle.prepared_question.specs.promises.Marks.{Grown}
+use Rattle.relevance.specs.promises.Need.{Below}
 use Rattle.relevance.specs.promises.Chosen.{Asked, Entered, Chosen, Listed}
-use Rattle.relevance.proofs.MarksPassedOn.{grown-mark, grown-then, blank, one-there, one-only}
+use Rattle.prepared_question.proofs.Marks.{blank, one-there, one-only}
+use Rattle.relevance.proofs.MarksPassedOn.{below-then, below-mark}
 
 pub reads-cases : (op : ℕ) → reads-left op ≡ true → ((op ≡ 3) ⊎ (op ≡ 6)) ⊎ (op ≡ 4)
 unfolding reads-left
@@ -49,7 +51,7 @@ module _ {q : Bytes} (a : Asked q) (j : ℕ) (h : j < node-count q) where
 -- ---- one node
 
 module _ {q : Bytes} {j : ℕ} {marks : List ℕ} where
-  entered-stays : {S b : ℕ} {marks′ : List ℕ} → Entered q marks j → Grown S b marks marks′ → Entered q marks′ j
+  entered-stays : {S b : ℕ} {marks′ : List ℕ} → Entered q marks j → Grown (Below S b) marks marks′ → Entered q marks′ j
   entered-stays p g = record { left = λ d e. g .stays _ (p .left d e); right = λ d e. g .stays _ (p .right d e) }
 
   pub entered-flat : depth (formula q j) ≡ 0 → Entered q marks j
@@ -66,14 +68,14 @@ module _ {q : Bytes} {j : ℕ} {marks : List ℕ} where
 
 -- What was marked when node j has been entered.
 abbrev pub Node-done : (q : Bytes) (j : ℕ) (marks : List ℕ) → List ℕ → Type 0
-Node-done q j marks marks′ = Grown 32 j marks marks′ × (getD marks j 0 ≡ 1 → Entered q marks′ j)
+Node-done q j marks marks′ = Grown (Below 32 j) marks marks′ × (getD marks j 0 ≡ 1 → Entered q marks′ j)
 
 module _ (q : Bytes) (j : ℕ) (marks : List ℕ) (a : Asked q) (h : j < node-count q) (z : length marks ≡ 40) where
   abbrev node : Node
   node = node-of q j
 
-  child-grown : (l : List ℕ) (c : ℕ) → length l ≡ 40 → c < j → Grown 32 j l (set l c 1)
-  child-grown l c e g = let few = a .3 .formed .few-nodes in grown-mark 32 j l c (omega arith) g (omega arith)
+  child-grown : (l : List ℕ) (c : ℕ) → length l ≡ 40 → c < j → Grown (Below 32 j) l (set l c 1)
+  child-grown l c e g = let few = a .3 .formed .few-nodes in below-mark 32 j l c (omega arith) g (omega arith)
 
   child-marked : (l : List ℕ) (c : ℕ) → length l ≡ 40 → c < j → getD (set l c 1) c 0 ≡ 1
   child-marked l c e g = let few = a .3 .formed .few-nodes in getD-set-same l c 1 0 (omega arith)
@@ -95,7 +97,7 @@ module _ (q : Bytes) (j : ℕ) (marks : List ℕ) (a : Asked q) (h : j < node-co
       let one : List ℕ = set marks (node .left) 1 in
       let s : length one ≡ 40 = length-set marks (node .left) 1 ∙ z in
       let g = child-grown one (node .right) s r in (
-        grown-then _ _ _ j (omega arith) (omega arith) (child-grown marks (node .left) z l) g,
+        below-then _ _ _ j (omega arith) (omega arith) (child-grown marks (node .left) z l) g,
         λ _. entered-both (g .stays _ (child-marked marks (node .left) z l)) (child-marked one (node .right) s r),
       )
 
@@ -116,7 +118,7 @@ choosing-start q c h =
     }
 
 pub choosing-more : {q : Bytes} {c : ℕ} {marks marks′ : List ℕ} (j : ℕ) → Choosing q c marks (suc j) → j ≤ c
-    → Grown 32 j marks marks′ → (getD marks j 0 ≡ 1 → Entered q marks′ j) → Choosing q c marks′ j
+    → Grown (Below 32 j) marks marks′ → (getD marks j 0 ≡ 1 → Entered q marks′ j) → Choosing q c marks′ j
 choosing-more {q} {c} {marks} {marks′} j p h g f =
     record {
       top = g .stays c (p .top);

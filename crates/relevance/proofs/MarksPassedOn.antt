@@ -3,12 +3,12 @@
 -- that lead there.
 use Prim.Native.Nat.{ℕ, suc, _+_, _*_, _-_, _/_, _%_, _≤_, _<_}
 use native.Mathlib.Omega.{arith}
-use native.Mathlib.Decide.{decLt, ℕ-discrete}
+use native.Mathlib.Decide.{ℕ-discrete}
 use mathlib.Core.Path.{_≡_, sym, ap, subst, _∙_}
 use mathlib.Core.Logic.{_⊎_, inl, inr, ⊎-elim}
 use mathlib.Core.List.{List}
-use lib.ListN.{getD, length, set, length-set, replicate, length-replicate, getD-replicate, List·getD-eq-default}
-use lib.Seq.{getD-set-same, getD-set-other}
+use lib.ListN.{getD, length, set, length-set}
+use lib.Seq.{getD-set-same}
 use Rattle.logic.specs.Formula.{Node}
 use Rattle.blocks.specs.Bytes.{Bytes}
 use Rattle.models.specs.Layout.{state-count, action-count, prop-count}
@@ -16,58 +16,20 @@ use Rattle.prepared_model.specs.promises.Rows.{step-in, Offers, Prepared}
 use Rattle.questions.specs.Layout.{start-of, node-count, node-of}
 use Rattle.questions.specs.promises.Formed.{InRange}
 use Rattle.evaluation.specs.promises.Reached.{Reached, itself, under-not, and-left, and-right, under-next}
-use Rattle.relevance.specs.promises.Need.{Given, Marked, Passed-on, Grown, Needs}
+use Rattle.prepared_question.specs.promises.Marks.{Grown}
+use Rattle.relevance.specs.promises.Need.{Given, Marked, Passed-on, Needs, Below}
+use Rattle.prepared_question.proofs.Marks.{blank, grown-mark, grown-none, grown-then, one-only, one-there}
 
--- ---- marks added
+-- ---- marks added below a place
 
-pub grown-none : (S b : ℕ) (l : List ℕ) → Grown S b l l
-grown-none S b l = record { stays = λ k e. e; new = λ k e. inl e }
+pub below-mark : (S b : ℕ) (l : List ℕ) (x : ℕ) → x < length l → x < b → x % 32 < S → Grown (Below S b) l (set l x 1)
+below-mark S b l x z h g = grown-mark (Below S b) l x z (h, g)
 
-pub grown-mark : (S b : ℕ) (l : List ℕ) (x : ℕ) → x < length l → x < b → x % 32 < S → Grown S b l (set l x 1)
-grown-mark S b l x z h g = record { stays = λ k e. kept k e (ℕ-discrete k x); new = λ k e. made k e (ℕ-discrete k x) }
-  where
-    kept : (k : ℕ) → getD l k 0 ≡ 1 → Dec (k ≡ x) → getD (set l x 1) k 0 ≡ 1
-    kept k e (yes p) = ap (λ y. getD (set l x 1) y 0) p ∙ getD-set-same l x 1 0 z
-    kept k e (no n) = getD-set-other l x k 1 0 n ∙ e
+pub below-then : (S a b c : ℕ) {x y z : List ℕ} → a ≤ c → b ≤ c → Grown (Below S a) x y → Grown (Below S b) y z → Grown (Below S c) x z
+below-then S a b c h g = grown-then (Below S a) (Below S b) (Below S c) (λ k v. (omega (arith, v .0), v .1)) (λ k v. (omega (arith, v .0), v .1))
 
-    made : (k : ℕ) → getD (set l x 1) k 0 ≡ 1 → Dec (k ≡ x) → (getD l k 0 ≡ 1) ⊎ ((k < b) × (k % 32 < S))
-    made k e (yes p) = inr (subst (λ y. (y < b) × (y % 32 < S)) (sym p) (h, g))
-    made k e (no n) = inl (sym (getD-set-other l x k 1 0 n) ∙ e)
-
-pub grown-then : (S a b c : ℕ) {x y z : List ℕ} → a ≤ c → b ≤ c → Grown S a x y → Grown S b y z → Grown S c x z
-grown-then S a b c h g p q =
-    record {
-      stays = λ k e. q .stays k (p .stays k e);
-      new = λ k e. ⊎-elim
-          (λ w. ⊎-elim (λ u. inl u) (λ v. inr (omega (arith, v .0), v .1)) (p .new k w))
-          (λ v. inr (omega (arith, v .0), v .1))
-          (q .new k e);
-    }
-
-pub grown-wider : (S a c : ℕ) {x y : List ℕ} → a ≤ c → Grown S a x y → Grown S c x y
-grown-wider S a c {x} {y} h p = grown-then S a a c h h p (grown-none S a y)
-
--- ---- tables with one mark
-
-abbrev pub blank : ℕ → List ℕ
-blank n = replicate {A = ℕ} n 0
-
-module _ (n c : ℕ) (h : c < n) where
-  inside : c < length (blank n)
-  inside = subst (λ k. c < k) (sym (length-replicate {A = ℕ} n 0)) h
-
-  pub one-there : getD (set (blank n) c 1) c 0 ≡ 1
-  one-there = getD-set-same (blank n) c 1 0 inside
-
-  pub one-only : (x : ℕ) → getD (set (blank n) c 1) x 0 ≡ 1 → x ≡ c
-  one-only x e = go (ℕ-discrete x c) (decLt x n)
-    where
-      go : Dec (x ≡ c) → Dec (x < n) → x ≡ c
-      go (yes p) d = p
-      go (no p) (yes l) = absurd (omega (arith, sym (getD-set-other (blank n) c x 1 0 p) ∙ e, getD-replicate {A = ℕ} n x 0 0 l))
-      go (no p) (no l) =
-          let z : length (blank n) ≤ x = subst (λ k. k ≤ x) (sym (length-replicate {A = ℕ} n 0)) (omega arith) in
-          absurd (omega (arith, sym (getD-set-other (blank n) c x 1 0 p) ∙ e, List·getD-eq-default (blank n) 0 z))
+pub below-wider : (S a c : ℕ) {x y : List ℕ} → a ≤ c → Grown (Below S a) x y → Grown (Below S c) x y
+below-wider S a c {x} {y} h p = below-then S a a c h h p (grown-none (Below S a) y)
 
 -- ---- the outcomes of a choice
 
@@ -79,11 +41,11 @@ module _ {m : List ℕ} (w : Prepared m) (need : List ℕ) (child s i o : ℕ) (
   target-small = omega (arith, w .inside s i o hs u, w .states)
 
   pub outcome-marked : {t : ℕ} {need′ : List ℕ} → t ≡ target-of → need′ ≡ set need (32 * child + t) 1
-      → Grown (state-count m) (32 * child + 32) need need′ × Marked need′ child target-of
+      → Grown (Below (state-count m) (32 * child + 32)) need need′ × Marked need′ child target-of
   outcome-marked e f =
       let x : (32 * child + target-of) % 32 ≡ target-of = omega (arith, target-small) in
-      subst (λ l. Grown (state-count m) (32 * child + 32) need l × Marked l child target-of) (sym (f ∙ ap (λ y. set need (32 * child + y) 1) e)) (
-        grown-mark (state-count m) (32 * child + 32) need (32 * child + target-of) (omega (arith, target-small)) (omega (arith, target-small))
+      subst (λ l. Grown (Below (state-count m) (32 * child + 32)) need l × Marked l child target-of) (sym (f ∙ ap (λ y. set need (32 * child + y) 1) e)) (
+        below-mark (state-count m) (32 * child + 32) need (32 * child + target-of) (omega (arith, target-small)) (omega (arith, target-small))
             (omega (arith, w .inside s i o hs u)),
         getD-set-same need (32 * child + target-of) 1 0 (omega (arith, target-small)),
       )
@@ -91,7 +53,7 @@ module _ {m : List ℕ} (w : Prepared m) (need : List ℕ) (child s i o : ℕ) (
 -- ---- one pair
 
 module _ {m q : Bytes} {j s : ℕ} {need : List ℕ} where
-  pub passed-stays : {S b : ℕ} {need′ : List ℕ} → Passed-on m q need j s → Grown S b need need′ → Passed-on m q need′ j s
+  pub passed-stays : {S b : ℕ} {need′ : List ℕ} → Passed-on m q need j s → Grown (Below S b) need need′ → Passed-on m q need′ j s
   passed-stays p g =
       record {
         under-not = λ o. g .stays _ (p .under-not o);
@@ -145,7 +107,7 @@ module _ {m q : Bytes} {j s : ℕ} {need : List ℕ} where
 
 -- What was marked when the pair at place k has passed its mark on.
 abbrev pub Pair-done : (m q need : List ℕ) (k : ℕ) → List ℕ → Type 0
-Pair-done m q need k need′ = Grown (state-count m) (32 * (k / 32)) need need′ × (getD need k 0 ≡ 1 → Passed-on m q need′ (k / 32) (k % 32))
+Pair-done m q need k need′ = Grown (Below (state-count m) (32 * (k / 32))) need need′ × (getD need k 0 ≡ 1 → Passed-on m q need′ (k / 32) (k % 32))
 
 -- ---- what is given
 
@@ -157,11 +119,11 @@ module _ {m q : Bytes} (given : Given m q) where
     range : InRange (action-count m) (prop-count m) (k / 32) node
     range = given .nodes .formed .in-range (k / 32) (omega arith)
 
-    child-grown : (l : List ℕ) (c : ℕ) → length l ≡ 1280 → c < k / 32 → Grown (state-count m) (32 * (k / 32)) l (set l (32 * c + k % 32) 1)
+    child-grown : (l : List ℕ) (c : ℕ) → length l ≡ 1280 → c < k / 32 → Grown (Below (state-count m) (32 * (k / 32))) l (set l (32 * c + k % 32) 1)
     child-grown l c e g =
         let x : (32 * c + k % 32) % 32 ≡ k % 32 = omega arith in
         let few = given .nodes .formed .few-nodes in
-        grown-mark (state-count m) (32 * (k / 32)) l (32 * c + k % 32) (omega arith) (omega arith) (omega arith)
+        below-mark (state-count m) (32 * (k / 32)) l (32 * c + k % 32) (omega arith) (omega arith) (omega arith)
 
     child-marked : (l : List ℕ) (c : ℕ) → length l ≡ 1280 → c < k / 32 → Marked (set l (32 * c + k % 32) 1) c (k % 32)
     child-marked l c e g = let few = given .nodes .formed .few-nodes in getD-set-same l (32 * c + k % 32) 1 0 (omega arith)
@@ -177,16 +139,16 @@ module _ {m q : Bytes} (given : Given m q) where
         let l : List ℕ = set need (32 * node .left + k % 32) 1 in
         let e : length l ≡ 1280 = length-set need (32 * node .left + k % 32) 1 ∙ z in
         let g = child-grown l (node .right) e (w .1) in (
-          grown-then _ _ _ (32 * (k / 32)) (omega arith) (omega arith) (child-grown need (node .left) z (w .0)) g,
+          below-then _ _ _ (32 * (k / 32)) (omega arith) (omega arith) (child-grown need (node .left) z (w .0)) g,
           λ _. passed-both o (g .stays _ (child-marked need (node .left) z (w .0))) (child-marked l (node .right) e (w .1)),
         )
 
-    pub next-marked : {need′ : List ℕ} → node .operator ≡ 6 → Grown (state-count m) (32 * node .left + 32) need need′
+    pub next-marked : {need′ : List ℕ} → node .operator ≡ 6 → Grown (Below (state-count m) (32 * node .left + 32)) need need′
         → ((i o : ℕ) → Offers m (k % 32) i o → Marked need′ (node .left) ((step-in m (k % 32) i o) .target)) → Pair-done m q need k need′
-    next-marked o g f = let b = range .of-next o in (grown-wider _ _ _ (omega arith) g, λ _. passed-next o f)
+    next-marked o g f = let b = range .of-next o in (below-wider _ _ _ (omega arith) g, λ _. passed-next o f)
 
     pub none-marked : ((node .operator ≡ 3) ⊎ (node .operator ≡ 8) → ⊥) → (node .operator ≡ 4 → ⊥) → (node .operator ≡ 6 → ⊥) → Pair-done m q need k need
-    none-marked a b c = (grown-none _ _ need, λ _. passed-none a b c)
+    none-marked a b c = (grown-none _ need, λ _. passed-none a b c)
 
 -- ---- the pass from the last pair to the first
 
@@ -219,7 +181,7 @@ module _ {m q : Bytes} (given : Given m q) where
       }
 
 pub passing-more : {m q : Bytes} {need need′ : List ℕ} (k : ℕ) → Passing m q need (suc k) → k < 32 * node-count q
-    → Grown (state-count m) (32 * (k / 32)) need need′ → (getD need k 0 ≡ 1 → Passed-on m q need′ (k / 32) (k % 32)) → Passing m q need′ k
+    → Grown (Below (state-count m) (32 * (k / 32))) need need′ → (getD need k 0 ≡ 1 → Passed-on m q need′ (k / 32) (k % 32)) → Passing m q need′ k
 passing-more {m} {q} {need} {need′} k p h g f =
     record {
       root = g .stays _ (p .root);

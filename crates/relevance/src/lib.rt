@@ -7,13 +7,17 @@ ghost use Rattle.models.specs.Layout.{state-count};
 ghost use Rattle.prepared_model.specs.promises.Rows.{choices-in, outcomes-in, step-in, Offers, Prepared};
 ghost use Rattle.questions.specs.Layout as question;
 ghost use Rattle.evaluation.specs.promises.Reached.{Cone, root-of};
-ghost use Rattle.relevance.specs.promises.Need.{Given, Marked, Passed-on, Grown, Needs};
+ghost use Rattle.prepared_question.specs.promises.Marks.{Grown};
+ghost use Rattle.relevance.specs.promises.Need.{Given, Marked, Passed-on, Needs, Below};
 ghost use Rattle.relevance.specs.promises.Chosen.{Asked, Entered, Chosen, Listed};
+use blocks::buffers::store;
 use blocks::byte;
-use evaluation::store;
+use evaluation::TRUTHS;
+use prepared_model::MODEL;
 use prepared_model::choices;
 use prepared_model::outcomes;
 use prepared_model::target;
+use prepared_question::QUESTION;
 use prepared_question::count;
 use prepared_question::depth;
 use prepared_question::left;
@@ -25,22 +29,25 @@ use prepared_question::start;
 
 // Where a node and a state stand in a table.
 pub fn place(j: u8, s: u8) -> usize
-    ensures { λ r. ⌜ r ≡ 32 * j + s ⌝ }
+    ensures value { λ r. ⌜ r ≡ 32 * j + s ⌝ }
 {
     32 * j as usize + s as usize
 }
 
 fn mark(need: &mut [u8], j: u8, s: u8)
-    ensures { λ _. ⌜ now (need .exit) ≡ set (now (need .entry)) (32 * j + s) 1 ⌝ }
+    ensures frame { λ _. ⌜ now (need .exit) ≡ set (now (need .entry)) (32 * j + s) 1 ⌝ }
 {
     store(need, place(j, s), 1);
 }
 
 // Marks the child of "next" in the targets of the outcomes of choice i.
-fn mark_outcomes(m: &[u16; 8704], need: &mut [u8; 1280], child: u8, s: u8, i: usize)
+fn mark_outcomes(m: &[u16; MODEL], need: &mut [u8; TRUTHS], child: u8, s: u8, i: usize)
     requires { ⌜ Prepared (now m) × (child < 40) ⌝ }
     requires { ⌜ (s < state-count (now m)) × (i < choices-in (now m) s) ⌝ }
-    ensures { λ _. ⌜ Grown (state-count (now (m .entry))) (32 * child + 32) (now (need .entry)) (now (need .exit)) × ((o : ℕ) → o < outcomes-in (now (m .entry)) s i → Marked (now (need .exit)) child (step-in (now (m .entry)) s i o .target)) ⌝ }
+    ensures frame { λ _.
+        let need′ = now (need .exit) in let m = now (m .entry) in let need = now (need .entry) in
+        ⌜ Grown (Below (state-count m) (32 * child + 32)) need need′
+        × ((o : ℕ) → o < outcomes-in m s i → Marked need′ child (step-in m s i o .target)) ⌝ }
 {
     let n = outcomes(m, s as usize, i);
     let mut o: usize = 0;
@@ -51,9 +58,12 @@ fn mark_outcomes(m: &[u16; 8704], need: &mut [u8; 1280], child: u8, s: u8, i: us
 }
 
 // Marks the child of "next" wherever a step from s can lead.
-fn mark_next(m: &[u16; 8704], need: &mut [u8; 1280], child: u8, s: u8)
+fn mark_next(m: &[u16; MODEL], need: &mut [u8; TRUTHS], child: u8, s: u8)
     requires { ⌜ Prepared (now m) × (child < 40) × (s < state-count (now m)) ⌝ }
-    ensures { λ _. ⌜ Grown (state-count (now (m .entry))) (32 * child + 32) (now (need .entry)) (now (need .exit)) × ((i o : ℕ) → Offers (now (m .entry)) s i o → Marked (now (need .exit)) child (step-in (now (m .entry)) s i o .target)) ⌝ }
+    ensures frame { λ _.
+        let need′ = now (need .exit) in let m = now (m .entry) in let need = now (need .entry) in
+        ⌜ Grown (Below (state-count m) (32 * child + 32)) need need′
+        × ((i o : ℕ) → Offers m s i o → Marked need′ child (step-in m s i o .target)) ⌝ }
 {
     let n = choices(m, s as usize);
     let mut i: usize = 0;
@@ -64,10 +74,12 @@ fn mark_next(m: &[u16; 8704], need: &mut [u8; 1280], child: u8, s: u8)
 }
 
 // Marks what the pair at a place of the table turns on, if it is marked.
-fn pass_on(m: &[u16; 8704], q: &[u8; 552], need: &mut [u8; 1280], k: usize)
+fn pass_on(m: &[u16; MODEL], q: &[u8; QUESTION], need: &mut [u8; TRUTHS], k: usize)
     requires { ⌜ Given (now m) (now q) × (k < 32 * question.node-count (now q)) ⌝ }
     requires { ⌜ (getD (now need) k 0 ≡ 1 → k % 32 < state-count (now m)) ⌝ }
-    ensures { λ _. ⌜ Grown (state-count (now (m .entry))) (32 * (k / 32)) (now (need .entry)) (now (need .exit)) × (getD (now (need .entry)) k 0 ≡ 1 → Passed-on (now (m .entry)) (now (q .entry)) (now (need .exit)) (k / 32) (k % 32)) ⌝ }
+    ensures frame { λ _.
+        let need′ = now (need .exit) in let m = now (m .entry) in let need = now (need .entry) in let q = now (q .entry) in
+        ⌜ Grown (Below (state-count m) (32 * (k / 32))) need need′ × (getD need k 0 ≡ 1 → Passed-on m q need′ (k / 32) (k % 32)) ⌝ }
 {
     if byte(need, k) != 1 {
         return;
@@ -87,11 +99,11 @@ fn pass_on(m: &[u16; 8704], q: &[u8; 552], need: &mut [u8; 1280], k: usize)
 }
 
 // Marks from the root in the start state downwards: children have smaller numbers.
-pub fn needed(m: &[u16; 8704], q: &[u8; 552]) -> [u8; 1280]
+pub fn needed(m: &[u16; MODEL], q: &[u8; QUESTION]) -> [u8; TRUTHS]
     requires { ⌜ Given (now m) (now q) ⌝ }
-    ensures { λ r. ⌜ Needs (now (m .entry)) (now (q .entry)) r ⌝ }
+    ensures value { λ r. ⌜ Needs (now (m .entry)) (now (q .entry)) r ⌝ }
 {
-    let mut need = [0u8; 1280];
+    let mut need = [0u8; TRUTHS];
     let root = count(q) - 1;
     let first = place(root, start(q));
     need[first] = 1;
@@ -106,9 +118,11 @@ pub fn needed(m: &[u16; 8704], q: &[u8; 552]) -> [u8; 1280]
 // ---- the nodes of a condition
 
 // Marks the children of node j, if it is marked and no state formula.
-fn enter(q: &[u8; 552], marks: &mut [u8; 40], j: u8)
+fn enter(q: &[u8; QUESTION], marks: &mut [u8; 40], j: u8)
     requires { ⌜ Asked (now q) × (j < question.node-count (now q)) ⌝ }
-    ensures { λ _. ⌜ Grown 32 j (now (marks .entry)) (now (marks .exit)) × (getD (now (marks .entry)) j 0 ≡ 1 → Entered (now (q .entry)) (now (marks .exit)) j) ⌝ }
+    ensures frame { λ _.
+        let marks′ = now (marks .exit) in let marks = now (marks .entry) in let q = now (q .entry) in
+        ⌜ Grown (Below 32 j) marks marks′ × (getD marks j 0 ≡ 1 → Entered q marks′ j) ⌝ }
 {
     if byte(marks, j as usize) != 1 {
         return;
@@ -128,9 +142,9 @@ fn enter(q: &[u8; 552], marks: &mut [u8; 40], j: u8)
 }
 
 // Marks from the condition c downwards.
-fn chosen(q: &[u8; 552], c: u8) -> [u8; 40]
+fn chosen(q: &[u8; QUESTION], c: u8) -> [u8; 40]
     requires { ⌜ Asked (now q) × (c < question.node-count (now q)) ⌝ }
-    ensures { λ r. ⌜ Chosen (now (q .entry)) c r ⌝ }
+    ensures value { λ r. ⌜ Chosen (now (q .entry)) c r ⌝ }
 {
     let mut marks = [0u8; 40];
     let top = c as usize;
@@ -146,7 +160,7 @@ fn chosen(q: &[u8; 552], c: u8) -> [u8; 40]
 // Lists node i after the first n places, if it is marked; gives the number of places listed.
 fn list_node(marks: &[u8; 40], out: &mut [u8], i: u8, n: usize) -> usize
     requires { ⌜ Listed (now marks) i n (now out) × (i < 40) × (length (now out) ≡ 40) ⌝ }
-    ensures { λ r. ⌜ Listed (now (marks .entry)) (i + 1) r (now (out .exit)) ⌝ }
+    ensures effect { λ r. ⌜ Listed (now (marks .entry)) (i + 1) r (now (out .exit)) ⌝ }
 {
     if byte(marks, i as usize) == 1 {
         store(out, n, i);
@@ -156,9 +170,9 @@ fn list_node(marks: &[u8; 40], out: &mut [u8], i: u8, n: usize) -> usize
 }
 
 // The nodes of the condition c, children before parents; gives their number.
-pub fn cone(q: &[u8; 552], c: u8, out: &mut [u8]) -> usize
+pub fn cone(q: &[u8; QUESTION], c: u8, out: &mut [u8]) -> usize
     requires { ⌜ Asked (now q) × (c < question.node-count (now q)) × (length (now out) ≡ 40) ⌝ }
-    ensures { λ r. ⌜ (r ≤ 40) × Cone (now (q .entry)) (take r (now (out .exit))) × (root-of (take r (now (out .exit))) ≡ c) ⌝ }
+    ensures effect { λ r. ⌜ (r ≤ 40) × Cone (now (q .entry)) (take r (now (out .exit))) × (root-of (take r (now (out .exit))) ≡ c) ⌝ }
 {
     let marks = chosen(q, c);
     let mut n: usize = 0;

@@ -25,7 +25,7 @@ fn put_refused(out: &mut [u8], at: usize, k: u32) -> usize
     requires { ⌜ at + 29 ≤ length (now out) ⌝ }
     ensures { λ r. ⌜ r ≤ at + 29 ⌝ }
 {
-    verdict_line::put_number(out, at, b" refused ", k as u64)
+    verdict_line::put_decimal(out, at, b" refused ", k as u64)
 }
 
 fn put_taken(out: &mut [u8], at: usize, answer: Taken) -> usize
@@ -42,9 +42,9 @@ fn put_plan(out: &mut [u8], at: usize, p: PlanRecord, choices: &[u8]) -> usize
     requires { ⌜ (at + 5600 ≤ length (now out)) × (length (now choices) ≤ 1365) ⌝ }
     ensures { λ r. ⌜ r ≤ at + 5600 ⌝ }
 {
-    let mut next = verdict_line::put_number(out, at, b" yes ", p.weight);
-    next = verdict_line::put_number(out, next, b" ", p.steps as u64);
-    next = verdict_line::put_number(out, next, b" ", p.count as u64);
+    let mut next = verdict_line::put_decimal(out, at, b" yes ", p.weight);
+    next = verdict_line::put_decimal(out, next, b" ", p.steps as u64);
+    next = verdict_line::put_decimal(out, next, b" ", p.count as u64);
     next = verdict_line::put_text(out, next, b" choices");
     verdict_line::put_choices(out, next, choices)
 }
@@ -54,7 +54,7 @@ fn put_verdict(out: &mut [u8], at: usize, v: Verdict, choices: &[u8]) -> usize
     ensures { λ r. ⌜ r ≤ at + 5600 ⌝ }
 {
     match v {
-        Verdict::No(x) => verdict_line::put_number(out, at, b" no ", x.count as u64),
+        Verdict::No(x) => verdict_line::put_decimal(out, at, b" no ", x.count as u64),
         Verdict::Yes => verdict_line::put_text(out, at, b" yes"),
         Verdict::YesPlan(p) => put_plan(out, at, p, choices),
     }
@@ -81,7 +81,7 @@ fn put_written(out: &mut [u8], at: usize, answer: Written) -> usize
     ensures { λ r. ⌜ r ≤ at + 29 ⌝ }
 {
     match answer {
-        Written::Bytes(n) => verdict_line::put_number(out, at, b" ", n as u64),
+        Written::Bytes(n) => verdict_line::put_decimal(out, at, b" ", n as u64),
         Written::Refused(k) => put_refused(out, at, k),
     }
 }
@@ -129,8 +129,8 @@ fn put_sums(out: &mut [u8], at: usize, bytes: &[u8]) -> usize
     ensures { λ r. ⌜ r ≤ at + 42 ⌝ }
 {
     let sums = adler(bytes);
-    let next = verdict_line::put_number(out, at, b" ", sums.a as u64);
-    verdict_line::put_number(out, next, b" ", sums.b as u64)
+    let next = verdict_line::put_decimal(out, at, b" ", sums.a as u64);
+    verdict_line::put_decimal(out, next, b" ", sums.b as u64)
 }
 
 // ---- each call with its line

@@ -9,7 +9,7 @@ use borrow.Rule.Slice.PartMut.{midOf, putMid}
 use Rattle.blocks.specs.Bytes.{little-endian}
 use Rattle.sheets.specs.Layout.{with-word-sum, sheet-block}
 use Rattle.sheets.specs.promises.Writer.{started, unsealed}
-use Rattle.sheets.proofs.PartPutBack.{mid-is, put-front}
+use Rattle.blocks.proofs.PartPutBack.{mid-is, put-front}
 use Rattle.sheets.proofs.PiecesInOrder.{pieces, pieces-length}
 
 unfoldable zero-block : List ℕ

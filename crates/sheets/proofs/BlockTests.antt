@@ -21,7 +21,7 @@ use Rattle.models.proofs.EveryCell.{blocks-within, at-least, at-most}
 use Rattle.sheets.specs.Layout.{count-of, choices-of, sheet-of}
 use Rattle.sheets.specs.Grounds.{head-right, count-right, weight-right, spare-right, read-sheet}
 use Rattle.sheets.specs.promises.Reader.{passes, Blocks}
-use Rattle.sheets.proofs.PartPutBack.{put-front}
+use Rattle.blocks.proofs.PartPutBack.{put-front}
 use Rattle.sheets.proofs.PiecesInOrder.{pieces, pieces-more}
 
 pub record Whole (b : List ℕ) : Type 0 where

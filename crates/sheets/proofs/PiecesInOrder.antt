@@ -9,7 +9,7 @@ use lib.ListN.{length, take, drop, length-append}
 use lib.Seq.{take-add, drop-at, drop-drop, drop-append-le}
 use borrow.Rule.Slice.PartMut.{putMid}
 use Rattle.logic.specs.Lists.{count-from}
-use Rattle.sheets.proofs.PartPutBack.{put-mid}
+use Rattle.blocks.proofs.PartPutBack.{put-mid}
 
 -- The first k pieces.
 abbrev pub pieces : {A : Type 0} → (ℕ → List A) → ℕ → List A

@@ -11,7 +11,7 @@ use lib.Seq.{paste, paste-zero, paste-suc, take-at, drop-at, drop-drop, drop-app
 use Rattle.blocks.specs.Bytes.{Bytes}
 use Rattle.sheets.specs.Layout.{with-word-sum, sheet-block, blocks-for, sheet-bytes}
 use Rattle.sheets.specs.promises.Writer.{unsealed, chunk-size, begun, sealed, place, stored}
-use Rattle.sheets.proofs.PartPutBack.{drop-replicate}
+use Rattle.blocks.proofs.PartPutBack.{drop-replicate}
 use Rattle.sheets.proofs.PiecesInOrder.{pieces, pieces-none, pieces-more, pieces-same, pieces-length, next-piece}
 use Rattle.sheets.proofs.BlockBegun.{fields, fields-length, fields-first, unsealed-length, last-word, sealed-block}
 

@@ -1,5 +1,5 @@
 -- The word sum of a block: the last word counts as what it is, and the one that is written makes the sum 0 modulo 65,536.
-use Prim.Native.Nat.{ℕ, zero, suc, _+_, _*_, _-_, _%_, _<_}
+use Prim.Native.Nat.{ℕ, suc, _+_, _*_, _-_, _%_, _<_}
 use native.Mathlib.Nat.{mod-lt}
 use native.Mathlib.Omega.{arith}
 use mathlib.Core.Path.{_≡_, refl, sym, ap, ap₂, _∙_}
@@ -10,17 +10,13 @@ use borrow.Rule.Slice.PartMut.{midOf, putMid}
 use Rattle.blocks.specs.Bytes.{u16, little-endian}
 use Rattle.blocks.specs.Block.{sum-below, word-sum}
 use Rattle.sheets.specs.Layout.{with-word-sum}
-use Rattle.sheets.proofs.PartPutBack.{put-front}
-use Rattle.sheets.proofs.NumberReadBack.{reads-16}
+use Rattle.blocks.proofs.PartPutBack.{put-front}
+use Rattle.blocks.proofs.Sums.{sum-same}
+use Rattle.blocks.proofs.NumberReadBack.{reads-16}
 
 pub sum-last : (n : ℕ) (f : ℕ → ℕ) → sum-below (suc n) f ≡ sum-below n f + f n
 unfolding sum-below
 sum-last n f = refl
-
-pub sum-same : (n : ℕ) (f g : ℕ → ℕ) → ((i : ℕ) → i < n → f i ≡ g i) → sum-below n f ≡ sum-below n g
-unfolding sum-below
-sum-same zero f g h = refl
-sum-same (suc n) f g h = ap₂ _+_ (sum-same n f g (λ i l. h i (omega arith))) (h n (omega arith))
 
 same-16 : (b l : List ℕ) (i j : ℕ) → getD b i 0 ≡ getD l j 0 → getD b (i + 1) 0 ≡ getD l (j + 1) 0 → u16 b i ≡ u16 l j
 unfolding u16
@@ -34,7 +30,7 @@ unsealed-sum d z =
     let z₀ : at 510 ≡ 0 = sym (getD-drop 510 d 0 0) ∙ ap (λ l. getD l 0 0) z in
     let z₁ : at 511 ≡ 0 = sym (getD-drop 510 d 1 0) ∙ ap (λ l. getD l 1 0) z in
     sum-last 255 (λ j. u16 d (512 * 0 + 2 * j))
-    ∙ ap₂ _+_ (sum-same 255 (λ j. u16 d (512 * 0 + 2 * j)) (λ j. u16 (take 510 d) (2 * j)) same) (ap₂ (λ x y. x + 256 * y) z₀ z₁)
+    ∙ ap₂ _+_ (sum-same (λ j. u16 d (512 * 0 + 2 * j)) (λ j. u16 (take 510 d) (2 * j)) 255 same) (ap₂ (λ x y. x + 256 * y) z₀ z₁)
     ∙ omega arith
   where
     same : (j : ℕ) → j < 255 → u16 d (512 * 0 + 2 * j) ≡ u16 (take 510 d) (2 * j)
@@ -68,7 +64,7 @@ sealed-sum l t b k n e =
     let d : drop (512 * k + 510) b ≡ little-endian 2 word ++ t = sym (drop-drop 510 (512 * k) b) ∙ ap (drop 510) e′ ∙ drop-at l (little-endian 2 word ++ t) 510 n in
     ap (λ z. z % 65536)
     (sum-last 255 (λ j. u16 b (512 * k + 2 * j))
-    ∙ ap₂ _+_ (sum-same 255 (λ j. u16 b (512 * k + 2 * j)) (λ j. u16 l (2 * j)) (same (little-endian 2 word ++ t) e′)) (reads-16 b t (512 * k + 510) word (mod-lt (65536 - s % 65536) {m = 65536} (omega arith)) d))
+    ∙ ap₂ _+_ (sum-same (λ j. u16 b (512 * k + 2 * j)) (λ j. u16 l (2 * j)) 255 (same (little-endian 2 word ++ t) e′)) (reads-16 b t (512 * k + 510) word (mod-lt (65536 - s % 65536) {m = 65536} (omega arith)) d))
     ∙ zero-sum s
   where
     same : (u : List ℕ) → drop (512 * k) b ≡ l ++ u → (j : ℕ) → j < 255 → u16 b (512 * k + 2 * j) ≡ u16 l (2 * j)

@@ -15,7 +15,8 @@ pub mod writer;
 // How many choices block k says it holds.
 fn count_at(b: &[u8], k: usize) -> usize
     requires { ⌜ k < 3 ⌝ }
-    ensures { λ r. ⌜ (r ≡ count-of (now (b .entry)) k) × (r < 65536) ⌝ }
+    ensures value { λ r. ⌜ r ≡ count-of (now (b .entry)) k ⌝ }
+    ensures range { λ r. ⌜ r < 65536 ⌝ }
 {
     blocks::u16_at(b, 512 * k + 16) as usize
 }
@@ -23,7 +24,7 @@ fn count_at(b: &[u8], k: usize) -> usize
 // The weight in block k.
 pub fn weight_at(b: &[u8], k: usize) -> u64
     requires { ⌜ k < 3 ⌝ }
-    ensures { λ r. ⌜ r ≡ weight-of (now (b .entry)) k ⌝ }
+    ensures value { λ r. ⌜ r ≡ weight-of (now (b .entry)) k ⌝ }
 {
     blocks::u64_at(b, 512 * k + 8)
 }
@@ -31,7 +32,7 @@ pub fn weight_at(b: &[u8], k: usize) -> u64
 // Ground 4 of block k.
 fn head_right(b: &[u8], k: usize, n: usize, start: usize) -> bool
     requires { ⌜ k < 3 ⌝ }
-    ensures { λ r. ⌜ r ≡ head-right n start (now (b .entry)) k ⌝ }
+    ensures value { λ r. ⌜ r ≡ head-right n start (now (b .entry)) k ⌝ }
 {
     let at = 512 * k;
     (blocks::wide(b, at + 2) == n) & (blocks::wide(b, at + 3) == start)
@@ -40,7 +41,7 @@ fn head_right(b: &[u8], k: usize, n: usize, start: usize) -> bool
 // Ground 5 of block k: its count.
 fn count_right(b: &[u8], k: usize) -> bool
     requires { ⌜ k < 3 ⌝ }
-    ensures { λ r. ⌜ r ≡ count-right (now (b .entry)) k ⌝ }
+    ensures value { λ r. ⌜ r ≡ count-right (now (b .entry)) k ⌝ }
 {
     let c = count_at(b, k);
     if k + 1 < b.len() / 512 {
@@ -52,7 +53,7 @@ fn count_right(b: &[u8], k: usize) -> bool
 // Ground 5 of block k: its weight.
 fn weight_right(b: &[u8], k: usize) -> bool
     requires { ⌜ k < 3 ⌝ }
-    ensures { λ r. ⌜ r ≡ weight-right (now (b .entry)) k ⌝ }
+    ensures value { λ r. ⌜ r ≡ weight-right (now (b .entry)) k ⌝ }
 {
     weight_at(b, k) == weight_at(b, 0)
 }
@@ -60,7 +61,7 @@ fn weight_right(b: &[u8], k: usize) -> bool
 // Ground 6 of block k.
 fn spare_right(b: &[u8], k: usize) -> bool
     requires { ⌜ (k < 3) × (512 * k + 512 ≤ length (now b)) × (count-of (now b) k ≤ 490) ⌝ }
-    ensures { λ r. ⌜ r ≡ spare-right (now (b .entry)) k ⌝ }
+    ensures value { λ r. ⌜ r ≡ spare-right (now (b .entry)) k ⌝ }
 {
     let at = 512 * k;
     let c = count_at(b, k);
@@ -70,7 +71,7 @@ fn spare_right(b: &[u8], k: usize) -> bool
 // What a ground from 3 to 6 asks of block k.
 fn block_passes(b: &[u8], ground: u32, k: usize, n: usize, start: usize) -> bool
     requires { ⌜ (3 ≤ ground) × (k < 3) × (512 * k + 512 ≤ length (now b)) × (5 < ground → count-of (now b) k ≤ 490) ⌝ }
-    ensures { λ r. ⌜ r ≡ passes ground n start (now (b .entry)) k ⌝ }
+    ensures value { λ r. ⌜ r ≡ passes ground n start (now (b .entry)) k ⌝ }
 {
     match ground {
         3 => blocks::headed(b, k, 4, k),
@@ -83,7 +84,7 @@ fn block_passes(b: &[u8], ground: u32, k: usize, n: usize, start: usize) -> bool
 // Whether every block passes.
 fn all_pass(b: &[u8], ground: u32, n: usize, start: usize) -> bool
     requires { ⌜ Blocks ground (now b) ⌝ }
-    ensures { λ r. ⌜ r ≡ every (block-count (now (b .entry))) (passes ground n start (now (b .entry))) ⌝ }
+    ensures value { λ r. ⌜ r ≡ every (block-count (now (b .entry))) (passes ground n start (now (b .entry))) ⌝ }
 {
     let count = b.len() / 512;
     let mut right = true;
@@ -97,7 +98,7 @@ fn all_pass(b: &[u8], ground: u32, n: usize, start: usize) -> bool
 
 // The number of the first ground, 1 to 6, on which a sheet is refused for a question with n steps and this start; 0 where there is none.
 pub fn sheet_refusal(b: &[u8], n: usize, start: usize) -> u32
-    ensures { λ r. ⌜ r ≡ refusal (read-sheet n start (now (b .entry))) ⌝ }
+    ensures value { λ r. ⌜ r ≡ refusal (read-sheet n start (now (b .entry))) ⌝ }
 {
     if !blocks::whole_blocks(b, 1, 3) {
         return 1;
@@ -123,7 +124,7 @@ pub fn sheet_refusal(b: &[u8], n: usize, start: usize) -> u32
 // The choices of all blocks, one after the other, at the front of `out`; gives their number.
 pub fn gather(b: &[u8], out: &mut [u8]) -> usize
     requires { ⌜ Blocks 6 (now b) × (1470 ≤ length (now out)) ⌝ }
-    ensures { λ r. ⌜ Gathered ((sheet-of (now (b .entry))) .choices) (now (out .entry)) (now (out .exit)) r ⌝ }
+    ensures effect { λ r. ⌜ Gathered ((sheet-of (now (b .entry))) .choices) (now (out .entry)) (now (out .exit)) r ⌝ }
 {
     let count = b.len() / 512;
     let mut at: usize = 0;
@@ -132,7 +133,7 @@ pub fn gather(b: &[u8], out: &mut [u8]) -> usize
         let from = 512 * k + 18;
         let c = count_at(b, k);
         let to = from + c;
-        writer::copy(&mut out[at..], &b[from..to]);
+        blocks::buffers::copy(&mut out[at..], &b[from..to]);
         at += c;
         k += 1;
     }

@@ -18,7 +18,9 @@ pub enum End {
 // Reads the choices from `at` on as an n-step plan from the state s.
 pub fn plan_end(m: &[u8], choices: &[u8], n: usize, s: usize, at: usize) -> End
     requires { ⌜ (refusal (read-model (now m)) ≡ 0) × (s < state-count (now m)) × (at ≤ length (now choices)) ⌝ }
-    ensures { λ r. ⌜ r ≡ end-of (length (now (choices .entry))) (read-plan (model-of (now (m .entry))) n s (drop at (now (choices .entry)))) ⌝ }
+    ensures value { λ r.
+        let choices = now (choices .entry) in let m = now (m .entry) in
+        ⌜ r ≡ end-of (length choices) (read-plan (model-of m) n s (drop at choices)) ⌝ }
 {
     if n == 0 {
         return End::At(at);
@@ -35,8 +37,12 @@ pub fn plan_end(m: &[u8], choices: &[u8], n: usize, s: usize, at: usize) -> End
 
 // Reads a plan of k steps below each outcome of the action a.
 fn below(m: &[u8], choices: &[u8], k: usize, s: usize, a: usize, at: usize) -> End
-    requires { ⌜ (refusal (read-model (now m)) ≡ 0) × (s < state-count (now m)) × (a < action-count (now m)) × (at ≤ length (now choices)) ⌝ }
-    ensures { λ r. ⌜ r ≡ end-of (length (now (choices .entry))) (read-each (λ o. read-plan (model-of (now (m .entry))) k (o .target)) (outcomes (model-of (now (m .entry))) s a) (drop at (now (choices .entry)))) ⌝ }
+    requires { ⌜
+        (refusal (read-model (now m)) ≡ 0) × (s < state-count (now m)) × (a < action-count (now m)) × (at ≤ length (now choices)) ⌝ }
+    ensures value { λ r.
+        let choices = now (choices .entry) in let m = now (m .entry) in
+        ⌜ r ≡ end-of (length choices) (read-each (λ o. read-plan (model-of m) k (o .target)) (outcomes (model-of m) s a) (drop at choices))
+        ⌝ }
 {
     let count = models::entries(m, s, a);
     let mut next = at;
@@ -55,7 +61,7 @@ fn below(m: &[u8], choices: &[u8], k: usize, s: usize, a: usize, at: usize) -> E
 // Ground 10: 0 if the choices are an n-step plan from the state s, all of them.
 pub fn plan_refusal(m: &[u8], choices: &[u8], n: usize, s: usize) -> u32
     requires { ⌜ (refusal (read-model (now m)) ≡ 0) × (s < state-count (now m)) ⌝ }
-    ensures { λ r. ⌜ r ≡ refusal (plan-of (model-of (now (m .entry))) n s (now (choices .entry))) ⌝ }
+    ensures value { λ r. ⌜ r ≡ refusal (plan-of (model-of (now (m .entry))) n s (now (choices .entry))) ⌝ }
 {
     let end = plan_end(m, choices, n, s, 0);
     match end {

@@ -13,48 +13,14 @@ ghost use Rattle.models.specs.Grounds.{read-model};
 ghost use Rattle.sheets.specs.Layout.{with-word-sum, blocks-for, sheet-bytes};
 ghost use Rattle.sheets.specs.promises.Ends.{all-read};
 ghost use Rattle.sheets.specs.promises.Writer.{started, unsealed, chunk-size, begun, sealed, place, Ahead, Stored};
-
-// The first bytes of dst become src.
-pub fn copy(dst: &mut [u8], src: &[u8])
-    requires { ⌜ length (now src) ≤ length (now dst) ⌝ }
-    ensures { λ _. ⌜ now (dst .exit) ≡ now (src .entry) ++ drop (length (now (src .entry))) (now (dst .entry)) ⌝ }
-{
-    let mut i: usize = 0;
-    while i < src.len() {
-        dst[i] = src[i];
-        i += 1;
-    }
-}
-
-// All bytes become zero.
-fn clear(dst: &mut [u8])
-    ensures { λ _. ⌜ now (dst .exit) ≡ replicate (length (now (dst .entry))) 0 ⌝ }
-{
-    let mut i: usize = 0;
-    while i < dst.len() {
-        dst[i] = 0;
-        i += 1;
-    }
-}
-
-// The first bytes of dst become the lowest bytes of x.
-fn put_number(dst: &mut [u8], bytes: usize, x: u64)
-    requires { ⌜ bytes ≤ length (now dst) ⌝ }
-    ensures { λ _. ⌜ now (dst .exit) ≡ little-endian bytes x ++ drop bytes (now (dst .entry)) ⌝ }
-{
-    let mut rest = x;
-    let mut i: usize = 0;
-    while i < bytes {
-        dst[i] = (rest % 256) as u8;
-        rest = rest / 256;
-        i += 1;
-    }
-}
+use blocks::buffers::clear;
+use blocks::buffers::put_number;
+use blocks::buffers::store;
 
 // The last word becomes the one with which all words sum to 0 modulo 65,536.
 fn seal(dst: &mut [u8])
     requires { ⌜ (length (now dst) ≡ 512) × (drop 510 (now dst) ≡ replicate 2 0) ⌝ }
-    ensures { λ _. ⌜ now (dst .exit) ≡ with-word-sum (take 510 (now (dst .entry))) ⌝ }
+    ensures frame { λ _. ⌜ now (dst .exit) ≡ with-word-sum (take 510 (now (dst .entry))) ⌝ }
 {
     let sum = blocks::word_sum(dst, 0);
     let word = (65536 - sum % 65536) % 65536;
@@ -64,7 +30,7 @@ fn seal(dst: &mut [u8])
 // The first bytes of block k, which is zero as yet.
 fn head(dst: &mut [u8], k: u8, n: u8, start: u8)
     requires { ⌜ (length (now dst) ≡ 512) × (now dst ≡ replicate (length (now dst)) 0) ⌝ }
-    ensures { λ _. ⌜ now (dst .exit) ≡ started n start k ⌝ }
+    ensures frame { λ _. ⌜ now (dst .exit) ≡ started n start k ⌝ }
 {
     dst[0] = 4;
     dst[1] = k;
@@ -75,7 +41,7 @@ fn head(dst: &mut [u8], k: u8, n: u8, start: u8)
 // Begins block k of a sheet: all but its choices and its last word.
 fn begin(dst: &mut [u8], k: u8, n: u8, start: u8, weight: u64, count: u64)
     requires { ⌜ length (now dst) ≡ 512 ⌝ }
-    ensures { λ _. ⌜ now (dst .exit) ≡ unsealed n start weight k count [] ⌝ }
+    ensures frame { λ _. ⌜ now (dst .exit) ≡ unsealed n start weight k count [] ⌝ }
 {
     clear(dst);
     head(dst, k, n, start);
@@ -86,7 +52,7 @@ fn begin(dst: &mut [u8], k: u8, n: u8, start: u8, weight: u64, count: u64)
 // How many of a sheet's choices stand in block k: 490, or what is left.
 fn chunk_size(count: usize, k: usize) -> u64
     requires { ⌜ (k < 3) × (490 * k ≤ count) ⌝ }
-    ensures { λ r. ⌜ r ≡ chunk-size count k ⌝ }
+    ensures value { λ r. ⌜ r ≡ chunk-size count k ⌝ }
 {
     let left = count - 490 * k;
     if left < 490 {
@@ -98,7 +64,7 @@ fn chunk_size(count: usize, k: usize) -> u64
 // Begins the blocks of a sheet with so many choices, at the front of buf.
 fn begin_blocks(buf: &mut [u8], n: u8, start: u8, weight: u64, count: usize)
     requires { ⌜ (count ≤ 1365) × (512 * blocks-for count ≤ length (now buf)) ⌝ }
-    ensures { λ _. ⌜ now (buf .exit) ≡ begun n start weight count ++ drop (512 * blocks-for count) (now (buf .entry)) ⌝ }
+    ensures frame { λ _. ⌜ now (buf .exit) ≡ begun n start weight count ++ drop (512 * blocks-for count) (now (buf .entry)) ⌝ }
 {
     let blocks = (count + 489) / 490;
     let mut k: usize = 0;
@@ -111,18 +77,10 @@ fn begin_blocks(buf: &mut [u8], n: u8, start: u8, weight: u64, count: usize)
     }
 }
 
-// Stores one choice among those of a block.
-fn store(choices: &mut [u8], i: usize, a: u8)
-    requires { ⌜ i < length (now choices) ⌝ }
-    ensures { λ _. ⌜ now (choices .exit) ≡ set (now (choices .entry)) i a ⌝ }
-{
-    choices[i] = a;
-}
-
 // Stores choice i of a block.
 fn store_in_block(block: &mut [u8], i: usize, a: u8)
     requires { ⌜ (length (now block) ≡ 512) × (i < 490) ⌝ }
-    ensures { λ _. ⌜ now (block .exit) ≡ set (now (block .entry)) (18 + i) a ⌝ }
+    ensures frame { λ _. ⌜ now (block .exit) ≡ set (now (block .entry)) (18 + i) a ⌝ }
 {
     store(&mut block[18..508], i, a);
 }
@@ -130,7 +88,7 @@ fn store_in_block(block: &mut [u8], i: usize, a: u8)
 // Stores choice p of a sheet in its block.
 fn store_choice(buf: &mut [u8], p: usize, a: u8)
     requires { ⌜ (p < 1470) × (512 * (p / 490) + 512 ≤ length (now buf)) ⌝ }
-    ensures { λ _. ⌜ now (buf .exit) ≡ set (now (buf .entry)) (place p) a ⌝ }
+    ensures frame { λ _. ⌜ now (buf .exit) ≡ set (now (buf .entry)) (place p) a ⌝ }
 {
     let from = 512 * (p / 490);
     let to = from + 512;
@@ -141,7 +99,9 @@ fn store_choice(buf: &mut [u8], p: usize, a: u8)
 fn store_plan(buf: &mut [u8], m: &[u8], choices: &[u8], n: usize, s: usize, p: usize) -> usize
     requires { ⌜ (refusal (read-model (now m)) ≡ 0) × (s < state-count (now m)) ⌝ }
     requires { ⌜ Ahead (read-plan (model-of (now m)) n s (drop p (now choices))) (now choices) p (now buf) ⌝ }
-    ensures { λ r. ⌜ Stored (read-plan (model-of (now (m .entry))) n s (drop p (now (choices .entry)))) (now (choices .entry)) p r (now (buf .entry)) (now (buf .exit)) ⌝ }
+    ensures effect { λ r.
+        let buf′ = now (buf .exit) in let m = now (m .entry) in let choices = now (choices .entry) in let buf = now (buf .entry) in
+        ⌜ Stored (read-plan (model-of m) n s (drop p choices)) choices p r buf buf′ ⌝ }
 {
     if n == 0 {
         return p;
@@ -162,8 +122,12 @@ fn store_below(
     p: usize,
 ) -> usize
     requires { ⌜ (refusal (read-model (now m)) ≡ 0) × (s < state-count (now m)) × (a < action-count (now m)) ⌝ }
-    requires { ⌜ Ahead (read-each (λ o. read-plan (model-of (now m)) k (o .target)) (outcomes (model-of (now m)) s a) (drop p (now choices))) (now choices) p (now buf) ⌝ }
-    ensures { λ r. ⌜ Stored (read-each (λ o. read-plan (model-of (now (m .entry))) k (o .target)) (outcomes (model-of (now (m .entry))) s a) (drop p (now (choices .entry)))) (now (choices .entry)) p r (now (buf .entry)) (now (buf .exit)) ⌝ }
+    requires { ⌜
+        Ahead (read-each (λ o. read-plan (model-of (now m)) k (o .target)) (outcomes (model-of (now m)) s a) (drop p (now choices)))
+        (now choices) p (now buf) ⌝ }
+    ensures effect { λ r.
+        let buf′ = now (buf .exit) in let m = now (m .entry) in let choices = now (choices .entry) in let buf = now (buf .entry) in
+        ⌜ Stored (read-each (λ o. read-plan (model-of m) k (o .target)) (outcomes (model-of m) s a) (drop p choices)) choices p r buf buf′ ⌝ }
 {
     let count = models::entries(m, s, a);
     let mut next = p;
@@ -180,7 +144,7 @@ fn store_below(
 fn seal_blocks(buf: &mut [u8], blocks: usize)
     requires { ⌜ (blocks ≤ 3) × (512 * blocks ≤ length (now buf)) ⌝ }
     requires { ⌜ ((k : ℕ) → k < blocks → drop 510 (take 512 (drop (512 * k) (now buf))) ≡ replicate 2 0) ⌝ }
-    ensures { λ _. ⌜ now (buf .exit) ≡ sealed blocks (now (buf .entry)) ⌝ }
+    ensures frame { λ _. ⌜ now (buf .exit) ≡ sealed blocks (now (buf .entry)) ⌝ }
 {
     let mut k: usize = 0;
     while k < blocks {
@@ -193,9 +157,12 @@ fn seal_blocks(buf: &mut [u8], blocks: usize)
 
 // The sheet of the n-step plan that these choices are, at the front of buf, and no byte beyond; gives the number of bytes written.
 pub fn write_sheet(buf: &mut [u8], m: &[u8], n: u8, start: u8, weight: u64, choices: &[u8]) -> usize
-    requires { ⌜ (refusal (read-model (now m)) ≡ 0) × (start < state-count (now m)) × all-read (read-plan (model-of (now m)) n start (now choices)) (now choices) ⌝ }
+    requires { ⌜
+        (refusal (read-model (now m)) ≡ 0) × (start < state-count (now m))
+        × all-read (read-plan (model-of (now m)) n start (now choices)) (now choices) ⌝ }
     requires { ⌜ (length (now choices) ≤ 1365) × (512 * blocks-for (length (now choices)) ≤ length (now buf)) ⌝ }
-    ensures { λ r. ⌜ (now (buf .exit) ≡ sheet-bytes n start weight (now (choices .entry)) ++ drop r (now (buf .entry))) × (r ≡ 512 * blocks-for (length (now (choices .entry)))) ⌝ }
+    ensures effect { λ r. ⌜ now (buf .exit) ≡ sheet-bytes n start weight (now (choices .entry)) ++ drop r (now (buf .entry)) ⌝ }
+    ensures value { λ r. ⌜ r ≡ 512 * blocks-for (length (now (choices .entry))) ⌝ }
 {
     let count = choices.len();
     begin_blocks(buf, n, start, weight, count);

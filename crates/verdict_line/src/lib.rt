@@ -9,16 +9,17 @@ ghost use Rattle.verdict_line.specs.Line.{refused-line, plain-line, no-p
 // Writes a text at a place; gives the place after it.
 pub fn put_text(out: &mut [u8], at: usize, text: &[u8]) -> usize
     requires { ⌜ at + length (now text) ≤ length (now out) ⌝ }
-    ensures { λ r. ⌜ Put (now (text .entry)) (now (out .entry)) (now (out .exit)) at r ⌝ }
+    ensures effect { λ r. ⌜ Put (now (text .entry)) (now (out .entry)) (now (out .exit)) at r ⌝ }
 {
-    sheets::writer::copy(&mut out[at..], text);
+    blocks::buffers::copy(&mut out[at..], text);
     at + text.len()
 }
 
 // Writes a text and a number after it.
-pub fn put_number(out: &mut [u8], at: usize, text: &[u8], n: u64) -> usize
+pub fn put_decimal(out: &mut [u8], at: usize, text: &[u8], n: u64) -> usize
     requires { ⌜ at + (length (now text) + 20) ≤ length (now out) ⌝ }
-    ensures { λ r. ⌜ Put (now (text .entry) ++ decimal n) (now (out .entry)) (now (out .exit)) at r × (r ≤ at + (length (now (text .entry)) + 20)) ⌝ }
+    ensures effect { λ r. ⌜ Put (now (text .entry) ++ decimal n) (now (out .entry)) (now (out .exit)) at r ⌝ }
+    ensures value { λ r. ⌜ r ≤ at + (length (now (text .entry)) + 20) ⌝ }
 {
     let mut digits = [0u8; 20];
     let k = io::decimal(n, &mut digits);
@@ -29,12 +30,13 @@ pub fn put_number(out: &mut [u8], at: usize, text: &[u8], n: u64) -> usize
 // Writes a space and the number for each choice.
 pub fn put_choices(out: &mut [u8], at: usize, choices: &[u8]) -> usize
     requires { ⌜ at + (4 * length (now choices) + 21) ≤ length (now out) ⌝ }
-    ensures { λ r. ⌜ Put (flatMap (numbered " ") (now (choices .entry))) (now (out .entry)) (now (out .exit)) at r × (r ≤ at + 4 * length (now (choices .entry))) ⌝ }
+    ensures effect { λ r. ⌜ Put (flatMap (numbered " ") (now (choices .entry))) (now (out .entry)) (now (out .exit)) at r ⌝ }
+    ensures value { λ r. ⌜ r ≤ at + 4 * length (now (choices .entry)) ⌝ }
 {
     let mut next = at;
     let mut i: usize = 0;
     while i < choices.len() {
-        next = put_number(out, next, b" ", choices[i] as u64);
+        next = put_decimal(out, next, b" ", choices[i] as u64);
         i += 1;
     }
     next
@@ -43,16 +45,16 @@ pub fn put_choices(out: &mut [u8], at: usize, choices: &[u8]) -> usize
 // Writes a line that is a text and a number.
 fn number_line(out: &mut [u8], text: &[u8], n: u64) -> usize
     requires { ⌜ length (now text) + 21 ≤ length (now out) ⌝ }
-    ensures { λ r. ⌜ Put (now (text .entry) ++ decimal n ++ texts.text "\n") (now (out .entry)) (now (out .exit)) 0 r ⌝ }
+    ensures effect { λ r. ⌜ Put (now (text .entry) ++ decimal n ++ texts.text "\n") (now (out .entry)) (now (out .exit)) 0 r ⌝ }
 {
-    let next = put_number(out, 0, text, n);
+    let next = put_decimal(out, 0, text, n);
     put_text(out, next, b"\n")
 }
 
 // A refusal's line. Every line leaves what stands behind it in the buffer.
 pub fn refused_line(out: &mut [u8], k: u32) -> usize
     requires { ⌜ 8192 ≤ length (now out) ⌝ }
-    ensures { λ r. ⌜ Put (refused-line k) (now (out .entry)) (now (out .exit)) 0 r ⌝ }
+    ensures effect { λ r. ⌜ Put (refused-line k) (now (out .entry)) (now (out .exit)) 0 r ⌝ }
 {
     number_line(out, b"refused ", k as u64)
 }
@@ -60,7 +62,7 @@ pub fn refused_line(out: &mut [u8], k: u32) -> usize
 // The line of a root that is not "plan".
 pub fn plain_line(out: &mut [u8], yes: bool) -> usize
     requires { ⌜ 8192 ≤ length (now out) ⌝ }
-    ensures { λ r. ⌜ Put (plain-line yes) (now (out .entry)) (now (out .exit)) 0 r ⌝ }
+    ensures effect { λ r. ⌜ Put (plain-line yes) (now (out .entry)) (now (out .exit)) 0 r ⌝ }
 {
     if yes {
         return put_text(out, 0, b"yes\n");
@@ -71,7 +73,7 @@ pub fn plain_line(out: &mut [u8], yes: bool) -> usize
 // The line of a no to a "plan" root.
 pub fn no_plans_line(out: &mut [u8], count: u32) -> usize
     requires { ⌜ 8192 ≤ length (now out) ⌝ }
-    ensures { λ r. ⌜ Put (no-plans-line count) (now (out .entry)) (now (out .exit)) 0 r ⌝ }
+    ensures effect { λ r. ⌜ Put (no-plans-line count) (now (out .entry)) (now (out .exit)) 0 r ⌝ }
 {
     number_line(out, b"no plans ", count as u64)
 }
@@ -79,11 +81,11 @@ pub fn no_plans_line(out: &mut [u8], count: u32) -> usize
 // The line of a yes with a plan: at most 1365 choices of at most 3 digits, so that it is shorter than 8192 bytes.
 pub fn yes_plan_line(out: &mut [u8], weight: u64, whole: u64, count: u32, choices: &[u8]) -> usize
     requires { ⌜ (8192 ≤ length (now out)) × (length (now choices) ≤ 1365) ⌝ }
-    ensures { λ r. ⌜ Put (yes-plan-line weight whole count (now (choices .entry))) (now (out .entry)) (now (out .exit)) 0 r ⌝ }
+    ensures effect { λ r. ⌜ Put (yes-plan-line weight whole count (now (choices .entry))) (now (out .entry)) (now (out .exit)) 0 r ⌝ }
 {
-    let mut next = put_number(out, 0, b"yes ", weight);
-    next = put_number(out, next, b"/", whole);
-    next = put_number(out, next, b" plans ", count as u64);
+    let mut next = put_decimal(out, 0, b"yes ", weight);
+    next = put_decimal(out, next, b"/", whole);
+    next = put_decimal(out, next, b" plans ", count as u64);
     next = put_text(out, next, b" choices");
     next = put_choices(out, next, choices);
     put_text(out, next, b"\n")

@@ -12,7 +12,7 @@ use Rattle.evaluation.specs.promises.Known.{Stepped}
 use Rattle.best_plan.proofs.OutcomesWalked.{Walking, walking-none}
 use Rattle.best_plan.proofs.HopelessLoses.{weighed, weighed-none}
 use Rattle.best_plan.proofs.PathOneStepOn.{state-here, place-here, few-here, picked-leaf, Kept, back-none, kept-none}
-use Rattle.best_plan.proofs.LoopsKeepBuffers.{hopeless-asked, walked-lost, rest-fewer, step-asked, pick-room, last-room, pick-setting, last-setting, Below, below-last, walk-fits, walk-more, walk-kept, walked-all, Turned, turned-none, walk-room, walk-setting, turned-all, keep-asked, turned-taken, same}
+use Rattle.best_plan.proofs.LoopsKeepBuffers.{hopeless-asked, hopeless-cannot-win, rest-after-outcome, step-asked, pick-room, last-room, pick-setting, last-setting, Below, below-last, sum-with-outcome-fits, one-outcome-more-walked, buffers-kept-below, all-outcomes-walked, Choices-tried, no-choice-tried, walk-room, walk-setting, all-choices-tried, keep-asked, one-choice-more-tried, same}
 use Prim.Native.Nat.{ℕ, _+_, _-_, _≤_, _<_}
 use borrow.Fn.Kinds.{In}
 use borrow.Fn.PlainCycle.{Measures, is, falls, and}
@@ -70,7 +70,7 @@ pick-claims t = (
 )
 
 abbrev pick-Inv-loop : pick-lts.InvT-loop
-pick-Inv-loop m q truth cone late trail₀ gains₀ v₀ choices₀ spot s n best₀ i₀ trail gains v choices best i = (n ≡ choices-in m (spot .s)) × (i ≤ n) × Turned (spot .least) m q (spot .start) cone (spot .h) (spot .s) (spot .k) (spot .at) trail₀ gains₀ v₀ choices₀ i trail gains v choices best
+pick-Inv-loop m q truth cone late trail₀ gains₀ v₀ choices₀ spot s n best₀ i₀ trail gains v choices best i = (n ≡ choices-in m (spot .s)) × (i ≤ n) × Choices-tried (spot .least) m q (spot .start) cone (spot .h) (spot .s) (spot .k) (spot .at) trail₀ gains₀ v₀ choices₀ i trail gains v choices best
 
 abbrev pick-μ-loop : pick-lts.MeasureT-loop
 pick-μ-loop m q truth cone late trail₀ gains₀ v₀ choices₀ spot s n best₀ i₀ trail gains v choices best i = n - i
@@ -96,7 +96,7 @@ module _ (t : ℕ) where
 
   pick-loop-holds : pick-lts.Need-loop-holds (pick-claims t) (pick-at t) pick.Post pick-Inv-loop pick-μ-loop
   pick-loop-holds c = let S = c .before .before .before .before .before .before in
-      (c .choices .ensures, omega arith, turned-none (S .pre .1 .0) (S .args .spot .at) (S .args .choices .now))
+      (c .choices .ensures, omega arith, no-choice-tried (S .pre .1 .0) (S .args .spot .at) (S .args .choices .now))
 
   pick-cast-choice : pick-lts.Need-cast-choice (pick-claims t) (pick-at t) pick.Post pick-Inv-loop pick-μ-loop
   pick-cast-choice c = search needs
@@ -146,7 +146,7 @@ module _ (t : ℕ) where
       let place : L .i < choices-in (S .args .m .now) (S .args .spot .s) = omega (arith, L .inv .0, c .before .before .before .before .before .before .before .before .before .before .before .before .before .loop-test .taken) in (
         L .inv .0,
         omega (arith, c .before .before .before .before .before .before .before .before .before .before .before .before .before .loop-test .taken),
-        turned-taken (S .pre .1 .0) (c .before .before .before .before .before .before .before .before .before .before .before .before .before .before .before .before .before .if1 .left) (L .inv .2) (S .pre .1 .1) place (c .before .before .before .before .before .before .before .before .before .before .before .before .choice .ensures) {choices′ = W .last .1 .1 .1 .1 .1 .1 .1 .1 .0} (W .ensures .0) (W .ensures .1) (J .ensures)
+        one-choice-more-tried (S .pre .1 .0) (c .before .before .before .before .before .before .before .before .before .before .before .before .before .before .before .before .before .if1 .left) (L .inv .2) (S .pre .1 .1) place (c .before .before .before .before .before .before .before .before .before .before .before .before .choice .ensures) {choices′ = W .last .1 .1 .1 .1 .1 .1 .1 .1 .0} (W .ensures .0) (W .ensures .1) (J .ensures)
             (J .kept .0 ∙ W .kept .1 .1 .1 .1 .1 .1 .1 .1 .0),
       )
 
@@ -155,7 +155,7 @@ module _ (t : ℕ) where
 
   pick-returns-2 : pick-lts.Need-returns-2 (pick-claims t) (pick-at t) pick.Post pick-Inv-loop pick-μ-loop
   pick-returns-2 c = let L = c .before .loop in
-      (turned-all (c .before .before .before .before .before .before .before .before .pre .1 .0) (c .before .before .before .before .if1 .left) (L .inv .2) (omega (arith, L .inv .0, L .inv .1, c .loop-test .left)), (L .inv .2) .kept .back)
+      (all-choices-tried (c .before .before .before .before .before .before .before .before .pre .1 .0) (c .before .before .before .before .if1 .left) (L .inv .2) (omega (arith, L .inv .0, L .inv .1, c .loop-test .left)), (L .inv .2) .kept .back)
 
 -- What the callees of `walk` ask and yield.
 abbrev walk-claims : ℕ → walk-lts.Claims
@@ -230,7 +230,7 @@ module _ (t : ℕ) where
   walk-returns : walk-lts.Need-returns (walk-claims t) (walk-at t) walk.Post walk-Inv-loop walk-μ-loop
   walk-returns c = let S = c .before .before .before .before .before .before .before .before .before .before in
       let L = c .before .before .before .before .loop in
-      (walked-lost (S .args .spot .k) (S .pre .1 .0) (L .inv .3) (L .inv .2) (here (c .before .before .before)) (L .rest) (L .inv .4) (S .args .best .found) (S .args .best .value) (c .before .hopeless .ensures) (c .if2 .taken), (L .inv .3) .back)
+      (hopeless-cannot-win (S .args .spot .k) (S .pre .1 .0) (L .inv .3) (L .inv .2) (here (c .before .before .before)) (L .rest) (L .inv .4) (S .args .best .found) (S .args .best .value) (c .before .hopeless .ensures) (c .if2 .taken), (L .inv .3) .back)
 
   walk-step-requires : walk-lts.Need-step-requires (walk-claims t) (walk-at t) walk.Post walk-Inv-loop walk-μ-loop
   walk-step-requires c κs = let S = c .before .before .before .before .before .before .before .before .before .before .before in
@@ -280,12 +280,12 @@ module _ (t : ℕ) where
   walk-add-mul-requires : walk-lts.Need-add-mul-requires (walk-claims t) (walk-at t) walk.Post walk-Inv-loop walk-μ-loop
   walk-add-mul-requires c κs = let S = c .before .before .before .before .before .before .before .before .before .before .before .before .before .before .before in
       let L = c .before .before .before .before .before .before .before .before .before .loop in
-      walk-fits (S .args .spot .k) (S .pre .1 .0) (L .inv .3) (L .inv .2) (here (c .before .before .before .before .before .before .before .before)) (stepped (c .before .before .before)) (below-here (c .before)) (c .weight .result) (c .weight .ensures .0)
+      sum-with-outcome-fits (S .args .spot .k) (S .pre .1 .0) (L .inv .3) (L .inv .2) (here (c .before .before .before .before .before .before .before .before)) (stepped (c .before .before .before)) (below-here (c .before)) (c .weight .result) (c .weight .ensures .0)
 
   walk-sub-rest : walk-lts.Need-sub-rest (walk-claims t) (walk-at t) walk.Post walk-Inv-loop walk-μ-loop
   walk-sub-rest c = let S = c .before .before .before .before .before .before .before .before .before .before .before .before .before .before .before .before in
       let L = c .before .before .before .before .before .before .before .before .before .before .loop in
-      rest-fewer (S .args .spot .k) (S .pre .1 .0) (L .inv .3) (L .inv .2) (here (c .before .before .before .before .before .before .before .before .before)) (L .rest) (L .inv .4) (c .before .weight .result) (c .before .weight .ensures .0) .0
+      rest-after-outcome (S .args .spot .k) (S .pre .1 .0) (L .inv .3) (L .inv .2) (here (c .before .before .before .before .before .before .before .before .before)) (L .rest) (L .inv .4) (c .before .weight .result) (c .before .weight .ensures .0) .0
 
   walk-add-o : walk-lts.Need-add-o (walk-claims t) (walk-at t) walk.Post walk-Inv-loop walk-μ-loop
   walk-add-o c = let S = c .before .before .before .before .before .before .before .before .before .before .before .before .before .before .before .before in omega (arith, c .before .before .before .before .before .before .before .before .before .before .loop .inv .0, c .before .before .before .before .before .before .before .before .before .loop-test .taken, few-here (S .pre .1 .0) (S .pre .1 .1 .0))
@@ -299,9 +299,9 @@ module _ (t : ℕ) where
       let D = below-here (c .before .before) in (
         L .inv .0,
         omega (arith, c .before .before .before .before .before .before .before .before .before .loop-test .taken),
-        walk-more (S .args .spot .k) (S .pre .1 .0) (L .inv .3) (L .inv .2) (here (c .before .before .before .before .before .before .before .before .before)) (stepped (c .before .before .before .before)) D (c .before .weight .result) (c .before .weight .ensures .0) (c .add-mul .ensures),
-        walk-kept (S .args .spot .k) (S .pre .1 .0) (L .inv .3) (L .inv .2) (here (c .before .before .before .before .before .before .before .before .before)) (stepped (c .before .before .before .before)) D,
-        rest-fewer (S .args .spot .k) (S .pre .1 .0) (L .inv .3) (L .inv .2) (here (c .before .before .before .before .before .before .before .before .before)) (L .rest) (L .inv .4) (c .before .weight .result) (c .before .weight .ensures .0) .1,
+        one-outcome-more-walked (S .args .spot .k) (S .pre .1 .0) (L .inv .3) (L .inv .2) (here (c .before .before .before .before .before .before .before .before .before)) (stepped (c .before .before .before .before)) D (c .before .weight .result) (c .before .weight .ensures .0) (c .add-mul .ensures),
+        buffers-kept-below (S .args .spot .k) (S .pre .1 .0) (L .inv .3) (L .inv .2) (here (c .before .before .before .before .before .before .before .before .before)) (stepped (c .before .before .before .before)) D,
+        rest-after-outcome (S .args .spot .k) (S .pre .1 .0) (L .inv .3) (L .inv .2) (here (c .before .before .before .before .before .before .before .before .before)) (L .rest) (L .inv .4) (c .before .weight .result) (c .before .weight .ensures .0) .1,
       )
 
   walk-same-length-2 : walk-lts.Need-same-length-2 (walk-claims t) (walk-at t) walk.Post walk-Inv-loop walk-μ-loop
@@ -309,7 +309,7 @@ module _ (t : ℕ) where
 
   walk-returns-2 : walk-lts.Need-returns-2 (walk-claims t) (walk-at t) walk.Post walk-Inv-loop walk-μ-loop
   walk-returns-2 c = let L = c .before .loop in
-      (walked-all (L .inv .2) (omega (arith, L .inv .0, L .inv .1, c .loop-test .left)), (L .inv .3) .back)
+      (all-outcomes-walked (L .inv .2) (omega (arith, L .inv .0, L .inv .1, c .loop-test .left)), (L .inv .3) .back)
 
 pub +pick+walk-spec : {M : Type 1} → statement M
 +pick+walk-spec = close μ-pick μ-walk (λ t. pick-lts.spec (pick-claims t) (pick-at t) pick.Post

@@ -38,12 +38,6 @@ Turns-on q j k =
     × (((((node-of q j) .operator ≡ 3) ⊎ ((node-of q j) .operator ≡ 6)) × (k ≡ (node-of q j) .left))
     ⊎ (((node-of q j) .operator ≡ 4) × (depth-in q k ≡ depth-in q j) × ((k ≡ (node-of q j) .left) ⊎ (k ≡ (node-of q j) .right))))
 
--- Marks were added, all of them where that is allowed.
-pub record Grown (allowed : ℕ → Type 0) (marks marks′ : List ℕ) : Type 0 where
-  pub size : length marks′ ≡ length marks
-  pub stays : (k : ℕ) → getD marks k 0 ≡ 1 → getD marks′ k 0 ≡ 1
-  pub new : (k : ℕ) → getD marks′ k 0 ≡ 1 → (getD marks k 0 ≡ 1) ⊎ allowed k
-
 -- Node j has a place among 40 marks, and so have the children that its values on a path are made of.
 pub record Placed (q : Bytes) (j : ℕ) : Type 0 where
   pub self : j < 40

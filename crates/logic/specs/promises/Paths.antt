@@ -3,7 +3,7 @@ use Prim.Native.Nat.{ℕ, zero, suc}
 use mathlib.Core.List.{List, [], _∷_, map, flatMap, List·Memᴰ}
 use Rattle.logic.specs.Model.{Model, Step, enabled, outcomes}
 
--- The steps r are a path from s: each is an outcome of an enabled choice in the state reached. Definition 10 of source document 000,
+-- The steps r are a path from s: each is an outcome of an enabled choice in the state reached. Definition 10 of the r-PLBP thesis,
 -- without its first state.
 pub data Path-from (m : Model) : ℕ → List Step → Type 0 where
   stop : {s : ℕ} → Path-from m s []

@@ -83,8 +83,8 @@ slice-aggregate-prepare-model c = sym (length-take-le (c .before .blocks-end .re
 prepare-model-requires : tie.Need-prepare-model-requires
 prepare-model-requires c κs = ap (λ z. refusal (read-model z)) (cut (c .before)) ∙ held (c .before .before .before .before) .passed
 
-slice-aggregate-nodes : tie.Need-slice-aggregate-nodes
-slice-aggregate-nodes c = search needs
+slice-aggregate-prepare-question : tie.Need-slice-aggregate-prepare-question
+slice-aggregate-prepare-question c = search needs
 
 prepare-question-requires : tie.Need-prepare-question-requires
 prepare-question-requires c κs = ordered _ _ _ _ (asked (c .before))
@@ -130,7 +130,7 @@ judge-spec =
     array-share-prefix-m
     slice-aggregate-prepare-model
     prepare-model-requires
-    slice-aggregate-nodes
+    slice-aggregate-prepare-question
     prepare-question-requires
     limit-refusal-requires
     turned-away-requires-2

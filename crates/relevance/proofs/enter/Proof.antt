@@ -4,7 +4,7 @@ use mathlib.Core.Path.{sym, ap, ap₂, subst, _∙_}
 use mathlib.Core.Logic.{inl, inr, ⊎-elim}
 use mathlib.Core.List.{List}
 use lib.ListN.{set}
-use Rattle.relevance.proofs.MarksPassedOn.{grown-none}
+use Rattle.prepared_question.proofs.Marks.{grown-none}
 use Rattle.relevance.proofs.ConeListed.{Node-done, entered-flat, entered-none, left-entered, both-entered}
 use borrow.Author.Needs.{needs}
 use Rattle.relevance.proofs.enter.Statement.{statement}
@@ -14,14 +14,14 @@ byte-requires : tie.Need-byte-requires
 byte-requires c κs = search needs
 
 returns : tie.Need-returns
-returns c = (grown-none _ _ (c .before .before .before .before .args .marks .now), λ e. absurd (c .if1 .taken (c .before .byte .ensures ∙ e)))
+returns c = (grown-none _ (c .before .before .before .before .args .marks .now), λ e. absurd (c .if1 .taken (c .before .byte .ensures ∙ e)))
 
 depth-requires : tie.Need-depth-requires
 depth-requires c κs = search needs
 
 returns-2 : tie.Need-returns-2
 returns-2 c = let S = c .before .before .before .before .before .before in
-    (grown-none _ _ (S .args .marks .now), λ e. entered-flat (sym (S .pre .0 .3 .deep (S .args .j) (S .pre .1)) ∙ sym (c .before .depth .ensures) ∙ c .if2 .taken))
+    (grown-none _ (S .args .marks .now), λ e. entered-flat (sym (S .pre .0 .3 .deep (S .args .j) (S .pre .1)) ∙ sym (c .before .depth .ensures) ∙ c .if2 .taken))
 
 operator-requires : tie.Need-operator-requires
 operator-requires c κs = search needs
@@ -70,7 +70,7 @@ returns-4 c = let S = c .before .before .before .before .before .before .before 
 returns-5 : tie.Need-returns-5
 returns-5 c = let n = c .match .rest in
     let e = c .before .operator .ensures in
-    (grown-none _ _ (c .before .before .before .before .before .before .before .before .args .marks .now), λ _. entered-none (λ o. n .0 .1 (⊎-elim (λ x. inl (e ∙ x)) (λ x. inr (e ∙ x)) o)) (λ o. n .1 (e ∙ o)))
+    (grown-none _ (c .before .before .before .before .before .before .before .before .args .marks .now), λ _. entered-none (λ o. n .0 .1 (⊎-elim (λ x. inl (e ∙ x)) (λ x. inr (e ∙ x)) o)) (λ o. n .1 (e ∙ o)))
 
 pub enter-spec : {M : Type 1} → statement M
 enter-spec =

@@ -1,5 +1,6 @@
 -- The invariant: marks were added, and the targets of the outcomes passed have theirs.
-use Rattle.relevance.proofs.MarksPassedOn.{grown-none, grown-then, outcome-marked}
+use Rattle.prepared_question.proofs.Marks.{grown-none}
+use Rattle.relevance.proofs.MarksPassedOn.{outcome-marked, below-then}
 use Prim.Native.Nat.{ℕ, _+_, _*_, _-_, _≤_, _<_}
 use native.Mathlib.Omega.{arith}
 use mathlib.Core.Path.{_≡_}
@@ -8,12 +9,13 @@ use borrow.Author.Count.{below-more}
 use Rattle.models.specs.Layout.{state-count}
 use Rattle.prepared_model.specs.promises.Rows.{outcomes-in, step-in}
 use Rattle.prepared_model.proofs.PlacesInRange.{place-range, read-range}
-use Rattle.relevance.specs.promises.Need.{Marked, Grown}
+use Rattle.prepared_question.specs.promises.Marks.{Grown}
+use Rattle.relevance.specs.promises.Need.{Marked, Below}
 use Rattle.relevance.proofs.mark_outcomes.Statement.{statement}
 use Rattle.relevance.proofs.mark_outcomes.Tie as tie
 
 abbrev Inv-loop : tie.InvT-loop
-Inv-loop m need₀ child s i n o₀ need o = (n ≡ outcomes-in m s i) × (o ≤ n) × Grown (state-count m) (32 * child + 32) need₀ need × ((x : ℕ) → x < o → Marked need child ((step-in m s i x) .target))
+Inv-loop m need₀ child s i n o₀ need o = (n ≡ outcomes-in m s i) × (o ≤ n) × Grown (Below (state-count m) (32 * child + 32)) need₀ need × ((x : ℕ) → x < o → Marked need child ((step-in m s i x) .target))
 
 abbrev μ-loop : tie.MeasureT-loop
 μ-loop m need₀ child s i n o₀ need o = n - o
@@ -22,7 +24,7 @@ outcomes-requires : tie.Need-outcomes-requires Inv-loop μ-loop
 outcomes-requires c κs = place-range (c .pre .0 .0) (c .args .s) (c .pre .1 .0) (c .args .i) (c .pre .1 .1)
 
 loop-holds : tie.Need-loop-holds Inv-loop μ-loop
-loop-holds c = (c .outcomes .ensures, omega arith, grown-none _ _ (c .before .args .need .now), λ x h. absurd (omega arith))
+loop-holds c = (c .outcomes .ensures, omega arith, grown-none _ (c .before .args .need .now), λ x h. absurd (omega arith))
 
 target-requires : tie.Need-target-requires Inv-loop μ-loop
 target-requires c κs = let S = c .before .before .before .before in
@@ -54,7 +56,7 @@ loop-again c = let S = c .before .before .before .before .before .before in
     {need′ = n .last .0} (c .before .target .ensures) (n .ensures) in (
       L .inv .0,
       omega arith,
-      grown-then _ _ _ _ (omega arith) (omega arith) (L .inv .2) (w .0),
+      below-then _ _ _ _ (omega arith) (omega arith) (L .inv .2) (w .0),
       below-more (λ (x : ℕ). Marked (n .last .0) (S .args .child) ((step-in (S .args .m .now) (S .args .s) (S .args .i) x) .target)) (L .o)
           (λ x l. w .0 .stays _ (L .inv .3 x l)) (w .1),
     )

@@ -5,7 +5,8 @@ use mathlib.Core.Path.{_≡_, sym, subst}
 use lib.ListN.{set}
 use borrow.Author.Needs.{needs}
 use Rattle.questions.specs.Layout.{start-of, node-count}
-use Rattle.relevance.proofs.MarksPassedOn.{blank, Passing, first-inside, passing-start, passing-more, passing-end}
+use Rattle.prepared_question.proofs.Marks.{blank}
+use Rattle.relevance.proofs.MarksPassedOn.{Passing, first-inside, passing-start, passing-more, passing-end}
 use Rattle.relevance.proofs.needed.Statement.{statement}
 use Rattle.relevance.proofs.needed.Tie as tie
 

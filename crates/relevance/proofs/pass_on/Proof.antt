@@ -7,8 +7,10 @@ use mathlib.Core.List.{List}
 use lib.ListN.{set}
 use Rattle.models.specs.Layout.{state-count}
 use Rattle.prepared_model.specs.promises.Rows.{step-in, Offers}
-use Rattle.relevance.specs.promises.Need.{Marked, Grown}
-use Rattle.relevance.proofs.MarksPassedOn.{Pair-done, grown-none, left-marked, both-marked, next-marked, none-marked}
+use Rattle.prepared_question.specs.promises.Marks.{Grown}
+use Rattle.relevance.specs.promises.Need.{Marked, Below}
+use Rattle.prepared_question.proofs.Marks.{grown-none}
+use Rattle.relevance.proofs.MarksPassedOn.{Pair-done, left-marked, both-marked, next-marked, none-marked}
 use borrow.Author.Needs.{needs}
 use Rattle.relevance.proofs.pass_on.Statement.{statement}
 use Rattle.relevance.proofs.pass_on.Tie as tie
@@ -17,7 +19,7 @@ byte-requires : tie.Need-byte-requires
 byte-requires c κs = search needs
 
 returns : tie.Need-returns
-returns c = (grown-none _ _ (c .before .before .before .before .args .need .now), λ e. absurd (c .if1 .taken (c .before .byte .ensures ∙ e)))
+returns c = (grown-none _ (c .before .before .before .before .args .need .now), λ e. absurd (c .if1 .taken (c .before .byte .ensures ∙ e)))
 
 cast-j : tie.Need-cast-j
 cast-j c = omega (arith, c .before .before .before .before .pre .0 .0 .nodes .formed .few-nodes)
@@ -78,7 +80,7 @@ returns-4 c = let S = c .before .before .before .before .before .before .before 
     let k = S .args .k in
     let m = S .args .m .now in
     let n = c .mark-next in
-    let w = subst (λ (l : ℕ). Grown (state-count m) (32 * l + 32) need (n .last .1 .0) × ((i o : ℕ) → Offers m (k % 32) i o → Marked (n .last .1 .0) l ((step-in m (k % 32) i o) .target)))
+    let w = subst (λ (l : ℕ). Grown (Below (state-count m) (32 * l + 32)) need (n .last .1 .0) × ((i o : ℕ) → Offers m (k % 32) i o → Marked (n .last .1 .0) l ((step-in m (k % 32) i o) .target)))
     (c .before .left3 .ensures) (n .ensures) in
     next-marked (S .pre .0 .0) need k (S .pre .0 .1) (S .pre .1 (sym (c .before .before .before .before .before .before .byte .ensures) ∙ c .before .before .before .before .before .if1 .left)) (sym (c .before .before .before .before .operator .ensures) ∙ c .before .before .before .match .keys3) (w .0) (w .1)
 

@@ -1,7 +1,6 @@
 -- Which pairs of a node and a state the verdict can turn on: a table of marks, 32 places a node, 1 for such a pair.
 use Prim.Native.Nat.{ℕ, _+_, _*_, _-_, _/_, _%_, _<_}
 use mathlib.Core.Path.{_≡_}
-use mathlib.Core.Logic.{_⊎_}
 use mathlib.Core.List.{List}
 use lib.ListN.{getD}
 use Rattle.blocks.specs.Bytes.{Bytes}
@@ -26,10 +25,9 @@ pub record Passed-on (m q : Bytes) (need : List ℕ) (j s : ℕ) : Type 0 where
   pub under-next : (node-of q j) .operator ≡ 6 → (i o : ℕ) → Offers m s i o → Marked need ((node-of q j) .left) ((step-in m s i o) .target)
   pub under-plan : (node-of q j) .operator ≡ 8 → Marked need ((node-of q j) .left) s
 
--- Marks were added, all of them before place b and in one of S states.
-pub record Grown (S b : ℕ) (need need′ : List ℕ) : Type 0 where
-  pub stays : (k : ℕ) → getD need k 0 ≡ 1 → getD need′ k 0 ≡ 1
-  pub new : (k : ℕ) → getD need′ k 0 ≡ 1 → (getD need k 0 ≡ 1) ⊎ ((k < b) × (k % 32 < S))
+-- A place before b, of one of S states.
+abbrev pub Below : (S b k : ℕ) → Type 0
+Below S b k = (k < b) × (k % 32 < S)
 
 -- The root in the start state is marked, and with a pair all that it turns on.
 pub record Needs (m q : Bytes) (need : List ℕ) : Type 0 where

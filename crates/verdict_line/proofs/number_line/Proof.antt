@@ -6,8 +6,8 @@ use Rattle.verdict_line.proofs.PutInTurn.{put-put}
 use Rattle.verdict_line.proofs.number_line.Statement.{statement}
 use Rattle.verdict_line.proofs.number_line.Tie as tie
 
-put-number-requires : tie.Need-put-number-requires
-put-number-requires c κs = search needs
+put-decimal-requires : tie.Need-put-decimal-requires
+put-decimal-requires c κs = search needs
 
 slice-aggregate-put-text : tie.Need-slice-aggregate-put-text
 slice-aggregate-put-text c = search needs
@@ -20,11 +20,11 @@ same-length c = search needs
 
 returns : tie.Need-returns
 unfolding text
-returns c = let number = c .before .before .before .before .before .before .before .put-number in
+returns c = let number = c .before .before .before .before .before .before .before .put-decimal in
     let end = c .before .before .put-text in
     put-put (number .ensures .0) (end .ensures) (omega (arith, end .ensures .next))
 
 pub number-line-spec : {M : Type 1} → statement M
 number-line-spec =
     tie.close
-    (tie.spec put-number-requires slice-aggregate-put-text put-text-requires same-length returns)
+    (tie.spec put-decimal-requires slice-aggregate-put-text put-text-requires same-length returns)

@@ -21,17 +21,17 @@ unfolding flatMap
 loop-holds c = let S = c .before .before in
     (omega arith, refl, omega arith, put-none (S .args .out .now) (S .args .at))
 
-slice-aggregate-put-number : tie.Need-slice-aggregate-put-number Inv-loop μ-loop
-slice-aggregate-put-number c = refl
+slice-aggregate-put-decimal : tie.Need-slice-aggregate-put-decimal Inv-loop μ-loop
+slice-aggregate-put-decimal c = refl
 
-shared-slice-read-put-number : tie.Need-shared-slice-read-put-number Inv-loop μ-loop
-shared-slice-read-put-number c = omega arith
+shared-slice-read-put-decimal : tie.Need-shared-slice-read-put-decimal Inv-loop μ-loop
+shared-slice-read-put-decimal c = omega arith
 
-cast-put-number : tie.Need-cast-put-number Inv-loop μ-loop
-cast-put-number c = omega (arith, c .shared-slice-known2 .given (c .before .before .before .before .loop .i))
+cast-put-decimal : tie.Need-cast-put-decimal Inv-loop μ-loop
+cast-put-decimal c = omega (arith, c .shared-slice-known2 .given (c .before .before .before .before .loop .i))
 
-put-number-requires : tie.Need-put-number-requires Inv-loop μ-loop
-put-number-requires c κs = omega arith
+put-decimal-requires : tie.Need-put-decimal-requires Inv-loop μ-loop
+put-decimal-requires c κs = omega arith
 
 add-i : tie.Need-add-i Inv-loop μ-loop
 add-i c = omega arith
@@ -43,7 +43,7 @@ loop-again : tie.Need-loop-again Inv-loop μ-loop
 unfolding text
 loop-again c = let S = c .before .before .before .before .before .before .before .before .before .before in
     let L = c .before .before .before .before .before .before .before .loop in
-    let put = c .before .before .put-number in
+    let put = c .before .before .put-decimal in
     let byte : getD (S .args .choices .now) (L .i) 0 < 256 = omega (arith, c .before .before .before .shared-slice-known2 .given (L .i)) in
     let room = number-room 2 (getD (S .args .choices .now) (L .i) 0) (32 ∷ []) (omega arith) (put .ensures .0) in
     (omega arith, put .kept .0 ∙ L .inv .1, omega arith, choices-more (S .args .choices .now) (L .i) (c .before .before .before .before .before .before .loop-test .taken) (omega arith) (L .inv .3) (put .ensures .0))
@@ -64,10 +64,10 @@ put-choices-spec =
     Inv-loop
     μ-loop
     loop-holds
-    slice-aggregate-put-number
-    shared-slice-read-put-number
-    cast-put-number
-    put-number-requires
+    slice-aggregate-put-decimal
+    shared-slice-read-put-decimal
+    cast-put-decimal
+    put-decimal-requires
     add-i
     loop-less
     loop-again

@@ -7,23 +7,23 @@ use Rattle.verdict_line.proofs.PutInTurn.{put-put}
 use Rattle.verdict_line.proofs.yes_plan_line.Statement.{statement}
 use Rattle.verdict_line.proofs.yes_plan_line.Tie as tie
 
-slice-aggregate-put-number : tie.Need-slice-aggregate-put-number
-slice-aggregate-put-number c = search needs
+slice-aggregate-put-decimal : tie.Need-slice-aggregate-put-decimal
+slice-aggregate-put-decimal c = search needs
 
-put-number-requires : tie.Need-put-number-requires
-put-number-requires c κs = search needs
+put-decimal-requires : tie.Need-put-decimal-requires
+put-decimal-requires c κs = search needs
 
-slice-aggregate-put-number-2 : tie.Need-slice-aggregate-put-number-2
-slice-aggregate-put-number-2 c = search needs
+slice-aggregate-put-decimal-2 : tie.Need-slice-aggregate-put-decimal-2
+slice-aggregate-put-decimal-2 c = search needs
 
-put-number-requires-2 : tie.Need-put-number-requires-2
-put-number-requires-2 c κs = omega arith
+put-decimal-requires-2 : tie.Need-put-decimal-requires-2
+put-decimal-requires-2 c κs = omega arith
 
-slice-aggregate-put-number-3 : tie.Need-slice-aggregate-put-number-3
-slice-aggregate-put-number-3 c = search needs
+slice-aggregate-put-decimal-3 : tie.Need-slice-aggregate-put-decimal-3
+slice-aggregate-put-decimal-3 c = search needs
 
-put-number-requires-3 : tie.Need-put-number-requires-3
-put-number-requires-3 c κs = omega arith
+put-decimal-requires-3 : tie.Need-put-decimal-requires-3
+put-decimal-requires-3 c κs = omega arith
 
 slice-aggregate-put-text : tie.Need-slice-aggregate-put-text
 slice-aggregate-put-text c = search needs
@@ -47,9 +47,9 @@ returns : tie.Need-returns
 unfolding yes-plan-line text
 returns c =
     let S = c .before .before .before .before .before .before .before .before .before .before .before .before .before .before .before .before .before .before .before .before .before .before .before .before .before .before .before .before .before .before .before in
-    let weight = c .before .before .before .before .before .before .before .before .before .before .before .before .before .before .before .before .before .before .before .before .before .before .before .before .before .before .put-number in
-    let whole = c .before .before .before .before .before .before .before .before .before .before .before .before .before .before .before .before .before .before .before .before .before .put-number2 in
-    let count = c .before .before .before .before .before .before .before .before .before .before .before .before .before .before .before .before .put-number3 in
+    let weight = c .before .before .before .before .before .before .before .before .before .before .before .before .before .before .before .before .before .before .before .before .before .before .before .before .before .before .put-decimal in
+    let whole = c .before .before .before .before .before .before .before .before .before .before .before .before .before .before .before .before .before .before .before .before .before .put-decimal2 in
+    let count = c .before .before .before .before .before .before .before .before .before .before .before .before .before .before .before .before .put-decimal3 in
     let name = c .before .before .before .before .before .before .before .before .before .before .before .put-text in
     let choices = c .before .before .before .before .before .before .before .put-choices in
     let end = c .before .before .put-text2 in
@@ -71,12 +71,12 @@ pub yes-plan-line-spec : {M : Type 1} → statement M
 yes-plan-line-spec =
     tie.close
     (tie.spec
-    slice-aggregate-put-number
-    put-number-requires
-    slice-aggregate-put-number-2
-    put-number-requires-2
-    slice-aggregate-put-number-3
-    put-number-requires-3
+    slice-aggregate-put-decimal
+    put-decimal-requires
+    slice-aggregate-put-decimal-2
+    put-decimal-requires-2
+    slice-aggregate-put-decimal-3
+    put-decimal-requires-3
     slice-aggregate-put-text
     put-text-requires
     put-choices-requires

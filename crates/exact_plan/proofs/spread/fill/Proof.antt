@@ -5,7 +5,7 @@ use mathlib.Core.Path.{_≡_, sym, ap, _∙_}
 use lib.ListN.{length, replicate}
 use Rattle.blocks.specs.Splice.{splice}
 use Rattle.blocks.proofs.Splice.{splice-none}
-use Rattle.exact_plan.proofs.JoinedInPlace.{fill-whole, fill-turn}
+use Rattle.exact_plan.proofs.JoinedInPlace.{fill-whole, fill-one-more}
 use Rattle.exact_plan.proofs.spread.fill.Statement.{statement}
 use Rattle.exact_plan.proofs.spread.fill.Tie as tie
 
@@ -34,7 +34,7 @@ loop-less : tie.Need-loop-less Inv-loop μ-loop
 loop-less c = omega arith
 
 loop-again : tie.Need-loop-again Inv-loop μ-loop
-loop-again c = let L = c .before .loop in let S = c .before .before in (omega arith, fill-turn _ _ _ _ (S .pre) (L .i) (c .loop-test .taken) (L .inv .1))
+loop-again c = let L = c .before .loop in let S = c .before .before in (omega arith, fill-one-more _ _ _ _ (S .pre) (L .i) (c .loop-test .taken) (L .inv .1))
 
 same-length : tie.Need-same-length Inv-loop μ-loop
 same-length c = let L = c .before .loop in let S = c .before .before in ap length (L .inv .1) ∙ fill-whole _ _ _ (S .args .x) (S .pre) (L .i) (L .inv .0)

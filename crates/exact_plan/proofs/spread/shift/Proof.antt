@@ -5,7 +5,7 @@ use mathlib.Core.Path.{_≡_, sym, ap, _∙_}
 use lib.ListN.{length}
 use Rattle.blocks.proofs.Splice.{splice-none}
 use Rattle.exact_plan.specs.promises.Totals.{part}
-use Rattle.exact_plan.proofs.JoinedInPlace.{shifted, shift-whole, shift-turn}
+use Rattle.exact_plan.proofs.JoinedInPlace.{shifted, shift-whole, shift-one-more}
 use Rattle.exact_plan.proofs.spread.shift.Statement.{statement}
 use Rattle.exact_plan.proofs.spread.shift.Tie as tie
 
@@ -26,13 +26,13 @@ mul-buf : tie.Need-mul-buf Inv-loop μ-loop
 mul-buf c = omega (arith, c .before .before .pre .source)
 
 slice-read-buf : tie.Need-slice-read-buf Inv-loop μ-loop
-slice-read-buf c = let L = c .before .before .loop in let S = c .before .before .before in let t = shift-turn _ _ _ _ _ _ (S .pre) (L .i) (L .inv .1) (c .before .loop-test .taken) in omega (arith, t .whole, S .pre .source)
+slice-read-buf c = let L = c .before .before .loop in let S = c .before .before .before in let t = shift-one-more _ _ _ _ _ _ (S .pre) (L .i) (L .inv .1) (c .before .loop-test .taken) in omega (arith, t .whole, S .pre .source)
 
 mul-buf-2 : tie.Need-mul-buf-2 Inv-loop μ-loop
-mul-buf-2 c = let L = c .before .before .loop in let S = c .before .before .before in let t = shift-turn _ _ _ _ _ _ (S .pre) (L .i) (L .inv .1) (c .before .loop-test .taken) in omega (arith, t .fits)
+mul-buf-2 c = let L = c .before .before .loop in let S = c .before .before .before in let t = shift-one-more _ _ _ _ _ _ (S .pre) (L .i) (L .inv .1) (c .before .loop-test .taken) in omega (arith, t .fits)
 
 add-buf-2 : tie.Need-add-buf-2 Inv-loop μ-loop
-add-buf-2 c = let L = c .before .before .loop in let S = c .before .before .before in let t = shift-turn _ _ _ _ _ _ (S .pre) (L .i) (L .inv .1) (c .before .loop-test .taken) in omega (arith, t .fits)
+add-buf-2 c = let L = c .before .before .loop in let S = c .before .before .before in let t = shift-one-more _ _ _ _ _ _ (S .pre) (L .i) (L .inv .1) (c .before .loop-test .taken) in omega (arith, t .fits)
 
 add-buf-3 : tie.Need-add-buf-3 Inv-loop μ-loop
 add-buf-3 c = omega (arith, c .before .before .before .pre .target)
@@ -41,7 +41,7 @@ mul-buf-3 : tie.Need-mul-buf-3 Inv-loop μ-loop
 mul-buf-3 c = omega (arith, c .before .before .before .pre .target)
 
 slice-write-buf : tie.Need-slice-write-buf Inv-loop μ-loop
-slice-write-buf c = let L = c .before .before .loop in let S = c .before .before .before in let t = shift-turn _ _ _ _ _ _ (S .pre) (L .i) (L .inv .1) (c .before .loop-test .taken) in omega (arith, t .whole, S .pre .target)
+slice-write-buf c = let L = c .before .before .loop in let S = c .before .before .before in let t = shift-one-more _ _ _ _ _ _ (S .pre) (L .i) (L .inv .1) (c .before .loop-test .taken) in omega (arith, t .whole, S .pre .target)
 
 add-i : tie.Need-add-i Inv-loop μ-loop
 add-i c = omega arith
@@ -50,7 +50,7 @@ loop-less : tie.Need-loop-less Inv-loop μ-loop
 loop-less c = omega arith
 
 loop-again : tie.Need-loop-again Inv-loop μ-loop
-loop-again c = let L = c .before .before .loop in let S = c .before .before .before in let t = shift-turn _ _ _ _ _ _ (S .pre) (L .i) (L .inv .1) (c .before .loop-test .taken) in (omega arith, t .again)
+loop-again c = let L = c .before .before .loop in let S = c .before .before .before in let t = shift-one-more _ _ _ _ _ _ (S .pre) (L .i) (L .inv .1) (c .before .loop-test .taken) in (omega arith, t .again)
 
 same-length : tie.Need-same-length Inv-loop μ-loop
 same-length c = let L = c .before .loop in let S = c .before .before in ap length (L .inv .1) ∙ shift-whole _ _ _ _ _ _ (S .pre) (L .i) (L .inv .0)

@@ -1,5 +1,5 @@
 -- What the search finds is the best plan of the condition's depth; over all steps its total is led-weight.
-use Rattle.judging.proofs.SearchHanded.{bounded, stands-there, few-there, found-small, found-led}
+use Rattle.judging.proofs.SearchHanded.{bounded, condition-stands, condition-few-steps, found-small, found-led}
 use borrow.Author.Needs.{needs}
 use Rattle.judging.proofs.plans.led.Statement.{statement}
 use Rattle.judging.proofs.plans.led.Tie as tie
@@ -21,7 +21,7 @@ searched-requires : tie.Need-searched-requires
 searched-requires c κs = let S = c .before .before .before .before in
     let P = S .pre .0 in
     let e = c .before .left .ensures in
-    ((P .0, stands-there (P .0) (P .1) e), (few-there (P .0) (P .1) e, S .pre .1 .1))
+    ((P .0, condition-stands (P .0) (P .1) e), (condition-few-steps (P .0) (P .1) e, S .pre .1 .1))
 
 over-all-steps-requires : tie.Need-over-all-steps-requires
 over-all-steps-requires c κs = let P = c .before .before .before .before .before .before .before .pre .0 in

@@ -3,7 +3,7 @@ use native.Mathlib.Omega.{arith}
 use native.Mathlib.Nat.{lt-of-le-of-lt}
 use Rattle.bounds.proofs.ProductsFit.{small}
 use Rattle.judging.proofs.SearchDecides.{plan-bounded}
-use Rattle.judging.proofs.SearchHanded.{looks-there, power-fits, lengthened}
+use Rattle.judging.proofs.SearchHanded.{condition-depth, power-fits, lengthened}
 use borrow.Author.Needs.{needs}
 use Rattle.judging.proofs.plans.over_all_steps.Statement.{statement}
 use Rattle.judging.proofs.plans.over_all_steps.Tie as tie
@@ -29,7 +29,7 @@ steps-requires c κs = search needs
 
 sub-power : tie.Need-sub-power
 sub-power c = let P = c .before .before .before .before .pre .0 in
-    let d = looks-there P (c .before .before .before .left .ensures) (c .before .before .depth .ensures) in
+    let d = condition-depth P (c .before .before .before .left .ensures) (c .before .before .depth .ensures) in
     omega (arith, plan-bounded P .deep, c .steps .ensures)
 
 power-requires : tie.Need-power-requires
@@ -41,14 +41,14 @@ power-requires c κs = let S = c .before .before .before .before in
 mul-result : tie.Need-mul-result
 mul-result c = let S = c .before .before .before .before .before in
     let P = S .pre .0 in
-    let d = looks-there P (c .before .before .before .before .left .ensures) (c .before .before .before .depth .ensures) in
+    let d = condition-depth P (c .before .before .before .before .left .ensures) (c .before .before .before .depth .ensures) in
     let l = lengthened P d (c .before .steps .ensures) (c .before .before .denominator .ensures) (c .power .ensures) (S .pre .1) in
     record { fits = lt-of-le-of-lt (l .small) (power-fits P) }
 
 returns : tie.Need-returns
 returns c = let S = c .before .before .before .before .before in
     let P = S .pre .0 in
-    let d = looks-there P (c .before .before .before .before .left .ensures) (c .before .before .before .depth .ensures) in
+    let d = condition-depth P (c .before .before .before .before .left .ensures) (c .before .before .before .depth .ensures) in
     lengthened P d (c .before .steps .ensures) (c .before .before .denominator .ensures) (c .power .ensures) (S .pre .1)
 
 pub over-all-steps-spec : {M : Type 1} → statement M

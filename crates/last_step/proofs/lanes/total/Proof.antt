@@ -3,7 +3,8 @@ use Prim.Native.Nat.{_*_, _/_, _^_, _<_}
 use native.Mathlib.Omega.{arith}
 use mathlib.Core.Path.{ap, _∙_}
 use Rattle.prepared_model.specs.promises.Rows.{outcomes-in, step-in}
-use Rattle.prepared_model.proofs.BitSums.{lane-low, lane-shr, sum-same}
+use Rattle.blocks.proofs.Sums.{sum-same}
+use Rattle.prepared_model.proofs.BitSums.{lane-low, lane-shr}
 use borrow.Author.Needs.{needs}
 use Rattle.last_step.proofs.lanes.total.Statement.{statement}
 use Rattle.last_step.proofs.lanes.total.Tie as tie

@@ -1,7 +1,8 @@
 -- The child is marked if it is as deep.
 use native.Mathlib.Omega.{arith}
 use mathlib.Core.Path.{sym, subst, _∙_}
-use Rattle.last_step.proofs.LateMarks.{Level-done, grown-none, level-marked}
+use Rattle.prepared_question.proofs.Marks.{grown-none}
+use Rattle.last_step.proofs.LateMarks.{Level-done, level-marked}
 use borrow.Author.Needs.{needs}
 use Rattle.last_step.proofs.late.mark_level.Statement.{statement}
 use Rattle.last_step.proofs.late.mark_level.Tie as tie

@@ -4,7 +4,8 @@ use native.Mathlib.Omega.{arith}
 use mathlib.Core.Path.{_≡_, sym, ap, subst, _∙_}
 use mathlib.Core.Logic.{_⊎_, inl, inr, ⊎-elim}
 use lib.ListN.{set}
-use Rattle.last_step.proofs.LateMarks.{grown-none, Level-done, Node-done, none-passed, left-in, left-passed, both-in, both-passed}
+use Rattle.prepared_question.proofs.Marks.{grown-none}
+use Rattle.last_step.proofs.LateMarks.{Level-done, Node-done, none-passed, left-in, left-passed, both-in, both-passed}
 use borrow.Author.Needs.{needs}
 use Rattle.last_step.proofs.late.pass_on.Statement.{statement}
 use Rattle.last_step.proofs.late.pass_on.Tie as tie

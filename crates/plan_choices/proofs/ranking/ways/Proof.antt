@@ -8,7 +8,7 @@ use borrow.Author.Needs.{needs}
 use Rattle.prepared_model.specs.promises.Rows.{choice-in, outcomes-in, model-in}
 use Rattle.prepared_model.proofs.PlacesInRange.{place-range, read-range}
 use Rattle.plan_choices.specs.promises.Numbered.{ways}
-use Rattle.plan_choices.proofs.Ways.{ways-left, ways-most, ways-all, count-here, count-turn, count-end}
+use Rattle.plan_choices.proofs.Ways.{ways-left, ways-most, ways-all, count-here, ways-one-outcome-more, count-end}
 use Rattle.plan_choices.proofs.ranking.ways.Statement.{statement}
 use Rattle.plan_choices.proofs.ranking.ways.Tie as tie
 
@@ -55,7 +55,7 @@ loop-again c =
     let S = c .before .before .before .before .before in
     let L = c .before .before .before .loop in
     let w = count-here (S .pre .0 .0) (S .args .s) (S .pre .1 .0) (S .args .i) (S .pre .1 .1) (S .pre .0 .1) (S .args .n) (omega arith) (S .pre .1 .3) (L .inv .2) (c .before .target .ensures) (omega arith) in
-    let e = count-turn (S .args .m .now) (S .args .s) (S .args .i) (S .args .n) (L .size) (w .1) (L .inv .2) in
+    let e = ways-one-outcome-more (S .args .m .now) (S .args .s) (S .args .i) (S .args .n) (L .size) (w .1) (L .inv .2) in
     (L .inv .0, omega arith, ap (λ v. L .size * v * ways-left (S .args .m .now) (S .args .s) (S .args .i) (S .args .n) (L .o + 1)) (c .plans-counted .ensures) ∙ e)
 
 returns : tie.Need-returns Inv-loop μ-loop

@@ -10,7 +10,7 @@ use Rattle.blocks.proofs.byte.Reads as byte
 use Rattle.evaluation.proofs.step.Reads as step
 use Rattle.prepared_model.proofs.row_of.Reads as row-of
 use Rattle.plan_choices.specs.promises.Weighed.{Ran}
-use Rattle.plan_choices.proofs.OutcomeSummed.{runs, state-here, weigh-done, weigh-choice, runs-none, Turn, within, offered, known-here, here-next, runs-fit, runs-more}
+use Rattle.plan_choices.proofs.OutcomeSummed.{runs, state-here, weigh-done, weigh-choice, runs-none, Before-outcome, within, offered, known-here, here-next, runs-fit, runs-more}
 use Rattle.plan_choices.proofs.weighing.after.Reads as after
 use Rattle.plan_choices.proofs.weighing.leaf.Reads as leaf
 use Rattle.plan_choices.proofs.weighing.plus.Reads as plus
@@ -44,7 +44,7 @@ module _ (t : ℕ) where
       → let S = c .before .before .before .before .before .before .before .before .before .before .before .before .args in
       let L = c .before .before .loop in
       let row = c .before .before .before .before .before .row-of .result in
-      Turn (S .m .now) (S .q .now) (S .spot .start) (S .truth .now) (S .cone .now) (S .trail .now) (S .gains .now) (S .v .now) (S .spot .h) (S .spot .s) (S .spot .k) (S .choices .now)
+      Before-outcome (S .m .now) (S .q .now) (S .spot .start) (S .truth .now) (S .cone .now) (S .trail .now) (S .gains .now) (S .v .now) (S .spot .h) (S .spot .s) (S .spot .k) (S .choices .now)
       (c .before .before .before .after .result) (row .at) (row .count) (L .o) (L .trail) (L .gains) (L .v) (L .sum) (L .next)
   turn c =
       let S = c .before .before .before .before .before .before .before .before .before .before .before .before in

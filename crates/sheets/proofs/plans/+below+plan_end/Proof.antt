@@ -50,48 +50,31 @@ below-Inv-loop m choices k s a at count next₀ i₀ next i = (i ≤ count) × (
 abbrev below-μ-loop : below-lts.MeasureT-loop
 below-μ-loop m choices k s a at count next₀ i₀ next i = count - i
 
-below-entries-requires : (t : ℕ) → below-lts.Need-entries-requires (
+-- What the callees of `below` ask and yield.
+abbrev below-claims : ℕ → below-lts.Claims
+below-claims t = (
   entries-reads.Asked,
   entries-reads.Learnt,
   target-reads.Asked,
   target-reads.Learnt,
   plan-end-below t,
   plan-end.Post,
-) (below-at t) below.Post below-Inv-loop below-μ-loop
+)
+
+below-entries-requires : (t : ℕ) → below-lts.Need-entries-requires (below-claims t) (below-at t) below.Post below-Inv-loop below-μ-loop
 below-entries-requires t c κs = let S = c .before .before in
     let small = model-small (S .args .m .now) (S .pre .1 .0) in
     (omega arith, omega arith)
 
-below-loop-holds : (t : ℕ) → below-lts.Need-loop-holds (
-  entries-reads.Asked,
-  entries-reads.Learnt,
-  target-reads.Asked,
-  target-reads.Learnt,
-  plan-end-below t,
-  plan-end.Post,
-) (below-at t) below.Post below-Inv-loop below-μ-loop
+below-loop-holds : (t : ℕ) → below-lts.Need-loop-holds (below-claims t) (below-at t) below.Post below-Inv-loop below-μ-loop
 below-loop-holds t c = (omega arith, c .before .before .before .pre .1 .3, refl)
 
-below-target-requires : (t : ℕ) → below-lts.Need-target-requires (
-  entries-reads.Asked,
-  entries-reads.Learnt,
-  target-reads.Asked,
-  target-reads.Learnt,
-  plan-end-below t,
-  plan-end.Post,
-) (below-at t) below.Post below-Inv-loop below-μ-loop
+below-target-requires : (t : ℕ) → below-lts.Need-target-requires (below-claims t) (below-at t) below.Post below-Inv-loop below-μ-loop
 below-target-requires t c κs = let S = c .before .before .before .before .before in
     let small = model-small (S .args .m .now) (S .pre .1 .0) in
     (omega arith, omega arith, omega arith)
 
-below-plan-end-requires : (t : ℕ) → below-lts.Need-plan-end-requires (
-  entries-reads.Asked,
-  entries-reads.Learnt,
-  target-reads.Asked,
-  target-reads.Learnt,
-  plan-end-below t,
-  plan-end.Post,
-) (below-at t) below.Post below-Inv-loop below-μ-loop
+below-plan-end-requires : (t : ℕ) → below-lts.Need-plan-end-requires (below-claims t) (below-at t) below.Post below-Inv-loop below-μ-loop
 below-plan-end-requires t c κs = let S = c .before .before .before .before .before .before in
     let small = model-small (S .args .m .now) (S .pre .1 .0) in
     let L = c .before .before .loop in
@@ -99,171 +82,81 @@ below-plan-end-requires t c κs = let S = c .before .before .before .before .bef
     let t : c .target .result < state-count (S .args .m .now) = omega (arith, c .target .ensures .0, target-inside (S .args .m .now) (S .pre .1 .0) (S .args .s) (S .pre .1 .1) (S .args .a) (L .i) (S .pre .1 .2) l) in
     (omega arith, (S .pre .1 .0, t, L .inv .1))
 
-below-enum-known-end : (t : ℕ) → below-lts.Need-enum-known-end (
-  entries-reads.Asked,
-  entries-reads.Learnt,
-  target-reads.Asked,
-  target-reads.Learnt,
-  plan-end-below t,
-  plan-end.Post,
-) (below-at t) below.Post below-Inv-loop below-μ-loop
+below-enum-known-end : (t : ℕ) → below-lts.Need-enum-known-end (below-claims t) (below-at t) below.Post below-Inv-loop below-μ-loop
 below-enum-known-end t c = search needs
 
-below-enum-known-end-2 : (t : ℕ) → below-lts.Need-enum-known-end-2 (
-  entries-reads.Asked,
-  entries-reads.Learnt,
-  target-reads.Asked,
-  target-reads.Learnt,
-  plan-end-below t,
-  plan-end.Post,
-) (below-at t) below.Post below-Inv-loop below-μ-loop
+below-enum-known-end-2 : (t : ℕ) → below-lts.Need-enum-known-end-2 (below-claims t) (below-at t) below.Post below-Inv-loop below-μ-loop
 below-enum-known-end-2 t c = search needs
 
-below-returns : (t : ℕ) → below-lts.Need-returns (
-  entries-reads.Asked,
-  entries-reads.Learnt,
-  target-reads.Asked,
-  target-reads.Learnt,
-  plan-end-below t,
-  plan-end.Post,
-) (below-at t) below.Post below-Inv-loop below-μ-loop
+below-returns : (t : ℕ) → below-lts.Need-returns (below-claims t) (below-at t) below.Post below-Inv-loop below-μ-loop
 below-returns t c = let S = c .before .before .before .before .before .before .before .before .before .before in
     let L = c .before .before .before .before .before .before .loop in
     let l : L .i < entries (S .args .m .now) (S .args .s) (S .args .a) = omega (arith, c .before .before .before .before .before .before .before .entries .ensures .0) in
     sym (sym (L .inv .2) ∙ outcome-refused (S .args .m .now) (S .pre .1 .0) (S .args .choices .now) (S .args .s) (S .args .a) (S .args .k) (S .pre .1 .1) (S .pre .1 .2) (L .i) (L .next) (c .before .before .before .before .target .result) l (c .before .before .before .before .target .ensures .0) _ (sym (c .before .end2 .given .1) ∙ c .before .before .before .plan-end .ensures))
 
-below-add-i : (t : ℕ) → below-lts.Need-add-i (
-  entries-reads.Asked,
-  entries-reads.Learnt,
-  target-reads.Asked,
-  target-reads.Learnt,
-  plan-end-below t,
-  plan-end.Post,
-) (below-at t) below.Post below-Inv-loop below-μ-loop
+below-add-i : (t : ℕ) → below-lts.Need-add-i (below-claims t) (below-at t) below.Post below-Inv-loop below-μ-loop
 below-add-i t c = omega arith
 
-below-loop-less : (t : ℕ) → below-lts.Need-loop-less (
-  entries-reads.Asked,
-  entries-reads.Learnt,
-  target-reads.Asked,
-  target-reads.Learnt,
-  plan-end-below t,
-  plan-end.Post,
-) (below-at t) below.Post below-Inv-loop below-μ-loop
+below-loop-less : (t : ℕ) → below-lts.Need-loop-less (below-claims t) (below-at t) below.Post below-Inv-loop below-μ-loop
 below-loop-less t c = omega arith
 
-below-loop-again : (t : ℕ) → below-lts.Need-loop-again (
-  entries-reads.Asked,
-  entries-reads.Learnt,
-  target-reads.Asked,
-  target-reads.Learnt,
-  plan-end-below t,
-  plan-end.Post,
-) (below-at t) below.Post below-Inv-loop below-μ-loop
+below-loop-again : (t : ℕ) → below-lts.Need-loop-again (below-claims t) (below-at t) below.Post below-Inv-loop below-μ-loop
 below-loop-again t c = let S = c .before .before .before .before .before .before .before .before .before .before in
     let L = c .before .before .before .before .before .before .loop in
     let l : L .i < entries (S .args .m .now) (S .args .s) (S .args .a) = omega (arith, c .before .before .before .before .before .before .before .entries .ensures .0) in
     let w = outcome-read (S .args .m .now) (S .pre .1 .0) (S .args .choices .now) (S .args .s) (S .args .a) (S .args .k) (S .pre .1 .1) (S .pre .1 .2) (L .i) (L .next) (c .before .before .before .before .target .result) l (c .before .before .before .before .target .ensures .0) _ (L .inv .1) (sym (c .before .end .given .1) ∙ c .before .before .before .plan-end .ensures) in
     (omega arith, w .0, sym (w .1) ∙ L .inv .2)
 
-below-returns-2 : (t : ℕ) → below-lts.Need-returns-2 (
-  entries-reads.Asked,
-  entries-reads.Learnt,
-  target-reads.Asked,
-  target-reads.Learnt,
-  plan-end-below t,
-  plan-end.Post,
-) (below-at t) below.Post below-Inv-loop below-μ-loop
+below-returns-2 : (t : ℕ) → below-lts.Need-returns-2 (below-claims t) (below-at t) below.Post below-Inv-loop below-μ-loop
 below-returns-2 t c = let S = c .before .before .before .before .before in
     let L = c .before .loop in
     outcomes-read (S .args .m .now) (S .pre .1 .0) (S .args .choices .now) (S .args .s) (S .args .a) (S .args .k) (S .pre .1 .1) (S .pre .1 .2) (L .i) (L .next) (omega (arith, c .before .before .entries .ensures .0)) (L .inv .1) ∙ L .inv .2
 
-plan-end-returns : (t : ℕ) → plan-end-lts.Need-returns (
+-- What the callees of `plan_end` ask and yield.
+abbrev plan-end-claims : ℕ → plan-end-lts.Claims
+plan-end-claims t = (
   entries-reads.Asked,
   entries-reads.Learnt,
   below-below t,
   below.Post,
-) (plan-end-at t) plan-end.Post
+)
+
+plan-end-returns : (t : ℕ) → plan-end-lts.Need-returns (plan-end-claims t) (plan-end-at t) plan-end.Post
 plan-end-returns t c = let S = c .before .before .before in
     end-zero (model-of (S .args .m .now)) (S .args .choices .now) (S .args .n) (S .args .s) (S .args .at) (c .if1 .taken) (S .pre .1 .2)
 
-plan-end-returns-2 : (t : ℕ) → plan-end-lts.Need-returns-2 (
-  entries-reads.Asked,
-  entries-reads.Learnt,
-  below-below t,
-  below.Post,
-) (plan-end-at t) plan-end.Post
+plan-end-returns-2 : (t : ℕ) → plan-end-lts.Need-returns-2 (plan-end-claims t) (plan-end-at t) plan-end.Post
 plan-end-returns-2 t c = let S = c .before .before .before .before in
     end-missing (model-of (S .args .m .now)) (S .args .choices .now) (S .args .n) (S .args .s) (S .args .at) (c .before .if1 .left) (c .if2 .taken)
 
-plan-end-shared-slice-read-a : (t : ℕ) → plan-end-lts.Need-shared-slice-read-a (
-  entries-reads.Asked,
-  entries-reads.Learnt,
-  below-below t,
-  below.Post,
-) (plan-end-at t) plan-end.Post
+plan-end-shared-slice-read-a : (t : ℕ) → plan-end-lts.Need-shared-slice-read-a (plan-end-claims t) (plan-end-at t) plan-end.Post
 plan-end-shared-slice-read-a t c = omega (arith, c .before .before .before .before .before .pre .1 .2)
 
-plan-end-cast-a : (t : ℕ) → plan-end-lts.Need-cast-a (
-  entries-reads.Asked,
-  entries-reads.Learnt,
-  below-below t,
-  below.Post,
-) (plan-end-at t) plan-end.Post
+plan-end-cast-a : (t : ℕ) → plan-end-lts.Need-cast-a (plan-end-claims t) (plan-end-at t) plan-end.Post
 plan-end-cast-a t c = omega (arith, c .shared-slice-known3 .given (c .before .before .before .before .before .args .at))
 
-plan-end-entries-requires : (t : ℕ) → plan-end-lts.Need-entries-requires (
-  entries-reads.Asked,
-  entries-reads.Learnt,
-  below-below t,
-  below.Post,
-) (plan-end-at t) plan-end.Post
+plan-end-entries-requires : (t : ℕ) → plan-end-lts.Need-entries-requires (plan-end-claims t) (plan-end-at t) plan-end.Post
 plan-end-entries-requires t c κs = let S = c .before .before .before .before .before in
     let small = model-small (S .args .m .now) (S .pre .1 .0) in
     (omega arith, omega (arith, c .shared-slice-known3 .given (S .args .at)))
 
-plan-end-returns-3 : (t : ℕ) → plan-end-lts.Need-returns-3 (
-  entries-reads.Asked,
-  entries-reads.Learnt,
-  below-below t,
-  below.Post,
-) (plan-end-at t) plan-end.Post
+plan-end-returns-3 : (t : ℕ) → plan-end-lts.Need-returns-3 (plan-end-claims t) (plan-end-at t) plan-end.Post
 plan-end-returns-3 t c = let S = c .before .before .before .before .before .before .before in
     choice-refused (S .args .m .now) (S .pre .1 .0) (S .args .choices .now) (S .args .s) (S .args .at) (S .pre .1 .1) (omega (arith, S .pre .1 .2)) (S .args .n) (c .before .before .before .before .if1 .left) (sym (c .before .entries .ensures .0) ∙ c .if3 .taken)
 
-plan-end-sub-below : (t : ℕ) → plan-end-lts.Need-sub-below (
-  entries-reads.Asked,
-  entries-reads.Learnt,
-  below-below t,
-  below.Post,
-) (plan-end-at t) plan-end.Post
+plan-end-sub-below : (t : ℕ) → plan-end-lts.Need-sub-below (plan-end-claims t) (plan-end-at t) plan-end.Post
 plan-end-sub-below t c = omega arith
 
-plan-end-add-below : (t : ℕ) → plan-end-lts.Need-add-below (
-  entries-reads.Asked,
-  entries-reads.Learnt,
-  below-below t,
-  below.Post,
-) (plan-end-at t) plan-end.Post
+plan-end-add-below : (t : ℕ) → plan-end-lts.Need-add-below (plan-end-claims t) (plan-end-at t) plan-end.Post
 plan-end-add-below t c = omega arith
 
-plan-end-below-requires : (t : ℕ) → plan-end-lts.Need-below-requires (
-  entries-reads.Asked,
-  entries-reads.Learnt,
-  below-below t,
-  below.Post,
-) (plan-end-at t) plan-end.Post
+plan-end-below-requires : (t : ℕ) → plan-end-lts.Need-below-requires (plan-end-claims t) (plan-end-at t) plan-end.Post
 plan-end-below-requires t c κs = let S = c .before .before .before .before .before .before .before in
     let a = getD (S .args .choices .now) (S .args .at) 0 in
     let l : a < action-count (S .args .m .now) = some-entries (S .args .m .now) (S .pre .1 .0) (S .args .s) (S .pre .1 .1) a (omega (arith, c .before .entries .ensures .0)) in
     (omega arith, (S .pre .1 .0, S .pre .1 .1, l, omega (arith, S .pre .1 .2)))
 
-plan-end-returns-4 : (t : ℕ) → plan-end-lts.Need-returns-4 (
-  entries-reads.Asked,
-  entries-reads.Learnt,
-  below-below t,
-  below.Post,
-) (plan-end-at t) plan-end.Post
+plan-end-returns-4 : (t : ℕ) → plan-end-lts.Need-returns-4 (plan-end-claims t) (plan-end-at t) plan-end.Post
 plan-end-returns-4 t c = let S = c .before .before .before .before .before .before .before .before in
     let q : entries (S .args .m .now) (S .args .s) (getD (S .args .choices .now) (S .args .at) 0) ≡ 0 → ⊥ = λ z. c .before .if3 .left (c .before .before .entries .ensures .0 ∙ z) in
     c .below .ensures ∙ choice-taken (S .args .m .now) (S .pre .1 .0) (S .args .choices .now) (S .args .s) (S .args .at) (S .pre .1 .1) (omega (arith, S .pre .1 .2)) (S .args .n) (c .before .before .before .before .before .if1 .left) q

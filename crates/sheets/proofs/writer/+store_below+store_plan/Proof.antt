@@ -51,188 +51,100 @@ store-below-Inv-loop buf₀ m choices k s a p count next₀ i₀ buf next i = (i
 abbrev store-below-μ-loop : store-below-lts.MeasureT-loop
 store-below-μ-loop buf₀ m choices k s a p count next₀ i₀ buf next i = count - i
 
-store-below-entries-requires : (t : ℕ) → store-below-lts.Need-entries-requires (
+-- What the callees of `store_below` ask and yield.
+abbrev store-below-claims : ℕ → store-below-lts.Claims
+store-below-claims t = (
   entries-reads.Asked,
   entries-reads.Learnt,
   target-reads.Asked,
   target-reads.Learnt,
   store-plan-below t,
   store-plan.Post,
-) (store-below-at t) store-below.Post store-below-Inv-loop store-below-μ-loop
+)
+
+store-below-entries-requires : (t : ℕ) → store-below-lts.Need-entries-requires (store-below-claims t) (store-below-at t) store-below.Post store-below-Inv-loop store-below-μ-loop
 store-below-entries-requires t c κs = let S = c .before .before .before in
     let small = model-small (S .args .m .now) (S .pre .1 .0 .0) in
     (omega arith, omega arith)
 
-store-below-loop-holds : (t : ℕ) → store-below-lts.Need-loop-holds (
-  entries-reads.Asked,
-  entries-reads.Learnt,
-  target-reads.Asked,
-  target-reads.Learnt,
-  store-plan-below t,
-  store-plan.Post,
-) (store-below-at t) store-below.Post store-below-Inv-loop store-below-μ-loop
+store-below-loop-holds : (t : ℕ) → store-below-lts.Need-loop-holds (store-below-claims t) (store-below-at t) store-below.Post store-below-Inv-loop store-below-μ-loop
 store-below-loop-holds t c = let S = c .before .before .before .before in
     (omega arith, walked-none (S .args .m .now) (S .args .choices .now) (S .args .s) (S .args .a) (S .args .k) (S .args .p) (S .args .buf .now) (S .pre .1 .1))
 
-store-below-target-requires : (t : ℕ) → store-below-lts.Need-target-requires (
-  entries-reads.Asked,
-  entries-reads.Learnt,
-  target-reads.Asked,
-  target-reads.Learnt,
-  store-plan-below t,
-  store-plan.Post,
-) (store-below-at t) store-below.Post store-below-Inv-loop store-below-μ-loop
+store-below-target-requires : (t : ℕ) → store-below-lts.Need-target-requires (store-below-claims t) (store-below-at t) store-below.Post store-below-Inv-loop store-below-μ-loop
 store-below-target-requires t c κs = let S = c .before .before .before .before .before .before in
     let small = model-small (S .args .m .now) (S .pre .1 .0 .0) in
     (omega arith, omega arith, omega arith)
 
-store-below-store-plan-requires : (t : ℕ) → store-below-lts.Need-store-plan-requires (
-  entries-reads.Asked,
-  entries-reads.Learnt,
-  target-reads.Asked,
-  target-reads.Learnt,
-  store-plan-below t,
-  store-plan.Post,
-) (store-below-at t) store-below.Post store-below-Inv-loop store-below-μ-loop
+store-below-store-plan-requires : (t : ℕ) → store-below-lts.Need-store-plan-requires (store-below-claims t) (store-below-at t) store-below.Post store-below-Inv-loop store-below-μ-loop
 store-below-store-plan-requires t c κs = let S = c .before .before .before .before .before .before .before .before in
     let L = c .before .before .before .loop in
     let l : L .i < entries (S .args .m .now) (S .args .s) (S .args .a) = omega (arith, c .before .before .before .before .entries .ensures .0) in
     let t : c .before .target .result < state-count (S .args .m .now) = omega (arith, c .before .target .ensures .0, target-inside (S .args .m .now) (S .pre .1 .0 .0) (S .args .s) (S .pre .1 .0 .1) (S .args .a) (L .i) (S .pre .1 .0 .2) l) in
     (omega arith, ((S .pre .1 .0 .0, t), outcome-ahead (S .args .m .now) (S .pre .1 .0 .0) (S .args .choices .now) (S .args .s) (S .args .a) (S .args .k) (S .pre .1 .0 .1) (S .pre .1 .0 .2) (L .i) (S .args .p) (L .next) (c .before .target .result) (S .args .buf .now) (L .buf) (L .inv .1) l (c .before .target .ensures .0)))
 
-store-below-add-i : (t : ℕ) → store-below-lts.Need-add-i (
-  entries-reads.Asked,
-  entries-reads.Learnt,
-  target-reads.Asked,
-  target-reads.Learnt,
-  store-plan-below t,
-  store-plan.Post,
-) (store-below-at t) store-below.Post store-below-Inv-loop store-below-μ-loop
+store-below-add-i : (t : ℕ) → store-below-lts.Need-add-i (store-below-claims t) (store-below-at t) store-below.Post store-below-Inv-loop store-below-μ-loop
 store-below-add-i t c = omega arith
 
-store-below-loop-less : (t : ℕ) → store-below-lts.Need-loop-less (
-  entries-reads.Asked,
-  entries-reads.Learnt,
-  target-reads.Asked,
-  target-reads.Learnt,
-  store-plan-below t,
-  store-plan.Post,
-) (store-below-at t) store-below.Post store-below-Inv-loop store-below-μ-loop
+store-below-loop-less : (t : ℕ) → store-below-lts.Need-loop-less (store-below-claims t) (store-below-at t) store-below.Post store-below-Inv-loop store-below-μ-loop
 store-below-loop-less t c = omega arith
 
-store-below-loop-again : (t : ℕ) → store-below-lts.Need-loop-again (
-  entries-reads.Asked,
-  entries-reads.Learnt,
-  target-reads.Asked,
-  target-reads.Learnt,
-  store-plan-below t,
-  store-plan.Post,
-) (store-below-at t) store-below.Post store-below-Inv-loop store-below-μ-loop
+store-below-loop-again : (t : ℕ) → store-below-lts.Need-loop-again (store-below-claims t) (store-below-at t) store-below.Post store-below-Inv-loop store-below-μ-loop
 store-below-loop-again t c = let S = c .before .before .before .before .before .before .before .before .before .before .before in
     let L = c .before .before .before .before .before .before .loop in
     let l : L .i < entries (S .args .m .now) (S .args .s) (S .args .a) = omega (arith, c .before .before .before .before .before .before .before .entries .ensures .0) in
     (omega arith, walked-more (S .args .m .now) (S .pre .1 .0 .0) (S .args .choices .now) (S .args .s) (S .args .a) (S .args .k) (S .pre .1 .0 .1) (S .pre .1 .0 .2) (L .i) (S .args .p) (L .next) (c .before .before .before .before .target .result) (S .args .buf .now) (L .buf) (L .inv .1) l (c .before .before .before .before .target .ensures .0) (c .before .before .store-plan .result) (c .before .before .store-plan .last .0) (c .before .before .store-plan .ensures))
 
-store-below-same-length : (t : ℕ) → store-below-lts.Need-same-length (
-  entries-reads.Asked,
-  entries-reads.Learnt,
-  target-reads.Asked,
-  target-reads.Learnt,
-  store-plan-below t,
-  store-plan.Post,
-) (store-below-at t) store-below.Post store-below-Inv-loop store-below-μ-loop
+store-below-same-length : (t : ℕ) → store-below-lts.Need-same-length (store-below-claims t) (store-below-at t) store-below.Post store-below-Inv-loop store-below-μ-loop
 store-below-same-length t c = let S = c .before .before .before .before .before .before in
     let L = c .before .loop in
     ap length (L .inv .1 .bytes) ∙ stored-length (S .args .choices .now) (S .args .p) (L .next - S .args .p) (S .args .buf .now)
 
-store-below-returns : (t : ℕ) → store-below-lts.Need-returns (
-  entries-reads.Asked,
-  entries-reads.Learnt,
-  target-reads.Asked,
-  target-reads.Learnt,
-  store-plan-below t,
-  store-plan.Post,
-) (store-below-at t) store-below.Post store-below-Inv-loop store-below-μ-loop
+store-below-returns : (t : ℕ) → store-below-lts.Need-returns (store-below-claims t) (store-below-at t) store-below.Post store-below-Inv-loop store-below-μ-loop
 store-below-returns t c = let S = c .before .before .before .before .before .before in
     let L = c .before .loop in
     walked-all (S .args .m .now) (S .pre .1 .0 .0) (S .args .choices .now) (S .args .s) (S .args .a) (S .args .k) (S .pre .1 .0 .1) (S .pre .1 .0 .2) (L .i) (S .args .p) (L .next) (S .args .buf .now) (L .buf) (L .inv .1) (omega (arith, c .before .before .entries .ensures .0))
 
-store-plan-returns : (t : ℕ) → store-plan-lts.Need-returns (
+-- What the callees of `store_plan` ask and yield.
+abbrev store-plan-claims : ℕ → store-plan-lts.Claims
+store-plan-claims t = (
   store-choice-reads.Asked,
   store-choice-reads.Learnt,
   store-below-below t,
   store-below.Post,
-) (store-plan-at t) store-plan.Post
+)
+
+store-plan-returns : (t : ℕ) → store-plan-lts.Need-returns (store-plan-claims t) (store-plan-at t) store-plan.Post
 store-plan-returns t c = let S = c .before .before .before .before in
     no-step (S .args .m .now) (S .pre .1 .0 .0) (S .args .choices .now) (S .args .n) (S .args .s) (S .args .p) (S .args .buf .now) (c .if1 .taken) (S .pre .1 .1 .inside)
 
-store-plan-shared-slice-read-a : (t : ℕ) → store-plan-lts.Need-shared-slice-read-a (
-  store-choice-reads.Asked,
-  store-choice-reads.Learnt,
-  store-below-below t,
-  store-below.Post,
-) (store-plan-at t) store-plan.Post
+store-plan-shared-slice-read-a : (t : ℕ) → store-plan-lts.Need-shared-slice-read-a (store-plan-claims t) (store-plan-at t) store-plan.Post
 store-plan-shared-slice-read-a t c = let S = c .before .before .before .before .before in choice-there (S .args .m .now) (S .pre .1 .0 .0) (S .args .choices .now) (S .args .n) (S .args .s) (S .args .p) (S .args .buf .now) (S .pre .1 .0 .1) (c .before .if1 .left) (S .pre .1 .1)
 
-store-plan-store-choice-requires : (t : ℕ) → store-plan-lts.Need-store-choice-requires (
-  store-choice-reads.Asked,
-  store-choice-reads.Learnt,
-  store-below-below t,
-  store-below.Post,
-) (store-plan-at t) store-plan.Post
+store-plan-store-choice-requires : (t : ℕ) → store-plan-lts.Need-store-choice-requires (store-plan-claims t) (store-plan-at t) store-plan.Post
 unfolding blocks-for
 store-plan-store-choice-requires t c κs = let S = c .before .before .before .before .before .before in
     let l = choice-there (S .args .m .now) (S .pre .1 .0 .0) (S .args .choices .now) (S .args .n) (S .args .s) (S .args .p) (S .args .buf .now) (S .pre .1 .0 .1) (c .before .before .if1 .left) (S .pre .1 .1) in
     (omega (arith, S .pre .1 .1 .few), omega (arith, S .pre .1 .1 .room))
 
-store-plan-sub-store-below : (t : ℕ) → store-plan-lts.Need-sub-store-below (
-  store-choice-reads.Asked,
-  store-choice-reads.Learnt,
-  store-below-below t,
-  store-below.Post,
-) (store-plan-at t) store-plan.Post
+store-plan-sub-store-below : (t : ℕ) → store-plan-lts.Need-sub-store-below (store-plan-claims t) (store-plan-at t) store-plan.Post
 store-plan-sub-store-below t c = omega (arith, c .before .before .before .before .before .before .if1 .left)
 
-store-plan-cast-store-below : (t : ℕ) → store-plan-lts.Need-cast-store-below (
-  store-choice-reads.Asked,
-  store-choice-reads.Learnt,
-  store-below-below t,
-  store-below.Post,
-) (store-plan-at t) store-plan.Post
+store-plan-cast-store-below : (t : ℕ) → store-plan-lts.Need-cast-store-below (store-plan-claims t) (store-plan-at t) store-plan.Post
 store-plan-cast-store-below t c = omega (arith, c .before .before .before .before .before .shared-slice-known3 .given (c .before .before .before .before .before .before .before .before .before .before .args .p))
 
-store-plan-add-store-below : (t : ℕ) → store-plan-lts.Need-add-store-below (
-  store-choice-reads.Asked,
-  store-choice-reads.Learnt,
-  store-below-below t,
-  store-below.Post,
-) (store-plan-at t) store-plan.Post
+store-plan-add-store-below : (t : ℕ) → store-plan-lts.Need-add-store-below (store-plan-claims t) (store-plan-at t) store-plan.Post
 store-plan-add-store-below t c = let S = c .before .before .before .before .before .before .before .before .before .before in
     omega (arith, choice-there (S .args .m .now) (S .pre .1 .0 .0) (S .args .choices .now) (S .args .n) (S .args .s) (S .args .p) (S .args .buf .now) (S .pre .1 .0 .1) (c .before .before .before .before .before .before .if1 .left) (S .pre .1 .1), S .pre .1 .1 .few)
 
-store-plan-store-below-requires : (t : ℕ) → store-plan-lts.Need-store-below-requires (
-  store-choice-reads.Asked,
-  store-choice-reads.Learnt,
-  store-below-below t,
-  store-below.Post,
-) (store-plan-at t) store-plan.Post
+store-plan-store-below-requires : (t : ℕ) → store-plan-lts.Need-store-below-requires (store-plan-claims t) (store-plan-at t) store-plan.Post
 store-plan-store-below-requires t c κs = let S = c .before .before .before .before .before .before .before .before .before .before in
     (omega (arith, c .before .before .before .before .before .before .if1 .left), ((S .pre .1 .0 .0, S .pre .1 .0 .1, choice-action (S .args .m .now) (S .pre .1 .0 .0) (S .args .choices .now) (S .args .n) (S .args .s) (S .args .p) (S .args .buf .now) (S .pre .1 .0 .1) (c .before .before .before .before .before .before .if1 .left) (S .pre .1 .1)), below-ahead (S .args .m .now) (S .pre .1 .0 .0) (S .args .choices .now) (S .args .n) (S .args .s) (S .args .p) (S .args .buf .now) (S .pre .1 .0 .1) (c .before .before .before .before .before .before .if1 .left) (S .pre .1 .1) (c .before .before .before .store-choice .last .0) (c .before .before .before .store-choice .kept .0)))
 
-store-plan-same-length : (t : ℕ) → store-plan-lts.Need-same-length (
-  store-choice-reads.Asked,
-  store-choice-reads.Learnt,
-  store-below-below t,
-  store-below.Post,
-) (store-plan-at t) store-plan.Post
+store-plan-same-length : (t : ℕ) → store-plan-lts.Need-same-length (store-plan-claims t) (store-plan-at t) store-plan.Post
 store-plan-same-length t c = c .before .before .store-below .kept .0 ∙ c .before .before .before .before .before .before .store-choice .kept .0
 
-store-plan-returns-2 : (t : ℕ) → store-plan-lts.Need-returns-2 (
-  store-choice-reads.Asked,
-  store-choice-reads.Learnt,
-  store-below-below t,
-  store-below.Post,
-) (store-plan-at t) store-plan.Post
+store-plan-returns-2 : (t : ℕ) → store-plan-lts.Need-returns-2 (store-plan-claims t) (store-plan-at t) store-plan.Post
 store-plan-returns-2 t c = let S = c .before .before .before .before .before .before .before .before .before .before .before .before .before in
     choice-stored (S .args .m .now) (S .pre .1 .0 .0) (S .args .choices .now) (S .args .n) (S .args .s) (S .args .p) (S .args .buf .now) (S .pre .1 .0 .1) (c .before .before .before .before .before .before .before .before .before .if1 .left) (S .pre .1 .1) (c .before .before .store-below .result) (c .before .before .before .before .before .before .store-choice .last .0) (c .before .before .store-below .last .0) (c .before .before .before .before .before .before .store-choice .ensures) (c .before .before .store-below .ensures)
 

@@ -4,8 +4,8 @@ use native.Mathlib.Omega.{arith}
 use borrow.Author.Needs.{needs}
 use Rattle.verdict_line.proofs.Decimal.{few-places, few-digits}
 use Rattle.verdict_line.proofs.PutInTurn.{put-put, decimal-put, number-room}
-use Rattle.verdict_line.proofs.put_number.Statement.{statement}
-use Rattle.verdict_line.proofs.put_number.Tie as tie
+use Rattle.verdict_line.proofs.put_decimal.Statement.{statement}
+use Rattle.verdict_line.proofs.put_decimal.Tie as tie
 
 decimal-requires : tie.Need-decimal-requires
 decimal-requires c κs = search needs
@@ -39,8 +39,8 @@ returns c = let S = c .before .before .before .before .before .before .before .b
     let both = put-put (first .ensures) number (omega (arith, first .ensures .next, number .next)) in
     (both, number-room 19 (S .args .n) (S .args .text .now) small both)
 
-pub put-number-spec : {M : Type 1} → statement M
-put-number-spec =
+pub put-decimal-spec : {M : Type 1} → statement M
+put-decimal-spec =
     tie.close
     (tie.spec
     decimal-requires

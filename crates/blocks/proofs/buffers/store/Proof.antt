@@ -1,8 +1,8 @@
 use mathlib.Core.Path.{sym}
 use lib.Seq.{set-out}
 use borrow.Author.Needs.{needs}
-use Rattle.evaluation.proofs.store.Statement.{statement}
-use Rattle.evaluation.proofs.store.Tie as tie
+use Rattle.blocks.proofs.buffers.store.Statement.{statement}
+use Rattle.blocks.proofs.buffers.store.Tie as tie
 
 slice-write-v : tie.Need-slice-write-v
 slice-write-v c = search needs

@@ -7,11 +7,11 @@ use mathlib.Core.List.{_++_}
 use lib.ListN.{length, drop, set, length-set}
 use lib.Seq.{paste, paste-zero}
 use borrow.Author.Needs.{needs}
 use Rattle.blocks.specs.Bytes.{little-endian}
-use Rattle.sheets.proofs.PartPutBack.{copy-more, copy-end}
-use Rattle.sheets.proofs.NumberReadBack.{length-bytes, next-byte}
-use Rattle.sheets.proofs.writer.put_number.Statement.{statement}
-use Rattle.sheets.proofs.writer.put_number.Tie as tie
+use Rattle.blocks.proofs.PartPutBack.{copy-more, copy-end}
+use Rattle.blocks.proofs.NumberReadBack.{length-bytes, next-byte}
+use Rattle.blocks.proofs.buffers.put_number.Statement.{statement}
+use Rattle.blocks.proofs.buffers.put_number.Tie as tie
 
 abbrev Inv-loop : tie.InvT-loop
 Inv-loop dst₀ bytes x rest₀ i₀ dst rest i = (i ≤ bytes) × (length dst ≡ length dst₀) × (dst ≡ paste dst₀ 0 (little-endian bytes x) i) × (drop i (little-endian bytes x) ≡ little-endian (bytes - i) rest)

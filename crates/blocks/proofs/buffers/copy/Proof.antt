@@ -5,9 +5,9 @@ use mathlib.Core.Path.{_≡_, refl, _∙_}
 use lib.ListN.{getD, length, length-set}
 use lib.Seq.{paste, paste-zero}
 use borrow.Author.Needs.{needs}
-use Rattle.sheets.proofs.PartPutBack.{copy-more, copy-end}
-use Rattle.sheets.proofs.writer.copy.Statement.{statement}
-use Rattle.sheets.proofs.writer.copy.Tie as tie
+use Rattle.blocks.proofs.PartPutBack.{copy-more, copy-end}
+use Rattle.blocks.proofs.buffers.copy.Statement.{statement}
+use Rattle.blocks.proofs.buffers.copy.Tie as tie
 
 abbrev Inv-loop : tie.InvT-loop
 Inv-loop dst₀ src i₀ dst i = (i ≤ length src) × (length dst ≡ length dst₀) × (dst ≡ paste dst₀ 0 src i)

@@ -6,9 +6,9 @@ use mathlib.Core.Path.{_≡_, refl, ap, _∙_}
 use lib.ListN.{set, length, drop, replicate, length-set}
 use borrow.Author.Needs.{needs}
 use borrow.Author.Fill.{fill-more}
-use Rattle.sheets.proofs.PartPutBack.{fill-end}
-use Rattle.sheets.proofs.writer.clear.Statement.{statement}
-use Rattle.sheets.proofs.writer.clear.Tie as tie
+use Rattle.blocks.proofs.PartPutBack.{fill-end}
+use Rattle.blocks.proofs.buffers.clear.Statement.{statement}
+use Rattle.blocks.proofs.buffers.clear.Tie as tie
 
 abbrev Inv-loop : tie.InvT-loop
 Inv-loop dst₀ i₀ dst i = (i ≤ length dst) × (length dst ≡ length dst₀) × (dst ≡ replicate i 0 ++ drop i dst₀)
