@@ -9,6 +9,27 @@ ghost use Rattle.blocks.specs.Block as spec-block;
 
 pub mod buffers;
 
+// A block's size in bytes and in 16-bit words, and where its last word stands, which makes the words sum to 0.
+pub const BLOCK: usize = 512;
+
+pub const WORDS: usize = 256;
+
+pub const LAST_WORD: usize = 510;
+
+// The kinds of blocks, in byte 0; a block's number is in byte 1.
+pub const HEAD: usize = 1;
+
+pub const ROW: usize = 2;
+
+pub const QUESTION: usize = 3;
+
+pub const SHEET: usize = 4;
+
+pub const NUMBER_AT: usize = 1;
+
+// How many values a word has.
+const WORD_VALUES: u32 = 65536;
+
 // The byte at i; 0 past the end.
 pub fn byte(b: &[u8], i: usize) -> u8
     ensures { λ r. ⌜ r ≡ spec.byte (now (b .entry)) i ⌝ }
@@ -121,10 +142,10 @@ pub fn word_sum(b: &[u8], k: usize) -> u32
     requires { ⌜ 512 * k + 512 ≤ length (now b) ⌝ }
     ensures { λ r. ⌜ r ≡ word-sum (now (b .entry)) k ⌝ }
 {
-    let at = 512 * k;
+    let at = BLOCK * k;
     let mut sum: u32 = 0;
     let mut j: usize = 0;
-    while j < 256 {
+    while j < WORDS {
         let i = at + 2 * j;
         sum += b[i] as u32 + 256 * b[i + 1] as u32;
         j += 1;
@@ -136,10 +157,10 @@ pub fn word_sum(b: &[u8], k: usize) -> u32
 pub fn sums_right(b: &[u8]) -> bool
     ensures { λ r. ⌜ r ≡ sums-right (now (b .entry)) ⌝ }
 {
-    let n = b.len() / 512;
+    let n = b.len() / BLOCK;
     let mut k: usize = 0;
     while k < n {
-        if word_sum(b, k) % 65536 != 0 {
+        if word_sum(b, k) % WORD_VALUES != 0 {
             return false;
         }
         k += 1;
@@ -151,8 +172,8 @@ pub fn sums_right(b: &[u8]) -> bool
 pub fn whole_blocks(b: &[u8], least: usize, most: usize) -> bool
     ensures { λ r. ⌜ r ≡ whole-blocks least most (now (b .entry)) ⌝ }
 {
-    let n = b.len() / 512;
-    if b.len() % 512 != 0 {
+    let n = b.len() / BLOCK;
+    if b.len() % BLOCK != 0 {
         return false;
     }
     if n < least {
@@ -166,9 +187,9 @@ pub fn headed(b: &[u8], k: usize, kind: usize, number: usize) -> bool
     requires { ⌜ k < 128 ⌝ }
     ensures { λ r. ⌜ r ≡ spec-block.headed (now (b .entry)) k kind number ⌝ }
 {
-    let at = 512 * k;
+    let at = BLOCK * k;
     if wide(b, at) != kind {
         return false;
     }
-    wide(b, at + 1) == number
+    wide(b, at + NUMBER_AT) == number
 }

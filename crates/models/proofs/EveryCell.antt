@@ -2,7 +2,7 @@
 use Prim.Native.Nat.{ℕ, _+_, _*_, _/_, _%_, _^_, _-_, _≤_, _<_}
 use native.Mathlib.Omega.{arith}
 use native.Mathlib.Numerals.{add-one}
-use mathlib.Core.Path.{_≡_, refl, sym, ap₂, _∙_}
+use mathlib.Core.Path.{_≡_, refl, sym, ap, ap₂, _∙_}
 use mathlib.Core.Bool.{Bool, true, false, not, _&&_, _||_}
 use native.Mathlib.Nat.{div-lt-iff-lt-mul, eq-zero-or-pos}
 use mathlib.Core.Logic.{⊎-elim}
@@ -22,6 +22,7 @@ use Rattle.blocks.specs.Block.{block-count, whole-blocks}
 use Rattle.models.specs.Layout.{state-count, action-count, prop-count, denominator-of, state-mask, pre-of, post-count, cell-at, entries}
 use Rattle.models.specs.Grounds.{sizes-right, mask-in-range, literals-in-range, action-in-range, fields-right, cell-in-range, cell-consistent}
 use Rattle.models.specs.promises.Used.{Sized}
+use Rattle.models.specs.promises.Passes.{Earlier}
 
 module _ (f : ℕ → Bool) (i : ℕ) {r t : Bool} where
   pub every-more : r ≡ every i f → t ≡ f i → (r && t) ≡ every (i + 1) f
@@ -105,10 +106,6 @@ module _ (b : Bytes) (sized : Sized b) where
       go true h = h
       go false h = omega arith
 
-  pub cell-inside : (k : ℕ) → k < 24 * (length b / 512 - 1) → (k < 264) × (cell-at (k / 8) (k % 8) + 16 ≤ length b)
-  unfolding cell-at
-  cell-inside k h = let e = sized .bytes in (omega arith, omega arith)
-
 -- ---- what the first grounds say
 
 pub blocks-within : (b : Bytes) (least most : ℕ) → whole-blocks least most b ≡ true → (length b ≡ 512 * (length b / 512)) × (least ≤ length b / 512) × (length b / 512 ≤ most)
@@ -177,3 +174,23 @@ sized b w z e =
       posts = λ a h. at-most 1 4 (post-count b a) (and-right (literals-in-range b (pre-of b a)) _ (and-left _ _ (every-at (action-in-range b) (action-count b) (and-right (every (state-count b) (λ s. mask-in-range b (state-mask b s))) _ (and-left _ _ e)) h)));
       bytes = omega arith;
     }
+
+-- What follows from the grounds before one, of the cells in the row blocks: they stand inside the bytes, those of the model's states among them.
+module _ {ground : ℕ} {b : Bytes} (e : Earlier ground b) where
+  pub cell-inside : (k : ℕ) → k < 24 * (block-count b - 1) → (k < 264) × (cell-at (k / 8) (k % 8) + 16 ≤ length b)
+  unfolding cell-at block-count
+  cell-inside k h =
+      let z = sizes b (e .sizes) in
+      let l = blocks-within b 2 12 (e .whole) .0 in
+      let n = z .blocks in
+      (omega arith, omega arith)
+
+  pub cells-inside : 8 * state-count b ≤ 24 * (block-count b - 1)
+  unfolding block-count
+  cells-inside = let n = sizes b (e .sizes) .blocks in omega arith
+
+  -- A test of the cells of all states, 8 to a state, which those of no action pass.
+  pub cells-all : (f : ℕ → ℕ → Bool) → ((s a : ℕ) → action-count b ≤ a → f s a ≡ true) → (n : ℕ) {r : Bool}
+      → n ≡ state-count b → r ≡ every (8 * n) (λ k. f (k / 8) (k % 8)) → r ≡ every (state-count b) (λ s. every (action-count b) (f s))
+  cells-all f past n h g =
+      g ∙ ap (λ m. every (8 * m) (λ k. f (k / 8) (k % 8))) h ∙ grid f (state-count b) (action-count b) (sizes b (e .sizes) .actions) (λ s a l _. past s a l)

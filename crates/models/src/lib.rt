@@ -1,19 +1,23 @@
 // Models: readers of their bytes, and the grounds on which they are refused (document 01, numbers 1 to 8).
 ghost use mathlib.Core.Path.{_≡_};
-ghost use Prim.Native.Nat.{_+_, _*_, _<_, _≤_};
+ghost use Prim.Native.Nat.{_+_, _*_, _<_};
 ghost use mathlib.Core.Bool.{true};
 ghost use Rattle.logic.specs.Model.{true-of};
 ghost use Rattle.logic.specs.promises.Refusal.{refusal};
 ghost use Rattle.blocks.specs.Block.{whole-blocks};
-ghost use Rattle.models.specs.Layout.{literals, state-mask, post-count, cell-at, outcome-of};
+ghost use Rattle.models.specs.Layout.{state-count, action-count, prop-count, denominator-of, literals, state-mask, post-count, action-at, cell-at, outcome-of};
 ghost use Rattle.models.specs.Layout as layout;
 ghost use Rattle.models.specs.Grounds.{kinds-right, sizes-right, read-model};
 ghost use Rattle.models.specs.promises.Used.{Used};
 
 mod consistent;
+mod dead_ends;
 mod fields;
+mod passes;
 mod spare;
 
+use blocks::BLOCK;
+use blocks::HEAD;
 use blocks::headed;
 use blocks::i16_at;
 use blocks::sums_right;
@@ -22,13 +26,106 @@ use blocks::whole_blocks;
 use blocks::wide;
 use blocks::within;
 
+// The most states, actions and propositions of a model, and the most postconditions of an action.
+pub const STATES: usize = 32;
+
+pub const ACTIONS: usize = 8;
+
+pub const PROPS: usize = 32;
+
+pub const POSTS: usize = 4;
+
+// The most that a weight and the denominator may be.
+pub const MOST_WEIGHT: usize = 100;
+
+// The least and the most blocks of a model: the head, and row blocks of three states each.
+const LEAST_BLOCKS: usize = 2;
+
+pub const BLOCKS: usize = 12;
+
+pub const ROW_STATES: usize = 3;
+
+// The cells of a row block and of the most row blocks, one for each state and action: there is room for 33 states.
+pub const ROW_CELLS: usize = ROW_STATES * ACTIONS;
+
+pub const CELLS: usize = ROW_CELLS * (BLOCKS - 1);
+
+// Where the fields of the head stand.
+const STATE_COUNT_AT: usize = 2;
+
+const ACTION_COUNT_AT: usize = 3;
+
+const PROP_COUNT_AT: usize = 4;
+
+const DENOMINATOR_AT: usize = 5;
+
+const MASKS_AT: usize = 8;
+
+const MASK_SIZE: usize = 4;
+
+const MASKS_SIZE: usize = MASK_SIZE * STATES;
+
+const ACTIONS_AT: usize = MASKS_AT + MASKS_SIZE;
+
+const ACTION_SIZE: usize = 44;
+
+// Where the fields of an action stand after its precondition.
+const POST_COUNT_AT: usize = 8;
+
+const POSTS_AT: usize = 12;
+
+// Literals are a true mask and after it a false mask.
+const NEGATIVE_AT: usize = MASK_SIZE;
+
+const LITERALS_SIZE: usize = 2 * MASK_SIZE;
+
+// Where the cells of a row block begin, and the sizes of an outcome, of a cell and of a state's cells.
+const CELLS_AT: usize = 4;
+
+const OUTCOME_SIZE: usize = 4;
+
+const CELL_SIZE: usize = OUTCOME_SIZE * POSTS;
+
+const STATE_SIZE: usize = CELL_SIZE * ACTIONS;
+
+// Where the fields of an outcome stand after its target, which is its first byte.
+const WEIGHT_AT: usize = 1;
+
+const REWARD_AT: usize = 2;
+
+// How many states a model has.
+pub fn state_count(b: &[u8]) -> usize
+    ensures { λ r. ⌜ (r ≡ state-count (now (b .entry))) × (r < 256) ⌝ }
+{
+    wide(b, STATE_COUNT_AT)
+}
+
+pub fn action_count(b: &[u8]) -> usize
+    ensures { λ r. ⌜ (r ≡ action-count (now (b .entry))) × (r < 256) ⌝ }
+{
+    wide(b, ACTION_COUNT_AT)
+}
+
+pub fn prop_count(b: &[u8]) -> usize
+    ensures { λ r. ⌜ (r ≡ prop-count (now (b .entry))) × (r < 256) ⌝ }
+{
+    wide(b, PROP_COUNT_AT)
+}
+
+// What the weights of a cell sum to.
+pub fn denominator(b: &[u8]) -> usize
+    ensures { λ r. ⌜ (r ≡ denominator-of (now (b .entry))) × (r < 256) ⌝ }
+{
+    wide(b, DENOMINATOR_AT)
+}
+
 // Whether the literals at a place are true of a mask.
 pub fn holds(b: &[u8], at: usize, v: u32) -> bool
     requires { ⌜ at < 65536 ⌝ }
     ensures { λ r. ⌜ r ≡ true-of (literals (now (b .entry)) at) v ⌝ }
 {
     let positive = u32_at(b, at);
-    let negative = u32_at(b, at + 4);
+    let negative = u32_at(b, at + NEGATIVE_AT);
     (v & positive == positive) & (v & negative == 0)
 }
 
@@ -37,7 +134,23 @@ pub fn state_mask(b: &[u8], s: usize) -> u32
     requires { ⌜ s < 256 ⌝ }
     ensures { λ r. ⌜ r ≡ state-mask (now (b .entry)) s ⌝ }
 {
-    u32_at(b, 8 + 4 * s)
+    u32_at(b, MASKS_AT + MASK_SIZE * s)
+}
+
+// Where an action stands, and first in it its precondition.
+pub fn action_at(a: usize) -> usize
+    requires { ⌜ a < 256 ⌝ }
+    ensures { λ r. ⌜ r ≡ action-at a ⌝ }
+{
+    ACTIONS_AT + ACTION_SIZE * a
+}
+
+// Where a postcondition of an action stands.
+pub fn post_at(a: usize, i: usize) -> usize
+    requires { ⌜ (a < 256) × (i < 256) ⌝ }
+    ensures { λ r. ⌜ r ≡ action-at a + 12 + 8 * i ⌝ }
+{
+    action_at(a) + POSTS_AT + LITERALS_SIZE * i
 }
 
 // How many postconditions an action has.
@@ -45,7 +158,7 @@ pub fn post_count(b: &[u8], a: usize) -> usize
     requires { ⌜ a < 256 ⌝ }
     ensures { λ r. ⌜ (r ≡ post-count (now (b .entry)) a) × (r < 256) ⌝ }
 {
-    wide(b, 136 + 44 * a + 8)
+    wide(b, action_at(a) + POST_COUNT_AT)
 }
 
 // How many outcomes of a state and an action are used.
@@ -53,13 +166,13 @@ pub fn entries(b: &[u8], s: usize, a: usize) -> usize
     requires { ⌜ (s < 256) × (a < 256) ⌝ }
     ensures { λ r. ⌜ (r ≡ layout.entries (now (b .entry)) s a) × (r < 256) ⌝ }
 {
-    if wide(b, 2) <= s {
+    if state_count(b) <= s {
         return 0;
     }
-    if wide(b, 3) <= a {
+    if action_count(b) <= a {
         return 0;
     }
-    if holds(b, 136 + 44 * a, state_mask(b, s)) {
+    if holds(b, action_at(a), state_mask(b, s)) {
         return post_count(b, a);
     }
     0
@@ -70,7 +183,11 @@ pub fn outcome_at(s: usize, a: usize, i: usize) -> usize
     requires { ⌜ (s < 256) × (a < 256) × (i < 256) ⌝ }
     ensures { λ r. ⌜ (r ≡ cell-at s a + 4 * i) × (r < 65000) ⌝ }
 {
-    512 * (1 + s / 3) + 4 + 128 * (s % 3) + 16 * a + 4 * i
+    BLOCK * (1 + s / ROW_STATES)
+        + CELLS_AT
+        + STATE_SIZE * (s % ROW_STATES)
+        + CELL_SIZE * a
+        + OUTCOME_SIZE * i
 }
 
 pub fn target(b: &[u8], s: usize, a: usize, i: usize) -> usize
@@ -84,14 +201,14 @@ pub fn weight(b: &[u8], s: usize, a: usize, i: usize) -> usize
     requires { ⌜ (s < 256) × (a < 256) × (i < 256) ⌝ }
     ensures { λ r. ⌜ (r ≡ (outcome-of (now (b .entry)) s a i) .weight) × (r < 256) ⌝ }
 {
-    wide(b, outcome_at(s, a, i) + 1)
+    wide(b, outcome_at(s, a, i) + WEIGHT_AT)
 }
 
 pub fn reward(b: &[u8], s: usize, a: usize, i: usize) -> i16
     requires { ⌜ (s < 256) × (a < 256) × (i < 256) ⌝ }
     ensures { λ r. ⌜ r ≡ (outcome-of (now (b .entry)) s a i) .reward ⌝ }
 {
-    i16_at(b, outcome_at(s, a, i) + 2)
+    i16_at(b, outcome_at(s, a, i) + REWARD_AT)
 }
 
 // A byte of the table below, as a number to count with.
@@ -101,44 +218,37 @@ fn widened(x: u8) -> usize
     x as usize
 }
 
-// The number of used outcomes of every cell: 8 to a state, and eleven row blocks have room for 33 states.
-pub fn used_entries(b: &[u8]) -> [u8; 264]
+// The number of used outcomes of every cell, 8 to a state.
+fn used_entries(b: &[u8]) -> [u8; CELLS]
     ensures { λ r. ⌜ Used (now (b .entry)) r ⌝ }
 {
-    let mut used = [0u8; 264];
+    let mut used = [0u8; CELLS];
     let mut k: usize = 0;
-    while k < 264 {
-        used[k] = entries(b, k / 8, k % 8) as u8;
+    while k < CELLS {
+        used[k] = entries(b, k / ACTIONS, k % ACTIONS) as u8;
         k += 1;
     }
     used
 }
 
-// Ground 3.
+// Ground 3: of the head, and of the row blocks.
 fn kinds_right(b: &[u8]) -> bool
     requires { ⌜ whole-blocks 2 12 (now b) ≡ true ⌝ }
     ensures { λ r. ⌜ r ≡ kinds-right (now (b .entry)) ⌝ }
 {
-    let n = b.len() / 512 - 1;
-    let mut right = headed(b, 0, 1, 0);
-    let mut k: usize = 0;
-    while k < n {
-        right = right & headed(b, k + 1, 2, k + 1);
-        k += 1;
-    }
-    right
+    headed(b, 0, HEAD, 0) & passes::rows_pass(b, 3)
 }
 
 // Ground 4.
 fn sizes_right(b: &[u8]) -> bool
     ensures { λ r. ⌜ r ≡ sizes-right (now (b .entry)) ⌝ }
 {
-    let s = wide(b, 2);
-    let rows = b.len() / 512 == 1 + (s + 2) / 3;
-    within(1, 32, s)
-        & within(1, 8, wide(b, 3))
-        & within(1, 32, wide(b, 4))
-        & within(1, 100, wide(b, 5))
+    let s = state_count(b);
+    let rows = b.len() / BLOCK == 1 + (s + 2) / ROW_STATES;
+    within(1, STATES, s)
+        & within(1, ACTIONS, action_count(b))
+        & within(1, PROPS, prop_count(b))
+        & within(1, MOST_WEIGHT, denominator(b))
         & rows
 }
 
@@ -146,7 +256,7 @@ fn sizes_right(b: &[u8]) -> bool
 pub fn model_refusal(b: &[u8]) -> u32
     ensures { λ r. ⌜ r ≡ refusal (read-model (now (b .entry))) ⌝ }
 {
-    if !whole_blocks(b, 2, 12) {
+    if !whole_blocks(b, LEAST_BLOCKS, BLOCKS) {
         return 1;
     }
     if !sums_right(b) {
@@ -168,7 +278,7 @@ pub fn model_refusal(b: &[u8]) -> u32
     if !consistent::consistent(b, &used) {
         return 7;
     }
-    if !consistent::no_dead_ends(b) {
+    if !dead_ends::no_dead_ends(b) {
         return 8;
     }
     0

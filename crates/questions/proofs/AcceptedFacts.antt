@@ -13,6 +13,7 @@ use Rattle.logic.specs.Lists.{all, every}
 use Rattle.logic.specs.Checked.{ok}
 use Rattle.logic.specs.promises.Refusal.{refusal}
 use Rattle.logic.specs.Formula.{never, prop, neg, both, does, next, gain, plan, Node, depth, is-path, shallow, relation, nonnegative}
+use Rattle.logic.proofs.Checked.{guard-passed}
 use Rattle.logic.proofs.Tests.{and-left, and-right, every-at}
 use Rattle.blocks.specs.Bytes.{Bytes, within}
 use Rattle.blocks.specs.Block.{whole-blocks, sums-right, headed}
@@ -20,7 +21,7 @@ use Rattle.questions.specs.Layout.{start-of, node-count, node-of, formul
 use Rattle.questions.specs.Grounds.{compares, gain-bound, plan-bound, plan-in-range, node-in-range, spare-zero, formed, read-question}
 use Rattle.questions.specs.promises.Formed.{Compares, GainRange, PlanRange, InRange, Formed}
 use Rattle.questions.specs.promises.Tables.{formulas-before}
-use Rattle.questions.proofs.TableNodeByNode.{passed, within-least, within-most, one-block, by-operator, before-at, formula-here}
+use Rattle.questions.proofs.TableNodeByNode.{within-least, within-most, one-block, by-operator, before-at, formula-here}
 use Rattle.questions.proofs.FormulaByOperator.{row-1, row-2, row-3, row-4, row-5, row-6, row-7, row-8, all-shallow}
 
 -- ---- a node's fields
@@ -125,13 +126,13 @@ pub record Accepted (S A N : ℕ) (b : Bytes) : Type 0 where
 pub accepted : (S A N : ℕ) (b : Bytes) → refusal (read-question S A N b) ≡ 0 → Accepted S A N b
 unfolding read-question formed question-of
 accepted S A N b e =
-    let g1 = passed 0 (whole-blocks 1 1 b) _ e in
-    let g2 = passed 1 (sums-right b) _ (g1 .1) in
-    let g3 = passed 2 (headed b 0 3 0) _ (g2 .1) in
-    let g4 = passed 3 (ltb (start-of b) S && within 1 40 (node-count b)) _ (g3 .1) in
-    let g5 = passed 4 (every (node-count b) (λ i. node-in-range A N i (node-of b i))) _ (g4 .1) in
-    let g6 = passed 5 (spare-zero b) _ (g5 .1) in
-    let g9 = passed 8 (formed (question-of b)) _ (g6 .1) in
+    let g1 = guard-passed 0 (whole-blocks 1 1 b) _ e in
+    let g2 = guard-passed 1 (sums-right b) _ (g1 .1) in
+    let g3 = guard-passed 2 (headed b 0 3 0) _ (g2 .1) in
+    let g4 = guard-passed 3 (ltb (start-of b) S && within 1 40 (node-count b)) _ (g3 .1) in
+    let g5 = guard-passed 4 (every (node-count b) (λ i. node-in-range A N i (node-of b i))) _ (g4 .1) in
+    let g6 = guard-passed 5 (spare-zero b) _ (g5 .1) in
+    let g9 = guard-passed 8 (formed (question-of b)) _ (g6 .1) in
     let n = and-right (ltb (start-of b) S) (within 1 40 (node-count b)) (g4 .0) in
     let root = not-true (is-path (question-of b .root)) (and-left (not (is-path (question-of b .root))) (all shallow (formulas-of b)) (g9 .0)) in
     record {

@@ -1,20 +1,18 @@
 -- What the proofs of the reading of questions share: the formulas of the first k nodes are the first k formulas, so a table filled node
--- by node holds what is asked of each; and a refusal is read off the guards one after the other.
+-- by node holds what is asked of each.
 use Prim.Native.Nat.{ℕ, zero, suc, _+_, _/_, _%_, _≤_, _<_, min, zero-le}
 use native.Mathlib.Nat.{le-of-suc-le-suc, eq-or-lt-of-le, add-zero, add-suc, div-add-mod'}
 use native.Mathlib.Decide.{decLt, ℕ-discrete}
 use native.Mathlib.Omega.{arith}
 use mathlib.Core.Path.{_≡_, refl, sym, ap, ap₂, _∙_}
 use mathlib.Core.Logic.{_⊎_, inl, inr, ⊎-elim}
-use mathlib.Core.Bool.{Bool, true, false, _&&_, _||_, and-true}
+use mathlib.Core.Bool.{Bool, true, false, _&&_, and-true, and-assoc}
 use mathlib.Core.List.{List, [], _∷_, _++_}
 use lib.Dec.{eqb, leb}
 use lib.ListN.{length, getD, take, set, length-append, length-set, length-take, List·getD-eq-default}
 use lib.Seq.{getD-at, getD-take, take-all, take-append-le, ext-getD, getD-set-same, getD-set-other}
 use borrow.Author.Tests.{leb-true, eqb-true}
 use Rattle.logic.specs.Lists.{all, every, count-from, tabulate}
-use Rattle.logic.specs.Checked.{Checked, guard, _>>_}
-use Rattle.logic.specs.promises.Refusal.{refusal}
 use Rattle.logic.specs.Formula.{Formula, never, Node, formula-of, formulas}
 use Rattle.logic.proofs.Tests.{length-tabulate, getD-tabulate, all-tabulate, and-left, and-right, tabulate-more}
 use Rattle.blocks.specs.Bytes.{Bytes, byte, zeros, within}
@@ -23,30 +21,7 @@ use Rattle.questions.specs.Layout.{node-at, node-of, node-count, formula
 use Rattle.questions.specs.Grounds.{node-in-range, node-spare}
 use Rattle.questions.specs.promises.Tables.{formulas-before, table}
 
--- ---- guards
-
-module _ {A : Type 0} where
-  -- No refusal behind a guard: its test passed, and there is none after it.
-  pub passed : (k : ℕ) (t : Bool) (c : Checked A) → refusal (guard (suc k) t >> c) ≡ 0 → (t ≡ true) × (refusal c ≡ 0)
-  passed k true c e = (refl, e)
-  passed k false c e = absurd (omega arith)
-
 -- ---- tests
-
--- What `a && b` answers: b where a passes, and a where it fails.
-pub both-tests : {a b t : Bool} → a ≡ true → t ≡ b → t ≡ (a && b)
-both-tests {b = b} e f = f ∙ ap (λ x. x && b) (sym e)
-
-pub first-fails : {a t : Bool} (b : Bool) → a ≡ false → t ≡ a → t ≡ (a && b)
-first-fails b e f = f ∙ e ∙ ap (λ x. x && b) (sym e)
-
--- What `a || b` answers where a passes.
-pub either-first : {a t : Bool} (b : Bool) → a ≡ true → t ≡ a → t ≡ (a || b)
-either-first b e f = f ∙ e ∙ ap (λ x. x || b) (sym e)
-
-and-assoc : (a b c : Bool) → (a && b && c) ≡ (a && (b && c))
-and-assoc true b c = refl
-and-assoc false b c = refl
 
 every-join : (f : ℕ → Bool) (m n : ℕ) → every (m + n) f ≡ (every m f && every n (λ i. f (m + i)))
 unfolding every

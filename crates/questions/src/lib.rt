@@ -1,37 +1,103 @@
 // Reading questions: the grounds of refusal 1 to 6 and 9, and the fields of a node. A node's number is a byte, so the readers are total.
 ghost use mathlib.Core.Path.{_≡_};
-ghost use mathlib.Core.Bool.{false, _&&_};
-ghost use Prim.Native.Nat.{_+_, _≤_, _<_, max, min};
+ghost use mathlib.Core.Bool.{true, _&&_};
+ghost use Prim.Native.Nat.{_+_, _-_, _≤_, _<_, max, min};
 ghost use lib.Dec.{eqb, ltb};
 ghost use lib.ListN.{length, getD, take};
-ghost use Rattle.logic.specs.Lists.{all, every};
+ghost use Rattle.logic.specs.Lists.{every};
 ghost use Rattle.logic.specs.promises.Refusal.{refusal};
-ghost use Rattle.logic.specs.Formula.{depth, is-path, shallow, never, formula-of};
-ghost use Rattle.blocks.specs.Bytes as spec-bytes;
-ghost use Rattle.questions.specs.Layout.{start-of, node-of, formulas-of, question-of};
-ghost use Rattle.questions.specs.Layout as spec-layout;
+ghost use Rattle.logic.specs.Formula.{depth, shallow, never, formula-of};
+ghost use Rattle.blocks.specs.Bytes.{byte, zeros, within};
+ghost use Rattle.questions.specs.Layout.{start-of, node-count, node-at, node-of, formulas-of, question-of};
 ghost use Rattle.questions.specs.Grounds.{gain-bound, plan-bound, plan-in-range, node-in-range, node-spare, spare-zero, read-question};
 ghost use Rattle.questions.specs.Grounds as spec;
 ghost use Rattle.questions.specs.promises.Tables.{formulas-before, table};
+ghost use Rattle.questions.specs.promises.Passes.{passes, Nodes};
+
+// The operators of nodes, by document 01's words.
+pub const FALSE: u8 = 1;
+
+pub const PROP: u8 = 2;
+
+pub const NOT: u8 = 3;
+
+pub const AND: u8 = 4;
+
+pub const DO: u8 = 5;
+
+pub const NEXT: u8 = 6;
+
+pub const GAIN: u8 = 7;
+
+pub const PLAN: u8 = 8;
+
+// The relations of "gain" and "plan".
+pub const LESS: u8 = 1;
+
+pub const EQUAL: u8 = 2;
+
+pub const GREATER: u8 = 3;
+
+// Where a question's fields stand in its block. Four spare bytes follow the node count; a question has at most 40 nodes of 12 bytes.
+const START_AT: usize = 2;
+
+const NODE_COUNT_AT: usize = 3;
+
+const SPARE_AT: usize = 4;
+
+const SPARE_SIZE: usize = NODES_AT - SPARE_AT;
+
+pub const NODES_AT: usize = 8;
+
+pub const NODE_SIZE: usize = 12;
+
+pub const NODES: usize = 40;
+
+// Where a node's cells stand after its operator, which is its first byte.
+pub const STEPS_AT: usize = 1;
+
+pub const LEFT_AT: usize = 2;
+
+pub const RIGHT_AT: usize = 3;
+
+pub const P_AT: usize = 4;
+
+pub const Q_AT: usize = 8;
+
+// The sizes of a node's cells from one of them to the end.
+const FROM_STEPS: usize = NODE_SIZE - STEPS_AT;
+
+const FROM_RIGHT: usize = NODE_SIZE - RIGHT_AT;
+
+const FROM_P: usize = NODE_SIZE - P_AT;
+
+// The ends of the ranges of n, of p in "gain" and of q in "plan".
+const MOST_STEPS: usize = 6;
+
+const LEAST_GAIN: i32 = -6000;
+
+const MOST_GAIN: i32 = 6000;
+
+const MOST_Q: usize = 1000000;
 
 // The start state.
 pub fn start(b: &[u8]) -> u8
     ensures { λ r. ⌜ r ≡ start-of (now (b .entry)) ⌝ }
 {
-    blocks::byte(b, 2)
+    blocks::byte(b, START_AT)
 }
 
 pub fn node_count(b: &[u8]) -> u8
-    ensures { λ r. ⌜ r ≡ spec-layout.node-count (now (b .entry)) ⌝ }
+    ensures { λ r. ⌜ r ≡ node-count (now (b .entry)) ⌝ }
 {
-    blocks::byte(b, 3)
+    blocks::byte(b, NODE_COUNT_AT)
 }
 
 // Where node i stands.
 fn node_at(i: u8) -> usize
-    ensures { λ r. ⌜ (r ≡ spec-layout.node-at i) × (r < 3080) ⌝ }
+    ensures { λ r. ⌜ (r ≡ node-at i) × (r < 3080) ⌝ }
 {
-    8 + 12 * i as usize
+    NODES_AT + NODE_SIZE * i as usize
 }
 
 pub fn operator(b: &[u8], i: u8) -> u8
@@ -40,65 +106,59 @@ pub fn operator(b: &[u8], i: u8) -> u8
     blocks::byte(b, node_at(i))
 }
 
+// The byte of node i at a place after its operator.
+fn cell(b: &[u8], i: u8, at: usize) -> u8
+    requires { ⌜ at < 12 ⌝ }
+    ensures { λ r. ⌜ r ≡ byte (now (b .entry)) (node-at i + at) ⌝ }
+{
+    blocks::byte(b, node_at(i) + at)
+}
+
 // The n of "gain" or "plan".
 pub fn steps(b: &[u8], i: u8) -> u8
     ensures { λ r. ⌜ r ≡ node-of (now (b .entry)) i .n ⌝ }
 {
-    blocks::byte(b, node_at(i) + 1)
+    cell(b, i, STEPS_AT)
 }
 
 pub fn left(b: &[u8], i: u8) -> u8
     ensures { λ r. ⌜ r ≡ node-of (now (b .entry)) i .left ⌝ }
 {
-    blocks::byte(b, node_at(i) + 2)
+    cell(b, i, LEFT_AT)
 }
 
 pub fn right(b: &[u8], i: u8) -> u8
     ensures { λ r. ⌜ r ≡ node-of (now (b .entry)) i .right ⌝ }
 {
-    blocks::byte(b, node_at(i) + 3)
+    cell(b, i, RIGHT_AT)
 }
 
 pub fn p(b: &[u8], i: u8) -> i32
     ensures { λ r. ⌜ r ≡ node-of (now (b .entry)) i .p ⌝ }
 {
-    blocks::i32_at(b, node_at(i) + 4)
+    blocks::i32_at(b, node_at(i) + P_AT)
 }
 
 pub fn q(b: &[u8], i: u8) -> u32
     ensures { λ r. ⌜ r ≡ node-of (now (b .entry)) i .q ⌝ }
 {
-    blocks::u32_at(b, node_at(i) + 8)
+    blocks::u32_at(b, node_at(i) + Q_AT)
 }
 
-// Whether node i, a "gain" or a "plan", asks for less than its bound.
-pub fn asks_less(b: &[u8], i: u8) -> bool
-    ensures { λ r. ⌜ r ≡ eqb (node-of (now (b .entry)) i .right) 1 ⌝ }
+// Whether the root, the last node, is a "plan".
+pub fn root_is_plan(b: &[u8]) -> bool
+    requires { ⌜ 1 ≤ node-count (now b) ⌝ }
+    ensures { λ r. ⌜ r ≡ eqb (node-of (now (b .entry)) (node-count (now (b .entry)) - 1) .operator) 8 ⌝ }
 {
-    let relation = right(b, i);
-    match relation {
-        1 => true,
-        _ => false,
-    }
+    operator(b, node_count(b) - 1) == PLAN
 }
 
-// Whether it asks for just its bound.
-pub fn asks_equal(b: &[u8], i: u8) -> bool
-    ensures { λ r. ⌜ r ≡ eqb (node-of (now (b .entry)) i .right) 2 ⌝ }
-{
-    let relation = right(b, i);
-    match relation {
-        2 => true,
-        _ => false,
-    }
-}
-
-// Whether a number stands for a relation: 1 less, 2 equal, 3 greater.
+// Whether a number stands for a relation.
 fn relation_in_range(relation: u8) -> bool
-    ensures { λ r. ⌜ r ≡ spec-bytes.within 1 3 relation ⌝ }
+    ensures { λ r. ⌜ r ≡ within 1 3 relation ⌝ }
 {
     match relation {
-        1 | 2 | 3 => true,
+        LESS | EQUAL | GREATER => true,
         _ => false,
     }
 }
@@ -107,34 +167,28 @@ fn relation_in_range(relation: u8) -> bool
 fn compares(b: &[u8], i: u8) -> bool
     ensures { λ r. ⌜ r ≡ spec.compares (node-of (now (b .entry)) i) ⌝ }
 {
-    blocks::within(1, 6, steps(b, i) as usize) && relation_in_range(right(b, i))
+    blocks::within(1, MOST_STEPS, steps(b, i) as usize) & relation_in_range(right(b, i))
 }
 
 fn gain_bound(p: i32, q: u32) -> bool
     ensures { λ r. ⌜ r ≡ gain-bound p q ⌝ }
 {
-    if q != 1 {
-        return false;
-    }
-    -6000 <= p && p <= 6000
+    (q == 1) & (LEAST_GAIN <= p) & (p <= MOST_GAIN)
 }
 
 fn plan_bound(p: i32, q: u32) -> bool
     ensures { λ r. ⌜ r ≡ plan-bound p q ⌝ }
 {
-    if !blocks::within(1, 1000000, q as usize) {
+    if !blocks::within(1, MOST_Q, q as usize) {
         return false;
     }
-    0 <= p && p <= q as i32
+    (0 <= p) & (p <= q as i32)
 }
 
 fn plan_in_range(b: &[u8], i: u8) -> bool
     ensures { λ r. ⌜ r ≡ plan-in-range i (node-of (now (b .entry)) i) ⌝ }
 {
-    if !compares(b, i) {
-        return false;
-    }
-    left(b, i) < i && plan_bound(p(b, i), q(b, i))
+    compares(b, i) & (left(b, i) < i) & plan_bound(p(b, i), q(b, i))
 }
 
 // Ground 5 of node i.
@@ -143,38 +197,23 @@ fn node_in_range(b: &[u8], i: u8, actions: usize, props: usize) -> bool
 {
     let op = operator(b, i);
     match op {
-        1 => true,
-        2 => (left(b, i) as usize) < props,
-        3 | 6 => left(b, i) < i,
-        4 => left(b, i) < i && right(b, i) < i,
-        5 => (left(b, i) as usize) < actions,
-        7 => compares(b, i) && gain_bound(p(b, i), q(b, i)),
-        8 => plan_in_range(b, i),
+        FALSE => true,
+        PROP => (left(b, i) as usize) < props,
+        NOT | NEXT => left(b, i) < i,
+        AND => (left(b, i) < i) & (right(b, i) < i),
+        DO => (left(b, i) as usize) < actions,
+        GAIN => compares(b, i) & gain_bound(p(b, i), q(b, i)),
+        PLAN => plan_in_range(b, i),
         _ => false,
     }
-}
-
-// Ground 5.
-fn nodes_in_range(b: &[u8], actions: usize, props: usize) -> bool
-    ensures { λ r. ⌜ r ≡ every (spec-layout.node-count (now (b .entry))) (λ i. node-in-range actions props i (node-of (now (b .entry)) i)) ⌝ }
-{
-    let n = node_count(b);
-    let mut i: u8 = 0;
-    while i < n {
-        if !node_in_range(b, i, actions, props) {
-            return false;
-        }
-        i += 1;
-    }
-    true
 }
 
 // Whether the node at a place, which uses the left cell alone, has zeros in the others.
 fn only_left(b: &[u8], at: usize) -> bool
     requires { ⌜ at + 12 ≤ length (now b) ⌝ }
-    ensures { λ r. ⌜ r ≡ (spec-bytes.zeros (now (b .entry)) (at + 1) 1 && spec-bytes.zeros (now (b .entry)) (at + 3) 1 && spec-bytes.zeros (now (b .entry)) (at + 4) 8) ⌝ }
+    ensures { λ r. ⌜ r ≡ (zeros (now (b .entry)) (at + 1) 1 && zeros (now (b .entry)) (at + 3) 1 && zeros (now (b .entry)) (at + 4) 8) ⌝ }
 {
-    blocks::zeros(b, at + 1, 1) && blocks::zeros(b, at + 3, 9)
+    blocks::zeros(b, at + STEPS_AT, 1) & blocks::zeros(b, at + RIGHT_AT, FROM_RIGHT)
 }
 
 // Ground 6 of node i.
@@ -185,41 +224,13 @@ fn node_spare(b: &[u8], i: u8) -> bool
     let at = node_at(i);
     let op = operator(b, i);
     match op {
-        1 => blocks::zeros(b, at + 1, 11),
-        2 | 5 => only_left(b, at),
-        3 | 6 => only_left(b, at),
-        4 => blocks::zeros(b, at + 1, 1) && blocks::zeros(b, at + 4, 8),
-        7 => blocks::zeros(b, at + 2, 1),
+        FALSE => blocks::zeros(b, at + STEPS_AT, FROM_STEPS),
+        PROP | DO => only_left(b, at),
+        NOT | NEXT => only_left(b, at),
+        AND => blocks::zeros(b, at + STEPS_AT, 1) & blocks::zeros(b, at + P_AT, FROM_P),
+        GAIN => blocks::zeros(b, at + LEFT_AT, 1),
         _ => true,
     }
-}
-
-// Ground 6 of all nodes.
-fn nodes_spare(b: &[u8]) -> bool
-    requires { ⌜ (length (now b) ≡ 512) × (spec-layout.node-count (now b) ≤ 40) ⌝ }
-    ensures { λ r. ⌜ r ≡ every (spec-layout.node-count (now (b .entry))) (node-spare (now (b .entry))) ⌝ }
-{
-    let n = node_count(b);
-    let mut i: u8 = 0;
-    while i < n {
-        if !node_spare(b, i) {
-            return false;
-        }
-        i += 1;
-    }
-    true
-}
-
-// Ground 6.
-fn spare_zero(b: &[u8]) -> bool
-    requires { ⌜ (length (now b) ≡ 512) × (spec-layout.node-count (now b) ≤ 40) ⌝ }
-    ensures { λ r. ⌜ r ≡ spare-zero (now (b .entry)) ⌝ }
-{
-    if !blocks::zeros(b, 4, 4) {
-        return false;
-    }
-    let from = node_at(node_count(b));
-    nodes_spare(b) && blocks::zeros(b, from, 510 - from)
 }
 
 fn larger(x: u32, y: u32) -> u32
@@ -233,17 +244,17 @@ fn larger(x: u32, y: u32) -> u32
 
 // How many nodes a table holds: the node count, at most 40.
 fn nodes_held(b: &[u8]) -> u8
-    ensures { λ r. ⌜ r ≡ min (spec-layout.node-count (now (b .entry))) 40 ⌝ }
+    ensures { λ r. ⌜ r ≡ min (node-count (now (b .entry))) 40 ⌝ }
 {
     let n = node_count(b);
-    if n < 40 {
+    if n < NODES as u8 {
         return n;
     }
-    40
+    NODES as u8
 }
 
 // The depth of a child of node i, from the table; 0 for a node that is not before i.
-fn child_depth(depths: &[u32; 40], i: u8, child: u8) -> u32
+fn child_depth(depths: &[u32; NODES], i: u8, child: u8) -> u32
     requires { ⌜ i ≤ 40 ⌝ }
     ensures { λ r. ⌜ r ≡ getD (take i (now (depths .entry))) child 0 ⌝ }
 {
@@ -255,30 +266,30 @@ fn child_depth(depths: &[u32; 40], i: u8, child: u8) -> u32
 }
 
 // The depth of node i, from those of the nodes before it.
-fn node_depth(b: &[u8], depths: &[u32; 40], i: u8) -> u32
+fn node_depth(b: &[u8], depths: &[u32; NODES], i: u8) -> u32
     requires { ⌜ (i < 40) × (now depths ≡ table depth (formulas-before (now b) i)) ⌝ }
     ensures { λ r. ⌜ r ≡ depth (formula-of (formulas-before (now (b .entry)) i) (node-of (now (b .entry)) i)) ⌝ }
 {
     let op = operator(b, i);
     match op {
-        3 => child_depth(depths, i, left(b, i)),
-        4 => larger(
+        NOT => child_depth(depths, i, left(b, i)),
+        AND => larger(
             child_depth(depths, i, left(b, i)),
             child_depth(depths, i, right(b, i)),
         ),
-        5 => 1,
-        6 => child_depth(depths, i, left(b, i)) + 1,
-        7 => steps(b, i) as u32,
+        DO => 1,
+        NEXT => child_depth(depths, i, left(b, i)) + 1,
+        GAIN => steps(b, i) as u32,
         _ => 0,
     }
 }
 
 // The depths of all nodes.
-pub fn depth_table(b: &[u8]) -> [u32; 40]
+pub fn depth_table(b: &[u8]) -> [u32; NODES]
     ensures { λ r. ⌜ r ≡ table depth (formulas-of (now (b .entry))) ⌝ }
 {
     let n = nodes_held(b);
-    let mut depths = [0u32; 40];
+    let mut depths = [0u32; NODES];
     let mut i: u8 = 0;
     while i < n {
         let d = node_depth(b, &depths, i);
@@ -289,102 +300,77 @@ pub fn depth_table(b: &[u8]) -> [u32; 40]
     depths
 }
 
-// Whether a child of node i is a path formula, from the table; false for a node that is not before i.
-fn child_is_path(paths: &[bool; 40], i: u8, child: u8) -> bool
-    requires { ⌜ i ≤ 40 ⌝ }
-    ensures { λ r. ⌜ r ≡ getD (take i (now (paths .entry))) child false ⌝ }
-{
-    if child < i {
-        let at = child as usize;
-        return paths[at];
-    }
-    false
-}
-
-// Whether node i is a path formula, from the table of the nodes before it.
-fn node_is_path(b: &[u8], paths: &[bool; 40], i: u8) -> bool
-    requires { ⌜ (i < 40) × (now paths ≡ table is-path (formulas-before (now b) i)) ⌝ }
-    ensures { λ r. ⌜ r ≡ is-path (formula-of (formulas-before (now (b .entry)) i) (node-of (now (b .entry)) i)) ⌝ }
-{
-    let op = operator(b, i);
-    match op {
-        3 => child_is_path(paths, i, left(b, i)),
-        4 => child_is_path(paths, i, left(b, i)) || child_is_path(paths, i, right(b, i)),
-        5 => true,
-        6 => true,
-        7 => true,
-        _ => false,
-    }
-}
-
-// Which nodes are path formulas.
-pub fn path_table(b: &[u8]) -> [bool; 40]
-    ensures { λ r. ⌜ r ≡ table is-path (formulas-of (now (b .entry))) ⌝ }
-{
-    let n = nodes_held(b);
-    let mut paths = [false; 40];
-    let mut i: u8 = 0;
-    while i < n {
-        let x = node_is_path(b, &paths, i);
-        let at = i as usize;
-        paths[at] = x;
-        i += 1;
-    }
-    paths
-}
-
 // Ground 9 of node i: a "plan" has no child too deep.
-fn node_shallow(b: &[u8], depths: &[u32; 40], i: u8) -> bool
-    requires { ⌜ (i < spec-layout.node-count (now b)) × (i < 40) × (now depths ≡ table depth (formulas-of (now b))) ⌝ }
+fn node_shallow(b: &[u8], depths: &[u32; NODES], i: u8) -> bool
+    requires { ⌜ (i < node-count (now b)) × (i < 40) × (now depths ≡ table depth (formulas-of (now b))) ⌝ }
     ensures { λ r. ⌜ r ≡ shallow (getD (formulas-of (now (b .entry))) i never) ⌝ }
 {
     let op = operator(b, i);
     match op {
-        8 => child_depth(depths, i, left(b, i)) <= steps(b, i) as u32,
+        PLAN => child_depth(depths, i, left(b, i)) <= steps(b, i) as u32,
         _ => true,
     }
 }
 
-// Ground 9 of all nodes.
-fn nodes_shallow(b: &[u8]) -> bool
-    requires { ⌜ spec-layout.node-count (now b) ≤ 40 ⌝ }
-    ensures { λ r. ⌜ r ≡ all shallow (formulas-of (now (b .entry))) ⌝ }
+// What ground 5, 6 or 9 asks of node i, for a model of so many actions and propositions.
+fn node_passes(
+    b: &[u8],
+    ground: u32,
+    i: u8,
+    actions: usize,
+    props: usize,
+    depths: &[u32; NODES],
+) -> bool
+    requires { ⌜ (i < node-count (now b)) × Nodes (now b) (now depths) ⌝ }
+    ensures { λ r. ⌜ r ≡ passes ground actions props (now (b .entry)) i ⌝ }
+{
+    match ground {
+        5 => node_in_range(b, i, actions, props),
+        6 => node_spare(b, i),
+        _ => node_shallow(b, depths, i),
+    }
+}
+
+// Whether every node passes.
+fn nodes_pass(b: &[u8], ground: u32, actions: usize, props: usize, depths: &[u32; NODES]) -> bool
+    requires { ⌜ Nodes (now b) (now depths) ⌝ }
+    ensures { λ r. ⌜ r ≡ every (node-count (now (b .entry))) (passes ground actions props (now (b .entry))) ⌝ }
 {
     let n = node_count(b);
-    let depths = depth_table(b);
+    let mut right = true;
     let mut i: u8 = 0;
     while i < n {
-        if !node_shallow(b, &depths, i) {
-            return false;
-        }
+        right = right & node_passes(b, ground, i, actions, props, depths);
         i += 1;
     }
-    true
+    right
 }
 
-// Whether the root, the last node, is a path formula.
-fn root_is_path(b: &[u8]) -> bool
-    requires { ⌜ (1 ≤ spec-layout.node-count (now b)) × (spec-layout.node-count (now b) ≤ 40) ⌝ }
-    ensures { λ r. ⌜ r ≡ is-path (question-of (now (b .entry)) .root) ⌝ }
+// Ground 6: of the nodes, and of the bytes before and after them.
+fn spare_zero(b: &[u8], actions: usize, props: usize, depths: &[u32; NODES]) -> bool
+    requires { ⌜ Nodes (now b) (now depths) ⌝ }
+    ensures { λ r. ⌜ r ≡ spare-zero (now (b .entry)) ⌝ }
 {
-    let root = node_count(b) as usize - 1;
-    let paths = path_table(b);
-    paths[root]
+    let end = node_at(node_count(b));
+    blocks::zeros(b, SPARE_AT, SPARE_SIZE)
+        & nodes_pass(b, 6, actions, props, depths)
+        & blocks::zeros(b, end, blocks::LAST_WORD - end)
 }
 
-// Ground 9.
-fn formed(b: &[u8]) -> bool
-    requires { ⌜ (1 ≤ spec-layout.node-count (now b)) × (spec-layout.node-count (now b) ≤ 40) ⌝ }
+// Ground 9. By ground 5 "gain" has a step, so that the path formulas are those of some depth.
+fn formed(b: &[u8], actions: usize, props: usize, depths: &[u32; NODES]) -> bool
+    requires { ⌜ Nodes (now b) (now depths) × (every (node-count (now b)) (passes 5 actions props (now b)) ≡ true) ⌝ }
     ensures { λ r. ⌜ r ≡ spec.formed (question-of (now (b .entry))) ⌝ }
 {
-    !root_is_path(b) && nodes_shallow(b)
+    let root = node_count(b) as usize - 1;
+    (depths[root] == 0) & nodes_pass(b, 9, actions, props, depths)
 }
 
 // Ground 4.
 fn counts_right(b: &[u8], states: usize) -> bool
-    ensures { λ r. ⌜ r ≡ (ltb (start-of (now (b .entry))) states && spec-bytes.within 1 40 (spec-layout.node-count (now (b .entry)))) ⌝ }
+    ensures { λ r. ⌜ r ≡ (ltb (start-of (now (b .entry))) states && within 1 40 (node-count (now (b .entry)))) ⌝ }
 {
-    (start(b) as usize) < states && blocks::within(1, 40, node_count(b) as usize)
+    ((start(b) as usize) < states) & blocks::within(1, NODES, node_count(b) as usize)
 }
 
 // The first ground on which the question's bytes are refused, for a model of so many states, actions and propositions; 0 for none.
@@ -397,19 +383,20 @@ pub fn question_refusal(b: &[u8], states: usize, actions: usize, props: usize) -
     if !blocks::sums_right(b) {
         return 2;
     }
-    if !blocks::headed(b, 0, 3, 0) {
+    if !blocks::headed(b, 0, blocks::QUESTION, 0) {
         return 3;
     }
     if !counts_right(b, states) {
         return 4;
     }
-    if !nodes_in_range(b, actions, props) {
+    let depths = depth_table(b);
+    if !nodes_pass(b, 5, actions, props, &depths) {
         return 5;
     }
-    if !spare_zero(b) {
+    if !spare_zero(b, actions, props, &depths) {
         return 6;
     }
-    if !formed(b) {
+    if !formed(b, actions, props, &depths) {
         return 9;
     }
     0

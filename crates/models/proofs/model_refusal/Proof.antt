@@ -1,100 +1,118 @@
 -- At each return the tests made so far decide the chain of grounds: those before passed, and the last failed. What a test requires follows from the grounds passed before it.
-use mathlib.Core.Path.{_≡_, refl, sym}
-use mathlib.Core.Bool.{true, _&&_}
-use Rattle.blocks.specs.Block.{whole-blocks, sums-right}
-use Rattle.models.specs.Grounds.{kinds-right, sizes-right, fields-right, head-spare, rows-spare, cells-spare, consistent, no-dead-ends, read-model}
-use Rattle.models.proofs.EveryCell.{passed, failed, sizes, sized}
+use Prim.Native.Nat.{ℕ, _<_}
+use native.Mathlib.Omega.{arith}
+use mathlib.Core.Path.{_≡_, sym, _∙_}
+use mathlib.Core.Bool.{true}
+use lib.ListN.{drop}
+use Rattle.logic.specs.Checked.{Checked}
+use Rattle.logic.specs.Grounds.{decided}
+use Rattle.logic.specs.Model.{Model}
+use Rattle.logic.specs.promises.Refusal.{refusal}
+use Rattle.blocks.specs.Bytes.{Bytes}
+use Rattle.blocks.specs.Block.{whole-blocks}
+use Rattle.blocks.proofs.GroundByGround.{passed, goes-on, stops}
+use Rattle.models.specs.Layout.{model-of}
+use Rattle.models.specs.Grounds.{fields-right, model-grounds, read-model}
+use Rattle.models.specs.promises.Passes.{Earlier}
 use Rattle.models.proofs.model_refusal.Statement.{statement}
 use Rattle.models.proofs.model_refusal.Tie as tie
 
--- Past a test, the test holds.
-passed-1 : (c : tie.Else1) → whole-blocks 2 12 (c .before .before .before .args .b .now) ≡ true
-passed-1 c = passed (c .before .whole-blocks .ensures) (c .if1 .left)
+-- The grounds after the first k.
+abbrev rest : Bytes → ℕ → Checked Model
+rest b k = decided (drop k (model-grounds b)) (model-of b)
 
-passed-2 : (c : tie.Else2) → sums-right (c .before .before .before .before .before .args .b .now) ≡ true
-passed-2 c = passed (c .before .sums-right .ensures) (c .if2 .left)
+-- Past a test, the refusal is that of the grounds after it.
 
-passed-3 : (c : tie.Else3) → kinds-right (c .before .before .before .before .before .before .before .args .b .now) ≡ true
-passed-3 c = passed (c .before .kinds-right .ensures) (c .if3 .left)
+rest-1 : (c : tie.Else1) → let b = c .before .before .before .args .b .now in refusal (read-model b) ≡ refusal (rest b 1)
+unfolding read-model
+rest-1 c = goes-on (c .before .whole-blocks .ensures) 1 (rest (c .before .before .before .args .b .now) 1) (c .if1 .left)
 
-passed-4 : (c : tie.Else4) → sizes-right (c .before .before .before .before .before .before .before .before .before .args .b .now) ≡ true
-passed-4 c = passed (c .before .sizes-right .ensures) (c .if4 .left)
+rest-2 : (c : tie.Else2) → let b = c .before .before .before .before .before .args .b .now in refusal (read-model b) ≡ refusal (rest b 2)
+rest-2 c = rest-1 (c .before .before) ∙ goes-on (c .before .sums-right .ensures) 2 (rest (c .before .before .before .before .before .args .b .now) 2) (c .if2 .left)
 
-passed-5 : (c : tie.Else5) → fields-right (c .before .before .before .before .before .before .before .before .before .before .before .before .before .args .b .now) ≡ true
-passed-5 c = passed (c .before .fields-right .ensures) (c .if5 .left)
+rest-3 : (c : tie.Else3) → let b = c .before .before .before .before .before .before .before .args .b .now in refusal (read-model b) ≡ refusal (rest b 3)
+rest-3 c = rest-2 (c .before .before) ∙ goes-on (c .before .kinds-right .ensures) 3 (rest (c .before .before .before .before .before .before .before .args .b .now) 3) (c .if3 .left)
 
-passed-6 : (c : tie.Else6) → (head-spare (c .before .before .before .before .before .before .before .before .before .before .before .before .before .before .before .before .args .b .now) && rows-spare (c .before .before .before .before .before .before .before .before .before .before .before .before .before .before .before .before .args .b .now) && cells-spare (c .before .before .before .before .before .before .before .before .before .before .before .before .before .before .before .before .args .b .now)) ≡ true
-passed-6 c = passed (c .before .spare-zero .ensures) (c .if6 .left)
+rest-4 : (c : tie.Else4) → let b = c .before .before .before .before .before .before .before .before .before .args .b .now in refusal (read-model b) ≡ refusal (rest b 4)
+rest-4 c = rest-3 (c .before .before) ∙ goes-on (c .before .sizes-right .ensures) 4 (rest (c .before .before .before .before .before .before .before .before .before .args .b .now) 4) (c .if4 .left)
 
-passed-7 : (c : tie.Else7) → consistent (c .before .before .before .before .before .before .before .before .before .before .before .before .before .before .before .before .before .before .before .args .b .now) ≡ true
-passed-7 c = passed (c .before .consistent .ensures) (c .if7 .left)
+rest-5 : (c : tie.Else5) → let b = c .before .before .before .before .before .before .before .before .before .before .before .before .before .args .b .now in refusal (read-model b) ≡ refusal (rest b 5)
+rest-5 c = rest-4 (c .before .before .before .before) ∙ goes-on (c .before .fields-right .ensures) 5 (rest (c .before .before .before .before .before .before .before .before .before .before .before .before .before .args .b .now) 5) (c .if5 .left)
 
-passed-8 : (c : tie.Else8) → no-dead-ends (c .before .before .before .before .before .before .before .before .before .before .before .before .before .before .before .before .before .before .before .before .before .args .b .now) ≡ true
-passed-8 c = passed (c .before .no-dead-ends .ensures) (c .if8 .left)
+rest-6 : (c : tie.Else6) → let b = c .before .before .before .before .before .before .before .before .before .before .before .before .before .before .before .before .args .b .now in refusal (read-model b) ≡ refusal (rest b 6)
+rest-6 c = rest-5 (c .before .before .before) ∙ goes-on (c .before .spare-zero .ensures) 6 (rest (c .before .before .before .before .before .before .before .before .before .before .before .before .before .before .before .before .args .b .now) 6) (c .if6 .left)
+
+rest-7 : (c : tie.Else7) → let b = c .before .before .before .before .before .before .before .before .before .before .before .before .before .before .before .before .before .before .before .args .b .now in refusal (read-model b) ≡ refusal (rest b 7)
+rest-7 c = rest-6 (c .before .before .before) ∙ goes-on (c .before .consistent .ensures) 7 (rest (c .before .before .before .before .before .before .before .before .before .before .before .before .before .before .before .before .before .before .before .args .b .now) 7) (c .if7 .left)
+
+rest-8 : (c : tie.Else8) → let b = c .before .before .before .before .before .before .before .before .before .before .before .before .before .before .before .before .before .before .before .before .before .args .b .now in refusal (read-model b) ≡ refusal (rest b 8)
+rest-8 c = rest-7 (c .before .before) ∙ goes-on (c .before .no-dead-ends .ensures) 8 (rest (c .before .before .before .before .before .before .before .before .before .before .before .before .before .before .before .before .before .before .before .before .before .args .b .now) 8) (c .if8 .left)
+
+-- What the tests of grounds 5 to 7 are handed.
+
+whole : (c : tie.Else1) → whole-blocks 2 12 (c .before .before .before .args .b .now) ≡ true
+whole c = passed (c .before .whole-blocks .ensures) (c .if1 .left)
+
+earlier : (g : ℕ) (c : tie.Else4) → let b = c .before .before .before .before .before .before .before .before .before .args .b .now in (5 < g → fields-right b ≡ true) → Earlier g b
+earlier g c f = record { whole = whole (c .before .before .before .before .before .before); sizes = passed (c .before .sizes-right .ensures) (c .if4 .left); fields = f }
+
+fields : (c : tie.Else5) → fields-right (c .before .before .before .before .before .before .before .before .before .before .before .before .before .args .b .now) ≡ true
+fields c = passed (c .before .fields-right .ensures) (c .if5 .left)
 
 whole-blocks-requires : tie.Need-whole-blocks-requires
 whole-blocks-requires c κs = tt
 
 returns : tie.Need-returns
 unfolding read-model
-returns c = sym (rw (failed (c .before .whole-blocks .ensures) (c .if1 .taken)) refl)
+returns c = stops (c .before .whole-blocks .ensures) 1 (rest (c .before .before .before .args .b .now) 1) (c .if1 .taken)
 
 sums-right-requires : tie.Need-sums-right-requires
 sums-right-requires c κs = tt
 
 returns-2 : tie.Need-returns-2
-unfolding read-model
-returns-2 c = sym (rw (passed-1 (c .before .before), failed (c .before .sums-right .ensures) (c .if2 .taken)) refl)
+returns-2 c = stops (c .before .sums-right .ensures) 2 (rest (c .before .before .before .before .before .args .b .now) 2) (c .if2 .taken) ∙ sym (rest-1 (c .before .before))
 
 kinds-right-requires : tie.Need-kinds-right-requires
-kinds-right-requires c κs = passed-1 (c .before .before)
+kinds-right-requires c κs = whole (c .before .before)
 
 returns-3 : tie.Need-returns-3
-unfolding read-model
-returns-3 c = sym (rw (passed-1 (c .before .before .before .before), passed-2 (c .before .before), failed (c .before .kinds-right .ensures) (c .if3 .taken)) refl)
+returns-3 c = stops (c .before .kinds-right .ensures) 3 (rest (c .before .before .before .before .before .before .before .args .b .now) 3) (c .if3 .taken) ∙ sym (rest-2 (c .before .before))
 
 sizes-right-requires : tie.Need-sizes-right-requires
 sizes-right-requires c κs = tt
 
 returns-4 : tie.Need-returns-4
-unfolding read-model
-returns-4 c = sym (rw (passed-1 (c .before .before .before .before .before .before), passed-2 (c .before .before .before .before), passed-3 (c .before .before), failed (c .before .sizes-right .ensures) (c .if4 .taken)) refl)
+returns-4 c = stops (c .before .sizes-right .ensures) 4 (rest (c .before .before .before .before .before .before .before .before .before .args .b .now) 4) (c .if4 .taken) ∙ sym (rest-3 (c .before .before))
 
 used-entries-requires : tie.Need-used-entries-requires
 used-entries-requires c κs = tt
 
 fields-right-requires : tie.Need-fields-right-requires
-fields-right-requires c κs = (passed-4 (c .before .before), c .before .used-entries .ensures)
+fields-right-requires c κs = (earlier 5 (c .before .before) (λ h. absurd (omega arith)), c .before .used-entries .ensures)
 
 returns-5 : tie.Need-returns-5
-unfolding read-model
-returns-5 c = sym (rw (passed-1 (c .before .before .before .before .before .before .before .before .before .before), passed-2 (c .before .before .before .before .before .before .before .before), passed-3 (c .before .before .before .before .before .before), passed-4 (c .before .before .before .before), failed (c .before .fields-right .ensures) (c .if5 .taken)) refl)
+returns-5 c = stops (c .before .fields-right .ensures) 5 (rest (c .before .before .before .before .before .before .before .before .before .before .before .before .before .args .b .now) 5) (c .if5 .taken) ∙ sym (rest-4 (c .before .before .before .before))
 
 spare-zero-requires : tie.Need-spare-zero-requires
-spare-zero-requires c κs = (sized (c .before .before .before .before .before .before .before .before .before .before .before .before .before .before .args .b .now) (passed-1 (c .before .before .before .before .before .before .before .before .before .before .before)) (passed-4 (c .before .before .before .before .before)) (passed-5 (c .before)), c .before .before .before .before .used-entries .ensures)
+spare-zero-requires c κs = (earlier 6 (c .before .before .before .before .before) (λ h. fields (c .before)), c .before .before .before .before .used-entries .ensures)
 
 returns-6 : tie.Need-returns-6
-unfolding read-model
-returns-6 c = sym (rw (passed-1 (c .before .before .before .before .before .before .before .before .before .before .before .before .before), passed-2 (c .before .before .before .before .before .before .before .before .before .before .before), passed-3 (c .before .before .before .before .before .before .before .before .before), passed-4 (c .before .before .before .before .before .before .before), passed-5 (c .before .before .before), failed (c .before .spare-zero .ensures) (c .if6 .taken)) refl)
+returns-6 c = stops (c .before .spare-zero .ensures) 6 (rest (c .before .before .before .before .before .before .before .before .before .before .before .before .before .before .before .before .args .b .now) 6) (c .if6 .taken) ∙ sym (rest-5 (c .before .before .before))
 
 consistent-requires : tie.Need-consistent-requires
-consistent-requires c κs = let z = sizes (c .before .before .before .before .before .before .before .before .before .before .before .before .before .before .before .before .before .args .b .now) (passed-4 (c .before .before .before .before .before .before .before .before)) in
-    (z .states, z .actions, c .before .before .before .before .before .before .before .used-entries .ensures)
+consistent-requires c κs = (earlier 7 (c .before .before .before .before .before .before .before .before) (λ h. fields (c .before .before .before .before)), c .before .before .before .before .before .before .before .used-entries .ensures)
 
 returns-7 : tie.Need-returns-7
-unfolding read-model
-returns-7 c = sym (rw (passed-1 (c .before .before .before .before .before .before .before .before .before .before .before .before .before .before .before .before), passed-2 (c .before .before .before .before .before .before .before .before .before .before .before .before .before .before), passed-3 (c .before .before .before .before .before .before .before .before .before .before .before .before), passed-4 (c .before .before .before .before .before .before .before .before .before .before), passed-5 (c .before .before .before .before .before .before), passed-6 (c .before .before .before), failed (c .before .consistent .ensures) (c .if7 .taken)) refl)
+returns-7 c = stops (c .before .consistent .ensures) 7 (rest (c .before .before .before .before .before .before .before .before .before .before .before .before .before .before .before .before .before .before .before .args .b .now) 7) (c .if7 .taken) ∙ sym (rest-6 (c .before .before .before))
 
 no-dead-ends-requires : tie.Need-no-dead-ends-requires
 no-dead-ends-requires c κs = tt
 
 returns-8 : tie.Need-returns-8
-unfolding read-model
-returns-8 c = sym (rw (passed-1 (c .before .before .before .before .before .before .before .before .before .before .before .before .before .before .before .before .before .before), passed-2 (c .before .before .before .before .before .before .before .before .before .before .before .before .before .before .before .before), passed-3 (c .before .before .before .before .before .before .before .before .before .before .before .before .before .before), passed-4 (c .before .before .before .before .before .before .before .before .before .before .before .before), passed-5 (c .before .before .before .before .before .before .before .before), passed-6 (c .before .before .before .before .before), passed-7 (c .before .before), failed (c .before .no-dead-ends .ensures) (c .if8 .taken)) refl)
+returns-8 c = stops (c .before .no-dead-ends .ensures) 8 (rest (c .before .before .before .before .before .before .before .before .before .before .before .before .before .before .before .before .before .before .before .before .before .args .b .now) 8) (c .if8 .taken) ∙ sym (rest-7 (c .before .before))
 
 returns-9 : tie.Need-returns-9
-unfolding read-model
-returns-9 c = sym (rw (passed-1 (c .before .before .before .before .before .before .before .before .before .before .before .before .before .before .before .before .before .before), passed-2 (c .before .before .before .before .before .before .before .before .before .before .before .before .before .before .before .before), passed-3 (c .before .before .before .before .before .before .before .before .before .before .before .before .before .before), passed-4 (c .before .before .before .before .before .before .before .before .before .before .before .before), passed-5 (c .before .before .before .before .before .before .before .before), passed-6 (c .before .before .before .before .before), passed-7 (c .before .before), passed-8 (c)) refl)
+returns-9 c = sym (rest-8 c)
 
 pub model-refusal-spec : {M : Type 1} → statement M
 model-refusal-spec =

@@ -5,8 +5,8 @@ use Rattle.models.specs.Grounds.{sizes-right}
 use Rattle.models.proofs.sizes_right.Statement.{statement}
 use Rattle.models.proofs.sizes_right.Tie as tie
 
-wide-requires : tie.Need-wide-requires
-wide-requires c κs = tt
+state-count-requires : tie.Need-state-count-requires
+state-count-requires c κs = tt
 
 add-rows : tie.Need-add-rows
 add-rows c = omega arith
@@ -17,20 +17,20 @@ add-rows-2 c = omega arith
 within-requires : tie.Need-within-requires
 within-requires c κs = tt
 
-wide-requires-2 : tie.Need-wide-requires-2
-wide-requires-2 c κs = tt
+action-count-requires : tie.Need-action-count-requires
+action-count-requires c κs = tt
 
 within-requires-2 : tie.Need-within-requires-2
 within-requires-2 c κs = tt
 
-wide-requires-3 : tie.Need-wide-requires-3
-wide-requires-3 c κs = tt
+prop-count-requires : tie.Need-prop-count-requires
+prop-count-requires c κs = tt
 
 within-requires-3 : tie.Need-within-requires-3
 within-requires-3 c κs = tt
 
-wide-requires-4 : tie.Need-wide-requires-4
-wide-requires-4 c κs = tt
+denominator-requires : tie.Need-denominator-requires
+denominator-requires c κs = tt
 
 within-requires-4 : tie.Need-within-requires-4
 within-requires-4 c κs = tt
@@ -43,14 +43,14 @@ pub sizes-right-spec : {M : Type 1} → statement M
 sizes-right-spec =
     tie.close
     (tie.spec
-    wide-requires
+    state-count-requires
     add-rows
     add-rows-2
     within-requires
-    wide-requires-2
+    action-count-requires
     within-requires-2
-    wide-requires-3
+    prop-count-requires
     within-requires-3
-    wide-requires-4
+    denominator-requires
     within-requires-4
     returns)

@@ -1,9 +1,8 @@
--- The steps are tested and then the relation, as in the definition.
-use mathlib.Core.Path.{_≡_, sym, ap, _∙_}
+-- The steps and the relation are tested, as in the definition.
+use mathlib.Core.Path.{ap, ap₂, _∙_}
+use mathlib.Core.Bool.{_&&_}
 use Rattle.blocks.specs.Bytes.{within}
-use Rattle.questions.specs.Layout.{node-of}
 use Rattle.questions.specs.Grounds.{compares}
-use Rattle.questions.proofs.TableNodeByNode.{both-tests, first-fails}
 use borrow.Author.Needs.{needs}
 use Rattle.questions.proofs.compares.Statement.{statement}
 use Rattle.questions.proofs.compares.Tie as tie
@@ -25,14 +24,7 @@ relation-in-range-requires c κs = search needs
 
 returns : tie.Need-returns
 unfolding compares
-returns c = both-tests (ap (within 1 6) (sym (c .before .before .before .before .steps .ensures)) ∙ sym (c .before .before .before .within .ensures) ∙ c .before .before .if1 .taken) (c .relation-in-range .ensures ∙ ap (within 1 3) (c .before .right .ensures))
-
-returns-2 : tie.Need-returns-2
-unfolding compares
-returns-2 c = let S = c .before .before .before .before in
-    let x = node-of (S .args .b .now) (S .args .i) in
-    let e : c .before .within .result ≡ within 1 6 (x .n) = c .before .within .ensures ∙ ap (within 1 6) (c .before .before .steps .ensures) in
-    first-fails (within 1 3 (x .right)) (sym e ∙ c .if1 .left) e
+returns c = ap₂ _&&_ (c .before .before .within .ensures ∙ ap (within 1 6) (c .before .before .before .steps .ensures)) (c .relation-in-range .ensures ∙ ap (within 1 3) (c .before .right .ensures))
 
 pub compares-spec : {M : Type 1} → statement M
 compares-spec =
@@ -43,5 +35,4 @@ compares-spec =
     within-requires
     right-requires
     relation-in-range-requires
-    returns
-    returns-2)
+    returns)

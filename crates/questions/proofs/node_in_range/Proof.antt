@@ -1,15 +1,13 @@
-use Rattle.questions.proofs.TableNodeByNode.{both-tests, first-fails, other-in-range}
 -- Each arm answers its operator's row of the table; the other numbers have no row.
+use mathlib.Core.Path.{_≡_, refl, sym, ap, ap₂, _∙_}
+use mathlib.Core.Logic.{⊎-elim}
+use mathlib.Core.Bool.{_&&_}
+use lib.Dec.{ltb}
 use mir.Syntax.{w32}
 use mir.Val.{toZ, ofZ}
--- Each arm answers its operator's row of the table; the other numbers have no row.
-use Prim.Native.Nat.{_≤_, _<_}
-use mathlib.Core.Path.{_≡_, refl, sym, ap, ap₂, subst, _∙_}
-use mathlib.Core.Logic.{⊎-elim}
-use lib.Dec.{ltb}
-use borrow.Author.Tests.{lt-ltb, le-ltb}
 use Rattle.questions.specs.Layout.{node-of}
 use Rattle.questions.specs.Grounds.{gain-bound, node-in-range}
+use Rattle.questions.proofs.TableNodeByNode.{other-in-range}
 use borrow.Author.Needs.{needs}
 use Rattle.questions.proofs.node_in_range.Statement.{statement}
 use Rattle.questions.proofs.node_in_range.Tie as tie
@@ -55,21 +53,15 @@ plan-in-range-requires c κs = search needs
 
 returns : tie.Need-returns
 unfolding node-in-range
-returns c = let S = c .before .before .before in
-    let o : node-of (S .args .b .now) (S .args .i) .operator ≡ 1 = sym (c .before .operator .ensures) ∙ c .match .keys1 in
-    rw o refl
+returns c = rw (sym (c .before .operator .ensures) ∙ c .match .keys1) refl
 
 returns-2 : tie.Need-returns-2
 unfolding node-in-range
-returns-2 c = let S = c .before .before .before .before in
-    let o : node-of (S .args .b .now) (S .args .i) .operator ≡ 2 = sym (c .before .before .operator .ensures) ∙ c .before .match .keys2 in
-    rw o (ap (λ k. ltb k (S .args .props)) (c .left .ensures))
+returns-2 c = rw (sym (c .before .before .operator .ensures) ∙ c .before .match .keys2) (ap (λ k. ltb k (c .before .before .before .before .args .props)) (c .left .ensures))
 
 returns-3 : tie.Need-returns-3
 unfolding node-in-range
-returns-3 c = let S = c .before .before .before .before in
-    let e = ap (λ k. ltb k (S .args .i)) (c .left2 .ensures) in
-    let x = node-of (S .args .b .now) (S .args .i) in
+returns-3 c = let e = ap (λ k. ltb k (c .before .before .before .before .args .i)) (c .left2 .ensures) in
     ⊎-elim
     (λ (k : c .before .before .operator .result ≡ 3). rw (sym (c .before .before .operator .ensures) ∙ k) e)
     (λ (k : c .before .before .operator .result ≡ 6). rw (sym (c .before .before .operator .ensures) ∙ k) e)
@@ -77,50 +69,26 @@ returns-3 c = let S = c .before .before .before .before in
 
 returns-4 : tie.Need-returns-4
 unfolding node-in-range
-returns-4 c = let S = c .before .before .before .before .before .before in
-    let o : node-of (S .args .b .now) (S .args .i) .operator ≡ 4 = sym (c .before .before .before .before .operator .ensures) ∙ c .before .before .before .match .keys4 in
-    let i = S .args .i in
-    rw o (both-tests (lt-ltb _ i (subst (λ k. k < i) (c .before .before .left3 .ensures) (c .before .if1 .taken))) (ap (λ k. ltb k i) (c .right .ensures)))
+returns-4 c = let i = c .before .before .before .before .before .args .i in
+    rw (sym (c .before .before .before .operator .ensures) ∙ c .before .before .match .keys4) (ap₂ (λ l r. ltb l i && ltb r i) (c .before .left3 .ensures) (c .right .ensures))
 
 returns-5 : tie.Need-returns-5
 unfolding node-in-range
-returns-5 c = let S = c .before .before .before .before .before in
-    let o : node-of (S .args .b .now) (S .args .i) .operator ≡ 4 = sym (c .before .before .before .operator .ensures) ∙ c .before .before .match .keys4 in
-    let i = S .args .i in
-    let x = node-of (S .args .b .now) i in
-    rw o (first-fails (ltb (x .right) i) (le-ltb _ i (subst (λ k. i ≤ k) (c .before .left3 .ensures) (c .if1 .left))) (ap (λ k. ltb k i) (c .before .left3 .ensures)))
+returns-5 c = rw (sym (c .before .before .operator .ensures) ∙ c .before .match .keys5) (ap (λ k. ltb k (c .before .before .before .before .args .actions)) (c .left4 .ensures))
 
 returns-6 : tie.Need-returns-6
-unfolding node-in-range
-returns-6 c = let S = c .before .before .before .before in
-    let o : node-of (S .args .b .now) (S .args .i) .operator ≡ 5 = sym (c .before .before .operator .ensures) ∙ c .before .match .keys5 in
-    rw o (ap (λ k. ltb k (S .args .actions)) (c .left4 .ensures))
+unfolding node-in-range node-of
+returns-6 c = let z : toZ w32 (ofZ w32 (c .before .before .p .result)) ≡ c .before .before .p .result = search needs in
+    rw (sym (c .before .before .before .before .before .operator .ensures) ∙ c .before .before .before .before .match .keys6) (ap₂ _&&_ (c .before .before .before .compares .ensures) (c .gain-bound .ensures ∙ ap₂ gain-bound (z ∙ c .before .before .p .ensures) (c .before .q .ensures)))
 
 returns-7 : tie.Need-returns-7
 unfolding node-in-range node-of
-returns-7 c = let S = c .before .before .before .before .before .before .before .before in
-    let o : node-of (S .args .b .now) (S .args .i) .operator ≡ 7 = sym (c .before .before .before .before .before .before .operator .ensures) ∙ c .before .before .before .before .before .match .keys6 in
-    let z : toZ w32 (ofZ w32 (c .before .before .p .result)) ≡ c .before .before .p .result = search needs in
-    rw o (both-tests (sym (c .before .before .before .before .compares .ensures) ∙ c .before .before .before .if2 .taken) (c .gain-bound .ensures ∙ ap₂ gain-bound (z ∙ c .before .before .p .ensures) (c .before .q .ensures)))
+returns-7 c = rw (sym (c .before .before .operator .ensures) ∙ c .before .match .keys7) (c .plan-in-range .ensures)
 
 returns-8 : tie.Need-returns-8
-unfolding node-in-range node-of
-returns-8 c = let S = c .before .before .before .before .before in
-    let o : node-of (S .args .b .now) (S .args .i) .operator ≡ 7 = sym (c .before .before .before .operator .ensures) ∙ c .before .before .match .keys6 in
-    let x = node-of (S .args .b .now) (S .args .i) in
-    rw o (first-fails (gain-bound (x .p) (x .q)) (sym (c .before .compares .ensures) ∙ c .if2 .left) (c .before .compares .ensures))
-
-returns-9 : tie.Need-returns-9
-unfolding node-in-range node-of
-returns-9 c = let S = c .before .before .before .before in
-    let o : node-of (S .args .b .now) (S .args .i) .operator ≡ 8 = sym (c .before .before .operator .ensures) ∙ c .before .match .keys7 in
-    rw o (c .plan-in-range .ensures)
-
-returns-10 : tie.Need-returns-10
-returns-10 c = let S = c .before .before .before in
+returns-8 c = let S = c .before .before .before .args in
     let r = c .match .rest in
-    let i = S .args .i in
-    other-in-range (S .args .actions) (S .args .props) i (c .before .operator .result) (node-of (S .args .b .now) i) (sym (c .before .operator .ensures))
+    other-in-range (S .actions) (S .props) (S .i) (c .before .operator .result) (node-of (S .b .now) (S .i)) (sym (c .before .operator .ensures))
     (r .0 .0 .0 .0 .0 .0 .1) (r .0 .0 .0 .0 .0 .1) (r .0 .0 .0 .0 .1) (r .0 .0 .0 .1) (r .0 .0 .1) (r .0 .1) (r .1)
 
 pub node-in-range-spec : {M : Type 1} → statement M
@@ -147,6 +115,4 @@ node-in-range-spec =
     returns-5
     returns-6
     returns-7
-    returns-8
-    returns-9
-    returns-10)
+    returns-8)

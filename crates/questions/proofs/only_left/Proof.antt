@@ -1,5 +1,8 @@
 -- The cells right, p and q stand side by side, so one test of nine bytes is a test of each.
-use mathlib.Core.Path.{sym, _∙_}
+use Prim.Native.Nat.{_+_}
+use mathlib.Core.Path.{ap₂, sym, _∙_}
+use mathlib.Core.Bool.{_&&_, and-assoc}
+use Rattle.blocks.specs.Bytes.{zeros}
 use Rattle.questions.proofs.TableNodeByNode.{spare-right}
 use borrow.Author.Needs.{needs}
 use Rattle.questions.proofs.only_left.Statement.{statement}
@@ -18,12 +21,9 @@ zeros-requires-2 : tie.Need-zeros-requires-2
 zeros-requires-2 c κs = search needs
 
 returns : tie.Need-returns
-returns c = let S = c .before .before .before .before in
-    rw (sym (c .before .before .zeros .ensures) ∙ c .before .if1 .taken) (c .zeros2 .ensures ∙ spare-right (S .args .b .now) (S .args .at))
-
-returns-2 : tie.Need-returns-2
-returns-2 c = rw (sym (c .before .zeros .ensures) ∙ c .if1 .left) (c .if1 .left)
+returns c = let b = c .before .before .before .args .b .now in
+    let at = c .before .before .before .args .at in
+    ap₂ _&&_ (c .before .zeros .ensures) (c .zeros2 .ensures ∙ spare-right b at) ∙ sym (and-assoc (zeros b (at + 1) 1) (zeros b (at + 3) 1) (zeros b (at + 4) 8))
 
 pub only-left-spec : {M : Type 1} → statement M
-only-left-spec =
-    tie.close (tie.spec add-zeros zeros-requires add-zeros-2 zeros-requires-2 returns returns-2)
+only-left-spec = tie.close (tie.spec add-zeros zeros-requires add-zeros-2 zeros-requires-2 returns)

@@ -1,100 +1,114 @@
--- Each return is at the first test that fails; those before it passed, and grounds 1 and 4 are what the later tests ask for.
-use mathlib.Core.Path.{_≡_, refl, sym, _∙_}
-use mathlib.Core.Bool.{true, _&&_}
+-- At each return the tests made so far decide the chain of grounds: those before passed, and the last failed. Grounds 1, 4 and 5 are what the later tests ask for.
+use Prim.Native.Nat.{ℕ}
+use mathlib.Core.Path.{_≡_, sym, _∙_}
+use mathlib.Core.List.{List}
 use lib.Dec.{ltb}
+use lib.ListN.{drop}
 use borrow.Author.Needs.{needs}
-use borrow.Author.Tests.{not-true, not-false}
-use Rattle.logic.specs.Lists.{every}
+use Rattle.logic.specs.Checked.{Checked}
+use Rattle.logic.specs.Grounds.{decided}
+use Rattle.logic.specs.Formula.{depth}
+use Rattle.logic.specs.promises.Refusal.{refusal}
 use Rattle.logic.proofs.Tests.{and-right}
-use Rattle.blocks.specs.Bytes.{within}
-use Rattle.blocks.specs.Block.{whole-blocks, sums-right, headed}
-use Rattle.questions.specs.Layout.{start-of, node-count, node-of, question-of}
-use Rattle.questions.specs.Grounds.{node-in-range, spare-zero, formed, read-question}
+use Rattle.blocks.specs.Bytes.{Bytes, within}
+use Rattle.blocks.proofs.GroundByGround.{passed, goes-on, stops}
+use Rattle.questions.specs.Layout.{Question, start-of, node-count, formulas-of, question-of}
+use Rattle.questions.specs.Grounds.{question-grounds, read-question}
+use Rattle.questions.specs.promises.Tables.{table}
+use Rattle.questions.specs.promises.Passes.{passes, Nodes}
 use Rattle.questions.proofs.TableNodeByNode.{one-block, within-least, within-most}
 use Rattle.questions.proofs.question_refusal.Statement.{statement}
 use Rattle.questions.proofs.question_refusal.Tie as tie
 
--- The grounds, by their numbers, once their tests are passed.
+-- The grounds after the first k, for a model of S states, A actions and N propositions.
+abbrev rest : (S A N : ℕ) → Bytes → ℕ → Checked Question
+rest S A N b k = decided (drop k (question-grounds S A N b)) (question-of b)
 
-one : (c : tie.Else1) → whole-blocks 1 1 (c .before .before .before .args .b .now) ≡ true
-one c = sym (c .before .whole-blocks .ensures) ∙ not-false _ (c .if1 .left)
+-- Past a test, the refusal is that of the grounds after it.
 
-two : (c : tie.Else2) → sums-right (c .before .before .before .before .before .args .b .now) ≡ true
-two c = sym (c .before .sums-right .ensures) ∙ not-false _ (c .if2 .left)
+rest-1 : (c : tie.Else1) → let S = c .before .before .before .args in refusal (read-question (S .states) (S .actions) (S .props) (S .b .now)) ≡ refusal (rest (S .states) (S .actions) (S .props) (S .b .now) 1)
+unfolding read-question
+rest-1 c = let S = c .before .before .before .args in goes-on (c .before .whole-blocks .ensures) 1 (rest (S .states) (S .actions) (S .props) (S .b .now) 1) (c .if1 .left)
 
-three : (c : tie.Else3) → headed (c .before .before .before .before .before .before .before .args .b .now) 0 3 0 ≡ true
-three c = sym (c .before .headed .ensures) ∙ not-false _ (c .if3 .left)
+rest-2 : (c : tie.Else2) → let S = c .before .before .before .before .before .args in refusal (read-question (S .states) (S .actions) (S .props) (S .b .now)) ≡ refusal (rest (S .states) (S .actions) (S .props) (S .b .now) 2)
+rest-2 c = let S = c .before .before .before .before .before .args in rest-1 (c .before .before) ∙ goes-on (c .before .sums-right .ensures) 2 (rest (S .states) (S .actions) (S .props) (S .b .now) 2) (c .if2 .left)
 
-four : (c : tie.Else4) → let S = c .before .before .before .before .before .before .before .before .before in
-    (ltb (start-of (S .args .b .now)) (S .args .states) && within 1 40 (node-count (S .args .b .now))) ≡ true
-four c = sym (c .before .counts-right .ensures) ∙ not-false _ (c .if4 .left)
+rest-3 : (c : tie.Else3) → let S = c .before .before .before .before .before .before .before .args in refusal (read-question (S .states) (S .actions) (S .props) (S .b .now)) ≡ refusal (rest (S .states) (S .actions) (S .props) (S .b .now) 3)
+rest-3 c = let S = c .before .before .before .before .before .before .before .args in rest-2 (c .before .before) ∙ goes-on (c .before .headed .ensures) 3 (rest (S .states) (S .actions) (S .props) (S .b .now) 3) (c .if3 .left)
 
-five : (c : tie.Else5) → let S = c .before .before .before .before .before .before .before .before .before .before .before in
-    every (node-count (S .args .b .now)) (λ i. node-in-range (S .args .actions) (S .args .props) i (node-of (S .args .b .now) i)) ≡ true
-five c = sym (c .before .nodes-in-range .ensures) ∙ not-false _ (c .if5 .left)
+rest-4 : (c : tie.Else4) → let S = c .before .before .before .before .before .before .before .before .before .args in refusal (read-question (S .states) (S .actions) (S .props) (S .b .now)) ≡ refusal (rest (S .states) (S .actions) (S .props) (S .b .now) 4)
+rest-4 c = let S = c .before .before .before .before .before .before .before .before .before .args in rest-3 (c .before .before) ∙ goes-on (c .before .counts-right .ensures) 4 (rest (S .states) (S .actions) (S .props) (S .b .now) 4) (c .if4 .left)
 
-six : (c : tie.Else6) → spare-zero (c .before .before .before .before .before .before .before .before .before .before .before .before .before .args .b .now) ≡ true
-six c = sym (c .before .spare-zero .ensures) ∙ not-false _ (c .if6 .left)
+rest-5 : (c : tie.Else5) → let S = c .before .before .before .before .before .before .before .before .before .before .before .before .before .args in refusal (read-question (S .states) (S .actions) (S .props) (S .b .now)) ≡ refusal (rest (S .states) (S .actions) (S .props) (S .b .now) 5)
+unfolding passes
+rest-5 c = let S = c .before .before .before .before .before .before .before .before .before .before .before .before .before .args in rest-4 (c .before .before .before .before) ∙ goes-on (c .before .nodes-pass .ensures) 5 (rest (S .states) (S .actions) (S .props) (S .b .now) 5) (c .if5 .left)
 
-nine : (c : tie.Else7) → formed (question-of (c .before .before .before .before .before .before .before .before .before .before .before .before .before .before .before .args .b .now)) ≡ true
-nine c = sym (c .before .formed .ensures) ∙ not-false _ (c .if7 .left)
+rest-6 : (c : tie.Else6) → let S = c .before .before .before .before .before .before .before .before .before .before .before .before .before .before .before .before .args in refusal (read-question (S .states) (S .actions) (S .props) (S .b .now)) ≡ refusal (rest (S .states) (S .actions) (S .props) (S .b .now) 6)
+rest-6 c = let S = c .before .before .before .before .before .before .before .before .before .before .before .before .before .before .before .before .args in rest-5 (c .before .before .before) ∙ goes-on (c .before .spare-zero .ensures) 6 (rest (S .states) (S .actions) (S .props) (S .b .now) 6) (c .if6 .left)
+
+rest-7 : (c : tie.Else7) → let S = c .before .before .before .before .before .before .before .before .before .before .before .before .before .before .before .before .before .before .before .args in refusal (read-question (S .states) (S .actions) (S .props) (S .b .now)) ≡ refusal (rest (S .states) (S .actions) (S .props) (S .b .now) 7)
+rest-7 c = let S = c .before .before .before .before .before .before .before .before .before .before .before .before .before .before .before .before .before .before .before .args in rest-6 (c .before .before .before) ∙ goes-on (c .before .formed .ensures) 9 (rest (S .states) (S .actions) (S .props) (S .b .now) 7) (c .if7 .left)
+
+-- What the tests on nodes are handed.
+nodes : (c : tie.Else4) {l : List ℕ} → let b = c .before .before .before .before .before .before .before .before .before .args .b .now in l ≡ table depth (formulas-of b) → Nodes b l
+nodes c e = let S = c .before .before .before .before .before .before .before .before .before .args in
+    let n = and-right (ltb (start-of (S .b .now)) (S .states)) (within 1 40 (node-count (S .b .now))) (passed (c .before .counts-right .ensures) (c .if4 .left)) in
+    record {
+      size = one-block (S .b .now) (passed (c .before .before .before .before .before .before .before .whole-blocks .ensures) (c .before .before .before .before .before .before .if1 .left));
+      some = within-least 1 40 (node-count (S .b .now)) n;
+      few = within-most 1 40 (node-count (S .b .now)) n;
+      held = e;
+    }
 
 whole-blocks-requires : tie.Need-whole-blocks-requires
 whole-blocks-requires c κs = search needs
 
 returns : tie.Need-returns
 unfolding read-question
-returns c = rw (sym (c .before .whole-blocks .ensures) ∙ not-true _ (c .if1 .taken)) refl
+returns c = let S = c .before .before .before .args in stops (c .before .whole-blocks .ensures) 1 (rest (S .states) (S .actions) (S .props) (S .b .now) 1) (c .if1 .taken)
 
 sums-right-requires : tie.Need-sums-right-requires
 sums-right-requires c κs = search needs
 
 returns-2 : tie.Need-returns-2
-unfolding read-question
-returns-2 c = rw (one (c .before .before), sym (c .before .sums-right .ensures) ∙ not-true _ (c .if2 .taken)) refl
+returns-2 c = let S = c .before .before .before .before .before .args in stops (c .before .sums-right .ensures) 2 (rest (S .states) (S .actions) (S .props) (S .b .now) 2) (c .if2 .taken) ∙ sym (rest-1 (c .before .before))
 
 headed-requires : tie.Need-headed-requires
 headed-requires c κs = search needs
 
 returns-3 : tie.Need-returns-3
-unfolding read-question
-returns-3 c = rw (one (c .before .before .before .before), two (c .before .before), sym (c .before .headed .ensures) ∙ not-true _ (c .if3 .taken)) refl
+returns-3 c = let S = c .before .before .before .before .before .before .before .args in stops (c .before .headed .ensures) 3 (rest (S .states) (S .actions) (S .props) (S .b .now) 3) (c .if3 .taken) ∙ sym (rest-2 (c .before .before))
 
 counts-right-requires : tie.Need-counts-right-requires
 counts-right-requires c κs = search needs
 
 returns-4 : tie.Need-returns-4
-unfolding read-question
-returns-4 c = rw (one (c .before .before .before .before .before .before), two (c .before .before .before .before), three (c .before .before), sym (c .before .counts-right .ensures) ∙ not-true _ (c .if4 .taken)) refl
+returns-4 c = let S = c .before .before .before .before .before .before .before .before .before .args in stops (c .before .counts-right .ensures) 4 (rest (S .states) (S .actions) (S .props) (S .b .now) 4) (c .if4 .taken) ∙ sym (rest-3 (c .before .before))
 
-nodes-in-range-requires : tie.Need-nodes-in-range-requires
-nodes-in-range-requires c κs = search needs
+depth-table-requires : tie.Need-depth-table-requires
+depth-table-requires c κs = search needs
+
+nodes-pass-requires : tie.Need-nodes-pass-requires
+nodes-pass-requires c κs = nodes (c .before .before) (c .before .depth-table .ensures)
 
 returns-5 : tie.Need-returns-5
-unfolding read-question
-returns-5 c = rw (one (c .before .before .before .before .before .before .before .before), two (c .before .before .before .before .before .before), three (c .before .before .before .before), four (c .before .before), sym (c .before .nodes-in-range .ensures) ∙ not-true _ (c .if5 .taken)) refl
+unfolding passes
+returns-5 c = let S = c .before .before .before .before .before .before .before .before .before .before .before .before .before .args in stops (c .before .nodes-pass .ensures) 5 (rest (S .states) (S .actions) (S .props) (S .b .now) 5) (c .if5 .taken) ∙ sym (rest-4 (c .before .before .before .before))
 
 spare-zero-requires : tie.Need-spare-zero-requires
-spare-zero-requires c κs = let b = c .before .before .before .before .before .before .before .before .before .before .before .args .b .now in
-    let n : within 1 40 (node-count b) ≡ true = and-right (ltb (start-of b) (c .before .before .before .before .before .before .before .before .before .before .before .args .states)) (within 1 40 (node-count b)) (four (c .before .before)) in
-    (one-block b (one (c .before .before .before .before .before .before .before .before)), within-most 1 40 (node-count b) n)
+spare-zero-requires c κs = nodes (c .before .before .before .before .before) (c .before .before .before .before .depth-table .ensures)
 
 returns-6 : tie.Need-returns-6
-unfolding read-question
-returns-6 c = rw (one (c .before .before .before .before .before .before .before .before .before .before), two (c .before .before .before .before .before .before .before .before), three (c .before .before .before .before .before .before), four (c .before .before .before .before), five (c .before .before), sym (c .before .spare-zero .ensures) ∙ not-true _ (c .if6 .taken)) refl
+returns-6 c = let S = c .before .before .before .before .before .before .before .before .before .before .before .before .before .before .before .before .args in stops (c .before .spare-zero .ensures) 6 (rest (S .states) (S .actions) (S .props) (S .b .now) 6) (c .if6 .taken) ∙ sym (rest-5 (c .before .before .before))
 
 formed-requires : tie.Need-formed-requires
-formed-requires c κs = let b = c .before .before .before .before .before .before .before .before .before .before .before .before .before .args .b .now in
-    let n : within 1 40 (node-count b) ≡ true = and-right (ltb (start-of b) (c .before .before .before .before .before .before .before .before .before .before .before .before .before .args .states)) (within 1 40 (node-count b)) (four (c .before .before .before .before)) in
-    (within-least 1 40 (node-count b) n, within-most 1 40 (node-count b) n)
+formed-requires c κs = (nodes (c .before .before .before .before .before .before .before .before) (c .before .before .before .before .before .before .before .depth-table .ensures), passed (c .before .before .before .before .before .nodes-pass .ensures) (c .before .before .before .before .if5 .left))
 
 returns-7 : tie.Need-returns-7
-unfolding read-question
-returns-7 c = rw (one (c .before .before .before .before .before .before .before .before .before .before .before .before), two (c .before .before .before .before .before .before .before .before .before .before), three (c .before .before .before .before .before .before .before .before), four (c .before .before .before .before .before .before), five (c .before .before .before .before), six (c .before .before), sym (c .before .formed .ensures) ∙ not-true _ (c .if7 .taken)) refl
+returns-7 c = let S = c .before .before .before .before .before .before .before .before .before .before .before .before .before .before .before .before .before .before .before .args in stops (c .before .formed .ensures) 9 (rest (S .states) (S .actions) (S .props) (S .b .now) 7) (c .if7 .taken) ∙ sym (rest-6 (c .before .before .before))
 
 returns-8 : tie.Need-returns-8
-unfolding read-question
-returns-8 c = rw (one (c .before .before .before .before .before .before .before .before .before .before .before .before), two (c .before .before .before .before .before .before .before .before .before .before), three (c .before .before .before .before .before .before .before .before), four (c .before .before .before .before .before .before), five (c .before .before .before .before), six (c .before .before), nine c) refl
+returns-8 c = sym (rest-7 c)
 
 pub question-refusal-spec : {M : Type 1} → statement M
 question-refusal-spec =
@@ -108,7 +122,8 @@ question-refusal-spec =
     returns-3
     counts-right-requires
     returns-4
-    nodes-in-range-requires
+    depth-table-requires
+    nodes-pass-requires
     returns-5
     spare-zero-requires
     returns-6

@@ -1,39 +1,43 @@
--- The three parts are the definition; the sizes bound what they loop over.
-use mathlib.Core.Path.{refl, sym}
-use Rattle.models.specs.Grounds.{fields-right}
-use Rattle.models.proofs.EveryCell.{passed, failed, sizes}
+-- The three parts are the definition; the cells of no action pass.
+use borrow.Author.Needs.{needs}
+use native.Mathlib.Omega.{arith}
+use mathlib.Core.Path.{ap₂}
+use mathlib.Core.Bool.{_&&_}
+use Rattle.models.specs.Grounds.{cell-in-range, fields-right}
+use Rattle.models.specs.promises.Passes.{action-passes, cell-passes}
+use Rattle.models.proofs.EveryCell.{sizes, cells-inside, cells-all, in-range-past}
 use Rattle.models.proofs.fields.fields_right.Statement.{statement}
 use Rattle.models.proofs.fields.fields_right.Tie as tie
 
 masks-in-range-requires : tie.Need-masks-in-range-requires
-masks-in-range-requires c κs = sizes (c .before .args .b .now) (c .before .pre .0) .props
+masks-in-range-requires c κs = let S = c .before in sizes (S .args .b .now) (S .pre .0 .sizes) .props
+
+actions-pass-requires : tie.Need-actions-pass-requires
+actions-pass-requires c κs = search needs
+
+state-count-requires : tie.Need-state-count-requires
+state-count-requires c κs = search needs
+
+mul-cells-pass : tie.Need-mul-cells-pass
+mul-cells-pass c = search needs
+
+cells-pass-requires : tie.Need-cells-pass-requires
+cells-pass-requires c κs = let S = c .before .before .before .before in (S .pre .0, S .pre .1, omega (arith, cells-inside (S .pre .0)))
 
 returns : tie.Need-returns
-unfolding fields-right
-returns c = sym (rw (failed (c .before .masks-in-range .ensures) (c .if1 .taken)) refl)
-
-actions-in-range-requires : tie.Need-actions-in-range-requires
-actions-in-range-requires c κs = sizes (c .before .before .before .args .b .now) (c .before .before .before .pre .0) .props
-
-returns-2 : tie.Need-returns-2
-unfolding fields-right
-returns-2 c = sym (rw (passed (c .before .before .before .masks-in-range .ensures) (c .before .before .if1 .left), failed (c .before .actions-in-range .ensures) (c .if2 .taken)) refl)
-
-outcomes-in-range-requires : tie.Need-outcomes-in-range-requires
-outcomes-in-range-requires c κs = let z = sizes (c .before .before .before .before .before .args .b .now) (c .before .before .before .before .before .pre .0) in
-    (z .states, z .actions, c .before .before .before .before .before .pre .1)
-
-returns-3 : tie.Need-returns-3
-unfolding fields-right
-returns-3 c = sym (rw (passed (c .before .before .before .before .masks-in-range .ensures) (c .before .before .before .if1 .left), passed (c .before .before .actions-in-range .ensures) (c .before .if2 .left)) (sym (c .outcomes-in-range .ensures)))
+unfolding fields-right action-passes cell-passes
+returns c = let S = c .before .before .before .before .before in
+    let b = S .args .b .now in
+    let n = c .before .state-count in
+    ap₂ _&&_ (ap₂ _&&_ (c .before .before .before .masks-in-range .ensures) (c .before .before .actions-pass .ensures)) (cells-all (S .pre .0) (cell-in-range b) (in-range-past b) (n .result) (n .ensures .0) (c .cells-pass .ensures))
 
 pub fields-right-spec : {M : Type 1} → statement M
 fields-right-spec =
     tie.close
     (tie.spec
     masks-in-range-requires
-    returns
-    actions-in-range-requires
-    returns-2
-    outcomes-in-range-requires
-    returns-3)
+    actions-pass-requires
+    state-count-requires
+    mul-cells-pass
+    cells-pass-requires
+    returns)

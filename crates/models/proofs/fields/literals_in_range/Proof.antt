@@ -5,8 +5,8 @@ use Rattle.models.specs.Layout.{literals}
 use Rattle.models.proofs.fields.literals_in_range.Statement.{statement}
 use Rattle.models.proofs.fields.literals_in_range.Tie as tie
 
-wide-requires : tie.Need-wide-requires
-wide-requires c κs = tt
+prop-count-requires : tie.Need-prop-count-requires
+prop-count-requires c κs = tt
 
 u32-at-requires : tie.Need-u32-at-requires
 u32-at-requires c κs = omega arith
@@ -31,7 +31,7 @@ pub literals-in-range-spec : {M : Type 1} → statement M
 literals-in-range-spec =
     tie.close
     (tie.spec
-    wide-requires
+    prop-count-requires
     u32-at-requires
     add-u32-at
     u32-at-requires-2

@@ -16,11 +16,11 @@ Inv-loop b states n right₀ s₀ right s = (s ≤ states) × (right ≡ every s
 abbrev μ-loop : tie.MeasureT-loop
 μ-loop b states n right₀ s₀ right s = states - s
 
-wide-requires : tie.Need-wide-requires Inv-loop μ-loop
-wide-requires c κs = tt
+state-count-requires : tie.Need-state-count-requires Inv-loop μ-loop
+state-count-requires c κs = tt
 
-wide-requires-2 : tie.Need-wide-requires-2 Inv-loop μ-loop
-wide-requires-2 c κs = tt
+prop-count-requires : tie.Need-prop-count-requires Inv-loop μ-loop
+prop-count-requires c κs = tt
 
 loop-holds : tie.Need-loop-holds Inv-loop μ-loop
 unfolding every
@@ -42,7 +42,7 @@ loop-again : tie.Need-loop-again Inv-loop μ-loop
 unfolding mask-in-range
 loop-again c = let b = c .before .before .before .before .before .before .before .args .b .now in
     let L = c .before .before .before .loop in
-    (omega arith, every-more (λ s. mask-in-range b (state-mask b s)) (L .s) (L .inv .1) (c .below-bit .ensures ∙ ap₂ (λ v n. ltb v (2 ^ n)) (c .before .state-mask .ensures) (c .before .before .before .before .wide2 .ensures .0)))
+    (omega arith, every-more (λ s. mask-in-range b (state-mask b s)) (L .s) (L .inv .1) (c .below-bit .ensures ∙ ap₂ (λ v n. ltb v (2 ^ n)) (c .before .state-mask .ensures) (c .before .before .before .before .prop-count .ensures .0)))
 
 returns : tie.Need-returns Inv-loop μ-loop
 returns c = let b = c .before .before .before .before .before .args .b .now in
@@ -56,8 +56,8 @@ masks-in-range-spec =
     (tie.spec
     Inv-loop
     μ-loop
-    wide-requires
-    wide-requires-2
+    state-count-requires
+    prop-count-requires
     loop-holds
     state-mask-requires
     below-bit-requires

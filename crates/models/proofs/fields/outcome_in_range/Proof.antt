@@ -20,8 +20,8 @@ reward-requires c κs = omega arith
 target-requires : tie.Need-target-requires
 target-requires c κs = omega arith
 
-wide-requires : tie.Need-wide-requires
-wide-requires c κs = tt
+state-count-requires : tie.Need-state-count-requires
+state-count-requires c κs = tt
 
 weight-requires : tie.Need-weight-requires
 weight-requires c κs = omega arith
@@ -34,7 +34,7 @@ unfolding outcome-in-range
 returns c = let S = c .before .before .before .before .before .before .args in
     let z = c .before .before .before .before .reward in
     let e : toZ w16 (ofZ w16 (z .result)) ≡ (outcome-of (S .b .now) (S .s) (S .a) (S .i)) .reward = toZ-ofZ w16 (z .result) (record { sfits = z .ok }) ∙ z .ensures in
-    let t = ap₂ ltb (c .before .before .before .target .ensures .0) (c .before .before .wide .ensures .0) in
+    let t = ap₂ ltb (c .before .before .before .target .ensures .0) (c .before .before .state-count .ensures .0) in
     let w = c .within .ensures ∙ ap (within 1 100) (c .before .weight .ensures .0) in
     ap₂ (λ x z. x && leZ (negsuc 999) z && leZ z (pos 1000)) (ap₂ _&&_ t w) e
 
@@ -44,7 +44,7 @@ outcome-in-range-spec =
     (tie.spec
     reward-requires
     target-requires
-    wide-requires
+    state-count-requires
     weight-requires
     within-requires
     returns)

@@ -1,38 +1,32 @@
 -- The two ranges are the definition, at the count that was read.
-use native.Mathlib.Omega.{arith}
+use borrow.Author.Needs.{needs}
 use Rattle.models.specs.Grounds.{action-spare}
 use Rattle.models.proofs.spare.action_spare.Statement.{statement}
 use Rattle.models.proofs.spare.action_spare.Tie as tie
 
-mul-at : tie.Need-mul-at
-mul-at c = omega arith
-
-add-at : tie.Need-add-at
-add-at c = omega arith
-
 post-count-requires : tie.Need-post-count-requires
-post-count-requires c κs = omega arith
+post-count-requires c κs = search needs
 
-mul-used : tie.Need-mul-used
-mul-used c = omega arith
+action-at-requires : tie.Need-action-at-requires
+action-at-requires c κs = search needs
 
 add-zeros : tie.Need-add-zeros
-add-zeros c = omega arith
+add-zeros c = search needs
 
 zeros-requires : tie.Need-zeros-requires
-zeros-requires c κs = omega arith
+zeros-requires c κs = search needs
 
-add-zeros-2 : tie.Need-add-zeros-2
-add-zeros-2 c = omega arith
+post-at-requires : tie.Need-post-at-requires
+post-at-requires c κs = search needs
 
-add-zeros-3 : tie.Need-add-zeros-3
-add-zeros-3 c = omega arith
+mul-zeros : tie.Need-mul-zeros
+mul-zeros c = search needs
 
 sub-zeros : tie.Need-sub-zeros
-sub-zeros c = omega arith
+sub-zeros c = search needs
 
 zeros-requires-2 : tie.Need-zeros-requires-2
-zeros-requires-2 c κs = omega arith
+zeros-requires-2 c κs = search needs
 
 returns : tie.Need-returns
 unfolding action-spare
@@ -42,14 +36,12 @@ pub action-spare-spec : {M : Type 1} → statement M
 action-spare-spec =
     tie.close
     (tie.spec
-    mul-at
-    add-at
     post-count-requires
-    mul-used
+    action-at-requires
     add-zeros
     zeros-requires
-    add-zeros-2
-    add-zeros-3
+    post-at-requires
+    mul-zeros
     sub-zeros
     zeros-requires-2
     returns)

@@ -1,63 +1,62 @@
 -- The four parts are the definition; the sizes put each range inside the head.
+use borrow.Author.Needs.{needs}
 use native.Mathlib.Omega.{arith}
 use Rattle.models.specs.Grounds.{head-spare}
+use Rattle.models.specs.promises.Passes.{action-passes}
+use Rattle.models.proofs.EveryCell.{sizes, blocks-within}
 use Rattle.models.proofs.spare.head_spare.Statement.{statement}
 use Rattle.models.proofs.spare.head_spare.Tie as tie
 
-wide-requires : tie.Need-wide-requires
-wide-requires c κs = tt
+state-count-requires : tie.Need-state-count-requires
+state-count-requires c κs = search needs
 
 mul-masks : tie.Need-mul-masks
-mul-masks c = omega arith
+mul-masks c = search needs
 
-wide-requires-2 : tie.Need-wide-requires-2
-wide-requires-2 c κs = tt
+action-count-requires : tie.Need-action-count-requires
+action-count-requires c κs = search needs
 
-mul-end : tie.Need-mul-end
-mul-end c = omega arith
-
-add-end : tie.Need-add-end
-add-end c = omega arith
+action-at-requires : tie.Need-action-at-requires
+action-at-requires c κs = search needs
 
 zeros-requires : tie.Need-zeros-requires
-zeros-requires c κs = omega arith
+zeros-requires c κs = let S = c .before .before .before .before in let z = sizes (S .args .b .now) (S .pre .sizes) in let l = blocks-within (S .args .b .now) 2 12 (S .pre .whole) in omega arith
 
 add-zeros : tie.Need-add-zeros
-add-zeros c = omega arith
+add-zeros c = search needs
 
 sub-zeros : tie.Need-sub-zeros
-sub-zeros c = omega arith
+sub-zeros c = let S = c .before .before .before .before .before in let z = sizes (S .args .b .now) (S .pre .sizes) in let l = blocks-within (S .args .b .now) 2 12 (S .pre .whole) in omega arith
 
 zeros-requires-2 : tie.Need-zeros-requires-2
-zeros-requires-2 c κs = omega arith
+zeros-requires-2 c κs = let S = c .before .before .before .before .before in let z = sizes (S .args .b .now) (S .pre .sizes) in let l = blocks-within (S .args .b .now) 2 12 (S .pre .whole) in omega arith
 
-actions-spare-requires : tie.Need-actions-spare-requires
-actions-spare-requires c κs = c .before .before .before .before .before .pre
+actions-pass-requires : tie.Need-actions-pass-requires
+actions-pass-requires c κs = search needs
 
 sub-zeros-2 : tie.Need-sub-zeros-2
-sub-zeros-2 c = omega arith
+sub-zeros-2 c = let S = c .before .before .before .before .before .before .before in let z = sizes (S .args .b .now) (S .pre .sizes) in let l = blocks-within (S .args .b .now) 2 12 (S .pre .whole) in omega arith
 
 zeros-requires-3 : tie.Need-zeros-requires-3
-zeros-requires-3 c κs = omega arith
+zeros-requires-3 c κs = let S = c .before .before .before .before .before .before .before in let z = sizes (S .args .b .now) (S .pre .sizes) in let l = blocks-within (S .args .b .now) 2 12 (S .pre .whole) in omega arith
 
 returns : tie.Need-returns
-unfolding head-spare
+unfolding head-spare action-passes
 returns c = cc
 
 pub head-spare-spec : {M : Type 1} → statement M
 head-spare-spec =
     tie.close
     (tie.spec
-    wide-requires
+    state-count-requires
     mul-masks
-    wide-requires-2
-    mul-end
-    add-end
+    action-count-requires
+    action-at-requires
     zeros-requires
     add-zeros
     sub-zeros
     zeros-requires-2
-    actions-spare-requires
+    actions-pass-requires
     sub-zeros-2
     zeros-requires-3
     returns)
