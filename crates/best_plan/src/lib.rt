@@ -35,6 +35,7 @@ use prepared_model::denominator;
 use prepared_model::outcomes;
 use prepared_model::weight;
 use prepared_question::QUESTION;
+use questions::NODES;
 
 // The bytes of a search's stack of choices: at each step the best plan's and the candidate's, which are at most three times a plan's.
 pub const STACK: usize = 4095;
@@ -205,7 +206,7 @@ fn pick_last(
     q: &[u8; QUESTION],
     truth: &[u8; TRUTHS],
     cone: &[u8],
-    late: &[u8; 40],
+    late: &[u8; NODES],
     trail: &[u16; STEPS],
     gains: &[i32; PLACES],
     v: &[u8; VALUES],
@@ -235,7 +236,7 @@ fn pick(
     q: &[u8; QUESTION],
     truth: &[u8; TRUTHS],
     cone: &[u8],
-    late: &[u8; 40],
+    late: &[u8; NODES],
     trail: &mut [u16; STEPS],
     gains: &mut [i32; PLACES],
     v: &mut [u8; VALUES],
@@ -305,7 +306,7 @@ fn walk(
     q: &[u8; QUESTION],
     truth: &[u8; TRUTHS],
     cone: &[u8],
-    late: &[u8; 40],
+    late: &[u8; NODES],
     trail: &mut [u16; STEPS],
     gains: &mut [i32; PLACES],
     v: &mut [u8; VALUES],

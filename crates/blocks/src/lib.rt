@@ -17,13 +17,13 @@ pub const WORDS: usize = 256;
 pub const LAST_WORD: usize = 510;
 
 // The kinds of blocks, in byte 0; a block's number is in byte 1.
-pub const HEAD: usize = 1;
+pub const KIND_HEAD: usize = 1;
 
-pub const ROW: usize = 2;
+pub const KIND_ROW: usize = 2;
 
-pub const QUESTION: usize = 3;
+pub const KIND_QUESTION: usize = 3;
 
-pub const SHEET: usize = 4;
+pub const KIND_SHEET: usize = 4;
 
 pub const NUMBER_AT: usize = 1;
 
@@ -32,7 +32,7 @@ const WORD_VALUES: u32 = 65536;
 
 // The byte at i; 0 past the end.
 pub fn byte(b: &[u8], i: usize) -> u8
-    ensures { λ r. ⌜ r ≡ spec.byte (now (b .entry)) i ⌝ }
+    ensures value { λ r. ⌜ r ≡ spec.byte (now (b .entry)) i ⌝ }
 {
     if i < b.len() {
         return b[i];
@@ -42,7 +42,8 @@ pub fn byte(b: &[u8], i: usize) -> u8
 
 // The same, as a number to count with.
 pub fn wide(b: &[u8], i: usize) -> usize
-    ensures { λ r. ⌜ (r ≡ spec.byte (now (b .entry)) i) × (r < 256) ⌝ }
+    ensures value { λ r. ⌜ r ≡ spec.byte (now (b .entry)) i ⌝ }
+    ensures range { λ r. ⌜ r < 256 ⌝ }
 {
     byte(b, i) as usize
 }
@@ -50,7 +51,8 @@ pub fn wide(b: &[u8], i: usize) -> usize
 // The 16-bit number at i, inside the slice.
 fn pair(b: &[u8], i: usize) -> u32
     requires { ⌜ i + 1 < length (now b) ⌝ }
-    ensures { λ r. ⌜ (r ≡ u16 (now (b .entry)) i) × (r < 65536) ⌝ }
+    ensures value { λ r. ⌜ r ≡ u16 (now (b .entry)) i ⌝ }
+    ensures range { λ r. ⌜ r < 65536 ⌝ }
 {
     b[i] as u32 + 256 * b[i + 1] as u32
 }
@@ -58,7 +60,8 @@ fn pair(b: &[u8], i: usize) -> u32
 // The 16-bit number at i. Inside the slice, here and below, one comparison serves all its bytes.
 pub fn u16_at(b: &[u8], i: usize) -> u32
     requires { ⌜ i < 65544 ⌝ }
-    ensures { λ r. ⌜ (r ≡ u16 (now (b .entry)) i) × (r < 65536) ⌝ }
+    ensures value { λ r. ⌜ r ≡ u16 (now (b .entry)) i ⌝ }
+    ensures range { λ r. ⌜ r < 65536 ⌝ }
 {
     if i + 1 < b.len() {
         return pair(b, i);
@@ -69,7 +72,7 @@ pub fn u16_at(b: &[u8], i: usize) -> u32
 // The 32-bit number at i.
 pub fn u32_at(b: &[u8], i: usize) -> u32
     requires { ⌜ i < 65540 ⌝ }
-    ensures { λ r. ⌜ r ≡ u32 (now (b .entry)) i ⌝ }
+    ensures value { λ r. ⌜ r ≡ u32 (now (b .entry)) i ⌝ }
 {
     if i + 3 < b.len() {
         return pair(b, i) + 65536 * pair(b, i + 2);
@@ -80,7 +83,7 @@ pub fn u32_at(b: &[u8], i: usize) -> u32
 // The 64-bit number at i.
 pub fn u64_at(b: &[u8], i: usize) -> u64
     requires { ⌜ i < 65536 ⌝ }
-    ensures { λ r. ⌜ r ≡ u64 (now (b .entry)) i ⌝ }
+    ensures value { λ r. ⌜ r ≡ u64 (now (b .entry)) i ⌝ }
 {
     u32_at(b, i) as u64 + 4294967296 * u32_at(b, i + 4) as u64
 }
@@ -88,7 +91,7 @@ pub fn u64_at(b: &[u8], i: usize) -> u64
 // The signed number of 16 bits in two's complement.
 pub fn signed16(x: u32) -> i16
     requires { ⌜ x < 65536 ⌝ }
-    ensures { λ r. ⌜ r ≡ signed 15 x ⌝ }
+    ensures value { λ r. ⌜ r ≡ signed 15 x ⌝ }
 {
     if x < 32768 {
         return x as i16;
@@ -99,7 +102,7 @@ pub fn signed16(x: u32) -> i16
 // The signed 16-bit number at i.
 pub fn i16_at(b: &[u8], i: usize) -> i16
     requires { ⌜ i < 65536 ⌝ }
-    ensures { λ r. ⌜ r ≡ i16 (now (b .entry)) i ⌝ }
+    ensures value { λ r. ⌜ r ≡ i16 (now (b .entry)) i ⌝ }
 {
     signed16(u16_at(b, i))
 }
@@ -107,7 +110,7 @@ pub fn i16_at(b: &[u8], i: usize) -> i16
 // The signed 32-bit number at i.
 pub fn i32_at(b: &[u8], i: usize) -> i32
     requires { ⌜ i < 65536 ⌝ }
-    ensures { λ r. ⌜ r ≡ i32 (now (b .entry)) i ⌝ }
+    ensures value { λ r. ⌜ r ≡ i32 (now (b .entry)) i ⌝ }
 {
     let x = u32_at(b, i);
     if x < 2147483648 {
@@ -119,7 +122,7 @@ pub fn i32_at(b: &[u8], i: usize) -> i32
 // Whether the n bytes from a place on are zero. They are summed, so that no byte needs a branch.
 pub fn zeros(b: &[u8], from: usize, n: usize) -> bool
     requires { ⌜ (from + n ≤ length (now b)) × (n < 65536) ⌝ }
-    ensures { λ r. ⌜ r ≡ spec.zeros (now (b .entry)) from n ⌝ }
+    ensures value { λ r. ⌜ r ≡ spec.zeros (now (b .entry)) from n ⌝ }
 {
     let mut sum: u32 = 0;
     let mut i: usize = 0;
@@ -132,7 +135,7 @@ pub fn zeros(b: &[u8], from: usize, n: usize) -> bool
 
 // Whether a number is from `least` to `most`.
 pub fn within(least: usize, most: usize, x: usize) -> bool
-    ensures { λ r. ⌜ r ≡ spec.within least most x ⌝ }
+    ensures value { λ r. ⌜ r ≡ spec.within least most x ⌝ }
 {
     (least <= x) & (x <= most)
 }
@@ -140,7 +143,7 @@ pub fn within(least: usize, most: usize, x: usize) -> bool
 // The sum of the 256 words of block k.
 pub fn word_sum(b: &[u8], k: usize) -> u32
     requires { ⌜ 512 * k + 512 ≤ length (now b) ⌝ }
-    ensures { λ r. ⌜ r ≡ word-sum (now (b .entry)) k ⌝ }
+    ensures value { λ r. ⌜ r ≡ word-sum (now (b .entry)) k ⌝ }
 {
     let at = BLOCK * k;
     let mut sum: u32 = 0;
@@ -155,7 +158,7 @@ pub fn word_sum(b: &[u8], k: usize) -> u32
 
 // Ground 2: whether the words of every block sum to 0 modulo 65,536.
 pub fn sums_right(b: &[u8]) -> bool
-    ensures { λ r. ⌜ r ≡ sums-right (now (b .entry)) ⌝ }
+    ensures value { λ r. ⌜ r ≡ sums-right (now (b .entry)) ⌝ }
 {
     let n = b.len() / BLOCK;
     let mut k: usize = 0;
@@ -170,7 +173,7 @@ pub fn sums_right(b: &[u8]) -> bool
 
 // Ground 1: whether there are from `least` to `most` whole blocks.
 pub fn whole_blocks(b: &[u8], least: usize, most: usize) -> bool
-    ensures { λ r. ⌜ r ≡ whole-blocks least most (now (b .entry)) ⌝ }
+    ensures value { λ r. ⌜ r ≡ whole-blocks least most (now (b .entry)) ⌝ }
 {
     let n = b.len() / BLOCK;
     if b.len() % BLOCK != 0 {
@@ -185,7 +188,7 @@ pub fn whole_blocks(b: &[u8], least: usize, most: usize) -> bool
 // Ground 3 of block k: whether it has this kind and number.
 pub fn headed(b: &[u8], k: usize, kind: usize, number: usize) -> bool
     requires { ⌜ k < 128 ⌝ }
-    ensures { λ r. ⌜ r ≡ spec-block.headed (now (b .entry)) k kind number ⌝ }
+    ensures value { λ r. ⌜ r ≡ spec-block.headed (now (b .entry)) k kind number ⌝ }
 {
     let at = BLOCK * k;
     if wide(b, at) != kind {

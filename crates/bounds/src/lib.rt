@@ -10,6 +10,8 @@ ghost use Rattle.bounds.specs.promises.Bounded.{Bounded, Exactly, meets-
 use prepared_model::MODEL;
 use prepared_model::denominator;
 use prepared_question::QUESTION;
+use questions::EQUAL;
+use questions::LESS;
 
 // The denominator to the number of steps.
 pub fn power(d: usize, k: u8) -> u64
@@ -30,8 +32,8 @@ fn related(kind: u8, a: u64, b: u64) -> bool
     ensures value { λ r. ⌜ r ≡ quantity.related naturals (relation kind) a b ⌝ }
 {
     match kind {
-        1 => a < b,
-        0 | 2 => a == b,
+        LESS => a < b,
+        0 | EQUAL => a == b,
         _ => a > b,
     }
 }

@@ -23,6 +23,13 @@ use prepared_question::depth;
 use prepared_question::left;
 use prepared_question::operator;
 use prepared_question::right;
+use questions::AND;
+use questions::DO;
+use questions::EQUAL;
+use questions::GAIN;
+use questions::LESS;
+use questions::NEXT;
+use questions::NOT;
 
 // The most steps of a path.
 pub const STEPS: usize = 6;
@@ -73,8 +80,8 @@ pub fn related(kind: u8, gain: i64, bound: i64) -> bool
     ensures value { λ r. ⌜ r ≡ quantity.related integers (relation kind) gain bound ⌝ }
 {
     match kind {
-        1 => gain < bound,
-        0 | 2 => gain == bound,
+        LESS => gain < bound,
+        0 | EQUAL => gain == bound,
         _ => gain > bound,
     }
 }
@@ -105,11 +112,11 @@ fn value_by(
 {
     let op = operator(q, j);
     match op {
-        3 => bit(known(v, left(q, j), k) == 0),
-        4 => known(v, left(q, j), k) & known(v, right(q, j), k),
-        5 => bit(trail[k as usize] / 32 == left(q, j) as u16),
-        6 => known(v, left(q, j), k + 1),
-        7 => bit(gained(q, gains, h, k, j)),
+        NOT => bit(known(v, left(q, j), k) == 0),
+        AND => known(v, left(q, j), k) & known(v, right(q, j), k),
+        DO => bit(trail[k as usize] / 32 == left(q, j) as u16),
+        NEXT => known(v, left(q, j), k + 1),
+        GAIN => bit(gained(q, gains, h, k, j)),
         _ => 0,
     }
 }

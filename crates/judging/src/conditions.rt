@@ -16,6 +16,8 @@ use prepared_model::MODEL;
 use prepared_question::DEPTHS;
 use prepared_question::QUESTION;
 use prepared_question::depth;
+use questions::AND;
+use questions::NODES;
 use relevance::cone;
 use relevance::place;
 
@@ -29,7 +31,7 @@ pub struct Peeled {
 fn peel_one(q: &[u8; QUESTION], truth: &[u8; TRUTHS], c: u8, s: u8) -> Peeled
     ensures value { λ r. ⌜ Peels (now (q .entry)) (now (truth .entry)) c s r ⌝ }
 {
-    if questions::operator(q, c) != 4 {
+    if questions::operator(q, c) != AND {
         return Peeled {
             dead: false,
             node: c,
@@ -85,7 +87,7 @@ pub fn searched(
     ensures effect { λ r. ⌜ Searched (now (m .entry)) (now (q .entry)) c s least (now (scratch .exit)) r ⌝ }
 {
     let d = depth(q, c);
-    let mut nodes = [0u8; 40];
+    let mut nodes = [0u8; NODES];
     let k = cone(q, c, &mut nodes);
     find(m, q, truth, &nodes[..k], scratch, s, d, least)
 }

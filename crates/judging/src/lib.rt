@@ -40,6 +40,8 @@ use prepared_question::left;
 use prepared_question::operator;
 use prepared_question::start;
 use prepared_question::steps;
+use questions::NODES;
+use questions::PLAN;
 use relevance::cone;
 use relevance::needed;
 
@@ -137,7 +139,7 @@ fn at_node(
         let choices′ = now (choices .exit) in let m = now (m .entry) in let q = now (q .entry) in let choices = now (choices .entry) in
         ⌜ Announces (verdict (model-in m) s (formula q j)) r choices choices′ ⌝ }
 {
-    if operator(q, j) != 8 {
+    if operator(q, j) != PLAN {
         let x = plain_truth(m, q, truth, j, s);
         return plain(x == 1, 0);
     }
@@ -172,7 +174,7 @@ fn root_weight(m: &[u16; MODEL], q: &[u8; QUESTION], truth: &[u8; TRUTHS], choic
     ensures value { λ r. ⌜ Weighs (model-in (now (m .entry))) (now (q .entry)) (now (choices .entry)) r ⌝ }
 {
     let j = count(q) - 1;
-    let mut nodes = [0u8; 40];
+    let mut nodes = [0u8; NODES];
     let k = cone(q, left(q, j), &mut nodes);
     plan_weight(m, q, truth, &nodes[..k], choices, start(q), steps(q, j))
 }

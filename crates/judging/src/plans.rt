@@ -34,6 +34,7 @@ use prepared_question::asks_less;
 use prepared_question::depth;
 use prepared_question::left;
 use prepared_question::steps;
+use questions::NODES;
 use relevance::cone;
 
 // What deciding a "plan" node in a state came to: whether it is true, the weight of the plan found, its place for "equal" (from 0; the
@@ -130,7 +131,7 @@ fn first(
     }
     let c = left(q, j);
     let d = depth(q, c);
-    let mut nodes = [0u8; 40];
+    let mut nodes = [0u8; NODES];
     let k = cone(q, c, &mut nodes);
     let place = first_equal(m, q, truth, &nodes[..k], counts, s, d, n, total);
     Decision {

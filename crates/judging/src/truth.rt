@@ -26,6 +26,10 @@ use prepared_question::count;
 use prepared_question::left;
 use prepared_question::operator;
 use prepared_question::right;
+use questions::AND;
+use questions::NOT;
+use questions::PLAN;
+use questions::PROP;
 use relevance::place;
 
 // The truth of node j in s, as it was found.
@@ -46,9 +50,9 @@ pub fn plain_truth(m: &[u16; MODEL], q: &[u8; QUESTION], truth: &[u8; TRUTHS], j
 {
     let op = operator(q, j);
     match op {
-        2 => bit(holds(m, s as usize, left(q, j))),
-        3 => bit(found(truth, left(q, j), s) == 0),
-        4 => found(truth, left(q, j), s) & found(truth, right(q, j), s),
+        PROP => bit(holds(m, s as usize, left(q, j))),
+        NOT => bit(found(truth, left(q, j), s) == 0),
+        AND => found(truth, left(q, j), s) & found(truth, right(q, j), s),
         _ => 0,
     }
 }
@@ -71,7 +75,7 @@ fn truth_at(
         ⌜ (depth (formula q j) ≡ 0 → r ≡ value-of (model-in m) (formula q j) s []) ⌝ }
     ensures frame { λ _. ⌜ Remembers (now (m .entry)) (now (q .entry)) (now (memo .exit)) ⌝ }
 {
-    if operator(q, j) == 8 {
+    if operator(q, j) == PLAN {
         return bit(plan_true(m, q, counts, truth, scratch, memo, j, s));
     }
     plain_truth(m, q, truth, j, s)

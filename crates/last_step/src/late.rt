@@ -11,10 +11,14 @@ use prepared_question::depth;
 use prepared_question::left;
 use prepared_question::operator;
 use prepared_question::right;
+use questions::AND;
+use questions::NEXT;
+use questions::NODES;
+use questions::NOT;
 
 // ---- the nodes that matter
 
-fn mark(marks: &mut [u8; 40], j: u8)
+fn mark(marks: &mut [u8; NODES], j: u8)
     requires { ⌜ j < 40 ⌝ }
     ensures frame { λ _. ⌜ now (marks .exit) ≡ set (now (marks .entry)) j 1 ⌝ }
 {
@@ -23,7 +27,7 @@ fn mark(marks: &mut [u8; 40], j: u8)
 }
 
 // Marks a child of a node of depth d, if it looks as far ahead.
-fn mark_level(q: &[u8; QUESTION], marks: &mut [u8; 40], d: u8, child: u8)
+fn mark_level(q: &[u8; QUESTION], marks: &mut [u8; NODES], d: u8, child: u8)
     requires { ⌜ (child < 40) × (length (now marks) ≡ 40) ⌝ }
     ensures frame { λ _.
         let marks′ = now (marks .exit) in let q = now (q .entry) in let marks = now (marks .entry) in
@@ -35,7 +39,7 @@ fn mark_level(q: &[u8; QUESTION], marks: &mut [u8; 40], d: u8, child: u8)
 }
 
 // Marks the children of node j whose values become known with the same step, if j is marked and no state formula.
-fn pass_on(q: &[u8; QUESTION], marks: &mut [u8; 40], j: u8)
+fn pass_on(q: &[u8; QUESTION], marks: &mut [u8; NODES], j: u8)
     requires { ⌜ Placed (now q) j × (length (now marks) ≡ 40) ⌝ }
     ensures frame { λ _.
         let marks′ = now (marks .exit) in let q = now (q .entry) in let marks = now (marks .entry) in
@@ -51,8 +55,8 @@ fn pass_on(q: &[u8; QUESTION], marks: &mut [u8; 40], j: u8)
     }
     let op = operator(q, j);
     match op {
-        3 | 6 => mark(marks, left(q, j)),
-        4 => {
+        NOT | NEXT => mark(marks, left(q, j)),
+        AND => {
             mark_level(q, marks, d, left(q, j));
             mark_level(q, marks, d, right(q, j));
         }
@@ -61,11 +65,11 @@ fn pass_on(q: &[u8; QUESTION], marks: &mut [u8; 40], j: u8)
 }
 
 // Marks from the condition downwards: children stand before their parents.
-pub fn late(q: &[u8; QUESTION], cone: &[u8]) -> [u8; 40]
+pub fn late(q: &[u8; QUESTION], cone: &[u8]) -> [u8; NODES]
     requires { ⌜ Deep (now q) × Cone (now q) (now cone) ⌝ }
     ensures value { λ r. ⌜ Late (now (q .entry)) (now (cone .entry)) r ⌝ }
 {
-    let mut marks = [0u8; 40];
+    let mut marks = [0u8; NODES];
     let root = cone[cone.len() - 1] as usize;
     marks[root] = 1;
     let mut i = cone.len();

@@ -23,9 +23,15 @@ use prepared_question::depth;
 use prepared_question::left;
 use prepared_question::operator;
 use prepared_question::right;
+use questions::AND;
+use questions::DO;
+use questions::GAIN;
+use questions::NEXT;
+use questions::NODES;
+use questions::NOT;
 
 // The word of node j.
-fn mask_at(masks: &[u32; 40], j: u8) -> u32
+fn mask_at(masks: &[u32; NODES], j: u8) -> u32
     requires { ⌜ j < 40 ⌝ }
     ensures value { λ r. ⌜ r ≡ getD (now (masks .entry)) j 0 ⌝ }
 {
@@ -35,7 +41,7 @@ fn mask_at(masks: &[u32; 40], j: u8) -> u32
 
 // The word of a child of "and", at place k. A child that looks as far ahead, d steps, has a word; another has one value for all outcomes, known
 // before the last step.
-fn part(q: &[u8; QUESTION], v: &[u8; VALUES], masks: &[u32; 40], d: u8, k: u8, child: u8) -> u32
+fn part(q: &[u8; QUESTION], v: &[u8; VALUES], masks: &[u32; NODES], d: u8, k: u8, child: u8) -> u32
     requires { ⌜ child < 40 ⌝ }
     ensures value { λ r. ⌜ Part (now (q .entry)) (now (v .entry)) (now (masks .entry)) d k child r ⌝ }
 {
@@ -51,11 +57,11 @@ fn mask_node(
     q: &[u8; QUESTION],
     truth: &[u8; TRUTHS],
     cone: &[u8],
-    late: &[u8; 40],
+    late: &[u8; NODES],
     trail: &[u16; STEPS],
     gains: &[i32; PLACES],
     v: &[u8; VALUES],
-    masks: &[u32; 40],
+    masks: &[u32; NODES],
     at: Place,
     i: usize,
 ) -> u32
@@ -81,14 +87,14 @@ fn mask_node(
     let k = h + 1 - d;
     let op = operator(q, j);
     match op {
-        3 => flipped(mask_at(masks, left(q, j))),
-        4 => met(
+        NOT => flipped(mask_at(masks, left(q, j))),
+        AND => met(
             part(q, v, masks, d, k, left(q, j)),
             part(q, v, masks, d, k, right(q, j)),
         ),
-        5 => done(m, s, left(q, j)),
-        6 => mask_at(masks, left(q, j)),
-        7 => gained(
+        DO => done(m, s, left(q, j)),
+        NEXT => mask_at(masks, left(q, j)),
+        GAIN => gained(
             m,
             s,
             right(q, j),
@@ -106,7 +112,7 @@ pub fn mask(
     q: &[u8; QUESTION],
     truth: &[u8; TRUTHS],
     cone: &[u8],
-    late: &[u8; 40],
+    late: &[u8; NODES],
     trail: &[u16; STEPS],
     gains: &[i32; PLACES],
     v: &[u8; VALUES],
@@ -118,7 +124,7 @@ pub fn mask(
         let m = now (m .entry) in let q = now (q .entry) in let cone = now (cone .entry) in let trail = now (trail .entry) in
         ⌜ Ended m q (at .start) cone (take (at .h) trail) (at .s) r ⌝ }
 {
-    let mut masks = [0u32; 40];
+    let mut masks = [0u32; NODES];
     let mut i: usize = 0;
     while i < cone.len() {
         let j = cone[i] as usize;

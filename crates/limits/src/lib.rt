@@ -20,6 +20,7 @@ use prepared_question::QUESTION;
 use prepared_question::asks_equal;
 use prepared_question::operator;
 use prepared_question::steps;
+use questions::PLAN;
 
 // The numbers of a table of totals: for 0 to 6 steps, from each of 32 states.
 pub const COUNTS: usize = 224;
@@ -154,7 +155,7 @@ fn bounded(q: &[u8; QUESTION], i: u8, plans: bool) -> bool
     requires { ⌜ i < 40 ⌝ }
     ensures value { λ r. ⌜ r ≡ spec.bounded plans (node-of (now (q .entry)) i) ⌝ }
 {
-    if operator(q, i) != 8 {
+    if operator(q, i) != PLAN {
         return false;
     }
     !plans || asks_equal(q, i)

@@ -28,7 +28,7 @@ use blocks::u32_at;
 // Whether the literals at two places contradict.
 fn contradict(b: &[u8], i: usize, j: usize) -> bool
     requires { ⌜ (i < 65536) × (j < 65536) ⌝ }
-    ensures { λ r. ⌜ r ≡ model.contradict (literals (now (b .entry)) i) (literals (now (b .entry)) j) ⌝ }
+    ensures value { λ r. ⌜ r ≡ model.contradict (literals (now (b .entry)) i) (literals (now (b .entry)) j) ⌝ }
 {
     (u32_at(b, i) & u32_at(b, j + NEGATIVE_AT) != 0)
         | (u32_at(b, j) & u32_at(b, i + NEGATIVE_AT) != 0)
@@ -37,7 +37,7 @@ fn contradict(b: &[u8], i: usize, j: usize) -> bool
 // Whether postcondition i of an action contradicts each before it.
 pub fn post_contradicts(b: &[u8], a: usize, i: usize) -> bool
     requires { ⌜ (a < 256) × (i < 256) ⌝ }
-    ensures { λ r. ⌜ r ≡ every i (λ j. model.contradict (post-of (now (b .entry)) a j) (post-of (now (b .entry)) a i)) ⌝ }
+    ensures value { λ r. ⌜ r ≡ every i (λ j. model.contradict (post-of (now (b .entry)) a j) (post-of (now (b .entry)) a i)) ⌝ }
 {
     let mut right = true;
     let mut j: usize = 0;
@@ -51,7 +51,9 @@ pub fn post_contradicts(b: &[u8], a: usize, i: usize) -> bool
 // Whether the target of outcome i of a cell makes its postcondition true.
 pub fn target_true(b: &[u8], s: usize, a: usize, i: usize) -> bool
     requires { ⌜ (s < 256) × (a < 256) × (i < 256) ⌝ }
-    ensures { λ r. ⌜ r ≡ true-of (post-of (now (b .entry)) a i) (state-mask (now (b .entry)) ((outcome-of (now (b .entry)) s a i) .target)) ⌝ }
+    ensures value { λ r.
+        let b = now (b .entry) in
+        ⌜ r ≡ true-of (post-of b a i) (state-mask b ((outcome-of b s a i) .target)) ⌝ }
 {
     holds(b, post_at(a, i), state_mask(b, target(b, s, a, i)))
 }
@@ -59,7 +61,7 @@ pub fn target_true(b: &[u8], s: usize, a: usize, i: usize) -> bool
 // The sum of a cell's first n weights.
 fn weight_sum(b: &[u8], s: usize, a: usize, n: usize) -> usize
     requires { ⌜ (s < 256) × (a < 256) × (n < 256) ⌝ }
-    ensures { λ r. ⌜ r ≡ sum-below n (λ i. (outcome-of (now (b .entry)) s a i) .weight) ⌝ }
+    ensures value { λ r. ⌜ r ≡ sum-below n (λ i. (outcome-of (now (b .entry)) s a i) .weight) ⌝ }
 {
     let mut sum: usize = 0;
     let mut i: usize = 0;
@@ -73,14 +75,14 @@ fn weight_sum(b: &[u8], s: usize, a: usize, n: usize) -> usize
 // A cell with n used outcomes.
 pub fn cell_consistent(b: &[u8], s: usize, a: usize, n: usize) -> bool
     requires { ⌜ (s < 256) × (a < 256) × (n < 256) × (n ≡ entries (now b) s a) ⌝ }
-    ensures { λ r. ⌜ r ≡ cell-consistent (now (b .entry)) s a ⌝ }
+    ensures value { λ r. ⌜ r ≡ cell-consistent (now (b .entry)) s a ⌝ }
 {
     outcomes_pass(b, 7, s, a, n) & ((n == 0) | (weight_sum(b, s, a, n) == denominator(b)))
 }
 
 pub fn consistent(b: &[u8], used: &[u8; CELLS]) -> bool
     requires { ⌜ Earlier 7 (now b) × Used (now b) (now used) ⌝ }
-    ensures { λ r. ⌜ r ≡ grounds.consistent (now (b .entry)) ⌝ }
+    ensures value { λ r. ⌜ r ≡ grounds.consistent (now (b .entry)) ⌝ }
 {
     actions_pass(b, 7) & cells_pass(b, used, 7, ACTIONS * state_count(b))
 }

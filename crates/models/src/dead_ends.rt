@@ -14,7 +14,9 @@ use crate::state_mask;
 // Whether an action is enabled in the state s.
 fn has_choice(b: &[u8], s: usize) -> bool
     requires { ⌜ s < 256 ⌝ }
-    ensures { λ r. ⌜ r ≡ some-below (action-count (now (b .entry))) (λ a. true-of (pre-of (now (b .entry)) a) (state-mask (now (b .entry)) s)) ⌝ }
+    ensures value { λ r.
+        let b = now (b .entry) in
+        ⌜ r ≡ some-below (action-count b) (λ a. true-of (pre-of b a) (state-mask b s)) ⌝ }
 {
     let v = state_mask(b, s);
     let actions = action_count(b);
@@ -28,7 +30,7 @@ fn has_choice(b: &[u8], s: usize) -> bool
 }
 
 pub fn no_dead_ends(b: &[u8]) -> bool
-    ensures { λ r. ⌜ r ≡ no-dead-ends (now (b .entry)) ⌝ }
+    ensures value { λ r. ⌜ r ≡ no-dead-ends (now (b .entry)) ⌝ }
 {
     let states = state_count(b);
     let mut right = true;

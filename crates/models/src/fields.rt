@@ -34,14 +34,14 @@ const MOST_REWARD: i16 = 1000;
 // Whether a mask has no bit from n up.
 fn below_bit(v: u32, n: usize) -> bool
     requires { ⌜ n ≤ 32 ⌝ }
-    ensures { λ r. ⌜ r ≡ ltb v (2 ^ n) ⌝ }
+    ensures value { λ r. ⌜ r ≡ ltb v (2 ^ n) ⌝ }
 {
     (v as u64) >> n == 0
 }
 
 pub fn literals_in_range(b: &[u8], at: usize) -> bool
     requires { ⌜ (at < 65536) × (prop-count (now b) ≤ 32) ⌝ }
-    ensures { λ r. ⌜ r ≡ literals-in-range (now (b .entry)) (literals (now (b .entry)) at) ⌝ }
+    ensures value { λ r. ⌜ r ≡ literals-in-range (now (b .entry)) (literals (now (b .entry)) at) ⌝ }
 {
     let n = prop_count(b);
     let positive = u32_at(b, at);
@@ -52,7 +52,9 @@ pub fn literals_in_range(b: &[u8], at: usize) -> bool
 // The masks of all states.
 fn masks_in_range(b: &[u8]) -> bool
     requires { ⌜ prop-count (now b) ≤ 32 ⌝ }
-    ensures { λ r. ⌜ r ≡ every (state-count (now (b .entry))) (λ s. mask-in-range (now (b .entry)) (state-mask (now (b .entry)) s)) ⌝ }
+    ensures value { λ r.
+        let b = now (b .entry) in
+        ⌜ r ≡ every (state-count b) (λ s. mask-in-range b (state-mask b s)) ⌝ }
 {
     let states = state_count(b);
     let n = prop_count(b);
@@ -67,14 +69,14 @@ fn masks_in_range(b: &[u8]) -> bool
 
 pub fn action_in_range(b: &[u8], a: usize) -> bool
     requires { ⌜ (a < 256) × (prop-count (now b) ≤ 32) ⌝ }
-    ensures { λ r. ⌜ r ≡ action-in-range (now (b .entry)) a ⌝ }
+    ensures value { λ r. ⌜ r ≡ action-in-range (now (b .entry)) a ⌝ }
 {
     literals_in_range(b, action_at(a)) & within(1, POSTS, post_count(b, a)) & posts_pass(b, 5, a)
 }
 
 pub fn outcome_in_range(b: &[u8], s: usize, a: usize, i: usize) -> bool
     requires { ⌜ (s < 256) × (a < 256) × (i < 256) ⌝ }
-    ensures { λ r. ⌜ r ≡ outcome-in-range (now (b .entry)) (outcome-of (now (b .entry)) s a i) ⌝ }
+    ensures value { λ r. ⌜ r ≡ outcome-in-range (now (b .entry)) (outcome-of (now (b .entry)) s a i) ⌝ }
 {
     let gain = reward(b, s, a, i);
     (target(b, s, a, i) < state_count(b))
@@ -85,7 +87,7 @@ pub fn outcome_in_range(b: &[u8], s: usize, a: usize, i: usize) -> bool
 
 pub fn fields_right(b: &[u8], used: &[u8; CELLS]) -> bool
     requires { ⌜ Earlier 5 (now b) × Used (now b) (now used) ⌝ }
-    ensures { λ r. ⌜ r ≡ fields-right (now (b .entry)) ⌝ }
+    ensures value { λ r. ⌜ r ≡ fields-right (now (b .entry)) ⌝ }
 {
     masks_in_range(b) & actions_pass(b, 5) & cells_pass(b, used, 5, ACTIONS * state_count(b))
 }

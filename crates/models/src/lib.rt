@@ -17,7 +17,7 @@ mod passes;
 mod spare;
 
 use blocks::BLOCK;
-use blocks::HEAD;
+use blocks::KIND_HEAD;
 use blocks::headed;
 use blocks::i16_at;
 use blocks::sums_right;
@@ -51,17 +51,17 @@ pub const ROW_CELLS: usize = ROW_STATES * ACTIONS;
 pub const CELLS: usize = ROW_CELLS * (BLOCKS - 1);
 
 // Where the fields of the head stand.
-const STATE_COUNT_AT: usize = 2;
+pub const STATE_COUNT_AT: usize = 2;
 
 const ACTION_COUNT_AT: usize = 3;
 
 const PROP_COUNT_AT: usize = 4;
 
-const DENOMINATOR_AT: usize = 5;
+pub const DENOMINATOR_AT: usize = 5;
 
-const MASKS_AT: usize = 8;
+pub const MASKS_AT: usize = 8;
 
-const MASK_SIZE: usize = 4;
+pub const MASK_SIZE: usize = 4;
 
 const MASKS_SIZE: usize = MASK_SIZE * STATES;
 
@@ -95,26 +95,30 @@ const REWARD_AT: usize = 2;
 
 // How many states a model has.
 pub fn state_count(b: &[u8]) -> usize
-    ensures { λ r. ⌜ (r ≡ state-count (now (b .entry))) × (r < 256) ⌝ }
+    ensures value { λ r. ⌜ r ≡ state-count (now (b .entry)) ⌝ }
+    ensures range { λ r. ⌜ r < 256 ⌝ }
 {
     wide(b, STATE_COUNT_AT)
 }
 
 pub fn action_count(b: &[u8]) -> usize
-    ensures { λ r. ⌜ (r ≡ action-count (now (b .entry))) × (r < 256) ⌝ }
+    ensures value { λ r. ⌜ r ≡ action-count (now (b .entry)) ⌝ }
+    ensures range { λ r. ⌜ r < 256 ⌝ }
 {
     wide(b, ACTION_COUNT_AT)
 }
 
 pub fn prop_count(b: &[u8]) -> usize
-    ensures { λ r. ⌜ (r ≡ prop-count (now (b .entry))) × (r < 256) ⌝ }
+    ensures value { λ r. ⌜ r ≡ prop-count (now (b .entry)) ⌝ }
+    ensures range { λ r. ⌜ r < 256 ⌝ }
 {
     wide(b, PROP_COUNT_AT)
 }
 
 // What the weights of a cell sum to.
 pub fn denominator(b: &[u8]) -> usize
-    ensures { λ r. ⌜ (r ≡ denominator-of (now (b .entry))) × (r < 256) ⌝ }
+    ensures value { λ r. ⌜ r ≡ denominator-of (now (b .entry)) ⌝ }
+    ensures range { λ r. ⌜ r < 256 ⌝ }
 {
     wide(b, DENOMINATOR_AT)
 }
@@ -122,7 +126,7 @@ pub fn denominator(b: &[u8]) -> usize
 // Whether the literals at a place are true of a mask.
 pub fn holds(b: &[u8], at: usize, v: u32) -> bool
     requires { ⌜ at < 65536 ⌝ }
-    ensures { λ r. ⌜ r ≡ true-of (literals (now (b .entry)) at) v ⌝ }
+    ensures value { λ r. ⌜ r ≡ true-of (literals (now (b .entry)) at) v ⌝ }
 {
     let positive = u32_at(b, at);
     let negative = u32_at(b, at + NEGATIVE_AT);
@@ -132,7 +136,7 @@ pub fn holds(b: &[u8], at: usize, v: u32) -> bool
 // The mask of a state.
 pub fn state_mask(b: &[u8], s: usize) -> u32
     requires { ⌜ s < 256 ⌝ }
-    ensures { λ r. ⌜ r ≡ state-mask (now (b .entry)) s ⌝ }
+    ensures value { λ r. ⌜ r ≡ state-mask (now (b .entry)) s ⌝ }
 {
     u32_at(b, MASKS_AT + MASK_SIZE * s)
 }
@@ -140,7 +144,7 @@ pub fn state_mask(b: &[u8], s: usize) -> u32
 // Where an action stands, and first in it its precondition.
 pub fn action_at(a: usize) -> usize
     requires { ⌜ a < 256 ⌝ }
-    ensures { λ r. ⌜ r ≡ action-at a ⌝ }
+    ensures value { λ r. ⌜ r ≡ action-at a ⌝ }
 {
     ACTIONS_AT + ACTION_SIZE * a
 }
@@ -148,7 +152,7 @@ pub fn action_at(a: usize) -> usize
 // Where a postcondition of an action stands.
 pub fn post_at(a: usize, i: usize) -> usize
     requires { ⌜ (a < 256) × (i < 256) ⌝ }
-    ensures { λ r. ⌜ r ≡ action-at a + 12 + 8 * i ⌝ }
+    ensures value { λ r. ⌜ r ≡ action-at a + 12 + 8 * i ⌝ }
 {
     action_at(a) + POSTS_AT + LITERALS_SIZE * i
 }
@@ -156,7 +160,8 @@ pub fn post_at(a: usize, i: usize) -> usize
 // How many postconditions an action has.
 pub fn post_count(b: &[u8], a: usize) -> usize
     requires { ⌜ a < 256 ⌝ }
-    ensures { λ r. ⌜ (r ≡ post-count (now (b .entry)) a) × (r < 256) ⌝ }
+    ensures value { λ r. ⌜ r ≡ post-count (now (b .entry)) a ⌝ }
+    ensures range { λ r. ⌜ r < 256 ⌝ }
 {
     wide(b, action_at(a) + POST_COUNT_AT)
 }
@@ -164,7 +169,8 @@ pub fn post_count(b: &[u8], a: usize) -> usize
 // How many outcomes of a state and an action are used.
 pub fn entries(b: &[u8], s: usize, a: usize) -> usize
     requires { ⌜ (s < 256) × (a < 256) ⌝ }
-    ensures { λ r. ⌜ (r ≡ layout.entries (now (b .entry)) s a) × (r < 256) ⌝ }
+    ensures value { λ r. ⌜ r ≡ layout.entries (now (b .entry)) s a ⌝ }
+    ensures range { λ r. ⌜ r < 256 ⌝ }
 {
     if state_count(b) <= s {
         return 0;
@@ -181,7 +187,8 @@ pub fn entries(b: &[u8], s: usize, a: usize) -> usize
 // Where an outcome stands.
 pub fn outcome_at(s: usize, a: usize, i: usize) -> usize
     requires { ⌜ (s < 256) × (a < 256) × (i < 256) ⌝ }
-    ensures { λ r. ⌜ (r ≡ cell-at s a + 4 * i) × (r < 65000) ⌝ }
+    ensures value { λ r. ⌜ r ≡ cell-at s a + 4 * i ⌝ }
+    ensures range { λ r. ⌜ r < 65000 ⌝ }
 {
     BLOCK * (1 + s / ROW_STATES)
         + CELLS_AT
@@ -192,35 +199,38 @@ pub fn outcome_at(s: usize, a: usize, i: usize) -> usize
 
 pub fn target(b: &[u8], s: usize, a: usize, i: usize) -> usize
     requires { ⌜ (s < 256) × (a < 256) × (i < 256) ⌝ }
-    ensures { λ r. ⌜ (r ≡ (outcome-of (now (b .entry)) s a i) .target) × (r < 256) ⌝ }
+    ensures value { λ r. ⌜ r ≡ (outcome-of (now (b .entry)) s a i) .target ⌝ }
+    ensures range { λ r. ⌜ r < 256 ⌝ }
 {
     wide(b, outcome_at(s, a, i))
 }
 
 pub fn weight(b: &[u8], s: usize, a: usize, i: usize) -> usize
     requires { ⌜ (s < 256) × (a < 256) × (i < 256) ⌝ }
-    ensures { λ r. ⌜ (r ≡ (outcome-of (now (b .entry)) s a i) .weight) × (r < 256) ⌝ }
+    ensures value { λ r. ⌜ r ≡ (outcome-of (now (b .entry)) s a i) .weight ⌝ }
+    ensures range { λ r. ⌜ r < 256 ⌝ }
 {
     wide(b, outcome_at(s, a, i) + WEIGHT_AT)
 }
 
 pub fn reward(b: &[u8], s: usize, a: usize, i: usize) -> i16
     requires { ⌜ (s < 256) × (a < 256) × (i < 256) ⌝ }
-    ensures { λ r. ⌜ r ≡ (outcome-of (now (b .entry)) s a i) .reward ⌝ }
+    ensures value { λ r. ⌜ r ≡ (outcome-of (now (b .entry)) s a i) .reward ⌝ }
 {
     i16_at(b, outcome_at(s, a, i) + REWARD_AT)
 }
 
 // A byte of the table below, as a number to count with.
 fn widened(x: u8) -> usize
-    ensures { λ r. ⌜ (r ≡ x) × (r < 256) ⌝ }
+    ensures value { λ r. ⌜ r ≡ x ⌝ }
+    ensures range { λ r. ⌜ r < 256 ⌝ }
 {
     x as usize
 }
 
 // The number of used outcomes of every cell, 8 to a state.
 fn used_entries(b: &[u8]) -> [u8; CELLS]
-    ensures { λ r. ⌜ Used (now (b .entry)) r ⌝ }
+    ensures value { λ r. ⌜ Used (now (b .entry)) r ⌝ }
 {
     let mut used = [0u8; CELLS];
     let mut k: usize = 0;
@@ -234,14 +244,14 @@ fn used_entries(b: &[u8]) -> [u8; CELLS]
 // Ground 3: of the head, and of the row blocks.
 fn kinds_right(b: &[u8]) -> bool
     requires { ⌜ whole-blocks 2 12 (now b) ≡ true ⌝ }
-    ensures { λ r. ⌜ r ≡ kinds-right (now (b .entry)) ⌝ }
+    ensures value { λ r. ⌜ r ≡ kinds-right (now (b .entry)) ⌝ }
 {
-    headed(b, 0, HEAD, 0) & passes::rows_pass(b, 3)
+    headed(b, 0, KIND_HEAD, 0) & passes::rows_pass(b, 3)
 }
 
 // Ground 4.
 fn sizes_right(b: &[u8]) -> bool
-    ensures { λ r. ⌜ r ≡ sizes-right (now (b .entry)) ⌝ }
+    ensures value { λ r. ⌜ r ≡ sizes-right (now (b .entry)) ⌝ }
 {
     let s = state_count(b);
     let rows = b.len() / BLOCK == 1 + (s + 2) / ROW_STATES;
@@ -254,7 +264,7 @@ fn sizes_right(b: &[u8]) -> bool
 
 // The number of the first ground on which a model is refused; 0 where there is none.
 pub fn model_refusal(b: &[u8]) -> u32
-    ensures { λ r. ⌜ r ≡ refusal (read-model (now (b .entry))) ⌝ }
+    ensures value { λ r. ⌜ r ≡ refusal (read-model (now (b .entry))) ⌝ }
 {
     if !whole_blocks(b, LEAST_BLOCKS, BLOCKS) {
         return 1;

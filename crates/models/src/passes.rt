@@ -23,16 +23,16 @@ use crate::spare::cell_spare;
 use crate::spare::row_spare;
 use crate::widened;
 use blocks::BLOCK;
-use blocks::ROW;
+use blocks::KIND_ROW;
 use blocks::headed;
 
 // Ground 3 or 6 of row block k + 1.
 fn row_passes(b: &[u8], ground: u32, k: usize) -> bool
     requires { ⌜ (whole-blocks 2 12 (now b) ≡ true) × (k < block-count (now b) - 1) ⌝ }
-    ensures { λ r. ⌜ r ≡ row-passes ground (now (b .entry)) k ⌝ }
+    ensures value { λ r. ⌜ r ≡ row-passes ground (now (b .entry)) k ⌝ }
 {
     match ground {
-        3 => headed(b, k + 1, ROW, k + 1),
+        3 => headed(b, k + 1, KIND_ROW, k + 1),
         _ => row_spare(b, k + 1),
     }
 }
@@ -40,7 +40,7 @@ fn row_passes(b: &[u8], ground: u32, k: usize) -> bool
 // Whether every row block passes.
 pub fn rows_pass(b: &[u8], ground: u32) -> bool
     requires { ⌜ whole-blocks 2 12 (now b) ≡ true ⌝ }
-    ensures { λ r. ⌜ r ≡ every (block-count (now (b .entry)) - 1) (row-passes ground (now (b .entry))) ⌝ }
+    ensures value { λ r. ⌜ r ≡ every (block-count (now (b .entry)) - 1) (row-passes ground (now (b .entry))) ⌝ }
 {
     let rows = b.len() / BLOCK - 1;
     let mut right = true;
@@ -55,7 +55,7 @@ pub fn rows_pass(b: &[u8], ground: u32) -> bool
 // Ground 5 or 7 of postcondition i of an action.
 fn post_passes(b: &[u8], ground: u32, a: usize, i: usize) -> bool
     requires { ⌜ (a < 256) × (i < 256) × (prop-count (now b) ≤ 32) ⌝ }
-    ensures { λ r. ⌜ r ≡ post-passes ground (now (b .entry)) a i ⌝ }
+    ensures value { λ r. ⌜ r ≡ post-passes ground (now (b .entry)) a i ⌝ }
 {
     match ground {
         5 => literals_in_range(b, post_at(a, i)),
@@ -66,7 +66,7 @@ fn post_passes(b: &[u8], ground: u32, a: usize, i: usize) -> bool
 // Whether every postcondition of an action passes.
 pub fn posts_pass(b: &[u8], ground: u32, a: usize) -> bool
     requires { ⌜ (a < 256) × (prop-count (now b) ≤ 32) ⌝ }
-    ensures { λ r. ⌜ r ≡ every (post-count (now (b .entry)) a) (post-passes ground (now (b .entry)) a) ⌝ }
+    ensures value { λ r. ⌜ r ≡ every (post-count (now (b .entry)) a) (post-passes ground (now (b .entry)) a) ⌝ }
 {
     let n = post_count(b, a);
     let mut right = true;
@@ -81,7 +81,7 @@ pub fn posts_pass(b: &[u8], ground: u32, a: usize) -> bool
 // Ground 5, 6 or 7 of an action.
 fn action_passes(b: &[u8], ground: u32, a: usize) -> bool
     requires { ⌜ Earlier ground (now b) × (a < action-count (now b)) ⌝ }
-    ensures { λ r. ⌜ r ≡ action-passes ground (now (b .entry)) a ⌝ }
+    ensures value { λ r. ⌜ r ≡ action-passes ground (now (b .entry)) a ⌝ }
 {
     match ground {
         5 => action_in_range(b, a),
@@ -93,7 +93,7 @@ fn action_passes(b: &[u8], ground: u32, a: usize) -> bool
 // Whether every action passes.
 pub fn actions_pass(b: &[u8], ground: u32) -> bool
     requires { ⌜ Earlier ground (now b) ⌝ }
-    ensures { λ r. ⌜ r ≡ every (action-count (now (b .entry))) (action-passes ground (now (b .entry))) ⌝ }
+    ensures value { λ r. ⌜ r ≡ every (action-count (now (b .entry))) (action-passes ground (now (b .entry))) ⌝ }
 {
     let actions = action_count(b);
     let mut right = true;
@@ -108,7 +108,7 @@ pub fn actions_pass(b: &[u8], ground: u32) -> bool
 // Ground 5 or 7 of outcome i of a cell.
 fn outcome_passes(b: &[u8], ground: u32, s: usize, a: usize, i: usize) -> bool
     requires { ⌜ (s < 256) × (a < 256) × (i < 256) ⌝ }
-    ensures { λ r. ⌜ r ≡ outcome-passes ground (now (b .entry)) s a i ⌝ }
+    ensures value { λ r. ⌜ r ≡ outcome-passes ground (now (b .entry)) s a i ⌝ }
 {
     match ground {
         5 => outcome_in_range(b, s, a, i),
@@ -119,7 +119,7 @@ fn outcome_passes(b: &[u8], ground: u32, s: usize, a: usize, i: usize) -> bool
 // Whether the first n outcomes of a cell pass.
 pub fn outcomes_pass(b: &[u8], ground: u32, s: usize, a: usize, n: usize) -> bool
     requires { ⌜ (s < 256) × (a < 256) × (n < 256) ⌝ }
-    ensures { λ r. ⌜ r ≡ every n (outcome-passes ground (now (b .entry)) s a) ⌝ }
+    ensures value { λ r. ⌜ r ≡ every n (outcome-passes ground (now (b .entry)) s a) ⌝ }
 {
     let mut right = true;
     let mut i: usize = 0;
@@ -133,7 +133,7 @@ pub fn outcomes_pass(b: &[u8], ground: u32, s: usize, a: usize, n: usize) -> boo
 // Ground 5, 6 or 7 of cell k.
 fn cell_passes(b: &[u8], used: &[u8; CELLS], ground: u32, k: usize) -> bool
     requires { ⌜ Earlier ground (now b) × Used (now b) (now used) × (k < 24 * (block-count (now b) - 1)) ⌝ }
-    ensures { λ r. ⌜ r ≡ cell-passes ground (now (b .entry)) (k / 8) (k % 8) ⌝ }
+    ensures value { λ r. ⌜ r ≡ cell-passes ground (now (b .entry)) (k / 8) (k % 8) ⌝ }
 {
     let s = k / ACTIONS;
     let a = k % ACTIONS;
@@ -148,7 +148,7 @@ fn cell_passes(b: &[u8], used: &[u8; CELLS], ground: u32, k: usize) -> bool
 // Whether the first cells pass, as many as are asked for.
 pub fn cells_pass(b: &[u8], used: &[u8; CELLS], ground: u32, cells: usize) -> bool
     requires { ⌜ Earlier ground (now b) × Used (now b) (now used) × (cells ≤ 24 * (block-count (now b) - 1)) ⌝ }
-    ensures { λ r. ⌜ r ≡ every cells (λ k. cell-passes ground (now (b .entry)) (k / 8) (k % 8)) ⌝ }
+    ensures value { λ r. ⌜ r ≡ every cells (λ k. cell-passes ground (now (b .entry)) (k / 8) (k % 8)) ⌝ }
 {
     let mut right = true;
     let mut k: usize = 0;

@@ -58,7 +58,7 @@ const ROW_END_SIZE: usize = LAST_WORD - ROW_END;
 // Of an action: the 3 bytes after the count, and the postconditions beyond it.
 pub fn action_spare(b: &[u8], a: usize) -> bool
     requires { ⌜ (a < 8) × (post-count (now b) a ≤ 4) × (1024 ≤ length (now b)) ⌝ }
-    ensures { λ r. ⌜ r ≡ action-spare (now (b .entry)) a ⌝ }
+    ensures value { λ r. ⌜ r ≡ action-spare (now (b .entry)) a ⌝ }
 {
     let n = post_count(b, a);
     zeros(b, action_at(a) + ACTION_SPARE_AT, ACTION_SPARE_SIZE)
@@ -67,7 +67,7 @@ pub fn action_spare(b: &[u8], a: usize) -> bool
 
 fn head_spare(b: &[u8]) -> bool
     requires { ⌜ Earlier 6 (now b) ⌝ }
-    ensures { λ r. ⌜ r ≡ head-spare (now (b .entry)) ⌝ }
+    ensures value { λ r. ⌜ r ≡ head-spare (now (b .entry)) ⌝ }
 {
     let masks = MASK_SIZE * state_count(b);
     let end = action_at(action_count(b));
@@ -79,7 +79,7 @@ fn head_spare(b: &[u8]) -> bool
 
 pub fn row_spare(b: &[u8], k: usize) -> bool
     requires { ⌜ (k < 128) × (512 * k + 512 ≤ length (now b)) ⌝ }
-    ensures { λ r. ⌜ r ≡ row-spare (now (b .entry)) k ⌝ }
+    ensures value { λ r. ⌜ r ≡ row-spare (now (b .entry)) k ⌝ }
 {
     let at = BLOCK * k;
     zeros(b, at + ROW_SPARE_AT, ROW_SPARE_SIZE) & zeros(b, at + ROW_END, ROW_END_SIZE)
@@ -88,7 +88,7 @@ pub fn row_spare(b: &[u8], k: usize) -> bool
 // Of a cell with n used outcomes: what follows them.
 pub fn cell_spare(b: &[u8], s: usize, a: usize, n: usize) -> bool
     requires { ⌜ (s < 256) × (a < 8) × (n ≤ 4) × (n ≡ entries (now b) s a) × (cell-at s a + 16 ≤ length (now b)) ⌝ }
-    ensures { λ r. ⌜ r ≡ cell-spare (now (b .entry)) s a ⌝ }
+    ensures value { λ r. ⌜ r ≡ cell-spare (now (b .entry)) s a ⌝ }
 {
     zeros(b, outcome_at(s, a, n), CELL_SIZE - OUTCOME_SIZE * n)
 }
@@ -96,7 +96,7 @@ pub fn cell_spare(b: &[u8], s: usize, a: usize, n: usize) -> bool
 // Every cell of the row blocks is looked at, also those of no state.
 pub fn spare_zero(b: &[u8], used: &[u8; CELLS]) -> bool
     requires { ⌜ Earlier 6 (now b) × Used (now b) (now used) ⌝ }
-    ensures { λ r. ⌜ r ≡ (head-spare (now (b .entry)) && rows-spare (now (b .entry)) && cells-spare (now (b .entry))) ⌝ }
+    ensures value { λ r. ⌜ r ≡ (head-spare (now (b .entry)) && rows-spare (now (b .entry)) && cells-spare (now (b .entry))) ⌝ }
 {
     let cells = ROW_CELLS * (b.len() / BLOCK - 1);
     head_spare(b) & rows_pass(b, 6) & cells_pass(b, used, 6, cells)

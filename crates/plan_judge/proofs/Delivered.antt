@@ -1,5 +1,5 @@
 -- The delivery's claims (`Claims.Delivery`), proved. Demands 2 and 3 are proved of every session whose replies are those described by the
--- history (crate `calls`); the replies of the code are these (`EveryList`).
+-- history (crate `protocol`); the replies of the code are these (`EveryList`).
 use mathlib.Core.Path.{sym, _∙_}
 use Rattle.protocol.proofs.Demand2.{demand-2-always}
 use Rattle.protocol.proofs.SheetsReadBack.{demand-3-always}

@@ -1,5 +1,5 @@
 -- One claim about every list of calls of the code: its answers, its buffers and what the desk then holds are those told by the history
--- (`calls`, `History.after`). By the exact values of the contracts each call is a step of `Session`, and `DesksHoldHistory` has the rest.
+-- (`protocol`, `History.after`). By the exact values of the contracts each call is a step of `Session`, and `DesksHoldHistory` has the rest.
 use mathlib.Core.Path.{_≡_, refl, sym, ap, ap₂, subst, _∙_}
 use mathlib.Core.List.{List, [], _∷_, _++_, append-nil, append-assoc}
 use lib.ListN.{length}

@@ -25,12 +25,18 @@ ghost use Rattle.plan_judge.specs.promises.State.{held-both, held-goal, 
 
 pub mod c_call;
 
+use blocks::BLOCK;
 use limits::limit_refusal;
 use plan_choices::CHOICES;
 use prepared_model::MODEL;
 use prepared_model::prepare_model;
 use prepared_question::QUESTION;
 use prepared_question::prepare_question;
+use sheets::GATHERED;
+use sheets::IN_BLOCK;
+
+// The bytes of the longest model.
+pub const MODEL_BYTES: usize = 6144;
 
 // The record of a shown plan: its total W, its steps, and its place in dictionary order for "equal", else 0.
 pub struct PlanRecord {
@@ -54,9 +60,9 @@ pub enum Verdict {
 // its choices beside it. What is not held is zero.
 pub struct Desk {
     pub blocks: usize,
-    pub model: [u8; 6144],
+    pub model: [u8; MODEL_BYTES],
     pub asked: bool,
-    pub question: [u8; 512],
+    pub question: [u8; BLOCK],
     pub judged: bool,
     pub verdict: Verdict,
     pub choices: [u8; CHOICES],
@@ -115,9 +121,9 @@ pub fn empty() -> Desk
 {
     Desk {
         blocks: 0,
-        model: [0u8; 6144],
+        model: [0u8; MODEL_BYTES],
         asked: false,
-        question: [0u8; 512],
+        question: [0u8; BLOCK],
         judged: false,
         verdict: unjudged(),
         choices: [0u8; CHOICES],
@@ -135,14 +141,14 @@ pub fn load(d: Desk, b: &[u8]) -> Taking
             desk: d,
         };
     }
-    let mut m = [0u8; 6144];
+    let mut m = [0u8; MODEL_BYTES];
     blocks::buffers::copy(&mut m, b);
-    let q = [0u8; 512];
+    let q = [0u8; BLOCK];
     let c = [0u8; CHOICES];
     Taking {
         answer: Taken::Done,
         desk: Desk {
-            blocks: b.len() / 512,
+            blocks: b.len() / BLOCK,
             model: m,
             asked: false,
             question: q,
@@ -157,8 +163,8 @@ pub fn load(d: Desk, b: &[u8]) -> Taking
 fn blocks_end(len: usize, blocks: usize) -> usize
     ensures value { λ r. ⌜ r ≡ min (512 * blocks) len ⌝ }
 {
-    if blocks <= len / 512 {
-        return 512 * blocks;
+    if blocks <= len / BLOCK {
+        return BLOCK * blocks;
     }
     len
 }
@@ -180,9 +186,9 @@ fn question_ground(b: &[u8], model: &[u8]) -> u32
         let model = now (model .entry) in let b = now (b .entry) in
         ⌜ r ≡ refusal (read-question (byte model 2) (byte model 3) (byte model 4) b) ⌝ }
 {
-    let states = blocks::wide(model, 2);
-    let actions = blocks::wide(model, 3);
-    let props = blocks::wide(model, 4);
+    let states = models::state_count(model);
+    let actions = models::action_count(model);
+    let props = models::prop_count(model);
     questions::question_refusal(b, states, actions, props)
 }
 
@@ -204,7 +210,7 @@ pub fn put(d: Desk, b: &[u8]) -> Taking
         };
     }
     let m = d.model;
-    let mut q = [0u8; 512];
+    let mut q = [0u8; BLOCK];
     blocks::buffers::copy(&mut q, b);
     let c = [0u8; CHOICES];
     Taking {
@@ -277,7 +283,7 @@ pub fn judge(d: Desk) -> Judging
     }
     let m = d.model;
     let q = d.question;
-    let n = blocks_end(6144, d.blocks);
+    let n = blocks_end(MODEL_BYTES, d.blocks);
     let model = prepare_model(&m[..n]);
     let query = prepare_question(&q);
     let ground = limit_refusal(&model, &query);
@@ -302,30 +308,6 @@ pub fn judge(d: Desk) -> Judging
     }
 }
 
-// The number of a question's root, its last node.
-fn root(q: &[u8]) -> u8
-    ensures value { λ r. ⌜ r ≡ node-count (now (q .entry)) - 1 ⌝ }
-{
-    let count = questions::node_count(q);
-    if count == 0 {
-        return 0;
-    }
-    count - 1
-}
-
-fn root_is_plan(q: &[u8]) -> bool
-    ensures value { λ r. ⌜ r ≡ eqb (node-of (now (q .entry)) (node-count (now (q .entry)) - 1) .operator) 8 ⌝ }
-{
-    questions::operator(q, root(q)) == 8
-}
-
-// The steps of a "plan" root.
-fn root_steps(q: &[u8]) -> u8
-    ensures value { λ r. ⌜ r ≡ node-of (now (q .entry)) (node-count (now (q .entry)) - 1) .n ⌝ }
-{
-    questions::steps(q, root(q))
-}
-
 // The ground of the desk on which write and check are refused: no model, no question, a root that is no "plan"; else 0.
 fn plan_ground(d: Desk) -> u32
     ensures value { λ r. ⌜ r ≡ refusal (held-goal (view d)) ⌝ }
@@ -334,7 +316,7 @@ fn plan_ground(d: Desk) -> u32
     if k != 0 {
         return k;
     }
-    if root_is_plan(&d.question) {
+    if questions::root_is_plan(&d.question) {
         return 0;
     }
     22
@@ -363,7 +345,7 @@ fn first_size(model: &[u8], blocks: usize, q: &[u8], choices: &[u8]) -> usize
     plan_size(
         &model[..n],
         choices,
-        root_steps(q) as usize,
+        questions::root_steps(q) as usize,
         questions::start(q) as usize,
     )
 }
@@ -412,7 +394,7 @@ fn sheet_size(count: usize) -> usize
     requires { ⌜ count ≤ 1365 ⌝ }
     ensures value { λ r. ⌜ r ≡ 512 * blocks-for count ⌝ }
 {
-    512 * ((count + 489) / 490)
+    BLOCK * ((count + 489) / IN_BLOCK)
 }
 
 // Writes the shown plan's sheet into the first blocks of a lent buffer; or refuses by grounds 20 to 23, then 12, and leaves the buffer.
@@ -431,12 +413,12 @@ pub fn write(d: Desk, buf: &mut [u8]) -> Written
     if buf.len() < sheet_size(count) {
         return Written::Refused(12);
     }
-    let n = root_steps(&d.question);
+    let n = questions::root_steps(&d.question);
     let s = questions::start(&d.question);
     let w = shown_weight(d.verdict);
     let m = d.model;
     let cs = d.choices;
-    let end = blocks_end(6144, d.blocks);
+    let end = blocks_end(MODEL_BYTES, d.blocks);
     Written::Bytes(sheets::writer::write_sheet(buf, &m[..end], n, s, w, &cs[..count]))
 }
 
@@ -447,13 +429,13 @@ fn sheet_ground(m: &[u8], q: &[u8], b: &[u8]) -> u32
         let m = now (m .entry) in let q = now (q .entry) in let b = now (b .entry) in
         ⌜ r ≡ refusal (plan-on (model-of m) (node-of q (node-count q - 1) .n) (start-of q) b) ⌝ }
 {
-    let n = root_steps(q) as usize;
+    let n = questions::root_steps(q) as usize;
     let s = questions::start(q) as usize;
     let k = sheets::sheet_refusal(b, n, s);
     if k != 0 {
         return k;
     }
-    let mut choices = [0u8; 1470];
+    let mut choices = [0u8; GATHERED];
     let count = sheets::gather(b, &mut choices);
     sheets::plans::plan_refusal(m, &choices[..count], n, s)
 }
@@ -463,7 +445,7 @@ fn sheet_weight(m: &[u16; MODEL], q: &[u8; QUESTION], b: &[u8]) -> u64
     requires { ⌜ Served (now m) (now q) × (node-of (now q) (node-count (now q) - 1) .operator ≡ 8) × Blocks 6 (now b) ⌝ }
     ensures value { λ r. ⌜ Weighs (model-in (now (m .entry))) (now (q .entry)) ((sheet-of (now (b .entry))) .choices) r ⌝ }
 {
-    let mut choices = [0u8; 1470];
+    let mut choices = [0u8; GATHERED];
     let count = sheets::gather(b, &mut choices);
     judging::sheet_weight(m, q, &choices[..count])
 }
@@ -487,7 +469,7 @@ fn check_on(m: &[u8], q: &[u8], b: &[u8]) -> Checking
     if sheets::weight_at(b, 0) != w {
         return Checking::Refused(11);
     }
-    let j = root(&query);
+    let j = questions::root(&query);
     Checking::Accepted(Report {
         met: bounds::meets(&model, &query, j, w),
     })
@@ -504,6 +486,6 @@ pub fn check(d: Desk, b: &[u8]) -> Checking
     }
     let m = d.model;
     let q = d.question;
-    let n = blocks_end(6144, d.blocks);
+    let n = blocks_end(MODEL_BYTES, d.blocks);
     check_on(&m[..n], &q, b)
 }

@@ -14,10 +14,17 @@ mod rows;
 
 use crate::rows::fill;
 use blocks::signed16;
-use blocks::wide;
+use models::DENOMINATOR_AT;
+use models::MASK_SIZE;
+use models::MASKS_AT;
+use models::STATE_COUNT_AT;
+use models::state_count;
 
 // The numbers of a prepared model: the head block, and a row for each state.
 pub const MODEL: usize = 8704;
+
+// Where the upper 16 bits of the states' masks begin.
+const UPPER_HALVES_AT: usize = MASKS_AT + 2;
 
 // Where the rows begin.
 const ROWS: usize = 512;
@@ -55,13 +62,13 @@ fn widened(x: u16) -> usize
 pub fn states(m: &[u16; MODEL]) -> usize
     ensures value { λ r. ⌜ r ≡ state-count (now (m .entry)) ⌝ }
 {
-    widened(m[2])
+    widened(m[STATE_COUNT_AT])
 }
 
 pub fn denominator(m: &[u16; MODEL]) -> usize
     ensures value { λ r. ⌜ r ≡ denominator-of (now (m .entry)) ⌝ }
 {
-    widened(m[5])
+    widened(m[DENOMINATOR_AT])
 }
 
 // Two bytes of the head as a number.
@@ -78,7 +85,7 @@ fn mask(m: &[u16; MODEL], s: usize) -> u32
     requires { ⌜ Prepared (now m) × (s < 32) ⌝ }
     ensures value { λ r. ⌜ r ≡ state-mask (now (m .entry)) s ⌝ }
 {
-    pair(m, 8 + 4 * s) + 65536 * pair(m, 10 + 4 * s)
+    pair(m, MASKS_AT + MASK_SIZE * s) + 65536 * pair(m, UPPER_HALVES_AT + MASK_SIZE * s)
 }
 
 // Whether proposition i is true in s.
@@ -239,7 +246,7 @@ pub fn prepare_model(b: &[u8]) -> [u16; MODEL]
     ensures value { λ r. ⌜ Prepares (now (b .entry)) r ⌝ }
 {
     let mut m = head(b);
-    let states = wide(b, 2);
+    let states = state_count(b);
     let mut s: usize = 0;
     while s < states {
         let from = ROWS + ROW * s;

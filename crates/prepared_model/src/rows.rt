@@ -16,6 +16,7 @@ use crate::TARGETS;
 use crate::WEIGHTS;
 use blocks::u16_at;
 use blocks::wide;
+use models::action_count;
 use models::entries;
 use models::outcome_at;
 
@@ -52,7 +53,7 @@ fn choose(b: &[u8], row: &mut [u16], s: usize)
     requires { ⌜ (refusal (read-model (now b)) ≡ 0) × (s < state-count (now b)) × (length (now row) ≡ 256) ⌝ }
     ensures frame { λ _. ⌜ Chosen (now (b .entry)) s (now (row .exit)) ⌝ }
 {
-    let n = wide(b, 3);
+    let n = action_count(b);
     let mut i: usize = 0;
     let mut a: usize = 0;
     while a < n {

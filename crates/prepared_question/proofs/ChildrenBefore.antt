@@ -67,7 +67,7 @@ module _ {S A N : ℕ} {q : Bytes} (f : Formed S A N q) where
   pub depth-small : (j : ℕ) → j < node-count q → depth (formula q j) ≤ j + 6
   depth-small = depth-below (node-count q) (omega arith)
 
--- An accepted question can be handed to `nodes`.
+-- An accepted question can be handed to `prepare_question`.
 pub ordered : (S A N : ℕ) (q : Bytes) → refusal (read-question S A N q) ≡ 0 → Children-before q
 ordered S A N q e =
     let a = accepted S A N q e in

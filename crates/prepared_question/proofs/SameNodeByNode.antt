@@ -222,7 +222,7 @@ module _ {q q′ : Bytes} (o : Children-before q) (c : Pointed q q′ (node-coun
           shallow = λ i h. let l : i < n = omega (arith, h, count-same) in sym (kept i l .alike .ground-9) ∙ f .shallow i l;
         }
 
-    -- What `nodes` makes of an accepted question.
+    -- What `prepare_question` makes of an accepted question.
     pub shared-question : Shared S A N q q′
     shared-question =
         record {

@@ -14,6 +14,21 @@ ghost use Rattle.prepared_question.specs.promises.Shared.{Shared};
 ghost use Rattle.prepared_question.specs.promises.Replaced.{Children-before, left-for, right-for, Pointed};
 ghost use Rattle.prepared_question.specs.promises.Replaced as replaced;
 use blocks::buffers::copy;
+use questions::AND;
+use questions::EQUAL;
+use questions::LEFT_AT;
+use questions::LESS;
+use questions::NEXT;
+use questions::NODE_COUNT_AT;
+use questions::NODE_SIZE;
+use questions::NODES_AT;
+use questions::NOT;
+use questions::P_AT;
+use questions::PLAN;
+use questions::Q_AT;
+use questions::RIGHT_AT;
+use questions::START_AT;
+use questions::STEPS_AT;
 
 // The bytes of a prepared question: its block, and the depth of each of 40 nodes.
 pub const QUESTION: usize = 552;
@@ -26,20 +41,20 @@ pub const DEPTHS: usize = 512;
 pub fn start(q: &[u8; QUESTION]) -> u8
     ensures value { λ r. ⌜ r ≡ start-of (now (q .entry)) ⌝ }
 {
-    q[2]
+    q[START_AT]
 }
 
 pub fn count(q: &[u8; QUESTION]) -> u8
     ensures value { λ r. ⌜ r ≡ layout.node-count (now (q .entry)) ⌝ }
 {
-    q[3]
+    q[NODE_COUNT_AT]
 }
 
 pub fn operator(q: &[u8; QUESTION], j: u8) -> u8
     requires { ⌜ j < 40 ⌝ }
     ensures value { λ r. ⌜ r ≡ node-of (now (q .entry)) j .operator ⌝ }
 {
-    q[8 + 12 * j as usize]
+    q[NODES_AT + NODE_SIZE * j as usize]
 }
 
 // Another byte of node j.
@@ -47,7 +62,7 @@ fn cell(q: &[u8; QUESTION], j: u8, k: usize) -> u8
     requires { ⌜ (j < 40) × (k < 12) ⌝ }
     ensures value { λ r. ⌜ r ≡ getD (now (q .entry)) (node-at j + k) 0 ⌝ }
 {
-    q[8 + 12 * j as usize + k]
+    q[NODES_AT + NODE_SIZE * j as usize + k]
 }
 
 // The n of "gain" or "plan".
@@ -55,21 +70,21 @@ pub fn steps(q: &[u8; QUESTION], j: u8) -> u8
     requires { ⌜ j < 40 ⌝ }
     ensures value { λ r. ⌜ r ≡ node-of (now (q .entry)) j .n ⌝ }
 {
-    cell(q, j, 1)
+    cell(q, j, STEPS_AT)
 }
 
 pub fn left(q: &[u8; QUESTION], j: u8) -> u8
     requires { ⌜ j < 40 ⌝ }
     ensures value { λ r. ⌜ r ≡ node-of (now (q .entry)) j .left ⌝ }
 {
-    cell(q, j, 2)
+    cell(q, j, LEFT_AT)
 }
 
 pub fn right(q: &[u8; QUESTION], j: u8) -> u8
     requires { ⌜ j < 40 ⌝ }
     ensures value { λ r. ⌜ r ≡ node-of (now (q .entry)) j .right ⌝ }
 {
-    cell(q, j, 3)
+    cell(q, j, RIGHT_AT)
 }
 
 // The bound of "gain", or the p of the bound of "plan".
@@ -77,7 +92,7 @@ pub fn bound(q: &[u8; QUESTION], j: u8) -> i32
     requires { ⌜ j < 40 ⌝ }
     ensures value { λ r. ⌜ r ≡ node-of (now (q .entry)) j .p ⌝ }
 {
-    blocks::i32_at(q, 8 + 12 * j as usize + 4)
+    blocks::i32_at(q, NODES_AT + NODE_SIZE * j as usize + P_AT)
 }
 
 // The q of the bound of "plan".
@@ -85,7 +100,7 @@ pub fn parts(q: &[u8; QUESTION], j: u8) -> u32
     requires { ⌜ j < 40 ⌝ }
     ensures value { λ r. ⌜ r ≡ node-of (now (q .entry)) j .q ⌝ }
 {
-    blocks::u32_at(q, 8 + 12 * j as usize + 8)
+    blocks::u32_at(q, NODES_AT + NODE_SIZE * j as usize + Q_AT)
 }
 
 pub fn depth(q: &[u8; QUESTION], j: u8) -> u8
@@ -100,7 +115,7 @@ pub fn asks_less(q: &[u8; QUESTION], j: u8) -> bool
     requires { ⌜ j < 40 ⌝ }
     ensures value { λ r. ⌜ r ≡ eqb (node-of (now (q .entry)) j .right) 1 ⌝ }
 {
-    right(q, j) == 1
+    right(q, j) == LESS
 }
 
 // Whether it asks for just its bound.
@@ -108,7 +123,7 @@ pub fn asks_equal(q: &[u8; QUESTION], j: u8) -> bool
     requires { ⌜ j < 40 ⌝ }
     ensures value { λ r. ⌜ r ≡ eqb (node-of (now (q .entry)) j .right) 2 ⌝ }
 {
-    right(q, j) == 2
+    right(q, j) == EQUAL
 }
 
 // ---- making it
@@ -118,7 +133,7 @@ fn past(b: &[u8], c: u8) -> u8
     ensures value { λ r. ⌜ r ≡ replaced.past (now (b .entry)) c ⌝ }
 {
     let l = questions::left(b, c);
-    if (questions::operator(b, c) == 4) & (l == questions::right(b, c)) {
+    if (questions::operator(b, c) == AND) & (l == questions::right(b, c)) {
         return l;
     }
     c
@@ -128,7 +143,7 @@ fn past(b: &[u8], c: u8) -> u8
 fn has_left(op: u8) -> bool
     ensures value { λ r. ⌜ r ≡ has-left op ⌝ }
 {
-    (op == 3) | (op == 4) | (op == 6) | (op == 8)
+    (op == NOT) | (op == AND) | (op == NEXT) | (op == PLAN)
 }
 
 // The cells of node i of q; b is what the nodes before it have become.
@@ -144,7 +159,7 @@ fn left_for(q: &[u8], b: &[u8], i: u8) -> u8
 fn right_for(q: &[u8], b: &[u8], i: u8) -> u8
     ensures value { λ r. ⌜ r ≡ right-for (now (q .entry)) (now (b .entry)) i ⌝ }
 {
-    if questions::operator(q, i) == 4 {
+    if questions::operator(q, i) == AND {
         return past(b, questions::right(q, i));
     }
     questions::right(q, i)
@@ -158,9 +173,9 @@ fn put(q: &[u8], b: &mut [u8; QUESTION], i: u8, d: u8)
 {
     let l = left_for(q, b, i);
     let r = right_for(q, b, i);
-    let at = 8 + 12 * i as usize;
-    b[at + 2] = l;
-    b[at + 3] = r;
+    let at = NODES_AT + NODE_SIZE * i as usize;
+    b[at + LEFT_AT] = l;
+    b[at + RIGHT_AT] = r;
     b[DEPTHS + i as usize] = d;
 }
 

@@ -1,4 +1,4 @@
--- `answer` is what is claimed of it (`Claims.Answer`): its contract's own value, which is the line printed (lines/proofs/Printed).
+-- `answer` is what is claimed of it (`Claims.Answer`): its contract's own value, which is the line printed (verdict_line/proofs/LineIsChain).
 use Prim.Native.Nat.{ℕ}
 use native.Mathlib.Omega.{arith}
 use mathlib.Core.Path.{refl, sym, subst}

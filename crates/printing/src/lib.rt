@@ -9,18 +9,17 @@ ghost use Rattle.verdict_line.specs.Text.{Put};
 ghost use Rattle.verdict_line.specs.Line.{no-plans-line, plain-line};
 ghost use Rattle.verdict_line.specs.promises.Chain.{line-of, answer-line};
 ghost use Rattle.printing.specs.promises.Printed.{plan-root, judging-line, asking-line, loading-line, shown-line, Shown, Loaded, Asked};
+use blocks::BLOCK;
 use plan_judge::Desk;
 use plan_judge::Judgement;
 use plan_judge::Taken;
 use plan_judge::Verdict;
 
-// Whether a question's root, its last node, is a "plan".
-fn root_is_plan(q: &[u8]) -> bool
-    requires { ⌜ 1 ≤ node-count (now q) ⌝ }
-    ensures value { λ r. ⌜ r ≡ plan-root (now (q .entry)) ⌝ }
-{
-    questions::operator(q, questions::node_count(q) - 1) == 8
-}
+// The most bytes of the input: a model of 12 blocks, and a question.
+const MOST_INPUT: usize = 6656;
+
+// Room for the longest line.
+pub const LINE: usize = 8192;
 
 // The line of a no.
 fn no_line(out: &mut [u8], q: &[u8], count: u32) -> usize
@@ -29,7 +28,7 @@ fn no_line(out: &mut [u8], q: &[u8], count: u32) -> usize
         let out′ = now (out .exit) in let q = now (q .entry) in let out = now (out .entry) in
         ⌜ Put (cond (plan-root q) (no-plans-line count) (plain-line false)) out out′ 0 r ⌝ }
 {
-    if root_is_plan(q) {
+    if questions::root_is_plan(q) {
         return verdict_line::no_plans_line(out, count);
     }
     verdict_line::plain_line(out, false)
@@ -40,7 +39,7 @@ fn whole(model: &[u8], steps: u32) -> u64
     requires { ⌜ (denominator-of (now model) ≤ 100) × (steps ≤ 6) ⌝ }
     ensures value { λ r. ⌜ r ≡ denominator-of (now (model .entry)) ^ steps ⌝ }
 {
-    bounds::power(blocks::wide(model, 5), steps as u8)
+    bounds::power(models::denominator(model), steps as u8)
 }
 
 // The line of a verdict, with its choices beside it.
@@ -115,16 +114,16 @@ fn loading_line(out: &mut [u8], model: &[u8], q: &[u8]) -> usize
 }
 
 // The line that the program verdict prints for its input: a model followed by a question in the last 512 bytes.
-pub fn answer(input: &[u8], out: &mut [u8; 8192]) -> usize
+pub fn answer(input: &[u8], out: &mut [u8; LINE]) -> usize
     ensures effect { λ r. ⌜ Put (answer-line (now (input .entry))) (now (out .entry)) (now (out .exit)) 0 r ⌝ }
 {
     let n = input.len();
-    if n < 512 {
+    if n < BLOCK {
         return verdict_line::refused_line(out, 1);
     }
-    if 6656 < n {
+    if MOST_INPUT < n {
         return verdict_line::refused_line(out, 1);
     }
-    let at = n - 512;
+    let at = n - BLOCK;
     loading_line(out, &input[..at], &input[at..])
 }

@@ -39,9 +39,9 @@ pub const EQUAL: u8 = 2;
 pub const GREATER: u8 = 3;
 
 // Where a question's fields stand in its block. Four spare bytes follow the node count; a question has at most 40 nodes of 12 bytes.
-const START_AT: usize = 2;
+pub const START_AT: usize = 2;
 
-const NODE_COUNT_AT: usize = 3;
+pub const NODE_COUNT_AT: usize = 3;
 
 const SPARE_AT: usize = 4;
 
@@ -82,26 +82,27 @@ const MOST_Q: usize = 1000000;
 
 // The start state.
 pub fn start(b: &[u8]) -> u8
-    ensures { λ r. ⌜ r ≡ start-of (now (b .entry)) ⌝ }
+    ensures value { λ r. ⌜ r ≡ start-of (now (b .entry)) ⌝ }
 {
     blocks::byte(b, START_AT)
 }
 
 pub fn node_count(b: &[u8]) -> u8
-    ensures { λ r. ⌜ r ≡ node-count (now (b .entry)) ⌝ }
+    ensures value { λ r. ⌜ r ≡ node-count (now (b .entry)) ⌝ }
 {
     blocks::byte(b, NODE_COUNT_AT)
 }
 
 // Where node i stands.
 fn node_at(i: u8) -> usize
-    ensures { λ r. ⌜ (r ≡ node-at i) × (r < 3080) ⌝ }
+    ensures value { λ r. ⌜ r ≡ node-at i ⌝ }
+    ensures range { λ r. ⌜ r < 3080 ⌝ }
 {
     NODES_AT + NODE_SIZE * i as usize
 }
 
 pub fn operator(b: &[u8], i: u8) -> u8
-    ensures { λ r. ⌜ r ≡ node-of (now (b .entry)) i .operator ⌝ }
+    ensures value { λ r. ⌜ r ≡ node-of (now (b .entry)) i .operator ⌝ }
 {
     blocks::byte(b, node_at(i))
 }
@@ -109,53 +110,70 @@ pub fn operator(b: &[u8], i: u8) -> u8
 // The byte of node i at a place after its operator.
 fn cell(b: &[u8], i: u8, at: usize) -> u8
     requires { ⌜ at < 12 ⌝ }
-    ensures { λ r. ⌜ r ≡ byte (now (b .entry)) (node-at i + at) ⌝ }
+    ensures value { λ r. ⌜ r ≡ byte (now (b .entry)) (node-at i + at) ⌝ }
 {
     blocks::byte(b, node_at(i) + at)
 }
 
 // The n of "gain" or "plan".
 pub fn steps(b: &[u8], i: u8) -> u8
-    ensures { λ r. ⌜ r ≡ node-of (now (b .entry)) i .n ⌝ }
+    ensures value { λ r. ⌜ r ≡ node-of (now (b .entry)) i .n ⌝ }
 {
     cell(b, i, STEPS_AT)
 }
 
 pub fn left(b: &[u8], i: u8) -> u8
-    ensures { λ r. ⌜ r ≡ node-of (now (b .entry)) i .left ⌝ }
+    ensures value { λ r. ⌜ r ≡ node-of (now (b .entry)) i .left ⌝ }
 {
     cell(b, i, LEFT_AT)
 }
 
 pub fn right(b: &[u8], i: u8) -> u8
-    ensures { λ r. ⌜ r ≡ node-of (now (b .entry)) i .right ⌝ }
+    ensures value { λ r. ⌜ r ≡ node-of (now (b .entry)) i .right ⌝ }
 {
     cell(b, i, RIGHT_AT)
 }
 
 pub fn p(b: &[u8], i: u8) -> i32
-    ensures { λ r. ⌜ r ≡ node-of (now (b .entry)) i .p ⌝ }
+    ensures value { λ r. ⌜ r ≡ node-of (now (b .entry)) i .p ⌝ }
 {
     blocks::i32_at(b, node_at(i) + P_AT)
 }
 
 pub fn q(b: &[u8], i: u8) -> u32
-    ensures { λ r. ⌜ r ≡ node-of (now (b .entry)) i .q ⌝ }
+    ensures value { λ r. ⌜ r ≡ node-of (now (b .entry)) i .q ⌝ }
 {
     blocks::u32_at(b, node_at(i) + Q_AT)
 }
 
-// Whether the root, the last node, is a "plan".
-pub fn root_is_plan(b: &[u8]) -> bool
-    requires { ⌜ 1 ≤ node-count (now b) ⌝ }
-    ensures { λ r. ⌜ r ≡ eqb (node-of (now (b .entry)) (node-count (now (b .entry)) - 1) .operator) 8 ⌝ }
+// The number of a question's root, its last node.
+pub fn root(q: &[u8]) -> u8
+    ensures value { λ r. ⌜ r ≡ node-count (now (q .entry)) - 1 ⌝ }
 {
-    operator(b, node_count(b) - 1) == PLAN
+    let count = node_count(q);
+    if count == 0 {
+        return 0;
+    }
+    count - 1
+}
+
+// Whether it is a "plan".
+pub fn root_is_plan(q: &[u8]) -> bool
+    ensures value { λ r. ⌜ r ≡ eqb (node-of (now (q .entry)) (node-count (now (q .entry)) - 1) .operator) 8 ⌝ }
+{
+    operator(q, root(q)) == PLAN
+}
+
+// The steps of a "plan" root.
+pub fn root_steps(q: &[u8]) -> u8
+    ensures value { λ r. ⌜ r ≡ node-of (now (q .entry)) (node-count (now (q .entry)) - 1) .n ⌝ }
+{
+    steps(q, root(q))
 }
 
 // Whether a number stands for a relation.
 fn relation_in_range(relation: u8) -> bool
-    ensures { λ r. ⌜ r ≡ within 1 3 relation ⌝ }
+    ensures value { λ r. ⌜ r ≡ within 1 3 relation ⌝ }
 {
     match relation {
         LESS | EQUAL | GREATER => true,
@@ -165,19 +183,19 @@ fn relation_in_range(relation: u8) -> bool
 
 // Whether the steps and the relation of node i, a "gain" or a "plan", are in range.
 fn compares(b: &[u8], i: u8) -> bool
-    ensures { λ r. ⌜ r ≡ spec.compares (node-of (now (b .entry)) i) ⌝ }
+    ensures value { λ r. ⌜ r ≡ spec.compares (node-of (now (b .entry)) i) ⌝ }
 {
     blocks::within(1, MOST_STEPS, steps(b, i) as usize) & relation_in_range(right(b, i))
 }
 
 fn gain_bound(p: i32, q: u32) -> bool
-    ensures { λ r. ⌜ r ≡ gain-bound p q ⌝ }
+    ensures value { λ r. ⌜ r ≡ gain-bound p q ⌝ }
 {
     (q == 1) & (LEAST_GAIN <= p) & (p <= MOST_GAIN)
 }
 
 fn plan_bound(p: i32, q: u32) -> bool
-    ensures { λ r. ⌜ r ≡ plan-bound p q ⌝ }
+    ensures value { λ r. ⌜ r ≡ plan-bound p q ⌝ }
 {
     if !blocks::within(1, MOST_Q, q as usize) {
         return false;
@@ -186,14 +204,14 @@ fn plan_bound(p: i32, q: u32) -> bool
 }
 
 fn plan_in_range(b: &[u8], i: u8) -> bool
-    ensures { λ r. ⌜ r ≡ plan-in-range i (node-of (now (b .entry)) i) ⌝ }
+    ensures value { λ r. ⌜ r ≡ plan-in-range i (node-of (now (b .entry)) i) ⌝ }
 {
     compares(b, i) & (left(b, i) < i) & plan_bound(p(b, i), q(b, i))
 }
 
 // Ground 5 of node i.
 fn node_in_range(b: &[u8], i: u8, actions: usize, props: usize) -> bool
-    ensures { λ r. ⌜ r ≡ node-in-range actions props i (node-of (now (b .entry)) i) ⌝ }
+    ensures value { λ r. ⌜ r ≡ node-in-range actions props i (node-of (now (b .entry)) i) ⌝ }
 {
     let op = operator(b, i);
     match op {
@@ -211,7 +229,9 @@ fn node_in_range(b: &[u8], i: u8, actions: usize, props: usize) -> bool
 // Whether the node at a place, which uses the left cell alone, has zeros in the others.
 fn only_left(b: &[u8], at: usize) -> bool
     requires { ⌜ at + 12 ≤ length (now b) ⌝ }
-    ensures { λ r. ⌜ r ≡ (zeros (now (b .entry)) (at + 1) 1 && zeros (now (b .entry)) (at + 3) 1 && zeros (now (b .entry)) (at + 4) 8) ⌝ }
+    ensures value { λ r.
+        let b = now (b .entry) in
+        ⌜ r ≡ (zeros b (at + 1) 1 && zeros b (at + 3) 1 && zeros b (at + 4) 8) ⌝ }
 {
     blocks::zeros(b, at + STEPS_AT, 1) & blocks::zeros(b, at + RIGHT_AT, FROM_RIGHT)
 }
@@ -219,7 +239,7 @@ fn only_left(b: &[u8], at: usize) -> bool
 // Ground 6 of node i.
 fn node_spare(b: &[u8], i: u8) -> bool
     requires { ⌜ (length (now b) ≡ 512) × (i < 40) ⌝ }
-    ensures { λ r. ⌜ r ≡ node-spare (now (b .entry)) i ⌝ }
+    ensures value { λ r. ⌜ r ≡ node-spare (now (b .entry)) i ⌝ }
 {
     let at = node_at(i);
     let op = operator(b, i);
@@ -234,7 +254,7 @@ fn node_spare(b: &[u8], i: u8) -> bool
 }
 
 fn larger(x: u32, y: u32) -> u32
-    ensures { λ r. ⌜ r ≡ max x y ⌝ }
+    ensures value { λ r. ⌜ r ≡ max x y ⌝ }
 {
     if x < y {
         return y;
@@ -244,7 +264,7 @@ fn larger(x: u32, y: u32) -> u32
 
 // How many nodes a table holds: the node count, at most 40.
 fn nodes_held(b: &[u8]) -> u8
-    ensures { λ r. ⌜ r ≡ min (node-count (now (b .entry))) 40 ⌝ }
+    ensures value { λ r. ⌜ r ≡ min (node-count (now (b .entry))) 40 ⌝ }
 {
     let n = node_count(b);
     if n < NODES as u8 {
@@ -256,7 +276,7 @@ fn nodes_held(b: &[u8]) -> u8
 // The depth of a child of node i, from the table; 0 for a node that is not before i.
 fn child_depth(depths: &[u32; NODES], i: u8, child: u8) -> u32
     requires { ⌜ i ≤ 40 ⌝ }
-    ensures { λ r. ⌜ r ≡ getD (take i (now (depths .entry))) child 0 ⌝ }
+    ensures value { λ r. ⌜ r ≡ getD (take i (now (depths .entry))) child 0 ⌝ }
 {
     if child < i {
         let at = child as usize;
@@ -268,7 +288,7 @@ fn child_depth(depths: &[u32; NODES], i: u8, child: u8) -> u32
 // The depth of node i, from those of the nodes before it.
 fn node_depth(b: &[u8], depths: &[u32; NODES], i: u8) -> u32
     requires { ⌜ (i < 40) × (now depths ≡ table depth (formulas-before (now b) i)) ⌝ }
-    ensures { λ r. ⌜ r ≡ depth (formula-of (formulas-before (now (b .entry)) i) (node-of (now (b .entry)) i)) ⌝ }
+    ensures value { λ r. ⌜ r ≡ depth (formula-of (formulas-before (now (b .entry)) i) (node-of (now (b .entry)) i)) ⌝ }
 {
     let op = operator(b, i);
     match op {
@@ -286,7 +306,7 @@ fn node_depth(b: &[u8], depths: &[u32; NODES], i: u8) -> u32
 
 // The depths of all nodes.
 pub fn depth_table(b: &[u8]) -> [u32; NODES]
-    ensures { λ r. ⌜ r ≡ table depth (formulas-of (now (b .entry))) ⌝ }
+    ensures value { λ r. ⌜ r ≡ table depth (formulas-of (now (b .entry))) ⌝ }
 {
     let n = nodes_held(b);
     let mut depths = [0u32; NODES];
@@ -303,7 +323,7 @@ pub fn depth_table(b: &[u8]) -> [u32; NODES]
 // Ground 9 of node i: a "plan" has no child too deep.
 fn node_shallow(b: &[u8], depths: &[u32; NODES], i: u8) -> bool
     requires { ⌜ (i < node-count (now b)) × (i < 40) × (now depths ≡ table depth (formulas-of (now b))) ⌝ }
-    ensures { λ r. ⌜ r ≡ shallow (getD (formulas-of (now (b .entry))) i never) ⌝ }
+    ensures value { λ r. ⌜ r ≡ shallow (getD (formulas-of (now (b .entry))) i never) ⌝ }
 {
     let op = operator(b, i);
     match op {
@@ -322,7 +342,7 @@ fn node_passes(
     depths: &[u32; NODES],
 ) -> bool
     requires { ⌜ (i < node-count (now b)) × Nodes (now b) (now depths) ⌝ }
-    ensures { λ r. ⌜ r ≡ passes ground actions props (now (b .entry)) i ⌝ }
+    ensures value { λ r. ⌜ r ≡ passes ground actions props (now (b .entry)) i ⌝ }
 {
     match ground {
         5 => node_in_range(b, i, actions, props),
@@ -334,7 +354,7 @@ fn node_passes(
 // Whether every node passes.
 fn nodes_pass(b: &[u8], ground: u32, actions: usize, props: usize, depths: &[u32; NODES]) -> bool
     requires { ⌜ Nodes (now b) (now depths) ⌝ }
-    ensures { λ r. ⌜ r ≡ every (node-count (now (b .entry))) (passes ground actions props (now (b .entry))) ⌝ }
+    ensures value { λ r. ⌜ r ≡ every (node-count (now (b .entry))) (passes ground actions props (now (b .entry))) ⌝ }
 {
     let n = node_count(b);
     let mut right = true;
@@ -349,7 +369,7 @@ fn nodes_pass(b: &[u8], ground: u32, actions: usize, props: usize, depths: &[u32
 // Ground 6: of the nodes, and of the bytes before and after them.
 fn spare_zero(b: &[u8], actions: usize, props: usize, depths: &[u32; NODES]) -> bool
     requires { ⌜ Nodes (now b) (now depths) ⌝ }
-    ensures { λ r. ⌜ r ≡ spare-zero (now (b .entry)) ⌝ }
+    ensures value { λ r. ⌜ r ≡ spare-zero (now (b .entry)) ⌝ }
 {
     let end = node_at(node_count(b));
     blocks::zeros(b, SPARE_AT, SPARE_SIZE)
@@ -360,7 +380,7 @@ fn spare_zero(b: &[u8], actions: usize, props: usize, depths: &[u32; NODES]) -> 
 // Ground 9. By ground 5 "gain" has a step, so that the path formulas are those of some depth.
 fn formed(b: &[u8], actions: usize, props: usize, depths: &[u32; NODES]) -> bool
     requires { ⌜ Nodes (now b) (now depths) × (every (node-count (now b)) (passes 5 actions props (now b)) ≡ true) ⌝ }
-    ensures { λ r. ⌜ r ≡ spec.formed (question-of (now (b .entry))) ⌝ }
+    ensures value { λ r. ⌜ r ≡ spec.formed (question-of (now (b .entry))) ⌝ }
 {
     let root = node_count(b) as usize - 1;
     (depths[root] == 0) & nodes_pass(b, 9, actions, props, depths)
@@ -368,14 +388,14 @@ fn formed(b: &[u8], actions: usize, props: usize, depths: &[u32; NODES]) -> bool
 
 // Ground 4.
 fn counts_right(b: &[u8], states: usize) -> bool
-    ensures { λ r. ⌜ r ≡ (ltb (start-of (now (b .entry))) states && within 1 40 (node-count (now (b .entry)))) ⌝ }
+    ensures value { λ r. ⌜ r ≡ (ltb (start-of (now (b .entry))) states && within 1 40 (node-count (now (b .entry)))) ⌝ }
 {
     ((start(b) as usize) < states) & blocks::within(1, NODES, node_count(b) as usize)
 }
 
 // The first ground on which the question's bytes are refused, for a model of so many states, actions and propositions; 0 for none.
 pub fn question_refusal(b: &[u8], states: usize, actions: usize, props: usize) -> u32
-    ensures { λ r. ⌜ r ≡ refusal (read-question states actions props (now (b .entry))) ⌝ }
+    ensures value { λ r. ⌜ r ≡ refusal (read-question states actions props (now (b .entry))) ⌝ }
 {
     if !blocks::whole_blocks(b, 1, 1) {
         return 1;
@@ -383,7 +403,7 @@ pub fn question_refusal(b: &[u8], states: usize, actions: usize, props: usize) -
     if !blocks::sums_right(b) {
         return 2;
     }
-    if !blocks::headed(b, 0, blocks::QUESTION, 0) {
+    if !blocks::headed(b, 0, blocks::KIND_QUESTION, 0) {
         return 3;
     }
     if !counts_right(b, states) {

@@ -24,6 +24,11 @@ use prepared_question::left;
 use prepared_question::operator;
 use prepared_question::right;
 use prepared_question::start;
+use questions::AND;
+use questions::NEXT;
+use questions::NODES;
+use questions::NOT;
+use questions::PLAN;
 
 // ---- what the verdict can depend on
 
@@ -88,12 +93,12 @@ fn pass_on(m: &[u16; MODEL], q: &[u8; QUESTION], need: &mut [u8; TRUTHS], k: usi
     let s = (k % 32) as u8;
     let op = operator(q, j);
     match op {
-        3 | 8 => mark(need, left(q, j), s),
-        4 => {
+        NOT | PLAN => mark(need, left(q, j), s),
+        AND => {
             mark(need, left(q, j), s);
             mark(need, right(q, j), s);
         }
-        6 => mark_next(m, need, left(q, j), s),
+        NEXT => mark_next(m, need, left(q, j), s),
         _ => {}
     }
 }
@@ -118,7 +123,7 @@ pub fn needed(m: &[u16; MODEL], q: &[u8; QUESTION]) -> [u8; TRUTHS]
 // ---- the nodes of a condition
 
 // Marks the children of node j, if it is marked and no state formula.
-fn enter(q: &[u8; QUESTION], marks: &mut [u8; 40], j: u8)
+fn enter(q: &[u8; QUESTION], marks: &mut [u8; NODES], j: u8)
     requires { ⌜ Asked (now q) × (j < question.node-count (now q)) ⌝ }
     ensures frame { λ _.
         let marks′ = now (marks .exit) in let marks = now (marks .entry) in let q = now (q .entry) in
@@ -132,8 +137,8 @@ fn enter(q: &[u8; QUESTION], marks: &mut [u8; 40], j: u8)
     }
     let op = operator(q, j);
     match op {
-        3 | 6 => store(marks, left(q, j) as usize, 1),
-        4 => {
+        NOT | NEXT => store(marks, left(q, j) as usize, 1),
+        AND => {
             store(marks, left(q, j) as usize, 1);
             store(marks, right(q, j) as usize, 1);
         }
@@ -142,11 +147,11 @@ fn enter(q: &[u8; QUESTION], marks: &mut [u8; 40], j: u8)
 }
 
 // Marks from the condition c downwards.
-fn chosen(q: &[u8; QUESTION], c: u8) -> [u8; 40]
+fn chosen(q: &[u8; QUESTION], c: u8) -> [u8; NODES]
     requires { ⌜ Asked (now q) × (c < question.node-count (now q)) ⌝ }
     ensures value { λ r. ⌜ Chosen (now (q .entry)) c r ⌝ }
 {
-    let mut marks = [0u8; 40];
+    let mut marks = [0u8; NODES];
     let top = c as usize;
     marks[top] = 1;
     let mut j = c + 1;
@@ -158,7 +163,7 @@ fn chosen(q: &[u8; QUESTION], c: u8) -> [u8; 40]
 }
 
 // Lists node i after the first n places, if it is marked; gives the number of places listed.
-fn list_node(marks: &[u8; 40], out: &mut [u8], i: u8, n: usize) -> usize
+fn list_node(marks: &[u8; NODES], out: &mut [u8], i: u8, n: usize) -> usize
     requires { ⌜ Listed (now marks) i n (now out) × (i < 40) × (length (now out) ≡ 40) ⌝ }
     ensures effect { λ r. ⌜ Listed (now (marks .entry)) (i + 1) r (now (out .exit)) ⌝ }
 {

@@ -23,14 +23,14 @@ struct Turn {
 
 fn put_refused(out: &mut [u8], at: usize, k: u32) -> usize
     requires { ⌜ at + 29 ≤ length (now out) ⌝ }
-    ensures { λ r. ⌜ r ≤ at + 29 ⌝ }
+    ensures value { λ r. ⌜ r ≤ at + 29 ⌝ }
 {
     verdict_line::put_decimal(out, at, b" refused ", k as u64)
 }
 
 fn put_taken(out: &mut [u8], at: usize, answer: Taken) -> usize
     requires { ⌜ at + 29 ≤ length (now out) ⌝ }
-    ensures { λ r. ⌜ r ≤ at + 29 ⌝ }
+    ensures value { λ r. ⌜ r ≤ at + 29 ⌝ }
 {
     match answer {
         Taken::Done => verdict_line::put_text(out, at, b" done"),
@@ -40,7 +40,7 @@ fn put_taken(out: &mut [u8], at: usize, answer: Taken) -> usize
 
 fn put_plan(out: &mut [u8], at: usize, p: PlanRecord, choices: &[u8]) -> usize
     requires { ⌜ (at + 5600 ≤ length (now out)) × (length (now choices) ≤ 1365) ⌝ }
-    ensures { λ r. ⌜ r ≤ at + 5600 ⌝ }
+    ensures value { λ r. ⌜ r ≤ at + 5600 ⌝ }
 {
     let mut next = verdict_line::put_decimal(out, at, b" yes ", p.weight);
     next = verdict_line::put_decimal(out, next, b" ", p.steps as u64);
@@ -51,7 +51,7 @@ fn put_plan(out: &mut [u8], at: usize, p: PlanRecord, choices: &[u8]) -> usize
 
 fn put_verdict(out: &mut [u8], at: usize, v: Verdict, choices: &[u8]) -> usize
     requires { ⌜ (at + 5600 ≤ length (now out)) × (length (now choices) ≤ 1365) ⌝ }
-    ensures { λ r. ⌜ r ≤ at + 5600 ⌝ }
+    ensures value { λ r. ⌜ r ≤ at + 5600 ⌝ }
 {
     match v {
         Verdict::No(x) => verdict_line::put_decimal(out, at, b" no ", x.count as u64),
@@ -62,7 +62,7 @@ fn put_verdict(out: &mut [u8], at: usize, v: Verdict, choices: &[u8]) -> usize
 
 fn put_judged(out: &mut [u8], at: usize, r: Judging) -> usize
     requires { ⌜ at + 5600 ≤ length (now out) ⌝ }
-    ensures { λ r. ⌜ r ≤ at + 5600 ⌝ }
+    ensures value { λ r. ⌜ r ≤ at + 5600 ⌝ }
 {
     let a = r.answer;
     let choices = r.choices;
@@ -78,7 +78,7 @@ fn put_judged(out: &mut [u8], at: usize, r: Judging) -> usize
 
 fn put_written(out: &mut [u8], at: usize, answer: Written) -> usize
     requires { ⌜ at + 29 ≤ length (now out) ⌝ }
-    ensures { λ r. ⌜ r ≤ at + 29 ⌝ }
+    ensures value { λ r. ⌜ r ≤ at + 29 ⌝ }
 {
     match answer {
         Written::Bytes(n) => verdict_line::put_decimal(out, at, b" ", n as u64),
@@ -88,7 +88,7 @@ fn put_written(out: &mut [u8], at: usize, answer: Written) -> usize
 
 fn put_met(out: &mut [u8], at: usize, met: bool) -> usize
     requires { ⌜ at + 29 ≤ length (now out) ⌝ }
-    ensures { λ r. ⌜ r ≤ at + 29 ⌝ }
+    ensures value { λ r. ⌜ r ≤ at + 29 ⌝ }
 {
     if met {
         return verdict_line::put_text(out, at, b" accepted met");
@@ -98,7 +98,7 @@ fn put_met(out: &mut [u8], at: usize, met: bool) -> usize
 
 fn put_checked(out: &mut [u8], at: usize, answer: Checking) -> usize
     requires { ⌜ at + 29 ≤ length (now out) ⌝ }
-    ensures { λ r. ⌜ r ≤ at + 29 ⌝ }
+    ensures value { λ r. ⌜ r ≤ at + 29 ⌝ }
 {
     match answer {
         Checking::Accepted(r) => put_met(out, at, r.met),
@@ -126,7 +126,7 @@ fn adler(bytes: &[u8]) -> Sums {
 
 fn put_sums(out: &mut [u8], at: usize, bytes: &[u8]) -> usize
     requires { ⌜ at + 42 ≤ length (now out) ⌝ }
-    ensures { λ r. ⌜ r ≤ at + 42 ⌝ }
+    ensures value { λ r. ⌜ r ≤ at + 42 ⌝ }
 {
     let sums = adler(bytes);
     let next = verdict_line::put_decimal(out, at, b" ", sums.a as u64);

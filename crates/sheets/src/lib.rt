@@ -8,9 +8,39 @@ ghost use Rattle.blocks.specs.Block.{block-count};
 ghost use Rattle.sheets.specs.Layout.{weight-of, count-of, sheet-of};
 ghost use Rattle.sheets.specs.Grounds.{head-right, count-right, weight-right, spare-right, read-sheet};
 ghost use Rattle.sheets.specs.promises.Reader.{passes, Blocks, Gathered};
+use blocks::BLOCK;
+use blocks::KIND_SHEET;
+use blocks::LAST_WORD;
 
 pub mod plans;
 pub mod writer;
+
+// The most blocks of a sheet.
+const BLOCKS: usize = 3;
+
+// The most choices in a block.
+pub const IN_BLOCK: usize = 490;
+
+// The most choices that the blocks of a sheet say they hold.
+pub const GATHERED: usize = 1470;
+
+// Where the fields of a block stand: the steps, the start state, four spare bytes, the weight, the count of the choices here, the choices.
+const STEPS_AT: usize = 2;
+
+const START_AT: usize = 3;
+
+const SPARE_AT: usize = 4;
+
+const SPARE_SIZE: usize = WEIGHT_AT - SPARE_AT;
+
+const WEIGHT_AT: usize = 8;
+
+const COUNT_AT: usize = 16;
+
+const CHOICES_AT: usize = 18;
+
+// The choices, and the spare bytes behind them.
+const CHOICES_SIZE: usize = LAST_WORD - CHOICES_AT;
 
 // How many choices block k says it holds.
 fn count_at(b: &[u8], k: usize) -> usize
@@ -18,7 +48,7 @@ fn count_at(b: &[u8], k: usize) -> usize
     ensures value { λ r. ⌜ r ≡ count-of (now (b .entry)) k ⌝ }
     ensures range { λ r. ⌜ r < 65536 ⌝ }
 {
-    blocks::u16_at(b, 512 * k + 16) as usize
+    blocks::u16_at(b, BLOCK * k + COUNT_AT) as usize
 }
 
 // The weight in block k.
@@ -26,7 +56,7 @@ pub fn weight_at(b: &[u8], k: usize) -> u64
     requires { ⌜ k < 3 ⌝ }
     ensures value { λ r. ⌜ r ≡ weight-of (now (b .entry)) k ⌝ }
 {
-    blocks::u64_at(b, 512 * k + 8)
+    blocks::u64_at(b, BLOCK * k + WEIGHT_AT)
 }
 
 // Ground 4 of block k.
@@ -34,8 +64,8 @@ fn head_right(b: &[u8], k: usize, n: usize, start: usize) -> bool
     requires { ⌜ k < 3 ⌝ }
     ensures value { λ r. ⌜ r ≡ head-right n start (now (b .entry)) k ⌝ }
 {
-    let at = 512 * k;
-    (blocks::wide(b, at + 2) == n) & (blocks::wide(b, at + 3) == start)
+    let at = BLOCK * k;
+    (blocks::wide(b, at + STEPS_AT) == n) & (blocks::wide(b, at + START_AT) == start)
 }
 
 // Ground 5 of block k: its count.
@@ -44,10 +74,10 @@ fn count_right(b: &[u8], k: usize) -> bool
     ensures value { λ r. ⌜ r ≡ count-right (now (b .entry)) k ⌝ }
 {
     let c = count_at(b, k);
-    if k + 1 < b.len() / 512 {
-        return c == 490;
+    if k + 1 < b.len() / BLOCK {
+        return c == IN_BLOCK;
     }
-    (1 <= c) & (c <= 490)
+    (1 <= c) & (c <= IN_BLOCK)
 }
 
 // Ground 5 of block k: its weight.
@@ -63,9 +93,10 @@ fn spare_right(b: &[u8], k: usize) -> bool
     requires { ⌜ (k < 3) × (512 * k + 512 ≤ length (now b)) × (count-of (now b) k ≤ 490) ⌝ }
     ensures value { λ r. ⌜ r ≡ spare-right (now (b .entry)) k ⌝ }
 {
-    let at = 512 * k;
+    let at = BLOCK * k;
     let c = count_at(b, k);
-    blocks::zeros(b, at + 4, 4) & blocks::zeros(b, at + 18 + c, 492 - c)
+    blocks::zeros(b, at + SPARE_AT, SPARE_SIZE)
+        & blocks::zeros(b, at + CHOICES_AT + c, CHOICES_SIZE - c)
 }
 
 // What a ground from 3 to 6 asks of block k.
@@ -74,7 +105,7 @@ fn block_passes(b: &[u8], ground: u32, k: usize, n: usize, start: usize) -> bool
     ensures value { λ r. ⌜ r ≡ passes ground n start (now (b .entry)) k ⌝ }
 {
     match ground {
-        3 => blocks::headed(b, k, 4, k),
+        3 => blocks::headed(b, k, KIND_SHEET, k),
         4 => head_right(b, k, n, start),
         5 => count_right(b, k) & weight_right(b, k),
         _ => spare_right(b, k),
@@ -86,7 +117,7 @@ fn all_pass(b: &[u8], ground: u32, n: usize, start: usize) -> bool
     requires { ⌜ Blocks ground (now b) ⌝ }
     ensures value { λ r. ⌜ r ≡ every (block-count (now (b .entry))) (passes ground n start (now (b .entry))) ⌝ }
 {
-    let count = b.len() / 512;
+    let count = b.len() / BLOCK;
     let mut right = true;
     let mut k: usize = 0;
     while k < count {
@@ -100,7 +131,7 @@ fn all_pass(b: &[u8], ground: u32, n: usize, start: usize) -> bool
 pub fn sheet_refusal(b: &[u8], n: usize, start: usize) -> u32
     ensures value { λ r. ⌜ r ≡ refusal (read-sheet n start (now (b .entry))) ⌝ }
 {
-    if !blocks::whole_blocks(b, 1, 3) {
+    if !blocks::whole_blocks(b, 1, BLOCKS) {
         return 1;
     }
     if !blocks::sums_right(b) {
@@ -126,11 +157,11 @@ pub fn gather(b: &[u8], out: &mut [u8]) -> usize
     requires { ⌜ Blocks 6 (now b) × (1470 ≤ length (now out)) ⌝ }
     ensures effect { λ r. ⌜ Gathered ((sheet-of (now (b .entry))) .choices) (now (out .entry)) (now (out .exit)) r ⌝ }
 {
-    let count = b.len() / 512;
+    let count = b.len() / BLOCK;
     let mut at: usize = 0;
     let mut k: usize = 0;
     while k < count {
-        let from = 512 * k + 18;
+        let from = BLOCK * k + CHOICES_AT;
         let c = count_at(b, k);
         let to = from + c;
         blocks::buffers::copy(&mut out[at..], &b[from..to]);

@@ -13,9 +13,20 @@ ghost use Rattle.models.specs.Grounds.{read-model};
 ghost use Rattle.sheets.specs.Layout.{with-word-sum, blocks-for, sheet-bytes};
 ghost use Rattle.sheets.specs.promises.Ends.{all-read};
 ghost use Rattle.sheets.specs.promises.Writer.{started, unsealed, chunk-size, begun, sealed, place, Ahead, Stored};
+use crate::COUNT_AT;
+use crate::IN_BLOCK;
+use crate::START_AT;
+use crate::STEPS_AT;
+use crate::WEIGHT_AT;
+use blocks::BLOCK;
+use blocks::LAST_WORD;
+use blocks::NUMBER_AT;
 use blocks::buffers::clear;
 use blocks::buffers::put_number;
 use blocks::buffers::store;
+
+// The kind of a sheet's blocks, as it is stored.
+const KIND: u8 = 4;
 
 // The last word becomes the one with which all words sum to 0 modulo 65,536.
 fn seal(dst: &mut [u8])
@@ -24,7 +35,7 @@ fn seal(dst: &mut [u8])
 {
     let sum = blocks::word_sum(dst, 0);
     let word = (65536 - sum % 65536) % 65536;
-    put_number(&mut dst[510..], 2, word as u64);
+    put_number(&mut dst[LAST_WORD..], 2, word as u64);
 }
 
 // The first bytes of block k, which is zero as yet.
@@ -32,10 +43,10 @@ fn head(dst: &mut [u8], k: u8, n: u8, start: u8)
     requires { ⌜ (length (now dst) ≡ 512) × (now dst ≡ replicate (length (now dst)) 0) ⌝ }
     ensures frame { λ _. ⌜ now (dst .exit) ≡ started n start k ⌝ }
 {
-    dst[0] = 4;
-    dst[1] = k;
-    dst[2] = n;
-    dst[3] = start;
+    dst[0] = KIND;
+    dst[NUMBER_AT] = k;
+    dst[STEPS_AT] = n;
+    dst[START_AT] = start;
 }
 
 // Begins block k of a sheet: all but its choices and its last word.
@@ -45,8 +56,8 @@ fn begin(dst: &mut [u8], k: u8, n: u8, start: u8, weight: u64, count: u64)
 {
     clear(dst);
     head(dst, k, n, start);
-    put_number(&mut dst[8..], 8, weight);
-    put_number(&mut dst[16..], 2, count);
+    put_number(&mut dst[WEIGHT_AT..], 8, weight);
+    put_number(&mut dst[COUNT_AT..], 2, count);
 }
 
 // How many of a sheet's choices stand in block k: 490, or what is left.
@@ -54,8 +65,8 @@ fn chunk_size(count: usize, k: usize) -> u64
     requires { ⌜ (k < 3) × (490 * k ≤ count) ⌝ }
     ensures value { λ r. ⌜ r ≡ chunk-size count k ⌝ }
 {
-    let left = count - 490 * k;
-    if left < 490 {
+    let left = count - IN_BLOCK * k;
+    if left < IN_BLOCK {
         return left as u64;
     }
     490
@@ -66,11 +77,11 @@ fn begin_blocks(buf: &mut [u8], n: u8, start: u8, weight: u64, count: usize)
     requires { ⌜ (count ≤ 1365) × (512 * blocks-for count ≤ length (now buf)) ⌝ }
     ensures frame { λ _. ⌜ now (buf .exit) ≡ begun n start weight count ++ drop (512 * blocks-for count) (now (buf .entry)) ⌝ }
 {
-    let blocks = (count + 489) / 490;
+    let blocks = (count + 489) / IN_BLOCK;
     let mut k: usize = 0;
     while k < blocks {
-        let a = 512 * k;
-        let e = a + 512;
+        let a = BLOCK * k;
+        let e = a + BLOCK;
         let here = chunk_size(count, k);
         begin(&mut buf[a..e], k as u8, n, start, weight, here);
         k += 1;
@@ -90,9 +101,9 @@ fn store_choice(buf: &mut [u8], p: usize, a: u8)
     requires { ⌜ (p < 1470) × (512 * (p / 490) + 512 ≤ length (now buf)) ⌝ }
     ensures frame { λ _. ⌜ now (buf .exit) ≡ set (now (buf .entry)) (place p) a ⌝ }
 {
-    let from = 512 * (p / 490);
-    let to = from + 512;
-    store_in_block(&mut buf[from..to], p % 490, a);
+    let from = BLOCK * (p / IN_BLOCK);
+    let to = from + BLOCK;
+    store_in_block(&mut buf[from..to], p % IN_BLOCK, a);
 }
 
 // Stores the choices of the n-step plan from the state s that begins with choice p; gives where they end.
@@ -148,8 +159,8 @@ fn seal_blocks(buf: &mut [u8], blocks: usize)
 {
     let mut k: usize = 0;
     while k < blocks {
-        let from = 512 * k;
-        let to = from + 512;
+        let from = BLOCK * k;
+        let to = from + BLOCK;
         seal(&mut buf[from..to]);
         k += 1;
     }
@@ -167,7 +178,7 @@ pub fn write_sheet(buf: &mut [u8], m: &[u8], n: u8, start: u8, weight: u64, choi
     let count = choices.len();
     begin_blocks(buf, n, start, weight, count);
     store_plan(buf, m, choices, n as usize, start as usize, 0);
-    let blocks = (count + 489) / 490;
+    let blocks = (count + 489) / IN_BLOCK;
     seal_blocks(buf, blocks);
-    512 * blocks
+    BLOCK * blocks
 }

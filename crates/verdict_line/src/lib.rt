@@ -19,7 +19,7 @@ pub fn put_text(out: &mut [u8], at: usize, text: &[u8]) -> usize
 pub fn put_decimal(out: &mut [u8], at: usize, text: &[u8], n: u64) -> usize
     requires { ⌜ at + (length (now text) + 20) ≤ length (now out) ⌝ }
     ensures effect { λ r. ⌜ Put (now (text .entry) ++ decimal n) (now (out .entry)) (now (out .exit)) at r ⌝ }
-    ensures value { λ r. ⌜ r ≤ at + (length (now (text .entry)) + 20) ⌝ }
+    ensures range { λ r. ⌜ r ≤ at + (length (now (text .entry)) + 20) ⌝ }
 {
     let mut digits = [0u8; 20];
     let k = io::decimal(n, &mut digits);
@@ -31,7 +31,7 @@ pub fn put_decimal(out: &mut [u8], at: usize, text: &[u8], n: u64) -> usize
 pub fn put_choices(out: &mut [u8], at: usize, choices: &[u8]) -> usize
     requires { ⌜ at + (4 * length (now choices) + 21) ≤ length (now out) ⌝ }
     ensures effect { λ r. ⌜ Put (flatMap (numbered " ") (now (choices .entry))) (now (out .entry)) (now (out .exit)) at r ⌝ }
-    ensures value { λ r. ⌜ r ≤ at + 4 * length (now (choices .entry)) ⌝ }
+    ensures range { λ r. ⌜ r ≤ at + 4 * length (now (choices .entry)) ⌝ }
 {
     let mut next = at;
     let mut i: usize = 0;

@@ -22,23 +22,23 @@ abbrev μ-loop : tie.MeasureT-loop
 head-requires : tie.Need-head-requires Inv-loop μ-loop
 head-requires c κs = let S = c .before in omega (arith, passed-sized _ (passed-all _ (S .pre)) .bytes)
 
-wide-requires : tie.Need-wide-requires Inv-loop μ-loop
-wide-requires c κs = tt
+state-count-requires : tie.Need-state-count-requires Inv-loop μ-loop
+state-count-requires c κs = tt
 
 loop-holds : tie.Need-loop-holds Inv-loop μ-loop
 loop-holds c = let H = c .before .head in (omega arith, H .ensures .0, H .ensures .1, λ t h. absurd (omega arith))
 
 mul-from : tie.Need-mul-from Inv-loop μ-loop
-mul-from c = let S = c .before .before .before .before .before in omega (arith, c .before .before .wide .ensures .1)
+mul-from c = let S = c .before .before .before .before .before in omega (arith, c .before .before .state-count .ensures .1)
 
 add-from : tie.Need-add-from Inv-loop μ-loop
-add-from c = let S = c .before .before .before .before .before in omega (arith, c .before .before .wide .ensures .1)
+add-from c = let S = c .before .before .before .before .before in omega (arith, c .before .before .state-count .ensures .1)
 
 add-end : tie.Need-add-end Inv-loop μ-loop
-add-end c = let S = c .before .before .before .before .before in omega (arith, c .before .before .wide .ensures .1)
+add-end c = let S = c .before .before .before .before .before in omega (arith, c .before .before .state-count .ensures .1)
 
 mul-m : tie.Need-mul-m Inv-loop μ-loop
-mul-m c = let S = c .before .before .before .before .before in omega (arith, c .before .before .wide .ensures .1)
+mul-m c = let S = c .before .before .before .before .before in omega (arith, c .before .before .state-count .ensures .1)
 
 sub-fill : tie.Need-sub-fill Inv-loop μ-loop
 sub-fill c = omega arith
@@ -47,18 +47,18 @@ part-m-start : tie.Need-part-m-start Inv-loop μ-loop
 part-m-start c = search needs
 
 part-m-end : tie.Need-part-m-end Inv-loop μ-loop
-part-m-end c = let S = c .before .before .before .before .before in omega (arith, c .before .loop .inv .1, c .before .before .wide .ensures .0, passed-sized _ (passed-all _ (S .pre)) .states)
+part-m-end c = let S = c .before .before .before .before .before in omega (arith, c .before .loop .inv .1, c .before .before .state-count .ensures .0, passed-sized _ (passed-all _ (S .pre)) .states)
 
 fill-requires : tie.Need-fill-requires Inv-loop μ-loop
 fill-requires c κs = let S = c .before .before .before .before .before .before in
     let L = c .before .before .loop in
-    let n = c .before .before .before .wide .ensures in
+    let n = c .before .before .before .state-count .ensures in
     let few = passed-sized _ (passed-all _ (S .pre)) .states in
     let e : 512 + 256 * L .s + 256 - (512 + 256 * L .s) ≡ 256 = omega arith in
     (S .pre, omega (arith, n .0), mid-len (512 + 256 * L .s) (512 + 256 * L .s + 256) (L .m) (omega (arith, L .inv .1, n .0, few)) ∙ e)
 
 add-s : tie.Need-add-s Inv-loop μ-loop
-add-s c = omega (arith, c .before .before .before .before .before .wide .ensures .1)
+add-s c = omega (arith, c .before .before .before .before .before .state-count .ensures .1)
 
 loop-less : tie.Need-loop-less Inv-loop μ-loop
 loop-less c = omega arith
@@ -66,7 +66,7 @@ loop-less c = omega arith
 loop-again : tie.Need-loop-again Inv-loop μ-loop
 loop-again c = let S = c .before .before .before .before .before .before .before .before in
     let L = c .before .before .before .before .loop in
-    let n = c .before .before .before .before .before .wide .ensures in
+    let n = c .before .before .before .before .before .state-count .ensures in
     let few = passed-sized _ (passed-all _ (S .pre)) .states in
     let f = c .before .fill in
     let from : ℕ = 512 + 256 * L .s in
@@ -80,7 +80,7 @@ loop-again c = let S = c .before .before .before .before .before .before .before
 returns : tie.Need-returns Inv-loop μ-loop
 returns c = let S = c .before .before .before .before .before in
     let L = c .before .loop in
-    prepares (S .args .b .now) (S .pre) (L .m) (λ k h. L .inv .2 k h .1) (λ k h. L .inv .2 k h .0) (λ s h. L .inv .3 s (omega (arith, c .before .before .wide .ensures .0)))
+    prepares (S .args .b .now) (S .pre) (L .m) (λ k h. L .inv .2 k h .1) (λ k h. L .inv .2 k h .0) (λ s h. L .inv .3 s (omega (arith, c .before .before .state-count .ensures .0)))
 
 pub prepare-model-spec : {M : Type 1} → statement M
 prepare-model-spec =
@@ -89,7 +89,7 @@ prepare-model-spec =
     Inv-loop
     μ-loop
     head-requires
-    wide-requires
+    state-count-requires
     loop-holds
     mul-from
     add-from

@@ -5,8 +5,8 @@ use borrow.Author.Needs.{needs}
 use Rattle.printing.proofs.whole.Statement.{statement}
 use Rattle.printing.proofs.whole.Tie as tie
 
-wide-requires : tie.Need-wide-requires
-wide-requires c κs = search needs
+denominator-requires : tie.Need-denominator-requires
+denominator-requires c κs = search needs
 
 cast-power : tie.Need-cast-power
 cast-power c = search needs
@@ -15,7 +15,7 @@ power-requires : tie.Need-power-requires
 power-requires c κs = search needs
 
 returns : tie.Need-returns
-returns c = c .power .ensures ∙ ap (λ d. d ^ c .before .before .before .args .steps) (c .before .wide .ensures .0)
+returns c = c .power .ensures ∙ ap (λ d. d ^ c .before .before .before .args .steps) (c .before .denominator .ensures .0)
 
 pub whole-spec : {M : Type 1} → statement M
-whole-spec = tie.close (tie.spec wide-requires cast-power power-requires returns)
+whole-spec = tie.close (tie.spec denominator-requires cast-power power-requires returns)

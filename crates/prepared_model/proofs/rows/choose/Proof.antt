@@ -14,11 +14,11 @@ Inv-loop b row₀ s n i₀ a₀ row i a = (n ≡ action-count b) × (n ≤ 8) ×
 abbrev μ-loop : tie.MeasureT-loop
 μ-loop b row₀ s n i₀ a₀ row i a = n - a
 
-wide-requires : tie.Need-wide-requires Inv-loop μ-loop
-wide-requires c κs = tt
+action-count-requires : tie.Need-action-count-requires Inv-loop μ-loop
+action-count-requires c κs = tt
 
 loop-holds : tie.Need-loop-holds Inv-loop μ-loop
-loop-holds c = let S = c .before .before .before in (c .wide .ensures .0, omega (arith, c .wide .ensures .0, actions-few _ (S .pre .0)), omega arith, omega arith, S .pre .2, listed-none _ _ _)
+loop-holds c = let S = c .before .before .before in (c .action-count .ensures .0, omega (arith, c .action-count .ensures .0, actions-few _ (S .pre .0)), omega arith, omega arith, S .pre .2, listed-none _ _ _)
 
 entries-requires : tie.Need-entries-requires Inv-loop μ-loop
 entries-requires c κs = let S = c .before .before .before .before .before in (omega (arith, states-few _ (S .pre .0), S .pre .1), omega arith)
@@ -59,7 +59,7 @@ choose-spec =
     (tie.spec
     Inv-loop
     μ-loop
-    wide-requires
+    action-count-requires
     loop-holds
     entries-requires
     list-requires

@@ -1,9 +1,9 @@
 -- The field of the last node.
 use mathlib.Core.Path.{ap, _∙_}
 use borrow.Author.Needs.{needs}
 use Rattle.questions.specs.Layout.{node-of}
-use Rattle.plan_judge.proofs.root_steps.Statement.{statement}
-use Rattle.plan_judge.proofs.root_steps.Tie as tie
+use Rattle.questions.proofs.root_steps.Statement.{statement}
+use Rattle.questions.proofs.root_steps.Tie as tie
 
 root-requires : tie.Need-root-requires
 root-requires c κs = search needs
