@@ -1,6 +1,6 @@
 -- Lists over consecutive numbers, one more at either end: products, combined lists, and lists one after the other.
 use Prim.Native.Nat.{ℕ, zero, suc, _+_, _-_, _*_, _≤_, _<_}
-use native.Mathlib.Nat.{zero-add, mul-one, one-mul, mul-assoc, le-refl, le-trans, le-mul-of-pos-right, mul-comm}
+use native.Mathlib.Nat.{mul-one, one-mul, mul-assoc, le-refl, le-trans, le-mul-of-pos-right, mul-comm}
 use native.Mathlib.Omega.{arith}
 use mathlib.Core.Path.{_≡_, refl, sym, ap, subst, _∙_}
 use mathlib.Core.List.{List, [], _∷_, _++_, map, flatMap}
@@ -79,10 +79,6 @@ module _ (t : ℕ → ℕ) where
         let e : lo + n + (c - (lo + n)) ≡ c = omega arith in
         le-trans (more-left lo n h)
         (subst (λ k. multiply t (count-from 0 (lo + n)) ≤ multiply t (count-from 0 k)) e (more-right 0 (lo + n) (c - (lo + n)) (omega arith)))
-
-    pub multiply-some : (lo n : ℕ) → lo + n ≤ c → 0 < multiply t (count-from lo n)
-    unfolding multiply count-from
-    multiply-some lo n h = subst (λ k. 0 < multiply t (count-from lo k)) (zero-add n) (more-right lo 0 n (omega arith))
 
 -- ---- lists made for the numbers below n, one after the other
 
