@@ -20,38 +20,63 @@ use Rattle.questions.proofs.TableNodeByNode.{one-block, within-least, w
 use Rattle.questions.proofs.question_refusal.Statement.{statement}
 use Rattle.questions.proofs.question_refusal.Tie as tie
 
--- The grounds after the first k, for a model of S states, A actions and N propositions.
-abbrev rest : (S A N : ℕ) → Bytes → ℕ → Checked Question
-rest S A N b k = decided (drop k (question-grounds S A N b)) (question-of b)
+-- What is asked of a question's bytes, and the grounds after the first k.
+abbrev asked : tie.Start → Checked Question
+asked s = read-question (s .args .states) (s .args .actions) (s .args .props) (s .args .b .now)
+
+abbrev rest : tie.Start → ℕ → Checked Question
+rest s k = decided (drop k (question-grounds (s .args .states) (s .args .actions) (s .args .props) (s .args .b .now))) (question-of (s .args .b .now))
+
+-- The entry, from past a test.
+abbrev start-1 : tie.Else1 → tie.Start
+start-1 c = c .before .before .before
+
+abbrev start-2 : tie.Else2 → tie.Start
+start-2 c = start-1 (c .before .before)
+
+abbrev start-3 : tie.Else3 → tie.Start
+start-3 c = start-2 (c .before .before)
+
+abbrev start-4 : tie.Else4 → tie.Start
+start-4 c = start-3 (c .before .before)
+
+abbrev start-5 : tie.Else5 → tie.Start
+start-5 c = start-4 (c .before .before .before .before)
+
+abbrev start-6 : tie.Else6 → tie.Start
+start-6 c = start-5 (c .before .before .before)
+
+abbrev start-7 : tie.Else7 → tie.Start
+start-7 c = start-6 (c .before .before .before)
 
 -- Past a test, the refusal is that of the grounds after it.
 
-rest-1 : (c : tie.Else1) → let S = c .before .before .before .args in refusal (read-question (S .states) (S .actions) (S .props) (S .b .now)) ≡ refusal (rest (S .states) (S .actions) (S .props) (S .b .now) 1)
+rest-1 : (c : tie.Else1) → refusal (asked (start-1 c)) ≡ refusal (rest (start-1 c) 1)
 unfolding read-question
-rest-1 c = let S = c .before .before .before .args in goes-on (c .before .whole-blocks .ensures) 1 (rest (S .states) (S .actions) (S .props) (S .b .now) 1) (c .if1 .left)
+rest-1 c = goes-on (c .before .whole-blocks .ensures) 1 (rest (start-1 c) 1) (c .if1 .left)
 
-rest-2 : (c : tie.Else2) → let S = c .before .before .before .before .before .args in refusal (read-question (S .states) (S .actions) (S .props) (S .b .now)) ≡ refusal (rest (S .states) (S .actions) (S .props) (S .b .now) 2)
-rest-2 c = let S = c .before .before .before .before .before .args in rest-1 (c .before .before) ∙ goes-on (c .before .sums-right .ensures) 2 (rest (S .states) (S .actions) (S .props) (S .b .now) 2) (c .if2 .left)
+rest-2 : (c : tie.Else2) → refusal (asked (start-2 c)) ≡ refusal (rest (start-2 c) 2)
+rest-2 c = rest-1 (c .before .before) ∙ goes-on (c .before .sums-right .ensures) 2 (rest (start-2 c) 2) (c .if2 .left)
 
-rest-3 : (c : tie.Else3) → let S = c .before .before .before .before .before .before .before .args in refusal (read-question (S .states) (S .actions) (S .props) (S .b .now)) ≡ refusal (rest (S .states) (S .actions) (S .props) (S .b .now) 3)
-rest-3 c = let S = c .before .before .before .before .before .before .before .args in rest-2 (c .before .before) ∙ goes-on (c .before .headed .ensures) 3 (rest (S .states) (S .actions) (S .props) (S .b .now) 3) (c .if3 .left)
+rest-3 : (c : tie.Else3) → refusal (asked (start-3 c)) ≡ refusal (rest (start-3 c) 3)
+rest-3 c = rest-2 (c .before .before) ∙ goes-on (c .before .headed .ensures) 3 (rest (start-3 c) 3) (c .if3 .left)
 
-rest-4 : (c : tie.Else4) → let S = c .before .before .before .before .before .before .before .before .before .args in refusal (read-question (S .states) (S .actions) (S .props) (S .b .now)) ≡ refusal (rest (S .states) (S .actions) (S .props) (S .b .now) 4)
-rest-4 c = let S = c .before .before .before .before .before .before .before .before .before .args in rest-3 (c .before .before) ∙ goes-on (c .before .counts-right .ensures) 4 (rest (S .states) (S .actions) (S .props) (S .b .now) 4) (c .if4 .left)
+rest-4 : (c : tie.Else4) → refusal (asked (start-4 c)) ≡ refusal (rest (start-4 c) 4)
+rest-4 c = rest-3 (c .before .before) ∙ goes-on (c .before .counts-right .ensures) 4 (rest (start-4 c) 4) (c .if4 .left)
 
-rest-5 : (c : tie.Else5) → let S = c .before .before .before .before .before .before .before .before .before .before .before .before .before .args in refusal (read-question (S .states) (S .actions) (S .props) (S .b .now)) ≡ refusal (rest (S .states) (S .actions) (S .props) (S .b .now) 5)
+rest-5 : (c : tie.Else5) → refusal (asked (start-5 c)) ≡ refusal (rest (start-5 c) 5)
 unfolding passes
-rest-5 c = let S = c .before .before .before .before .before .before .before .before .before .before .before .before .before .args in rest-4 (c .before .before .before .before) ∙ goes-on (c .before .nodes-pass .ensures) 5 (rest (S .states) (S .actions) (S .props) (S .b .now) 5) (c .if5 .left)
+rest-5 c = rest-4 (c .before .before .before .before) ∙ goes-on (c .before .nodes-pass .ensures) 5 (rest (start-5 c) 5) (c .if5 .left)
 
-rest-6 : (c : tie.Else6) → let S = c .before .before .before .before .before .before .before .before .before .before .before .before .before .before .before .before .args in refusal (read-question (S .states) (S .actions) (S .props) (S .b .now)) ≡ refusal (rest (S .states) (S .actions) (S .props) (S .b .now) 6)
-rest-6 c = let S = c .before .before .before .before .before .before .before .before .before .before .before .before .before .before .before .before .args in rest-5 (c .before .before .before) ∙ goes-on (c .before .spare-zero .ensures) 6 (rest (S .states) (S .actions) (S .props) (S .b .now) 6) (c .if6 .left)
+rest-6 : (c : tie.Else6) → refusal (asked (start-6 c)) ≡ refusal (rest (start-6 c) 6)
+rest-6 c = rest-5 (c .before .before .before) ∙ goes-on (c .before .spare-zero .ensures) 6 (rest (start-6 c) 6) (c .if6 .left)
 
-rest-7 : (c : tie.Else7) → let S = c .before .before .before .before .before .before .before .before .before .before .before .before .before .before .before .before .before .before .before .args in refusal (read-question (S .states) (S .actions) (S .props) (S .b .now)) ≡ refusal (rest (S .states) (S .actions) (S .props) (S .b .now) 7)
-rest-7 c = let S = c .before .before .before .before .before .before .before .before .before .before .before .before .before .before .before .before .before .before .before .args in rest-6 (c .before .before .before) ∙ goes-on (c .before .formed .ensures) 9 (rest (S .states) (S .actions) (S .props) (S .b .now) 7) (c .if7 .left)
+rest-7 : (c : tie.Else7) → refusal (asked (start-7 c)) ≡ refusal (rest (start-7 c) 7)
+rest-7 c = rest-6 (c .before .before .before) ∙ goes-on (c .before .formed .ensures) 9 (rest (start-7 c) 7) (c .if7 .left)
 
 -- What the tests on nodes are handed.
-nodes : (c : tie.Else4) {l : List ℕ} → let b = c .before .before .before .before .before .before .before .before .before .args .b .now in l ≡ table depth (formulas-of b) → Nodes b l
-nodes c e = let S = c .before .before .before .before .before .before .before .before .before .args in
+nodes : (c : tie.Else4) {l : List ℕ} → let b = start-4 c .args .b .now in l ≡ table depth (formulas-of b) → Nodes b l
+nodes c e = let S = start-4 c .args in
     let n = and-right (ltb (start-of (S .b .now)) (S .states)) (within 1 40 (node-count (S .b .now))) (passed (c .before .counts-right .ensures) (c .if4 .left)) in
     record {
       size = one-block (S .b .now) (passed (c .before .before .before .before .before .before .before .whole-blocks .ensures) (c .before .before .before .before .before .before .if1 .left));
@@ -65,25 +90,25 @@ whole-blocks-requires c κs = search needs
 
 returns : tie.Need-returns
 unfolding read-question
-returns c = let S = c .before .before .before .args in stops (c .before .whole-blocks .ensures) 1 (rest (S .states) (S .actions) (S .props) (S .b .now) 1) (c .if1 .taken)
+returns c = stops (c .before .whole-blocks .ensures) 1 (rest (c .before .before .before) 1) (c .if1 .taken)
 
 sums-right-requires : tie.Need-sums-right-requires
 sums-right-requires c κs = search needs
 
 returns-2 : tie.Need-returns-2
-returns-2 c = let S = c .before .before .before .before .before .args in stops (c .before .sums-right .ensures) 2 (rest (S .states) (S .actions) (S .props) (S .b .now) 2) (c .if2 .taken) ∙ sym (rest-1 (c .before .before))
+returns-2 c = stops (c .before .sums-right .ensures) 2 (rest (start-1 (c .before .before)) 2) (c .if2 .taken) ∙ sym (rest-1 (c .before .before))
 
 headed-requires : tie.Need-headed-requires
 headed-requires c κs = search needs
 
 returns-3 : tie.Need-returns-3
-returns-3 c = let S = c .before .before .before .before .before .before .before .args in stops (c .before .headed .ensures) 3 (rest (S .states) (S .actions) (S .props) (S .b .now) 3) (c .if3 .taken) ∙ sym (rest-2 (c .before .before))
+returns-3 c = stops (c .before .headed .ensures) 3 (rest (start-2 (c .before .before)) 3) (c .if3 .taken) ∙ sym (rest-2 (c .before .before))
 
 counts-right-requires : tie.Need-counts-right-requires
 counts-right-requires c κs = search needs
 
 returns-4 : tie.Need-returns-4
-returns-4 c = let S = c .before .before .before .before .before .before .before .before .before .args in stops (c .before .counts-right .ensures) 4 (rest (S .states) (S .actions) (S .props) (S .b .now) 4) (c .if4 .taken) ∙ sym (rest-3 (c .before .before))
+returns-4 c = stops (c .before .counts-right .ensures) 4 (rest (start-3 (c .before .before)) 4) (c .if4 .taken) ∙ sym (rest-3 (c .before .before))
 
 depth-table-requires : tie.Need-depth-table-requires
 depth-table-requires c κs = search needs
@@ -93,19 +118,19 @@ nodes-pass-requires c κs = nodes (c .before .before) (c .before .depth-table .e
 
 returns-5 : tie.Need-returns-5
 unfolding passes
-returns-5 c = let S = c .before .before .before .before .before .before .before .before .before .before .before .before .before .args in stops (c .before .nodes-pass .ensures) 5 (rest (S .states) (S .actions) (S .props) (S .b .now) 5) (c .if5 .taken) ∙ sym (rest-4 (c .before .before .before .before))
+returns-5 c = stops (c .before .nodes-pass .ensures) 5 (rest (start-4 (c .before .before .before .before)) 5) (c .if5 .taken) ∙ sym (rest-4 (c .before .before .before .before))
 
 spare-zero-requires : tie.Need-spare-zero-requires
 spare-zero-requires c κs = nodes (c .before .before .before .before .before) (c .before .before .before .before .depth-table .ensures)
 
 returns-6 : tie.Need-returns-6
-returns-6 c = let S = c .before .before .before .before .before .before .before .before .before .before .before .before .before .before .before .before .args in stops (c .before .spare-zero .ensures) 6 (rest (S .states) (S .actions) (S .props) (S .b .now) 6) (c .if6 .taken) ∙ sym (rest-5 (c .before .before .before))
+returns-6 c = stops (c .before .spare-zero .ensures) 6 (rest (start-5 (c .before .before .before)) 6) (c .if6 .taken) ∙ sym (rest-5 (c .before .before .before))
 
 formed-requires : tie.Need-formed-requires
 formed-requires c κs = (nodes (c .before .before .before .before .before .before .before .before) (c .before .before .before .before .before .before .before .depth-table .ensures), passed (c .before .before .before .before .before .nodes-pass .ensures) (c .before .before .before .before .if5 .left))
 
 returns-7 : tie.Need-returns-7
-returns-7 c = let S = c .before .before .before .before .before .before .before .before .before .before .before .before .before .before .before .before .before .before .before .args in stops (c .before .formed .ensures) 9 (rest (S .states) (S .actions) (S .props) (S .b .now) 7) (c .if7 .taken) ∙ sym (rest-6 (c .before .before .before))
+returns-7 c = stops (c .before .formed .ensures) 9 (rest (start-6 (c .before .before .before)) 7) (c .if7 .taken) ∙ sym (rest-6 (c .before .before .before))
 
 returns-8 : tie.Need-returns-8
 returns-8 c = sym (rest-7 c)
