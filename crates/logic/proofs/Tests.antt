@@ -2,6 +2,7 @@
 -- (`all`, `every`) or at some member (`any`, `some-below`, `find`); a tabulated list holds the function's values at its places.
 use Prim.Native.Nat.{ℕ, zero, suc, _+_, _<_, _≤_, suc-le-suc}
 use native.Mathlib.Omega.{arith}
+use native.Mathlib.Numerals.{add-one}
 use native.Mathlib.Nat.{not-suc-le-zero, le-of-suc-le-suc, le-of-suc-le, eq-or-lt-of-le}
 use mathlib.Core.Path.{_≡_, refl, sym, ap, ap₂, subst, _∙_}
 use mathlib.Core.Logic.{⊎-elim}
@@ -253,3 +254,13 @@ module _ {A : Type 0} (f : ℕ → A) where
       same-test _ _
       (λ e. every-intro _ n (λ i h. all-at t (map f (count-from 0 n)) e (in-map f (counted-in 0 n (omega arith) (omega arith)))))
       (λ e. all-true t _ (λ y i. let w = map-member f (count-from 0 n) i in ap t (w .2) ∙ every-at (λ i. t (f i)) n e (omega (arith, counted-range 0 n (w .1) .1))))
+
+-- One number more is tested, as a loop does it.
+module _ (f : ℕ → Bool) (i : ℕ) {r t : Bool} where
+  pub every-more : r ≡ every i f → t ≡ f i → (r && t) ≡ every (i + 1) f
+  unfolding every
+  every-more e h = rw (add-one i) (ap₂ _&&_ e h)
+
+  pub some-more : r ≡ some-below i f → t ≡ f i → (r || t) ≡ some-below (i + 1) f
+  unfolding some-below
+  some-more e h = rw (add-one i) (ap₂ _||_ e h)

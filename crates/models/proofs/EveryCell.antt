@@ -1,9 +1,8 @@
--- Facts that the tests' proofs share: one turn more of a loop that tests every number, and the cells of a table as a grid.
+-- What the tests of cells share: the cells of a table as a grid, the used outcomes of a cell, and what the first grounds say of sizes.
 use Prim.Native.Nat.{ℕ, _+_, _*_, _/_, _%_, _^_, _-_, _≤_, _<_}
 use native.Mathlib.Omega.{arith}
-use native.Mathlib.Numerals.{add-one}
 use mathlib.Core.Path.{_≡_, refl, sym, ap, ap₂, _∙_}
-use mathlib.Core.Bool.{Bool, true, false, not, _&&_, _||_}
+use mathlib.Core.Bool.{Bool, true, false, _&&_}
 use native.Mathlib.Nat.{div-lt-iff-lt-mul, eq-zero-or-pos}
 use mathlib.Core.Logic.{⊎-elim}
 use mathlib.Core.List.{List}
@@ -12,9 +11,9 @@ use lib.Seq.{getD-set-same, getD-set-other}
 use lib.Pow.{pow-pos}
 use borrow.Author.Count.{below-more}
 use mathlib.Core.Bool.{cond}
-use lib.Dec.{eqb, ltb, leb}
-use borrow.Author.Tests.{lt-ltb, le-ltb, eq-eqb, eqb-true, ltb-true, leb-true, not-true, not-false}
-use Rattle.logic.specs.Lists.{every, some-below}
+use lib.Dec.{eqb, ltb}
+use borrow.Author.Tests.{lt-ltb, le-ltb, eq-eqb, eqb-true, ltb-true}
+use Rattle.logic.specs.Lists.{every}
 use Rattle.logic.specs.Model.{true-of}
 use Rattle.logic.proofs.Tests.{same-test, every-at, every-intro, and-left, and-right}
 use Rattle.blocks.specs.Bytes.{Bytes, within}
@@ -23,15 +22,7 @@ use Rattle.models.specs.Layout.{state-count, action-count, prop-count, d
 use Rattle.models.specs.Grounds.{sizes-right, mask-in-range, literals-in-range, action-in-range, fields-right, cell-in-range, cell-consistent}
 use Rattle.models.specs.promises.Used.{Sized}
 use Rattle.models.specs.promises.Passes.{Earlier}
-
-module _ (f : ℕ → Bool) (i : ℕ) {r t : Bool} where
-  pub every-more : r ≡ every i f → t ≡ f i → (r && t) ≡ every (i + 1) f
-  unfolding every
-  every-more e h = rw (add-one i) (ap₂ _&&_ e h)
-
-  pub some-more : r ≡ some-below i f → t ≡ f i → (r || t) ≡ some-below (i + 1) f
-  unfolding some-below
-  some-more e h = rw (add-one i) (ap₂ _||_ e h)
+use Rattle.blocks.proofs.RangeTests.{blocks-within, at-least, at-most}
 
 -- A mask shifted down by n bits is 0 where it has no bit from n up.
 pub shift-zero : (v n : ℕ) → eqb (v / 2 ^ n) 0 ≡ ltb v (2 ^ n)
@@ -108,23 +99,6 @@ module _ (b : Bytes) (sized : Sized b) where
 
 -- ---- what the first grounds say
 
-pub blocks-within : (b : Bytes) (least most : ℕ) → whole-blocks least most b ≡ true → (length b ≡ 512 * (length b / 512)) × (least ≤ length b / 512) × (length b / 512 ≤ most)
-unfolding whole-blocks within block-count
-blocks-within b least most e =
-    let l : eqb (length b % 512) 0 ≡ true = and-left _ _ e in
-    let w = and-right (eqb (length b % 512) 0) _ e in
-    let z : length b % 512 ≡ 0 = eqb-true _ _ l in
-    (omega arith, leb-true _ _ (and-left _ _ w), leb-true _ _ (and-right (leb least (length b / 512)) _ w))
-
-module _ (least most x : ℕ) (e : within least most x ≡ true) where
-  pub at-least : least ≤ x
-  unfolding within
-  at-least = leb-true _ _ (and-left _ _ e)
-
-  pub at-most : x ≤ most
-  unfolding within
-  at-most = leb-true _ _ (and-right (leb least x) _ e)
-
 pub record Sizes (b : Bytes) : Type 0 where
   pub some : 1 ≤ state-count b
   pub states : state-count b ≤ 32
@@ -152,14 +126,6 @@ sizes b e =
       parts = at-most 1 100 (denominator-of b) d;
       blocks = eqb-true _ _ r;
     }
-
--- What a test's negation says, of the test that the call's result is.
-module _ {r t : Bool} (e : r ≡ t) where
-  pub passed : not r ≡ false → t ≡ true
-  passed h = sym e ∙ not-false r h
-
-  pub failed : not r ≡ true → t ≡ false
-  failed h = sym e ∙ not-true r h
 
 pub sized : (b : Bytes) → whole-blocks 2 12 b ≡ true → sizes-right b ≡ true → fields-right b ≡ true → Sized b
 unfolding fields-right action-in-range

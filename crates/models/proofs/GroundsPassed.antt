@@ -13,7 +13,8 @@ use Rattle.blocks.specs.Block.{whole-blocks, sums-right}
 use Rattle.models.specs.Layout.{state-count, action-count, pre-of, state-mask, post-count, outcome-of, entries, model-of}
 use Rattle.models.specs.Grounds.{kinds-right, sizes-right, mask-in-range, literals-in-range, action-in-range, outcome-in-range, cell-in-range, fields-right, head-spare, rows-spare, cells-spare, posts-contradict, cell-consistent, consistent, no-dead-ends, read-model}
 use Rattle.models.specs.promises.Used.{Sized}
-use Rattle.models.proofs.EveryCell.{sized, at-least}
+use Rattle.models.proofs.EveryCell.{sized}
+use Rattle.blocks.proofs.RangeTests.{at-least}
 
 pub record Passed (b : Bytes) : Type 0 where
   pub whole : whole-blocks 2 12 b ≡ true

@@ -26,8 +26,9 @@ use Rattle.blocks.specs.Bytes.{Bytes, within}
 use Rattle.blocks.specs.Block.{sum-below}
 use Rattle.models.specs.Layout.{state-count, action-count, prop-count, denominator-of, state-mask, pre-of, post-count, post-of, outcome-of, entries, model-of}
 use Rattle.models.specs.Grounds.{sizes-right, outcome-in-range, posts-contradict, cell-consistent}
-use Rattle.models.proofs.EveryCell.{entries-inside, at-least}
+use Rattle.models.proofs.EveryCell.{entries-inside}
 use Rattle.models.proofs.GroundsPassed.{Passed, some-post, outcome-passed, action-passed, cell-passed, state-passed}
+use Rattle.blocks.proofs.RangeTests.{at-least}
 
 -- ---- lists
 

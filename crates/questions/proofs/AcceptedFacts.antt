@@ -21,8 +21,9 @@ use Rattle.questions.specs.Layout.{start-of, node-count, node-of, formul
 use Rattle.questions.specs.Grounds.{compares, gain-bound, plan-bound, plan-in-range, node-in-range, spare-zero, formed, read-question}
 use Rattle.questions.specs.promises.Formed.{Compares, GainRange, PlanRange, InRange, Formed}
 use Rattle.questions.specs.promises.Tables.{formulas-before}
-use Rattle.questions.proofs.TableNodeByNode.{within-least, within-most, one-block, by-operator, before-at, formula-here}
+use Rattle.questions.proofs.TableNodeByNode.{one-block, by-operator, before-at, formula-here}
 use Rattle.questions.proofs.FormulaByOperator.{row-1, row-2, row-3, row-4, row-5, row-6, row-7, row-8, all-shallow}
+use Rattle.blocks.proofs.RangeTests.{at-least, at-most}
 
 -- ---- a node's fields
 
@@ -32,10 +33,10 @@ compares-facts x e =
     let s : within 1 6 (x .n) ≡ true = and-left (within 1 6 (x .n)) (within 1 3 (x .right)) e in
     let r : within 1 3 (x .right) ≡ true = and-right (within 1 6 (x .n)) (within 1 3 (x .right)) e in
     record {
-      some-step = within-least 1 6 (x .n) s;
-      few-steps = within-most 1 6 (x .n) s;
-      relation-from = within-least 1 3 (x .right) r;
-      relation-to = within-most 1 3 (x .right) r;
+      some-step = at-least 1 6 (x .n) s;
+      few-steps = at-most 1 6 (x .n) s;
+      relation-from = at-least 1 3 (x .right) r;
+      relation-to = at-most 1 3 (x .right) r;
     }
 
 mag-gain : (p : ℤ) → leZ (negsuc 5999) p ≡ true → leZ p (pos 6000) ≡ true → mag p ≤ 6000
@@ -69,8 +70,8 @@ plan-facts i x e =
     record {
       compares = compares-facts x (and-left (compares x) (ltb (x .left) i) c);
       child = ltb-true (x .left) i (and-right (compares x) (ltb (x .left) i) c);
-      some-part = within-least 1 1000000 (x .q) q;
-      few-parts = within-most 1 1000000 (x .q) q;
+      some-part = at-least 1 1000000 (x .q) q;
+      few-parts = at-most 1 1000000 (x .q) q;
       whole = p .0;
       bound = p .1;
     }
@@ -142,8 +143,8 @@ accepted S A N b e =
       formed =
           record {
             starts = ltb-true (start-of b) S (and-left (ltb (start-of b) S) (within 1 40 (node-count b)) (g4 .0));
-            some-node = within-least 1 40 (node-count b) n;
-            few-nodes = within-most 1 40 (node-count b) n;
+            some-node = at-least 1 40 (node-count b) n;
+            few-nodes = at-most 1 40 (node-count b) n;
             in-range = λ i h. in-range-facts A N i (node-of b i) (every-at (λ i. node-in-range A N i (node-of b i)) (node-count b) (g5 .0) h);
             root-state = root;
             shallow = λ i h. every-at (λ i. shallow (getD (formulas-of b) i never)) (node-count b)

@@ -8,10 +8,10 @@ use mathlib.Core.Path.{_≡_, refl, sym, ap, ap₂, _∙_}
 use mathlib.Core.Logic.{_⊎_, inl, inr, ⊎-elim}
 use mathlib.Core.Bool.{Bool, true, false, _&&_, and-true, and-assoc}
 use mathlib.Core.List.{List, [], _∷_, _++_}
-use lib.Dec.{eqb, leb}
+use lib.Dec.{eqb}
 use lib.ListN.{length, getD, take, set, length-append, length-set, length-take, List·getD-eq-default}
 use lib.Seq.{getD-at, getD-take, take-all, take-append-le, ext-getD, getD-set-same, getD-set-other}
-use borrow.Author.Tests.{leb-true, eqb-true}
+use borrow.Author.Tests.{eqb-true}
 use Rattle.logic.specs.Lists.{all, every, count-from, tabulate}
 use Rattle.logic.specs.Formula.{Formula, never, Node, formula-of, formulas}
 use Rattle.logic.proofs.Tests.{length-tabulate, getD-tabulate, all-tabulate, and-left, and-right, tabulate-more}
@@ -20,6 +20,7 @@ use Rattle.blocks.specs.Block.{whole-blocks, block-count}
 use Rattle.questions.specs.Layout.{node-at, node-of, node-count, formulas-of}
 use Rattle.questions.specs.Grounds.{node-in-range, node-spare}
 use Rattle.questions.specs.promises.Tables.{formulas-before, table}
+use Rattle.blocks.proofs.RangeTests.{at-least, at-most}
 
 -- ---- tests
 
@@ -59,21 +60,13 @@ pub all-every : {A : Type 0} (t : A → Bool) (d : A) (l : List A) → all t l �
 unfolding all
 all-every t d l = ap (all t) (ext-getD d l (tabulate (length l) (λ i. getD l i d)) (sym (length-tabulate (λ i. getD l i d) (length l))) (λ i h. sym (getD-tabulate (λ i. getD l i d) (length l) d h))) ∙ all-tabulate (λ i. getD l i d) t (length l)
 
-pub within-least : (least most x : ℕ) → within least most x ≡ true → least ≤ x
-unfolding within
-within-least least most x e = leb-true least x (and-left (leb least x) (leb x most) e)
-
-pub within-most : (least most x : ℕ) → within least most x ≡ true → x ≤ most
-unfolding within
-within-most least most x e = leb-true x most (and-right (leb least x) (leb x most) e)
-
 -- A question that passes ground 1 is one block.
 pub one-block : (b : Bytes) → whole-blocks 1 1 b ≡ true → length b ≡ 512
 unfolding whole-blocks block-count
 one-block b e =
     let m : length b % 512 ≡ 0 = eqb-true (length b % 512) 0 (and-left (eqb (length b % 512) 0) (within 1 1 (length b / 512)) e) in
     let d : within 1 1 (length b / 512) ≡ true = and-right (eqb (length b % 512) 0) (within 1 1 (length b / 512)) e in
-    omega (arith, div-add-mod' (length b) 512, within-least 1 1 (length b / 512) d, within-most 1 1 (length b / 512) d)
+    omega (arith, div-add-mod' (length b) 512, at-least 1 1 (length b / 512) d, at-most 1 1 (length b / 512) d)
 
 -- ---- by an operator's number
 

@@ -17,12 +17,12 @@ use Rattle.logic.proofs.Checked.{guard-passed}
 use Rattle.logic.proofs.Tests.{and-left, every-at, every-intro}
 use Rattle.blocks.specs.Bytes.{within}
 use Rattle.blocks.specs.Block.{block-count, whole-blocks, sums-right, headed}
-use Rattle.models.proofs.EveryCell.{blocks-within, at-least, at-most}
 use Rattle.sheets.specs.Layout.{count-of, choices-of, sheet-of}
 use Rattle.sheets.specs.Grounds.{head-right, count-right, weight-right, spare-right, read-sheet}
 use Rattle.sheets.specs.promises.Reader.{passes, Blocks}
 use Rattle.blocks.proofs.PartPutBack.{put-front}
 use Rattle.sheets.proofs.PiecesInOrder.{pieces, pieces-more}
+use Rattle.blocks.proofs.RangeTests.{blocks-within, at-least, at-most}
 
 pub record Whole (b : List ℕ) : Type 0 where
   pub length-is : length b ≡ 512 * block-count b

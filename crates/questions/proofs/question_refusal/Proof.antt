@@ -16,7 +16,8 @@ use Rattle.questions.specs.Layout.{Question, start-of, node-count, formu
 use Rattle.questions.specs.Grounds.{question-grounds, read-question}
 use Rattle.questions.specs.promises.Tables.{table}
 use Rattle.questions.specs.promises.Passes.{passes, Nodes}
-use Rattle.questions.proofs.TableNodeByNode.{one-block, within-least, within-most}
+use Rattle.questions.proofs.TableNodeByNode.{one-block}
+use Rattle.blocks.proofs.RangeTests.{at-least, at-most}
 use Rattle.questions.proofs.question_refusal.Statement.{statement}
 use Rattle.questions.proofs.question_refusal.Tie as tie
 
@@ -80,8 +81,8 @@ nodes c e = let S = start-4 c .args in
     let n = and-right (ltb (start-of (S .b .now)) (S .states)) (within 1 40 (node-count (S .b .now))) (passed (c .before .counts-right .ensures) (c .if4 .left)) in
     record {
       size = one-block (S .b .now) (passed (c .before .before .before .before .before .before .before .whole-blocks .ensures) (c .before .before .before .before .before .before .if1 .left));
-      some = within-least 1 40 (node-count (S .b .now)) n;
-      few = within-most 1 40 (node-count (S .b .now)) n;
+      some = at-least 1 40 (node-count (S .b .now)) n;
+      few = at-most 1 40 (node-count (S .b .now)) n;
       held = e;
     }
 

@@ -4,9 +4,8 @@ use native.Mathlib.Omega.{arith}
 use mathlib.Core.Path.{_≡_, refl, ap, _∙_}
 use lib.ListN.{length}
 use Rattle.logic.specs.Lists.{every}
-use Rattle.logic.proofs.Tests.{every-at}
+use Rattle.logic.proofs.Tests.{every-at, every-more}
 use Rattle.blocks.specs.Block.{block-count}
-use Rattle.models.proofs.EveryCell.{every-more}
 use Rattle.sheets.specs.Grounds.{count-right}
 use Rattle.sheets.specs.promises.Reader.{passes}
 use Rattle.sheets.proofs.BlockTests.{whole-says, count-says}

@@ -5,9 +5,9 @@ use mathlib.Core.Bool.{true}
 use borrow.Author.Needs.{needs}
 use Rattle.logic.specs.Lists.{every}
 use Rattle.blocks.specs.Block.{block-count, whole-blocks, sums-right}
-use Rattle.models.proofs.EveryCell.{passed, failed}
 use Rattle.sheets.specs.promises.Reader.{passes}
 use Rattle.sheets.proofs.BlockTests.{refusal-by, counts-of}
+use Rattle.blocks.proofs.GroundByGround.{passed, failed}
 use Rattle.sheets.proofs.sheet_refusal.Statement.{statement}
 use Rattle.sheets.proofs.sheet_refusal.Tie as tie
 

@@ -6,7 +6,7 @@ use Rattle.logic.specs.Lists.{every}
 use mathlib.Core.Path.{ap₂}
 use Rattle.logic.specs.Model.{contradict}
 use Rattle.models.specs.Layout.{literals, post-of}
-use Rattle.models.proofs.EveryCell.{every-more}
+use Rattle.logic.proofs.Tests.{every-more}
 use Rattle.models.proofs.consistent.post_contradicts.Statement.{statement}
 use Rattle.models.proofs.consistent.post_contradicts.Tie as tie
 

@@ -6,7 +6,7 @@ use Rattle.logic.specs.Lists.{every, some-below}
 use Rattle.logic.specs.Model.{true-of}
 use Rattle.models.specs.Grounds.{no-dead-ends}
 use Rattle.models.specs.Layout.{pre-of, state-mask, state-count, action-count}
-use Rattle.models.proofs.EveryCell.{every-more}
+use Rattle.logic.proofs.Tests.{every-more}
 use Rattle.models.proofs.dead_ends.no_dead_ends.Statement.{statement}
 use Rattle.models.proofs.dead_ends.no_dead_ends.Tie as tie
 

@@ -6,7 +6,7 @@ use lib.Dec.{ltb}
 use Rattle.logic.specs.Lists.{every}
 use Rattle.models.specs.Layout.{state-mask, state-count}
 use Rattle.models.specs.Grounds.{mask-in-range}
-use Rattle.models.proofs.EveryCell.{every-more}
+use Rattle.logic.proofs.Tests.{every-more}
 use Rattle.models.proofs.fields.masks_in_range.Statement.{statement}
 use Rattle.models.proofs.fields.masks_in_range.Tie as tie
 

@@ -5,7 +5,7 @@ use mathlib.Core.Path.{_≡_, refl, ap, _∙_}
 use Rattle.logic.specs.Lists.{every}
 use Rattle.models.specs.Layout.{action-count}
 use Rattle.models.specs.promises.Passes.{action-passes}
-use Rattle.models.proofs.EveryCell.{every-more}
+use Rattle.logic.proofs.Tests.{every-more}
 use Rattle.models.proofs.passes.actions_pass.Statement.{statement}
 use Rattle.models.proofs.passes.actions_pass.Tie as tie
 

@@ -4,7 +4,7 @@ use native.Mathlib.Omega.{arith}
 use mathlib.Core.Path.{_≡_, refl, ap, _∙_}
 use Rattle.logic.specs.Lists.{every}
 use Rattle.models.specs.promises.Passes.{cell-passes}
-use Rattle.models.proofs.EveryCell.{every-more}
+use Rattle.logic.proofs.Tests.{every-more}
 use Rattle.models.proofs.passes.cells_pass.Statement.{statement}
 use Rattle.models.proofs.passes.cells_pass.Tie as tie
 

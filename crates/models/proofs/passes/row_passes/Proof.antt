@@ -4,7 +4,7 @@ use mathlib.Core.Path.{sym, refl, ap, _∙_}
 use borrow.Author.Tests.{ne-eqb}
 use Rattle.blocks.specs.Block.{block-count}
 use Rattle.models.specs.promises.Passes.{row-passes}
-use Rattle.models.proofs.EveryCell.{blocks-within}
+use Rattle.blocks.proofs.RangeTests.{blocks-within}
 use Rattle.models.proofs.passes.row_passes.Statement.{statement}
 use Rattle.models.proofs.passes.row_passes.Tie as tie
 

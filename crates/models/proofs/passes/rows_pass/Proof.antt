@@ -5,7 +5,8 @@ use mathlib.Core.Path.{_≡_, refl, ap, _∙_}
 use Rattle.logic.specs.Lists.{every}
 use Rattle.blocks.specs.Block.{block-count}
 use Rattle.models.specs.promises.Passes.{row-passes}
-use Rattle.models.proofs.EveryCell.{every-more, blocks-within}
+use Rattle.logic.proofs.Tests.{every-more}
+use Rattle.blocks.proofs.RangeTests.{blocks-within}
 use Rattle.models.proofs.passes.rows_pass.Statement.{statement}
 use Rattle.models.proofs.passes.rows_pass.Tie as tie
 

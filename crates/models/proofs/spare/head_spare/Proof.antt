@@ -3,7 +3,8 @@ use borrow.Author.Needs.{needs}
 use native.Mathlib.Omega.{arith}
 use Rattle.models.specs.Grounds.{head-spare}
 use Rattle.models.specs.promises.Passes.{action-passes}
-use Rattle.models.proofs.EveryCell.{sizes, blocks-within}
+use Rattle.models.proofs.EveryCell.{sizes}
+use Rattle.blocks.proofs.RangeTests.{blocks-within}
 use Rattle.models.proofs.spare.head_spare.Statement.{statement}
 use Rattle.models.proofs.spare.head_spare.Tie as tie
 

@@ -9,7 +9,8 @@ use Rattle.logic.specs.Lists.{every}
 use Rattle.blocks.specs.Block.{block-count}
 use Rattle.models.specs.Grounds.{rows-spare, cell-spare, cells-spare}
 use Rattle.models.specs.promises.Passes.{row-passes, cell-passes}
-use Rattle.models.proofs.EveryCell.{blocks-within, grid}
+use Rattle.models.proofs.EveryCell.{grid}
+use Rattle.blocks.proofs.RangeTests.{blocks-within}
 use Rattle.models.proofs.spare.spare_zero.Statement.{statement}
 use Rattle.models.proofs.spare.spare_zero.Tie as tie
 
