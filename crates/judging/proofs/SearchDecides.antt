@@ -21,7 +21,7 @@ use Rattle.logic.specs.Plan.{Plan, plans, paths, choices}
 use Rattle.logic.specs.Formula.{Formula, plan, Node, sat, W, meets, depth, relation, nonnegative}
 use Rattle.logic.specs.promises.Total.{total, value-of}
 use Rattle.logic.specs.promises.Extension.{first-plan}
-use Rattle.logic.specs.Verdict.{plan-goal, goal, shown, Verdict, announced, verdict, yes, no, yes-plan, is-equal}
+use Rattle.logic.specs.Verdict.{plan-goal, goal, shown, Verdict, announced, verdict, yes, no, yes-plan, is-equal, verdict-by}
 use Rattle.logic.specs.Accepted.{Accepted}
 use Rattle.logic.specs.Limits.{plan-total, every-plan, limits}
 use Rattle.logic.proofs.Tests.{not-true, none≢some, every-at}
@@ -38,7 +38,6 @@ use Rattle.models.specs.Layout.{state-count, action-count, prop-count}
 use Rattle.prepared_model.specs.promises.Rows.{model-in}
 use Rattle.prepared_model.proofs.ReadByPlace.{states-are}
 use Rattle.questions.specs.Layout.{node-count, node-of, formulas-of}
-use Rattle.questions.proofs.TableNodeByNode.{by-operator}
 use Rattle.questions.specs.promises.Formed.{PlanRange, Formed}
 use Rattle.questions.proofs.AcceptedFacts as questions
 use Rattle.limits.specs.promises.Totals.{fits}
@@ -50,6 +49,8 @@ use Rattle.relevance.specs.promises.Need.{Given}
 use Rattle.judging.specs.promises.Asked.{Asked}
 use Rattle.judging.specs.promises.Decided.{led-weight, led-plan, plan-at, First, Led}
 use Rattle.judging.specs.declared.plans.Decision.{Decision}
+use Rattle.logic.specs.Checked.{refused}
+use Rattle.questions.proofs.FormulaByOperator.{no-plan-at}
 
 -- ---- verdicts by their parts
 
@@ -329,19 +330,7 @@ module _ {m q : Bytes} (given : Given m q) where
   pub other-verdict : (j s : ℕ) → j < node-count q → ((node-of q j) .operator ≡ 8 → ⊥)
       → verdict (model-in m) s (formula q j) ≡ cond (sat (model-in m) (formula q j) s []) yes (denies 0)
   unfolding verdict goal
-  other-verdict j s h n =
-      by-operator (λ op. (node-of q j) .operator ≡ op → verdict (model-in m) s (formula q j) ≡ cond (sat (model-in m) (formula q j) s []) yes (denies 0))
-      (λ o. absurd (omega (arith, asks .in-range j h .operator-from)))
-      (λ o. rw (questions.at-never (state-count m) (action-count m) (prop-count m) q asks j h o) refl)
-      (λ o. rw (questions.at-prop (state-count m) (action-count m) (prop-count m) q asks j h o) refl)
-      (λ o. rw (questions.at-neg (state-count m) (action-count m) (prop-count m) q asks j h o) refl)
-      (λ o. rw (questions.at-both (state-count m) (action-count m) (prop-count m) q asks j h o) refl)
-      (λ o. rw (questions.at-does (state-count m) (action-count m) (prop-count m) q asks j h o) refl)
-      (λ o. rw (questions.at-next (state-count m) (action-count m) (prop-count m) q asks j h o) refl)
-      (λ o. rw (questions.at-gain (state-count m) (action-count m) (prop-count m) q asks j h o) refl)
-      (λ o. absurd (n o))
-      (λ k o. absurd (omega (arith, asks .in-range j h .operator-to)))
-      ((node-of q j) .operator) refl
+  other-verdict j s h n = ap (verdict-by (model-in m) s (sat (model-in m) (formula q j) s [])) (no-plan-at q j h n (refused 22) _)
 
 -- ---- the limits
 

@@ -4,13 +4,13 @@ use Prim.Native.Nat.{ℕ, _+_, _≤_, _<_}
 use native.Mathlib.Omega.{arith}
 use native.Mathlib.Nat.{le-antisymm}
 use native.Mathlib.Decide.{ℕ-discrete}
-use mathlib.Core.Path.{_≡_, refl, sym, ap, ap₂, subst, _∙_}
-use mathlib.Core.Bool.{Bool, true, false, cond, _||_, false≢true}
+use mathlib.Core.Path.{_≡_, sym, ap, ap₂, subst, _∙_}
+use mathlib.Core.Bool.{Bool, true, false, cond}
 use mathlib.Core.List.{List, _++_}
 use lib.Dec.{eqb}
 use lib.ListN.{drop, take-append-drop}
 use borrow.Author.Tests.{ltb-true, ltb-false}
-use Rattle.logic.specs.Formula.{Formula, never, prop, neg, both, does, next, gain, plan, depth, is-path, nonnegative, W}
+use Rattle.logic.specs.Formula.{plan, depth, nonnegative, W}
 use Rattle.logic.specs.promises.Orders.{weights, order}
 use Rattle.logic.specs.Checked.{ok}
 use Rattle.logic.specs.Plan.{Plan, choices}
@@ -43,6 +43,7 @@ use Rattle.judging.specs.promises.Truth.{Supplied}
 use Rattle.judging.specs.promises.Decided.{condition, best, led-plan, plan-at, Posed, Decided}
 use Rattle.judging.specs.promises.Announced.{root, root-verdict, told, shown-choices, Announces, Weighs}
 use Rattle.judging.proofs.SearchDecides.{shows, denies, plan-here, given-model, given-states, led-yes, led-no, equal-yes, equal-no, few-plans, led-met}
+use Rattle.logic.proofs.Depth.{state-depth}
 
 -- ---- telling
 
@@ -70,25 +71,6 @@ announces-truth false before e f g =
     announces-no before e (g ∙ ap (λ y. record { yes = eqb y 1; plan = false; weight = 0; steps = 0; count = 0 }) f)
 
 -- ---- a state formula looks at no step
-
-or-left : (a b : Bool) → (a || b) ≡ false → a ≡ false
-or-left true b e = e
-or-left false b e = refl
-
-or-right : (a b : Bool) → (a || b) ≡ false → b ≡ false
-or-right true b e = absurd (false≢true (sym e))
-or-right false b e = e
-
-pub state-depth : (φ : Formula) → is-path φ ≡ false → depth φ ≡ 0
-unfolding is-path depth
-state-depth never e = refl
-state-depth (prop i) e = refl
-state-depth (neg φ) e = state-depth φ e
-state-depth (both φ ψ) e = rw (state-depth φ (or-left (is-path φ) (is-path ψ) e), state-depth ψ (or-right (is-path φ) (is-path ψ) e)) refl
-state-depth (does a) e = absurd (false≢true (sym e))
-state-depth (next φ) e = absurd (false≢true (sym e))
-state-depth (gain n b p) e = absurd (false≢true (sym e))
-state-depth (plan n φ b p q) e = refl
 
 -- ---- the verdict on a "plan" node
 

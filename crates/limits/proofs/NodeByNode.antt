@@ -7,10 +7,9 @@ use mathlib.Core.Path.{_≡_, refl, sym, ap, ap₂, _∙_}
 use mathlib.Core.Bool.{Bool, true, false, not, _||_, false≢true}
 use mathlib.Core.List.{List}
 use lib.Dec.{eqb, leb}
-use lib.IntN.{ℤ}
 use lib.ListN.{getD, length}
 use borrow.Author.Tests.{le-leb, leb-true, eq-eqb, ne-eqb}
-use Rattle.logic.specs.Lists.{all, every}
+use Rattle.logic.specs.Lists.{every}
 use Rattle.logic.specs.Checked.{Checked, ok, guard, _>>_}
 use Rattle.logic.specs.promises.Refusal.{refusal}
 use Rattle.logic.specs.Model.{Model}
@@ -26,6 +25,7 @@ use Rattle.questions.specs.promises.Tables.{formulas-before}
 use Rattle.questions.proofs.TableNodeByNode.{formula-here, every-same}
 use Rattle.prepared_question.proofs.SameVerdict.{plan-test, every-node}
 use Rattle.limits.specs.promises.Totals.{total, limit, cap, Totals, fits, node-fits, bounded}
+use Rattle.questions.proofs.FormulaByOperator.{row-8, other-on-plan}
 
 -- ---- every plan, node by node
 
@@ -33,27 +33,21 @@ module _ (f : ℕ → Relation → ℕ → Bool) (m : Model) where
   abbrev node-test : Node → Bool
   node-test x = not (eqb (x .operator) 8) || every (length (m .states)) (f (x .n) (relation (x .right)))
 
-  plan-node : (fs : List Formula) (op n left right : ℕ) (p : ℤ) (q : ℕ)
-      → plan-test f m (formula-of fs (record { operator = op; n = n; left = left; right = right; p = p; q = q }))
-      ≡ node-test (record { operator = op; n = n; left = left; right = right; p = p; q = q })
-  unfolding formula-of
-  plan-node fs zero n left right p q = refl
-  plan-node fs (suc zero) n left right p q = refl
-  plan-node fs (suc (suc zero)) n left right p q = refl
-  plan-node fs (suc (suc (suc zero))) n left right p q = refl
-  plan-node fs (suc (suc (suc (suc zero)))) n left right p q = refl
-  plan-node fs (suc (suc (suc (suc (suc zero))))) n left right p q = refl
-  plan-node fs (suc (suc (suc (suc (suc (suc zero)))))) n left right p q = refl
-  plan-node fs (suc (suc (suc (suc (suc (suc (suc zero))))))) n left right p q = refl
-  plan-node fs (suc (suc (suc (suc (suc (suc (suc (suc zero)))))))) n left right p q = refl
-  plan-node fs (suc (suc (suc (suc (suc (suc (suc (suc (suc k))))))))) n left right p q =
-      ap (λ t. not t || every (length (m .states)) (f n (relation right))) (sym (ne-eqb (suc (suc (suc (suc (suc (suc (suc (suc (suc k))))))))) 8 (λ e. omega arith)))
+  plan-node : (fs : List Formula) (x : Node) → plan-test f m (formula-of fs x) ≡ node-test x
+  plan-node fs x = go (ℕ-discrete (x .operator) 8)
+    where
+      by : {t : Bool} → eqb (x .operator) 8 ≡ t → (not t || every (length (m .states)) (f (x .n) (relation (x .right)))) ≡ node-test x
+      by e = ap (λ t. not t || every (length (m .states)) (f (x .n) (relation (x .right)))) (sym e)
+
+      go : Dec (x .operator ≡ 8) → plan-test f m (formula-of fs x) ≡ node-test x
+      go (yes e) = ap (plan-test f m) (row-8 fs x e) ∙ by (eq-eqb (x .operator) 8 e)
+      go (no n) = other-on-plan fs x true _ n ∙ by (ne-eqb (x .operator) 8 n)
 
   pub nodes-all : (b : Bytes) → every-plan f m (formulas-of b) ≡ every (node-count b) (λ i. node-test (node-of b i))
   nodes-all b = every-node f m b ∙ every-same (node-count b) (λ i h. ap (plan-test f m) (formula-here b i h) ∙ test i (node-of b i))
     where
       test : (i : ℕ) (x : Node) → plan-test f m (formula-of (formulas-before b i) x) ≡ node-test x
-      test i x = plan-node (formulas-before b i) (x .operator) (x .n) (x .left) (x .right) (x .p) (x .q)
+      test i x = plan-node (formulas-before b i) x
 
 -- ---- by the numbers of a node
 

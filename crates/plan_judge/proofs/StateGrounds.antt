@@ -20,8 +20,7 @@ use Rattle.models.specs.Grounds.{read-model}
 use Rattle.questions.specs.Layout.{Question, start-of, node-count, node-of, formulas-of, question-of}
 use Rattle.questions.specs.Grounds.{read-question}
 use Rattle.questions.specs.promises.Formed.{Formed}
-use Rattle.questions.proofs.AcceptedFacts.{accepted, at-never, at-prop, at-neg, at-both, at-does, at-next, at-gain, at-plan}
-use Rattle.questions.proofs.TableNodeByNode.{by-operator}
+use Rattle.questions.proofs.AcceptedFacts.{accepted, at-plan}
 use Rattle.limits.proofs.NodeByNode.{done}
 use Rattle.protocol.specs.Calls.{Held}
 use Rattle.plan_judge.specs.declared.Desk.{Desk}
@@ -29,6 +28,7 @@ use Rattle.plan_judge.specs.View.{question-in, view}
 use Rattle.plan_judge.specs.promises.State.{held-size}
 use Rattle.plan_judge.specs.promises.State.{held-both, held-goal, PlanRoot}
 use Rattle.plan_judge.proofs.LoadPutReturn.{said-bytes, model-none, model-passed, model-some, put-question, question-is, said-question}
+use Rattle.questions.proofs.FormulaByOperator.{no-plan-at}
 
 pub bind-refused : {A B : Type 0} (c : Checked A) (f : A → Checked B) (k : ℕ) → k ≡ refusal c → (k ≡ 0 → ⊥) → k ≡ refusal (c >>= f)
 bind-refused (ok a) f k e h = absurd (h e)
@@ -63,25 +63,9 @@ module _ {S A N : ℕ} {b : Bytes} (a : Formed S A N b) where
   top-inside = omega (arith, a .some-node)
 
   module _ (m : Model) (s : ℕ) where
-    not-plan : {φ : Formula} → getD (formulas-of b) top never ≡ φ → goal m s φ ≡ refused 22 → goal m s (question-of b .root) ≡ refused 22
-    unfolding question-of
-    not-plan e r = ap (goal m s) e ∙ r
-
     pub other-goal : (node-of b top .operator ≡ 8 → ⊥) → goal m s (question-of b .root) ≡ refused 22
-    unfolding goal
-    other-goal h =
-        by-operator (λ o. node-of b top .operator ≡ o → goal m s (question-of b .root) ≡ refused 22)
-        (λ z. absurd (omega (arith, a .in-range top top-inside .operator-from)))
-        (λ z. not-plan (at-never S A N b a top top-inside z) refl)
-        (λ z. not-plan (at-prop S A N b a top top-inside z) refl)
-        (λ z. not-plan (at-neg S A N b a top top-inside z) refl)
-        (λ z. not-plan (at-both S A N b a top top-inside z) refl)
-        (λ z. not-plan (at-does S A N b a top top-inside z) refl)
-        (λ z. not-plan (at-next S A N b a top top-inside z) refl)
-        (λ z. not-plan (at-gain S A N b a top top-inside z) refl)
-        (λ z. absurd (h z))
-        (λ k z. absurd (omega (arith, a .in-range top top-inside .operator-to)))
-        (node-of b top .operator) refl
+    unfolding goal question-of
+    other-goal h = no-plan-at b top top-inside h (refused 22) _
 
     -- The goal of a "plan" root, which has the node's steps.
     pub root-goal : node-of b top .operator ≡ 8

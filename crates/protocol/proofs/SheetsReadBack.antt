@@ -37,7 +37,6 @@ use Rattle.questions.specs.Layout.{node-of, node-count, formulas-of, question-o
 use Rattle.questions.specs.Grounds.{read-question}
 use Rattle.questions.specs.promises.Formed.{Formed}
 use Rattle.questions.proofs.AcceptedFacts as questions
-use Rattle.questions.proofs.TableNodeByNode.{by-operator}
 use Rattle.logic.specs.promises.MostChoices.{most-choices}
 use Rattle.logic.proofs.MostChoices.{most-choices-6, some-choice}
 use Rattle.sheets.proofs.ReadsBack.{reads-back}
@@ -51,6 +50,8 @@ use Rattle.protocol.proofs.HeldAccepted as held
 use Rattle.protocol.proofs.Demand3.{Reads-back, demand-3}
 use Rattle.logic.proofs.OnPlan.{by-plan}
 use Rattle.logic.proofs.Acceptance.{enabled-action}
+use Rattle.questions.proofs.FormulaByOperator.{no-plan-at}
+use native.Mathlib.Decide.{ℕ-discrete}
 
 -- ---- how many choices
 
@@ -113,24 +114,13 @@ steps : Formula → ℕ
 steps φ = on-plan 0 (λ n ψ r p q. n) φ
 
 module _ (S A N : ℕ) (c : Bytes) (a : Formed S A N c) (i : ℕ) (h : i < node-count c) (e : is-plan (getD (formulas-of c) i never) ≡ true) where
-  not-here : {φ : Formula} → getD (formulas-of c) i never ≡ φ → is-plan φ ≡ false → node-of c i .operator ≡ 8
-  not-here q f = absurd (false≢true (sym f ∙ ap is-plan (sym q) ∙ e))
-
   plan-operator : node-of c i .operator ≡ 8
   unfolding is-plan
-  plan-operator =
-      by-operator (λ o. node-of c i .operator ≡ o → node-of c i .operator ≡ 8)
-      (λ z. absurd (omega (arith, a .in-range i h .operator-from)))
-      (λ z. not-here (questions.at-never S A N c a i h z) refl)
-      (λ z. not-here (questions.at-prop S A N c a i h z) refl)
-      (λ z. not-here (questions.at-neg S A N c a i h z) refl)
-      (λ z. not-here (questions.at-both S A N c a i h z) refl)
-      (λ z. not-here (questions.at-does S A N c a i h z) refl)
-      (λ z. not-here (questions.at-next S A N c a i h z) refl)
-      (λ z. not-here (questions.at-gain S A N c a i h z) refl)
-      (λ z. z)
-      (λ k z. absurd (omega (arith, a .in-range i h .operator-to)))
-      (node-of c i .operator) refl
+  plan-operator = go (ℕ-discrete (node-of c i .operator) 8)
+    where
+      go : Dec (node-of c i .operator ≡ 8) → node-of c i .operator ≡ 8
+      go (yes o) = o
+      go (no n) = absurd (false≢true (sym (no-plan-at c i h n false (λ n ψ r p q. true)) ∙ e))
 
   plan-steps : (1 ≤ steps (getD (formulas-of c) i never)) × (steps (getD (formulas-of c) i never) ≤ 6)
   unfolding steps

@@ -1,5 +1,5 @@
 -- The formula of a node by its operator, and what depth, path formulas and ground 9 make of it: a row of document 01's table each.
-use Prim.Native.Nat.{ℕ, suc, _≤_}
+use Prim.Native.Nat.{ℕ, suc, _≤_, _<_}
 use native.Mathlib.Omega.{arith}
 use mathlib.Core.Path.{_≡_, refl, sym, ap, _∙_}
 use mathlib.Core.Bool.{true}
@@ -7,10 +7,12 @@ use mathlib.Core.List.{List}
 use lib.ListN.{length, getD}
 use Rattle.logic.specs.Lists.{all, every}
 use Rattle.logic.specs.Quantity.{Relation}
-use Rattle.logic.specs.Formula.{Formula, never, prop, neg, both, does, next, gain, plan, Node, depth, shallow, relation, nonnegative, formula-of}
+use Rattle.logic.specs.Formula.{Formula, never, prop, neg, both, does, next, gain, plan, Node, depth, shallow, relation, nonnegative, formula-of, on-plan}
 use Rattle.blocks.specs.Bytes.{Bytes}
-use Rattle.questions.specs.Layout.{node-count, formulas-of}
-use Rattle.questions.proofs.TableNodeByNode.{by-operator, all-every, all-before, before-length}
+use Rattle.questions.specs.Layout.{node-count, formulas-of, node-of}
+use Rattle.questions.proofs.TableNodeByNode.{by-operator, all-every, all-before, before-length, formula-here}
+use lib.Dec.{leb}
+use Rattle.questions.specs.promises.Tables.{formulas-before}
 
 module _ (fs : List Formula) (x : Node) where
   pub row-1 : x .operator ≡ 1 → formula-of fs x ≡ never
@@ -63,22 +65,28 @@ module _ (fs : List Formula) (x : Node) where
       (λ o _ _ _ _ _. rw o (c _ _ _ _ _))
       (λ k o _ _ _ _ _. rw o a)
 
+  -- A node that is no "plan" makes no "plan".
+  pub other-on-plan : {A : Type 0} (other : A) (f : ℕ → Formula → Relation → ℕ → ℕ → A) → (x .operator ≡ 8 → ⊥) → on-plan other f (formula-of fs x) ≡ other
+  unfolding formula-of
+  other-on-plan other f h =
+      by-operator
+      (λ n. x .operator ≡ n → on-plan other f (formula-of fs x) ≡ other)
+      (λ o. rw o refl)
+      (λ o. rw o refl)
+      (λ o. rw o refl)
+      (λ o. rw o refl)
+      (λ o. rw o refl)
+      (λ o. rw o refl)
+      (λ o. rw o refl)
+      (λ o. rw o refl)
+      (λ o. absurd (h o))
+      (λ k o. rw o refl)
+      (x .operator) refl
+
   -- Ground 9 asks something of "plan" alone.
   pub other-shallow : (n : ℕ) → x .operator ≡ n → (n ≡ 8 → ⊥) → true ≡ shallow (formula-of fs x)
-  unfolding formula-of shallow
-  other-shallow =
-      by-operator
-      (λ n. x .operator ≡ n → (n ≡ 8 → ⊥) → true ≡ shallow (formula-of fs x))
-      (λ o _. rw o refl)
-      (λ o _. rw o refl)
-      (λ o _. rw o refl)
-      (λ o _. rw o refl)
-      (λ o _. rw o refl)
-      (λ o _. rw o refl)
-      (λ o _. rw o refl)
-      (λ o _. rw o refl)
-      (λ o h. absurd (h refl))
-      (λ k o _. rw o refl)
+  unfolding shallow
+  other-shallow n o h = sym (other-on-plan true (λ n ψ r p q. leb (depth ψ) n) (λ e. h (sym o ∙ e)))
 
   -- A node is at most one step deeper than the bound of those before it and of its steps.
   pub depth-row : (m : ℕ) → 1 ≤ m → x .n ≤ m → ((j : ℕ) → depth (getD fs j never) ≤ m) → depth (formula-of fs x) ≤ suc m
@@ -102,3 +110,8 @@ module _ (fs : List Formula) (x : Node) where
 -- Ground 9 asks of all nodes what it asks of each.
 pub all-shallow : (b : Bytes) → all shallow (formulas-of b) ≡ every (node-count b) (λ i. shallow (getD (formulas-of b) i never))
 all-shallow b = all-every shallow never (formulas-of b) ∙ ap (λ k. every k (λ i. shallow (getD (formulas-of b) i never))) (ap length (sym (all-before b)) ∙ before-length b (node-count b))
+
+-- Node i of a question, if it is no "plan", holds none.
+pub no-plan-at : (b : Bytes) (i : ℕ) → i < node-count b → (node-of b i .operator ≡ 8 → ⊥) → {A : Type 0} (other : A) (f : ℕ → Formula → Relation → ℕ → ℕ → A)
+    → on-plan other f (getD (formulas-of b) i never) ≡ other
+no-plan-at b i h n other f = ap (on-plan other f) (formula-here b i h) ∙ other-on-plan (formulas-before b i) (node-of b i) other f n
