@@ -13,6 +13,7 @@ ghost use Rattle.evaluation.specs.promises.Reached.{Ready};
 ghost use Rattle.evaluation.specs.promises.Known.{Knows, Offered, Stepped};
 ghost use Rattle.questions.specs.Layout.{node-of};
 use blocks::byte;
+use models::STATES;
 use prepared_model::MODEL;
 use prepared_model::choice;
 use prepared_model::reward;
@@ -63,7 +64,7 @@ pub fn bit(t: bool) -> u8
 pub fn known(v: &[u8; VALUES], j: u8, k: u8) -> u8
     ensures value { λ r. ⌜ r ≡ spec.known (now (v .entry)) j k ⌝ }
 {
-    byte(v, 7 * j as usize + k as usize)
+    byte(v, PLACES * j as usize + k as usize)
 }
 
 // The gain after k steps.
@@ -143,9 +144,9 @@ fn learn_node(
         return;
     }
     let k = h - d;
-    let at = 7 * j as usize + k as usize;
+    let at = PLACES * j as usize + k as usize;
     if d == 0 {
-        v[at] = truth[32 * j as usize + s as usize];
+        v[at] = truth[STATES * j as usize + s as usize];
         return;
     }
     v[at] = value_by(q, trail, gains, v, h, k, j);

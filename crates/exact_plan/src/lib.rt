@@ -24,6 +24,17 @@ use limits::plans_counted;
 use prepared_model::MODEL;
 use prepared_question::QUESTION;
 
+// A list of totals has one of three rooms, by the number of plans, each with 282 numbers beside it for what is made there.
+const FEW: u64 = 1024;
+
+const SOME: u64 = 8192;
+
+const FEW_ROOM: usize = 1306;
+
+const SOME_ROOM: usize = 8474;
+
+const ROOM: usize = 65818;
+
 // The place of the first x among the first `len` numbers; where there is none, len.
 fn find(buf: &[u64], len: usize, x: u64) -> usize
     requires { ⌜ len ≤ length (now buf) ⌝ }
@@ -107,14 +118,14 @@ pub fn first_equal(
         ⌜ First (totals (model-in m) n s (value-of (model-in m) (formula q (root-of cone)) s)) x r ⌝ }
 {
     let all = plans_counted(table, n, s as usize);
-    if all <= 1024 {
-        let mut buf = [0u64; 1306];
+    if all <= FEW {
+        let mut buf = [0u64; FEW_ROOM];
         return first_within(m, q, truth, cone, table, &mut buf, s, d, n, x);
     }
-    if all <= 8192 {
-        let mut buf = [0u64; 8474];
+    if all <= SOME {
+        let mut buf = [0u64; SOME_ROOM];
         return first_within(m, q, truth, cone, table, &mut buf, s, d, n, x);
     }
-    let mut buf = [0u64; 65818];
+    let mut buf = [0u64; ROOM];
     first_within(m, q, truth, cone, table, &mut buf, s, d, n, x)
 }

@@ -19,6 +19,7 @@ use best_plan::STACK;
 use evaluation::TRUTHS;
 use evaluation::bit;
 use limits::COUNTS;
+use models::STATES;
 use prepared_model::MODEL;
 use prepared_model::holds;
 use prepared_question::QUESTION;
@@ -37,7 +38,7 @@ fn found(truth: &[u8; TRUTHS], j: u8, s: u8) -> u8
     requires { ⌜ (j < 40) × (s < 32) ⌝ }
     ensures value { λ r. ⌜ r ≡ getD (now (truth .entry)) (32 * j + s) 0 ⌝ }
 {
-    truth[32 * j as usize + s as usize]
+    truth[STATES * j as usize + s as usize]
 }
 
 // The truth of node j, which is no "plan", in s, from that of its children; of a path formula, nothing is said.

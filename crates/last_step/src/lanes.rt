@@ -17,6 +17,7 @@ ghost use Rattle.prepared_model.specs.promises.Rows.{choices-in, choice-in, out
 ghost use Rattle.last_step.specs.promises.Lanes.{Lanes, Laned};
 use blocks::byte;
 use evaluation::related;
+use models::STATES;
 use prepared_model::MODEL;
 use prepared_model::choice;
 use prepared_model::choices;
@@ -49,7 +50,7 @@ pub fn told(m: &[u16; MODEL], truth: &[u8], s: usize, j: u8) -> u32
     while k > 0 {
         k -= 1;
         let t = lane_target(m, s, k);
-        x = pushed(x, byte(truth, 32 * j as usize + t) != 0);
+        x = pushed(x, byte(truth, STATES * j as usize + t) != 0);
     }
     x
 }

@@ -15,12 +15,19 @@ ghost use Rattle.questions.specs.promises.Formed.{Compares};
 ghost use Rattle.prepared_question.specs.promises.Nodes.{Nodes};
 ghost use Rattle.limits.specs.promises.Totals.{gather, step-total, Totals, fits, node-fits};
 ghost use Rattle.limits.specs.promises.Totals as spec;
+use models::STATES;
 use prepared_model::MODEL;
 use prepared_question::QUESTION;
 use prepared_question::asks_equal;
 use prepared_question::operator;
 use prepared_question::steps;
 use questions::PLAN;
+
+// The most plans of an "equal" that are served (ground 25).
+const MOST_PLANS: u64 = 65536;
+
+// The most paths that are served (ground 24).
+const MOST_PATHS: u64 = 1000000;
 
 // The numbers of a table of totals: for 0 to 6 steps, from each of 32 states.
 pub const COUNTS: usize = 224;
@@ -29,7 +36,7 @@ pub const COUNTS: usize = 224;
 fn limit(plans: bool) -> u64
     ensures value { λ r. ⌜ r ≡ spec.limit plans ⌝ }
 {
-    if plans { 65536 } else { 1000000 }
+    if plans { MOST_PLANS } else { MOST_PATHS }
 }
 
 // x, counted up to the cap.
@@ -109,10 +116,10 @@ fn totals(m: &[u16; MODEL], plans: bool) -> [u64; COUNTS]
 {
     let states = prepared_model::states(m);
     let mut table = [1u64; COUNTS];
-    let mut k: usize = 32;
-    while k < 224 {
-        if k % 32 < states {
-            table[k] = state_total(m, plans, &table, 32 * (k / 32 - 1), k % 32);
+    let mut k: usize = STATES;
+    while k < COUNTS {
+        if k % STATES < states {
+            table[k] = state_total(m, plans, &table, STATES * (k / STATES - 1), k % STATES);
         }
         k += 1;
     }
@@ -132,7 +139,7 @@ pub fn plans_counted(counts: &[u64; COUNTS], n: u8, s: usize) -> u64
     requires { ⌜ (n ≤ 6) × (s < 32) ⌝ }
     ensures value { λ r. ⌜ r ≡ getD (now (counts .entry)) (32 * n + s) 0 ⌝ }
 {
-    counts[32 * n as usize + s]
+    counts[STATES * n as usize + s]
 }
 
 // Whether the totals of n steps are within the limit, for each of the first states.
@@ -144,7 +151,7 @@ fn row_fits(table: &[u64; COUNTS], n: usize, states: usize, plans: bool) -> bool
     let mut right = true;
     let mut s: usize = 0;
     while s < states {
-        right = right & (table[32 * n + s] <= most);
+        right = right & (table[STATES * n + s] <= most);
         s += 1;
     }
     right

@@ -14,12 +14,10 @@ use plan_judge::Desk;
 use plan_judge::Judgement;
 use plan_judge::Taken;
 use plan_judge::Verdict;
+use verdict_line::LINE;
 
 // The most bytes of the input: a model of 12 blocks, and a question.
 const MOST_INPUT: usize = 6656;
-
-// Room for the longest line.
-pub const LINE: usize = 8192;
 
 // The line of a no.
 fn no_line(out: &mut [u8], q: &[u8], count: u32) -> usize

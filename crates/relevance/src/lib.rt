@@ -13,6 +13,7 @@ ghost use Rattle.relevance.specs.promises.Chosen.{Asked, Entered, Chosen
 use blocks::buffers::store;
 use blocks::byte;
 use evaluation::TRUTHS;
+use models::STATES;
 use prepared_model::MODEL;
 use prepared_model::choices;
 use prepared_model::outcomes;
@@ -36,7 +37,7 @@ use questions::PLAN;
 pub fn place(j: u8, s: u8) -> usize
     ensures value { λ r. ⌜ r ≡ 32 * j + s ⌝ }
 {
-    32 * j as usize + s as usize
+    STATES * j as usize + s as usize
 }
 
 fn mark(need: &mut [u8], j: u8, s: u8)
@@ -89,8 +90,8 @@ fn pass_on(m: &[u16; MODEL], q: &[u8; QUESTION], need: &mut [u8; TRUTHS], k: usi
     if byte(need, k) != 1 {
         return;
     }
-    let j = (k / 32) as u8;
-    let s = (k % 32) as u8;
+    let j = (k / STATES) as u8;
+    let s = (k % STATES) as u8;
     let op = operator(q, j);
     match op {
         NOT | PLAN => mark(need, left(q, j), s),
@@ -112,7 +113,7 @@ pub fn needed(m: &[u16; MODEL], q: &[u8; QUESTION]) -> [u8; TRUTHS]
     let root = count(q) - 1;
     let first = place(root, start(q));
     need[first] = 1;
-    let mut k = place(root, 0) + 32;
+    let mut k = place(root, 0) + STATES;
     while k > 0 {
         k -= 1;
         pass_on(m, q, &mut need, k);

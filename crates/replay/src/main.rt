@@ -12,6 +12,13 @@ use plan_judge::PlanRecord;
 use plan_judge::Taken;
 use plan_judge::Verdict;
 use plan_judge::Written;
+use verdict_line::LINE;
+
+// The modulus of the checksum Adler-32, by which the lines tell bytes.
+const ADLER: u32 = 65521;
+
+// Room for a call's record.
+const RECORD: usize = 16384;
 
 // The desk after a call, and whether there was one.
 struct Turn {
@@ -23,14 +30,14 @@ struct Turn {
 
 fn put_refused(out: &mut [u8], at: usize, k: u32) -> usize
     requires { ⌜ at + 29 ≤ length (now out) ⌝ }
-    ensures value { λ r. ⌜ r ≤ at + 29 ⌝ }
+    ensures range { λ r. ⌜ r ≤ at + 29 ⌝ }
 {
     verdict_line::put_decimal(out, at, b" refused ", k as u64)
 }
 
 fn put_taken(out: &mut [u8], at: usize, answer: Taken) -> usize
     requires { ⌜ at + 29 ≤ length (now out) ⌝ }
-    ensures value { λ r. ⌜ r ≤ at + 29 ⌝ }
+    ensures range { λ r. ⌜ r ≤ at + 29 ⌝ }
 {
     match answer {
         Taken::Done => verdict_line::put_text(out, at, b" done"),
@@ -40,7 +47,7 @@ fn put_taken(out: &mut [u8], at: usize, answer: Taken) -> usize
 
 fn put_plan(out: &mut [u8], at: usize, p: PlanRecord, choices: &[u8]) -> usize
     requires { ⌜ (at + 5600 ≤ length (now out)) × (length (now choices) ≤ 1365) ⌝ }
-    ensures value { λ r. ⌜ r ≤ at + 5600 ⌝ }
+    ensures range { λ r. ⌜ r ≤ at + 5600 ⌝ }
 {
     let mut next = verdict_line::put_decimal(out, at, b" yes ", p.weight);
     next = verdict_line::put_decimal(out, next, b" ", p.steps as u64);
@@ -51,7 +58,7 @@ fn put_plan(out: &mut [u8], at: usize, p: PlanRecord, choices: &[u8]) -> usize
 
 fn put_verdict(out: &mut [u8], at: usize, v: Verdict, choices: &[u8]) -> usize
     requires { ⌜ (at + 5600 ≤ length (now out)) × (length (now choices) ≤ 1365) ⌝ }
-    ensures value { λ r. ⌜ r ≤ at + 5600 ⌝ }
+    ensures range { λ r. ⌜ r ≤ at + 5600 ⌝ }
 {
     match v {
         Verdict::No(x) => verdict_line::put_decimal(out, at, b" no ", x.count as u64),
@@ -62,7 +69,7 @@ fn put_verdict(out: &mut [u8], at: usize, v: Verdict, choices: &[u8]) -> usize
 
 fn put_judged(out: &mut [u8], at: usize, r: Judging) -> usize
     requires { ⌜ at + 5600 ≤ length (now out) ⌝ }
-    ensures value { λ r. ⌜ r ≤ at + 5600 ⌝ }
+    ensures range { λ r. ⌜ r ≤ at + 5600 ⌝ }
 {
     let a = r.answer;
     let choices = r.choices;
@@ -78,7 +85,7 @@ fn put_judged(out: &mut [u8], at: usize, r: Judging) -> usize
 
 fn put_written(out: &mut [u8], at: usize, answer: Written) -> usize
     requires { ⌜ at + 29 ≤ length (now out) ⌝ }
-    ensures value { λ r. ⌜ r ≤ at + 29 ⌝ }
+    ensures range { λ r. ⌜ r ≤ at + 29 ⌝ }
 {
     match answer {
         Written::Bytes(n) => verdict_line::put_decimal(out, at, b" ", n as u64),
@@ -88,7 +95,7 @@ fn put_written(out: &mut [u8], at: usize, answer: Written) -> usize
 
 fn put_met(out: &mut [u8], at: usize, met: bool) -> usize
     requires { ⌜ at + 29 ≤ length (now out) ⌝ }
-    ensures value { λ r. ⌜ r ≤ at + 29 ⌝ }
+    ensures range { λ r. ⌜ r ≤ at + 29 ⌝ }
 {
     if met {
         return verdict_line::put_text(out, at, b" accepted met");
@@ -98,7 +105,7 @@ fn put_met(out: &mut [u8], at: usize, met: bool) -> usize
 
 fn put_checked(out: &mut [u8], at: usize, answer: Checking) -> usize
     requires { ⌜ at + 29 ≤ length (now out) ⌝ }
-    ensures value { λ r. ⌜ r ≤ at + 29 ⌝ }
+    ensures range { λ r. ⌜ r ≤ at + 29 ⌝ }
 {
     match answer {
         Checking::Accepted(r) => put_met(out, at, r.met),
@@ -117,8 +124,8 @@ fn adler(bytes: &[u8]) -> Sums {
     let mut b: u32 = 0;
     let mut i: usize = 0;
     while i < bytes.len() {
-        a = (a + bytes[i] as u32) % 65521;
-        b = (b + a) % 65521;
+        a = (a + bytes[i] as u32) % ADLER;
+        b = (b + a) % ADLER;
         i += 1;
     }
     Sums { a, b }
@@ -126,7 +133,7 @@ fn adler(bytes: &[u8]) -> Sums {
 
 fn put_sums(out: &mut [u8], at: usize, bytes: &[u8]) -> usize
     requires { ⌜ at + 42 ≤ length (now out) ⌝ }
-    ensures value { λ r. ⌜ r ≤ at + 42 ⌝ }
+    ensures range { λ r. ⌜ r ≤ at + 42 ⌝ }
 {
     let sums = adler(bytes);
     let next = verdict_line::put_decimal(out, at, b" ", sums.a as u64);
@@ -143,7 +150,7 @@ fn say(out: &mut [u8], at: usize)
     io::write_all(STDOUT_FILENO, &out[..end]);
 }
 
-fn load(desk: Desk, input: &[u8], out: &mut [u8; 8192]) -> Desk {
+fn load(desk: Desk, input: &[u8], out: &mut [u8; LINE]) -> Desk {
     let r = plan_judge::load(desk, input);
     let a = r.answer;
     let name = verdict_line::put_text(out, 0, b"load");
@@ -152,7 +159,7 @@ fn load(desk: Desk, input: &[u8], out: &mut [u8; 8192]) -> Desk {
     r.desk
 }
 
-fn put(desk: Desk, input: &[u8], out: &mut [u8; 8192]) -> Desk {
+fn put(desk: Desk, input: &[u8], out: &mut [u8; LINE]) -> Desk {
     let r = plan_judge::put(desk, input);
     let a = r.answer;
     let name = verdict_line::put_text(out, 0, b"put");
@@ -161,7 +168,7 @@ fn put(desk: Desk, input: &[u8], out: &mut [u8; 8192]) -> Desk {
     r.desk
 }
 
-fn judge(desk: Desk, out: &mut [u8; 8192]) -> Desk {
+fn judge(desk: Desk, out: &mut [u8; LINE]) -> Desk {
     let r = plan_judge::judge(desk);
     let name = verdict_line::put_text(out, 0, b"judge");
     let end = put_judged(out, name, r);
@@ -169,7 +176,7 @@ fn judge(desk: Desk, out: &mut [u8; 8192]) -> Desk {
     r.desk
 }
 
-fn write(desk: Desk, buffer: &mut [u8], out: &mut [u8; 8192]) {
+fn write(desk: Desk, buffer: &mut [u8], out: &mut [u8; LINE]) {
     let a = plan_judge::write(desk, buffer);
     let name = verdict_line::put_text(out, 0, b"write");
     let next = put_written(out, name, a);
@@ -177,7 +184,7 @@ fn write(desk: Desk, buffer: &mut [u8], out: &mut [u8; 8192]) {
     say(out, end);
 }
 
-fn check(desk: Desk, input: &[u8], out: &mut [u8; 8192]) {
+fn check(desk: Desk, input: &[u8], out: &mut [u8; LINE]) {
     let a = plan_judge::check(desk, input);
     let name = verdict_line::put_text(out, 0, b"check");
     let end = put_checked(out, name, a);
@@ -190,7 +197,7 @@ fn going_on(desk: Desk) -> Turn {
     Turn { going: true, desk }
 }
 
-fn call(desk: Desk, operation: u8, input: &mut [u8], out: &mut [u8; 8192]) -> Turn {
+fn call(desk: Desk, operation: u8, input: &mut [u8], out: &mut [u8; LINE]) -> Turn {
     match operation {
         1 => going_on(load(desk, input, out)),
         2 => going_on(put(desk, input, out)),
@@ -208,7 +215,7 @@ fn call(desk: Desk, operation: u8, input: &mut [u8], out: &mut [u8; 8192]) -> Tu
 }
 
 // Reads one record into the lent buffer, and makes its call.
-fn replay_one(desk: Desk, space: &mut [u8], out: &mut [u8; 8192]) -> Turn {
+fn replay_one(desk: Desk, space: &mut [u8], out: &mut [u8; LINE]) -> Turn {
     let mut head = [0u8; 5];
     let got = io::read_full(STDIN_FILENO, &mut head);
     if got < 5 {
@@ -227,7 +234,7 @@ fn replay_one(desk: Desk, space: &mut [u8], out: &mut [u8; 8192]) -> Turn {
 }
 
 // A proved loop has to end, and nothing says that the input does: it counts down from a number that no run uses up.
-fn replay_all(space: &mut [u8], out: &mut [u8; 8192]) {
+fn replay_all(space: &mut [u8], out: &mut [u8; LINE]) {
     let mut state = Turn {
         going: true,
         desk: plan_judge::empty(),
@@ -241,7 +248,7 @@ fn replay_all(space: &mut [u8], out: &mut [u8; 8192]) {
 }
 
 fn main() {
-    let mut space = [0u8; 16384];
-    let mut line = [0u8; 8192];
+    let mut space = [0u8; RECORD];
+    let mut line = [0u8; LINE];
     replay_all(&mut space, &mut line);
 }

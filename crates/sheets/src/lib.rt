@@ -39,6 +39,9 @@ const COUNT_AT: usize = 16;
 
 const CHOICES_AT: usize = 18;
 
+// Where the choices end at the latest.
+const CHOICES_END: usize = CHOICES_AT + IN_BLOCK;
+
 // The choices, and the spare bytes behind them.
 const CHOICES_SIZE: usize = LAST_WORD - CHOICES_AT;
 

@@ -13,6 +13,8 @@ ghost use Rattle.models.specs.Grounds.{read-model};
 ghost use Rattle.sheets.specs.Layout.{with-word-sum, blocks-for, sheet-bytes};
 ghost use Rattle.sheets.specs.promises.Ends.{all-read};
 ghost use Rattle.sheets.specs.promises.Writer.{started, unsealed, chunk-size, begun, sealed, place, Ahead, Stored};
+use crate::CHOICES_AT;
+use crate::CHOICES_END;
 use crate::COUNT_AT;
 use crate::IN_BLOCK;
 use crate::START_AT;
@@ -93,7 +95,7 @@ fn store_in_block(block: &mut [u8], i: usize, a: u8)
     requires { ⌜ (length (now block) ≡ 512) × (i < 490) ⌝ }
     ensures frame { λ _. ⌜ now (block .exit) ≡ set (now (block .entry)) (18 + i) a ⌝ }
 {
-    store(&mut block[18..508], i, a);
+    store(&mut block[CHOICES_AT..CHOICES_END], i, a);
 }
 
 // Stores choice p of a sheet in its block.

@@ -1,12 +1,15 @@
 // Reads a model followed by a question from standard input and prints the line of the verdict.
 use libc::STDIN_FILENO;
 use libc::STDOUT_FILENO;
+use verdict_line::LINE;
 
-// There is room for a byte more than 13 blocks, so that longer input is seen to be too long.
+// Room for a byte more than 13 blocks, so that longer input is seen to be too long.
+const INPUT: usize = 6657;
+
 fn main() {
-    let mut input = [0u8; 6657];
+    let mut input = [0u8; INPUT];
     let n = io::read_full(STDIN_FILENO, &mut input);
-    let mut line = [0u8; 8192];
+    let mut line = [0u8; LINE];
     let k = printing::answer(&input[..n], &mut line);
     io::write_all(STDOUT_FILENO, &line[..k]);
 }

@@ -6,6 +6,9 @@ ghost use Rattle.verdict_line.specs.Text.{decimal, numbered, Put};
 ghost use Rattle.verdict_line.specs.Text as texts;
 ghost use Rattle.verdict_line.specs.Line.{refused-line, plain-line, no-plans-line, yes-plan-line};
 
+// Room for the longest line.
+pub const LINE: usize = 8192;
+
 // Writes a text at a place; gives the place after it.
 pub fn put_text(out: &mut [u8], at: usize, text: &[u8]) -> usize
     requires { ⌜ at + length (now text) ≤ length (now out) ⌝ }
