@@ -85,9 +85,16 @@ pub fn outcome_in_range(b: &[u8], s: usize, a: usize, i: usize) -> bool
         & (gain <= MOST_REWARD)
 }
 
+// The cells are looked at last, once the counts of postconditions are known to be small.
 pub fn fields_right(b: &[u8], used: &[u8; CELLS]) -> bool
     requires { ⌜ Earlier 5 (now b) × Used (now b) (now used) ⌝ }
     ensures value { λ r. ⌜ r ≡ fields-right (now (b .entry)) ⌝ }
 {
-    masks_in_range(b) & actions_pass(b, 5) & cells_pass(b, used, 5, ACTIONS * state_count(b))
+    if !masks_in_range(b) {
+        return false;
+    }
+    if !actions_pass(b, 5) {
+        return false;
+    }
+    cells_pass(b, used, 5, ACTIONS * state_count(b))
 }
