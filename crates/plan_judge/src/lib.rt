@@ -33,7 +33,6 @@ use prepared_model::prepare_model;
 use prepared_question::QUESTION;
 use prepared_question::prepare_question;
 use sheets::GATHERED;
-use sheets::IN_BLOCK;
 
 // The bytes of the longest model.
 pub const MODEL_BYTES: usize = 6144;
@@ -394,7 +393,7 @@ fn sheet_size(count: usize) -> usize
     requires { ⌜ count ≤ 1365 ⌝ }
     ensures value { λ r. ⌜ r ≡ 512 * blocks-for count ⌝ }
 {
-    BLOCK * ((count + 489) / IN_BLOCK)
+    BLOCK * sheets::blocks_for(count)
 }
 
 // Writes the shown plan's sheet into the first blocks of a lent buffer; or refuses by grounds 20 to 23, then 12, and leaves the buffer.

@@ -6,6 +6,7 @@ ghost use Rattle.logic.specs.Lists.{every};
 ghost use Rattle.logic.specs.promises.Refusal.{refusal};
 ghost use Rattle.blocks.specs.Block.{block-count};
 ghost use Rattle.sheets.specs.Layout.{weight-of, count-of, sheet-of};
+ghost use Rattle.sheets.specs.Layout as layout;
 ghost use Rattle.sheets.specs.Grounds.{head-right, count-right, weight-right, spare-right, read-sheet};
 ghost use Rattle.sheets.specs.promises.Reader.{passes, Blocks, Gathered};
 use blocks::BLOCK;
@@ -20,6 +21,9 @@ const BLOCKS: usize = 3;
 
 // The most choices in a block.
 pub const IN_BLOCK: usize = 490;
+
+// Added to a number of choices before it is divided by those of a block, to round up.
+const ROUND_UP: usize = IN_BLOCK - 1;
 
 // The most choices that the blocks of a sheet say they hold.
 pub const GATHERED: usize = 1470;
@@ -44,6 +48,15 @@ const CHOICES_END: usize = CHOICES_AT + IN_BLOCK;
 
 // The choices, and the spare bytes behind them.
 const CHOICES_SIZE: usize = LAST_WORD - CHOICES_AT;
+
+// How many blocks a sheet with so many choices has.
+pub fn blocks_for(count: usize) -> usize
+    requires { ⌜ count ≤ 1365 ⌝ }
+    ensures value { λ r. ⌜ r ≡ layout.blocks-for count ⌝ }
+    ensures range { λ r. ⌜ r ≤ 3 ⌝ }
+{
+    (count + ROUND_UP) / IN_BLOCK
+}
 
 // How many choices block k says it holds.
 fn count_at(b: &[u8], k: usize) -> usize

@@ -20,6 +20,7 @@ use crate::IN_BLOCK;
 use crate::START_AT;
 use crate::STEPS_AT;
 use crate::WEIGHT_AT;
+use crate::blocks_for;
 use blocks::BLOCK;
 use blocks::LAST_WORD;
 use blocks::NUMBER_AT;
@@ -79,7 +80,7 @@ fn begin_blocks(buf: &mut [u8], n: u8, start: u8, weight: u64, count: usize)
     requires { ⌜ (count ≤ 1365) × (512 * blocks-for count ≤ length (now buf)) ⌝ }
     ensures frame { λ _. ⌜ now (buf .exit) ≡ begun n start weight count ++ drop (512 * blocks-for count) (now (buf .entry)) ⌝ }
 {
-    let blocks = (count + 489) / IN_BLOCK;
+    let blocks = blocks_for(count);
     let mut k: usize = 0;
     while k < blocks {
         let a = BLOCK * k;
@@ -180,7 +181,7 @@ pub fn write_sheet(buf: &mut [u8], m: &[u8], n: u8, start: u8, weight: u64, choi
     let count = choices.len();
     begin_blocks(buf, n, start, weight, count);
     store_plan(buf, m, choices, n as usize, start as usize, 0);
-    let blocks = (count + 489) / IN_BLOCK;
+    let blocks = blocks_for(count);
     seal_blocks(buf, blocks);
     BLOCK * blocks
 }

@@ -1,18 +1,19 @@
--- The code's sum is the definition.
+-- So many blocks of 512 bytes.
+use Prim.Native.Nat.{_*_}
+use native.Mathlib.Omega.{arith}
+use mathlib.Core.Path.{ap}
 use borrow.Author.Needs.{needs}
-use Rattle.sheets.specs.Layout.{blocks-for}
 use Rattle.plan_judge.proofs.sheet_size.Statement.{statement}
 use Rattle.plan_judge.proofs.sheet_size.Tie as tie
 
-add-result : tie.Need-add-result
-add-result c = search needs
+blocks-for-requires : tie.Need-blocks-for-requires
+blocks-for-requires c κs = search needs
 
 mul-result : tie.Need-mul-result
-mul-result c = search needs
+mul-result c = omega (arith, c .blocks-for .ensures .1)
 
 returns : tie.Need-returns
-unfolding blocks-for
-returns c = search needs
+returns c = ap (λ r. 512 * r) (c .blocks-for .ensures .0)
 
 pub sheet-size-spec : {M : Type 1} → statement M
-sheet-size-spec = tie.close (tie.spec add-result mul-result returns)
+sheet-size-spec = tie.close (tie.spec blocks-for-requires mul-result returns)

@@ -1,12 +1,12 @@
 -- The blocks are begun, each becomes full while the plan is stored, and sealed they are the sheet.
-use Prim.Native.Nat.{ℕ, _*_, _-_}
+use Prim.Native.Nat.{ℕ, _*_, _-_, _<_}
 use native.Mathlib.Omega.{arith}
-use mathlib.Core.Path.{_≡_, refl, ap, _∙_}
+use mathlib.Core.Path.{_≡_, sym, ap, subst, _∙_}
 use mathlib.Core.List.{List, _++_}
 use lib.ListN.{length, drop}
 use borrow.Author.Needs.{needs}
-use Rattle.sheets.specs.Layout.{blocks-for}
-use Rattle.sheets.specs.promises.Writer.{stored}
+use Rattle.sheets.specs.Layout.{blocks-for, sheet-bytes}
+use Rattle.sheets.specs.promises.Writer.{stored, sealed}
 use Rattle.sheets.proofs.PiecesInOrder.{pieces}
 use Rattle.sheets.proofs.StoredChoices.{full, all-stored, last-words, all-sealed}
 use Rattle.sheets.proofs.writer.write_sheet.Statement.{statement}
@@ -34,15 +34,15 @@ store-plan-requires c κs = let S = c .before .before .before .before .before .b
   record { end = _; ends = S .pre .0 .2; inside = omega arith; few = S .pre .1 .0; room = omega (arith, S .pre .1 .1, c .before .before .before .begin-blocks .kept .0) },
 )
 
-add-blocks : tie.Need-add-blocks
-add-blocks c = search needs
+blocks-for-requires : tie.Need-blocks-for-requires
+blocks-for-requires c κs = c .before .before .before .before .before .before .before .before .before .before .before .pre .1 .0
 
 seal-blocks-requires : tie.Need-seal-blocks-requires
-unfolding blocks-for
-seal-blocks-requires c κs = let S = c .before .before .before .before .before .before .before .before .before .before .before .before in (
-  (omega arith, omega (arith, S .pre .1 .1, c .before .before .before .store-plan .kept .0, c .before .before .before .before .before .before .before .begin-blocks .kept .0)),
-  last-words (S .args .n) (S .args .start) (S .args .weight) (S .args .choices .now) (beyond S) (c .before .before .before .store-plan .last .0) (made (c .before .before .before)),
-)
+seal-blocks-requires c κs = let S = c .before .before .before .before .before .before .before .before .before .before .before .before .before in
+    let e = c .before .blocks-for .ensures .0 in (
+      (c .before .blocks-for .ensures .1, omega (arith, e, S .pre .1 .1, c .before .before .before .before .store-plan .kept .0, c .before .before .before .before .before .before .before .before .begin-blocks .kept .0)),
+      λ k l. last-words (S .args .n) (S .args .start) (S .args .weight) (S .args .choices .now) (beyond S) (c .before .before .before .before .store-plan .last .0) (made (c .before .before .before .before)) k (subst (λ r. k < r) e l),
+    )
 
 mul-result : tie.Need-mul-result
 mul-result c = search needs
@@ -51,9 +51,14 @@ same-length : tie.Need-same-length
 same-length c = search needs
 
 returns : tie.Need-returns
-unfolding blocks-for
-returns c = let S = c .before .before .before .before .before .before .before .before .before .before .before .before .before .before .before in
-    (c .before .before .seal-blocks .ensures ∙ all-sealed (S .args .n) (S .args .start) (S .args .weight) (S .args .choices .now) (beyond S) (c .before .before .before .before .before .before .store-plan .last .0) (made (c .before .before .before .before .before .before)), refl)
+returns c = let S = c .before .before .before .before .before .before .before .before .before .before .before .before .before .before .before .before in
+    let e = c .before .before .before .before .blocks-for .ensures .0 in (
+      c .before .before .seal-blocks .ensures
+          ∙ ap (λ r. sealed r (c .before .before .before .before .before .before .before .store-plan .last .0)) e
+          ∙ all-sealed (S .args .n) (S .args .start) (S .args .weight) (S .args .choices .now) (beyond S) (c .before .before .before .before .before .before .before .store-plan .last .0) (made (c .before .before .before .before .before .before .before))
+          ∙ ap (λ r. sheet-bytes (S .args .n) (S .args .start) (S .args .weight) (S .args .choices .now) ++ drop (512 * r) (S .args .buf .now)) (sym e),
+      ap (λ r. 512 * r) e,
+    )
 
 pub write-sheet-spec : {M : Type 1} → statement M
 write-sheet-spec =
@@ -61,7 +66,7 @@ write-sheet-spec =
     (tie.spec
     begin-blocks-requires
     store-plan-requires
-    add-blocks
+    blocks-for-requires
     seal-blocks-requires
     mul-result
     same-length
