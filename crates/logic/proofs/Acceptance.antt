@@ -1,21 +1,24 @@
--- A test that computes, and gives what an accepted model promises: in every state some action is enabled; each enabled action's outcomes have
--- weights that sum to D, name the action, lead to states by weights of at least 1 and to different ones, and fulfil its postconditions; an
--- action that is not enabled has none; postconditions contradict in pairs.
-use Prim.Native.Nat.{ℕ, _<_}
+-- A test that computes, and gives what an accepted model promises: the outcomes of each choice have weights that sum to D, name the choice,
+-- lead to states by weights of at least 1 and to different ones, and fulfil its postconditions; an action that cannot be executed has none;
+-- postconditions contradict in pairs; no action has the number of the silent move.
+use Prim.Native.Nat.{ℕ, _<_, _≤_}
 use native.Mathlib.Omega.{arith}
 use mathlib.Core.Path.{_≡_, refl, sym, ap, subst, _∙_}
+use mathlib.Core.Logic.{⊎-elim}
 use mathlib.Core.Bool.{Bool, true, false, not, _&&_, _||_, false≢true}
 use mathlib.Core.List.{List, [], _∷_, List·Memᴰ}
-use lib.Dec.{eqb, ltb}
+use lib.Dec.{eqb, leb, ltb}
 use lib.ListN.{length, getD, List·getD-eq-default}
-use borrow.Author.Tests.{ltb-false}
+use borrow.Author.Tests.{leb-true, ltb-false}
 use Rattle.logic.specs.Lists.{all, any, every, is-empty}
-use Rattle.logic.specs.Model.{Literals, Model, Step, true-of, contradict, mask, enabled, outcomes}
+use Rattle.logic.specs.Model.{Literals, Model, Step, true-of, contradict, mask, silent, enabled, stored, outcomes}
 use Rattle.logic.specs.Quantity.{naturals, sum}
 use Rattle.logic.specs.Order.{Rising, nothing, first}
 use Rattle.logic.specs.Plan.{Match, ends, pair}
 use Rattle.logic.specs.Accepted.{posts-of, Accepted, Executable}
-use Rattle.logic.proofs.Tests.{and-both, eqb-eq, eq-eqb, ltb-lt, all-at, any-some, every-at, keep-member, counted-range}
+use Rattle.logic.proofs.Tests.{and-both, eqb-eq, eq-eqb, ltb-lt, all-at, any-some, every-at}
+use Rattle.logic.proofs.Rising.{rising-one}
+use Rattle.logic.proofs.SilentMove.{executable-action, choice-kind, some-choice, no-choice-stored}
 use Rattle.logic.proofs.Postconditions.{unique-post, unique-target}
 
 unfoldable pub step-ok : Model → ℕ → Step → Bool
@@ -41,15 +44,18 @@ choice-ok m s a =
     eqb (sum naturals (λ o. o .weight) (outcomes m s a)) (m .denominator)
     && (all (step-ok m a) (outcomes m s a) && (targets-differ (outcomes m s a) && fulfilled m (posts-of m a) (outcomes m s a)))
 
--- The row of a state has outcomes for no action that is not enabled.
+-- The row of a state has outcomes for no action that cannot be executed.
 unfoldable pub row-ok : Model → ℕ → Bool
-row-ok m s = every (length (getD (m .rows) s [])) (λ a. any (eqb a) (enabled m s) || is-empty (outcomes m s a))
+row-ok m s = every (length (getD (m .rows) s [])) (λ a. any (eqb a) (enabled m s) || is-empty (stored m s a))
 
 unfoldable pub state-ok : Model → ℕ → Bool
-state-ok m s = not (is-empty (enabled m s)) && (all (choice-ok m s) (enabled m s) && row-ok m s)
+state-ok m s = all (choice-ok m s) (enabled m s) && row-ok m s
 
 unfoldable pub states-ok : Model → Bool
-states-ok m = ltb 0 (m .denominator) && every (length (m .states)) (state-ok m) && every (length (m .actions)) (λ a. all-contradict (posts-of m a))
+states-ok m =
+    (ltb 0 (m .denominator) && leb (length (m .actions)) silent)
+    && every (length (m .states)) (state-ok m)
+    && every (length (m .actions)) (λ a. all-contradict (posts-of m a))
 
 rising-targets : (l : List Step) → targets-differ l ≡ true → Rising (λ x y. x .target ≡ y .target → ⊥) l
 unfolding targets-differ
@@ -77,48 +83,46 @@ unfolding is-empty
 no-steps [] e = refl
 no-steps (o ∷ l) e = absurd (false≢true e)
 
-a-choice : (l : List ℕ) → not (is-empty l) ≡ true → (a : ℕ) × (k : List ℕ) × (l ≡ a ∷ k)
-unfolding is-empty
-a-choice [] e = absurd (false≢true e)
-a-choice (a ∷ k) e = (a, k, refl)
-
--- An enabled action is an action of the model.
-pub enabled-action : (m : Model) (s : ℕ) {a : ℕ} → List·Memᴰ a (enabled m s) → a < length (m .actions)
-unfolding enabled
-enabled-action m s i = let w = keep-member _ _ i in let r = counted-range 0 (length (m .actions)) (w .0) in omega (arith, r .1)
-
 module _ (m : Model) (passed : states-ok m ≡ true) where
-  parts : (ltb 0 (m .denominator) ≡ true) × (every (length (m .states)) (state-ok m) ≡ true) × (every (length (m .actions)) (λ a. all-contradict (posts-of m a)) ≡ true)
+  parts : (ltb 0 (m .denominator) ≡ true) × (leb (length (m .actions)) silent ≡ true)
+      × (every (length (m .states)) (state-ok m) ≡ true) × (every (length (m .actions)) (λ a. all-contradict (posts-of m a)) ≡ true)
   unfolding states-ok
   parts =
-      let w = and-both (ltb 0 (m .denominator) && every (length (m .states)) (state-ok m)) _ passed in
-      let u = and-both (ltb 0 (m .denominator)) _ (w .0) in
-      (u .0, u .1, w .1)
+      let w = and-both ((ltb 0 (m .denominator) && leb (length (m .actions)) silent) && every (length (m .states)) (state-ok m)) _ passed in
+      let u = and-both (ltb 0 (m .denominator) && leb (length (m .actions)) silent) _ (w .0) in
+      let v = and-both (ltb 0 (m .denominator)) _ (u .0) in
+      (v .0, v .1, u .1, w .1)
+
+  numbered : length (m .actions) ≤ silent
+  numbered = leb-true (length (m .actions)) silent (parts .1)
 
   posts-rising : (a : ℕ) → a < length (m .actions) → Rising (λ k l. contradict k l ≡ true) (posts-of m a)
-  posts-rising a k = rising-posts (posts-of m a) (every-at (λ a. all-contradict (posts-of m a)) (length (m .actions)) (parts .2) k)
+  posts-rising a k = rising-posts (posts-of m a) (every-at (λ a. all-contradict (posts-of m a)) (length (m .actions)) (parts .3) k)
 
-  at-state : (s : ℕ) → s < length (m .states)
-      → (not (is-empty (enabled m s)) ≡ true) × (all (choice-ok m s) (enabled m s) ≡ true) × (row-ok m s ≡ true)
+  -- The postconditions of a choice contradict in pairs; the silent move has one.
+  choice-rising : {s a : ℕ} → Executable m s a → Rising (λ k l. contradict k l ≡ true) (posts-of m a)
+  choice-rising {s} x =
+      ⊎-elim (λ i. posts-rising _ (executable-action m s i))
+      (λ w. subst (λ a. Rising (λ k l. contradict k l ≡ true) (posts-of m a)) (sym (w .1)) (rising-one _ _))
+      (choice-kind m s (x .choice))
+
+  at-state : (s : ℕ) → s < length (m .states) → (all (choice-ok m s) (enabled m s) ≡ true) × (row-ok m s ≡ true)
   unfolding state-ok
-  at-state s k =
-      let w = and-both (not (is-empty (enabled m s))) _ (every-at (state-ok m) (length (m .states)) (parts .1) k) in
-      let u = and-both (all (choice-ok m s) (enabled m s)) _ (w .1) in
-      (w .0, u .0, u .1)
+  at-state s k = and-both (all (choice-ok m s) (enabled m s)) _ (every-at (state-ok m) (length (m .states)) (parts .2) k)
 
-  -- An action that is not enabled has no outcomes: its row ends before it, or passed the test.
+  -- What is no choice has no outcomes: it is no silent move, and its row ends before it or passed the test.
   none-there : (s a : ℕ) → s < length (m .states) → (List·Memᴰ a (enabled m s) → ⊥) → outcomes m s a ≡ []
-  unfolding row-ok outcomes
-  none-there s a k h = by (ltb a (length (getD (m .rows) s []))) refl
+  unfolding row-ok stored
+  none-there s a k h = no-choice-stored m s a h ∙ by (ltb a (length (getD (m .rows) s []))) refl
     where
-      tested : (t : Bool) → any (eqb a) (enabled m s) ≡ t → (t || is-empty (outcomes m s a)) ≡ true → outcomes m s a ≡ []
+      tested : (t : Bool) → any (eqb a) (enabled m s) ≡ t → (t || is-empty (stored m s a)) ≡ true → stored m s a ≡ []
       tested true i e = let w = any-some (eqb a) (enabled m s) i in absurd (h (subst (λ c. List·Memᴰ c (enabled m s)) (sym (eqb-eq a (w .0) (w .2))) (w .1)))
-      tested false i e = no-steps (outcomes m s a) e
+      tested false i e = no-steps (stored m s a) e
 
-      by : (t : Bool) → ltb a (length (getD (m .rows) s [])) ≡ t → outcomes m s a ≡ []
+      by : (t : Bool) → ltb a (length (getD (m .rows) s [])) ≡ t → stored m s a ≡ []
       by true e =
           tested (any (eqb a) (enabled m s)) refl
-          (every-at (λ a. any (eqb a) (enabled m s) || is-empty (outcomes m s a)) (length (getD (m .rows) s [])) (at-state s k .2) (ltb-lt a (length (getD (m .rows) s [])) e))
+          (every-at (λ a. any (eqb a) (enabled m s) || is-empty (stored m s a)) (length (getD (m .rows) s [])) (at-state s k .1) (ltb-lt a (length (getD (m .rows) s [])) e))
       by false e = List·getD-eq-default (getD (m .rows) s []) [] (ltb-false a (length (getD (m .rows) s [])) e)
 
   module _ {s a : ℕ} (x : Executable m s a) where
@@ -126,7 +130,7 @@ module _ (m : Model) (passed : states-ok m ≡ true) where
         × (all (step-ok m a) (outcomes m s a) ≡ true) × (targets-differ (outcomes m s a) ≡ true) × (fulfilled m (posts-of m a) (outcomes m s a) ≡ true)
     unfolding choice-ok
     at-choice =
-        let e = all-at (choice-ok m s) (enabled m s) (at-state s (x .state) .1) (x .choice) in
+        let e = all-at (choice-ok m s) (enabled m s) (at-state s (x .state) .0) (x .choice) in
         let w = and-both (eqb (sum naturals (λ o. o .weight) (outcomes m s a)) (m .denominator)) _ e in
         let u = and-both (all (step-ok m a) (outcomes m s a)) _ (w .1) in
         let v = and-both (targets-differ (outcomes m s a)) _ (u .1) in
@@ -142,12 +146,13 @@ module _ (m : Model) (passed : states-ok m ≡ true) where
   pub passed-accepted : Accepted m
   passed-accepted =
       record {
-        some-choice = λ s k. a-choice (enabled m s) (at-state s k .0);
+        some-choice = λ s k. some-choice m s;
         defined = none-there;
         fulfils = λ {s} {a} x. matched m (posts-of m a) (outcomes m s a) (at-choice x .3);
-        one-post = λ {s} {a} x o i k l. unique-post m (posts-rising a (enabled-action m s (x .choice))) o;
-        one-target = λ {s} {a} x. unique-target m (matched m (posts-of m a) (outcomes m s a) (at-choice x .3)) (posts-rising a (enabled-action m s (x .choice)));
+        one-post = λ {s} {a} x o i k l. unique-post m (choice-rising x) o;
+        one-target = λ {s} {a} x. unique-target m (matched m (posts-of m a) (outcomes m s a) (at-choice x .3)) (choice-rising x);
         contradicts = posts-rising;
+        numbered = numbered;
         divides = ltb-lt 0 (m .denominator) (parts .0);
         apart = λ x. rising-targets _ (at-choice x .2);
         sums = λ x. at-choice x .0;

@@ -4,10 +4,11 @@ use Prim.Native.Nat.{ℕ, zero, suc, _*_, _<_}
 use native.Mathlib.Omega.{arith}
 use mathlib.Core.Path.{_≡_, refl, sym, ap, ap₂, subst, _∙_}
 use mathlib.Core.Logic.{_↔_}
+use mathlib.Core.Bool.{Bool, true, false, cond}
 use mathlib.Core.List.{List, [], _∷_, _++_, map, flatMap, List·Memᴰ, List·Memᴰ·head}
 use lib.ListN.{length, length-map}
 use Rattle.logic.specs.Lists.{product}
-use Rattle.logic.specs.Model.{Model, enabled, outcomes}
+use Rattle.logic.specs.Model.{Model, silent, executable, over, enabled, outcomes}
 use Rattle.logic.specs.Plan.{Plan, plans, choices}
 use Rattle.logic.specs.Order.{Before, differ, agree, Rising, Is-plan}
 use Rattle.logic.specs.Quantity.{naturals}
@@ -82,8 +83,12 @@ module _ {A B : Type 0} (key : B → List ℕ) (g : A → List B) where
 
 -- The choices in a state stand in rising order.
 pub enabled-rising : (m : Model) (s : ℕ) → Rising (λ a b. a < b) (enabled m s)
-unfolding enabled
-enabled-rising m s = rising-keep (λ a b. a < b) _ (rising-count 0 (length (m .actions)))
+unfolding enabled executable
+enabled-rising m s = by (over m s)
+  where
+    by : (t : Bool) → Rising (λ a b. a < b) (cond t (silent ∷ []) (executable m s))
+    by true = rising-one _ silent
+    by false = rising-keep (λ a b. a < b) _ (rising-count 0 (length (m .actions)))
 
 -- The plans stand in dictionary order of their choices.
 pub plans-rising : (m : Model) (n s : ℕ) → Rising (λ p q. Before (choices n p) (choices n q)) (plans m n s)

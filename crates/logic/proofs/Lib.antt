@@ -18,6 +18,7 @@ pub mod Contradiction
 pub mod Postconditions
 pub mod PolicyPaths
 pub mod Policies
+pub mod SilentMove
 pub mod Acceptance
 pub mod Examples
 pub mod Depth

@@ -1,30 +1,31 @@
--- What an accepted model promises: Definition 1 of the PLBP paper in whole numbers, each of its conditions, and that postconditions
--- contradict. (The ranges of document 01 are grounds 4 and 5.)
-use Prim.Native.Nat.{ℕ, _<_}
+-- What an accepted model promises: Definition 1 of the PLBP paper in whole numbers, each of its conditions, the "do nothing" action that the
+-- paper adds being one of the actions, and that postconditions contradict. (The ranges of document 01 are grounds 4 and 5.)
+use Prim.Native.Nat.{ℕ, _<_, _≤_}
 use mathlib.Core.Path.{_≡_}
 use mathlib.Core.List.{List, [], _∷_, List·Memᴰ}
-use mathlib.Core.Bool.{true}
+use mathlib.Core.Bool.{true, cond}
+use lib.Dec.{eqb}
 use lib.ListN.{length, getD}
-use Rattle.logic.specs.Model.{Literals, Model, Step, no-action, true-of, contradict, mask, enabled, outcomes}
+use Rattle.logic.specs.Model.{Literals, Model, Step, no-action, true-of, contradict, mask, silent, enabled, outcomes}
 use Rattle.logic.specs.Quantity.{naturals, sum}
 use Rattle.logic.specs.Plan.{Match}
 use Rattle.logic.specs.Order.{Rising}
 
--- The postconditions of an action.
+-- The postconditions of a choice: those of the action; the silent move has one, which is always true.
 abbrev pub posts-of : Model → ℕ → List Literals
-posts-of m a = (getD (m .actions) a no-action) .posts
+posts-of m a = cond (eqb a silent) (record { positive = 0; negative = 0 } ∷ []) ((getD (m .actions) a no-action) .posts)
 
--- The state s and the choice a are a state of the model and an action enabled there.
+-- The state s and the choice a are a state of the model and a choice there: an action that can be executed, or the silent move.
 pub record Executable (m : Model) (s a : ℕ) : Type 0 where
   pub state : s < length (m .states)
   pub choice : List·Memᴰ a (enabled m s)
 
 pub record Accepted (m : Model) : Type 0 where
-  -- (i) every state has an enabled action
+  -- (i) every state has a choice, since the silent move is one where the work is over
   pub some-choice : (s : ℕ) → s < length (m .states) → (a : ℕ) × (l : List ℕ) × (enabled m s ≡ a ∷ l)
-  -- (ii) what an action leads to is given where its precondition is true, which is how `enabled` is defined, and not elsewhere
+  -- (ii) what a choice leads to is given where it is enabled, for an action by its precondition (`executable`), and not elsewhere
   pub defined : (s a : ℕ) → s < length (m .states) → (List·Memᴰ a (enabled m s) → ⊥) → outcomes m s a ≡ []
-  -- (iii) an enabled action has one outcome for each postcondition, in their order, in a target where that postcondition is true;
+  -- (iii) a choice has one outcome for each postcondition, in their order, in a target where that postcondition is true;
   pub fulfils : {s a : ℕ} → Executable m s a → Match (λ k o. true-of k (mask m (o .target)) ≡ true) (posts-of m a) (outcomes m s a)
   -- (iii.i) in a target one postcondition is true and no other,
   pub one-post : {s a : ℕ} → Executable m s a → (o : Step) → List·Memᴰ o (outcomes m s a) → (k l : Literals) → List·Memᴰ k (posts-of m a)
@@ -34,12 +35,14 @@ pub record Accepted (m : Model) : Type 0 where
       → List·Memᴰ y (outcomes m s a) → true-of k (mask m (x .target)) ≡ true → true-of k (mask m (y .target)) ≡ true → x ≡ y
   -- since any two postconditions contradict
   pub contradicts : (a : ℕ) → a < length (m .actions) → Rising (λ k l. contradict k l ≡ true) (posts-of m a)
-  -- so that different outcomes of an action lead to different states
+  -- so that different outcomes of a choice lead to different states
   pub apart : {s a : ℕ} → Executable m s a → Rising (λ x y. x .target ≡ y .target → ⊥) (outcomes m s a)
-  -- chances are weights over D: the weights of an action's outcomes are at least 1 and sum to D
+  -- no action has the number of the silent move
+  pub numbered : length (m .actions) ≤ silent
+  -- chances are weights over D: the weights of a choice's outcomes are at least 1 and sum to D
   pub divides : 0 < m .denominator
   pub sums : {s a : ℕ} → Executable m s a → sum naturals (λ o. o .weight) (outcomes m s a) ≡ m .denominator
   pub weighs : {s a : ℕ} → Executable m s a → (o : Step) → List·Memᴰ o (outcomes m s a) → 0 < o .weight
-  -- outcomes lead to states of the model, and are outcomes of this action
+  -- outcomes lead to states of the model, and are outcomes of this choice
   pub inside : {s a : ℕ} → Executable m s a → (o : Step) → List·Memᴰ o (outcomes m s a) → o .target < length (m .states)
   pub named : {s a : ℕ} → Executable m s a → (o : Step) → List·Memᴰ o (outcomes m s a) → o .choice ≡ a

@@ -11,5 +11,6 @@ pub mod Verdict
 pub mod Limits
 pub mod Choices
 pub mod TwoShelf
+pub mod WithoutWait
 pub mod Accepted
 pub mod promises

@@ -1,12 +1,12 @@
--- Models: states, actions, outcomes. Document 01, "The model"; Definition 1 of the PLBP paper.
+-- Models: states, actions, outcomes. Document 01, "The model"; Definition 1 of the PLBP paper; document 02, A.1, for states where the work is over.
 use Prim.Native.Nat.{ℕ, _/_, _%_, _^_}
-use mathlib.Core.Bool.{Bool, not, _&&_, _||_}
-use mathlib.Core.List.{List, []}
+use mathlib.Core.Bool.{Bool, not, cond, _&&_, _||_}
+use mathlib.Core.List.{List, [], _∷_}
 use lib.ListN.{getD, length}
 use lib.Dec.{eqb}
 use lib.Bits.{bitAnd}
-use lib.IntN.{ℤ}
-use Rattle.logic.specs.Lists.{keep, count-from}
+use lib.IntN.{ℤ, pos}
+use Rattle.logic.specs.Lists.{is-empty, keep, count-from}
 
 -- A conjunction of literals as two masks: the propositions that must be true, and those that must be false.
 pub record Literals : Type 0 where
@@ -53,10 +53,30 @@ mask m s = getD (m .states) s 0
 unfoldable pub prop-in : Model → ℕ → ℕ → Bool
 prop-in m s i = eqb (mask m s / 2 ^ i % 2) 1
 
--- The choices in a state, rising: the actions whose precondition is true there. Condition (ii) of Definition 1.
+-- The actions that can be executed in a state, rising: those whose precondition is true there. Condition (ii) of Definition 1.
+unfoldable pub executable : Model → ℕ → List ℕ
+executable m s = keep (λ a. true-of ((getD (m .actions) a no-action) .pre) (mask m s)) (count-from 0 (length (m .actions)))
+
+-- The work is over in a state: no action can be executed there.
+unfoldable pub over : Model → ℕ → Bool
+over m s = is-empty (executable m s)
+
+-- The silent move, document 02's word for the "do nothing" action that the PLBP paper adds after Definition 1: its choice byte, which is the
+-- number of no action, and its one outcome in s, back to s itself, with the weight D and the reward 0.
+abbrev pub silent : ℕ
+silent = 255
+
+abbrev pub silent-step : Model → ℕ → Step
+silent-step m s = record { choice = silent; target = s; weight = m .denominator; reward = pos 0 }
+
+-- The choices in a state, rising: the actions that can be executed; where the work is over, the silent move alone.
 unfoldable pub enabled : Model → ℕ → List ℕ
-enabled m s = keep (λ a. true-of ((getD (m .actions) a no-action) .pre) (mask m s)) (count-from 0 (length (m .actions)))
+enabled m s = cond (over m s) (silent ∷ []) (executable m s)
+
+-- The outcomes of an action as the model gives them, in postcondition order.
+unfoldable pub stored : Model → ℕ → ℕ → List Step
+stored m s a = getD (getD (m .rows) s []) a []
 
 -- What a choice can lead to, in postcondition order.
 unfoldable pub outcomes : Model → ℕ → ℕ → List Step
-outcomes m s a = getD (getD (m .rows) s []) a []
+outcomes m s a = cond (over m s && eqb a silent) (silent-step m s ∷ []) (stored m s a)

@@ -3,20 +3,20 @@ use Prim.Native.Nat.{ℕ}
 use mathlib.Core.Path.{_≡_, refl}
 use mathlib.Core.List.{List, [], _∷_, map, flatMap}
 use lib.IntN.{ℤ, pos, negsuc}
-use Rattle.logic.specs.Lists.{all, any, find, keep, product, join, count-from}
-use Rattle.logic.specs.Model.{Model, Step, Literals, Action, no-action, true-of, mask, prop-in, enabled, outcomes}
+use Rattle.logic.specs.Lists.{is-empty, all, any, find, keep, product, join, count-from}
+use Rattle.logic.specs.Model.{Model, Step, Literals, Action, no-action, true-of, mask, prop-in, executable, over, enabled, stored, outcomes}
 use Rattle.logic.specs.Quantity.{sum, Relation, less, equal, greater, related}
 use Rattle.logic.specs.Plan.{plans, choices, paths, weight}
 use Rattle.logic.specs.Formula.{Formula, prop, neg, both, does, next, gain, plan, sat, W, meets}
 use Rattle.logic.specs.Verdict.{Verdict, no, yes-plan, leads, is-equal, goal, shown, verdict}
 
-needs : ℕ → ℕ → List Literals → Action
+unfoldable pub needs : ℕ → ℕ → List Literals → Action
 needs t f ps = record { pre = record { positive = t; negative = f }; posts = ps }
 
-lit : ℕ → ℕ → Literals
+unfoldable pub lit : ℕ → ℕ → Literals
 lit t f = record { positive = t; negative = f }
 
-to : ℕ → ℕ → ℕ → ℤ → Step
+unfoldable pub to : ℕ → ℕ → ℕ → ℤ → Step
 to a t w r = record { choice = a; target = t; weight = w; reward = r }
 
 unfoldable pub two-shelf : Model
@@ -47,19 +47,19 @@ pub record Row : Type 0 where
   pub q : ℕ
   pub answer : Verdict
 
-row : ℕ → Formula → Relation → ℕ → ℕ → Verdict → Row
+unfoldable pub row : ℕ → Formula → Relation → ℕ → ℕ → Verdict → Row
 row n φ r p q v = record { steps = n; condition = φ; rel = r; p = p; q = q; answer = v }
 
-shows : ℕ → ℕ → ℕ → List ℕ → Verdict
+unfoldable pub shows : ℕ → ℕ → ℕ → List ℕ → Verdict
 shows w n k cs = yes-plan (record { total = pos w; steps = n; count = k; choices = cs })
 
-denies : ℕ → Verdict
+unfoldable pub denies : ℕ → Verdict
 denies k = no (record { count = k })
 
-held : Formula
+unfoldable pub held : Formula
 held = prop 0
 
-done : Formula
+unfoldable pub done : Formula
 done = prop 1
 
 unfoldable pub table : List Row
@@ -80,5 +80,5 @@ table =
     ∷ []
 
 pub two-shelf-verdicts : map (λ r. verdict two-shelf 0 (plan (r .steps) (r .condition) (r .rel) (r .p) (r .q))) table ≡ map (λ r. r .answer) table
-unfolding two-shelf table all any find keep product join count-from flatMap no-action true-of mask prop-in enabled outcomes plans choices paths weight sum sat W meets related leads is-equal goal shown verdict
+unfolding two-shelf table is-empty all any find keep product join count-from flatMap no-action true-of mask prop-in executable over enabled stored outcomes plans choices paths weight sum sat W meets related leads is-equal goal shown verdict
 two-shelf-verdicts = refl
