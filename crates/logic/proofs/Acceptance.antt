@@ -1,25 +1,23 @@
--- A test that computes, and gives what an accepted model promises: the outcomes of each choice have weights that sum to D, name the choice,
--- lead to states by weights of at least 1 and to different ones, and fulfil its postconditions; an action that cannot be executed has none;
+-- A test that computes, and gives what an accepted model promises: where an action can be executed its outcomes have weights that sum to D,
+-- name it, lead to states by weights of at least 1 and to different ones, and fulfil its postconditions; an action that cannot be executed has none;
 -- postconditions contradict in pairs; no action has the number of the silent move.
 use Prim.Native.Nat.{ℕ, _<_, _≤_}
 use native.Mathlib.Omega.{arith}
 use mathlib.Core.Path.{_≡_, refl, sym, ap, subst, _∙_}
-use mathlib.Core.Logic.{⊎-elim}
 use mathlib.Core.Bool.{Bool, true, false, not, _&&_, _||_, false≢true}
 use mathlib.Core.List.{List, [], _∷_, List·Memᴰ}
 use lib.Dec.{eqb, leb, ltb}
 use lib.ListN.{length, getD, List·getD-eq-default}
 use borrow.Author.Tests.{leb-true, ltb-false}
 use Rattle.logic.specs.Lists.{all, any, every, is-empty}
-use Rattle.logic.specs.Model.{Literals, Model, Step, true-of, contradict, mask, silent, enabled, stored, outcomes}
+use Rattle.logic.specs.Model.{Literals, Model, Step, true-of, contradict, mask, silent, executable, stored, outcomes}
 use Rattle.logic.specs.Quantity.{naturals, sum}
 use Rattle.logic.specs.Order.{Rising, nothing, first}
 use Rattle.logic.specs.Plan.{Match, ends, pair}
-use Rattle.logic.specs.Accepted.{posts-of, Accepted, Executable}
+use Rattle.logic.specs.Accepted.{posts-of, Accepted}
 use Rattle.logic.proofs.Tests.{and-both, eqb-eq, eq-eqb, ltb-lt, all-at, any-some, every-at}
-use Rattle.logic.proofs.Rising.{rising-one}
-use Rattle.logic.proofs.SilentMove.{executable-action, choice-kind, some-choice, no-choice-stored}
-use Rattle.logic.proofs.Postconditions.{unique-post, unique-target}
+use Rattle.logic.proofs.SilentMove.{executable-action}
+use Rattle.logic.proofs.AcceptedByActions.{Keeps, By-actions, by-actions}
 
 unfoldable pub step-ok : Model → ℕ → Step → Bool
 step-ok m a o = eqb (o .choice) a && (ltb (o .target) (length (m .states)) && ltb 0 (o .weight))
@@ -46,10 +44,10 @@ choice-ok m s a =
 
 -- The row of a state has outcomes for no action that cannot be executed.
 unfoldable pub row-ok : Model → ℕ → Bool
-row-ok m s = every (length (getD (m .rows) s [])) (λ a. any (eqb a) (enabled m s) || is-empty (stored m s a))
+row-ok m s = every (length (getD (m .rows) s [])) (λ a. any (eqb a) (executable m s) || is-empty (stored m s a))
 
 unfoldable pub state-ok : Model → ℕ → Bool
-state-ok m s = all (choice-ok m s) (enabled m s) && row-ok m s
+state-ok m s = all (choice-ok m s) (executable m s) && row-ok m s
 
 unfoldable pub states-ok : Model → Bool
 states-ok m =
@@ -99,38 +97,31 @@ module _ (m : Model) (passed : states-ok m ≡ true) where
   posts-rising : (a : ℕ) → a < length (m .actions) → Rising (λ k l. contradict k l ≡ true) (posts-of m a)
   posts-rising a k = rising-posts (posts-of m a) (every-at (λ a. all-contradict (posts-of m a)) (length (m .actions)) (parts .3) k)
 
-  -- The postconditions of a choice contradict in pairs; the silent move has one.
-  choice-rising : {s a : ℕ} → Executable m s a → Rising (λ k l. contradict k l ≡ true) (posts-of m a)
-  choice-rising {s} x =
-      ⊎-elim (λ i. posts-rising _ (executable-action m s i))
-      (λ w. subst (λ a. Rising (λ k l. contradict k l ≡ true) (posts-of m a)) (sym (w .1)) (rising-one _ _))
-      (choice-kind m s (x .choice))
-
-  at-state : (s : ℕ) → s < length (m .states) → (all (choice-ok m s) (enabled m s) ≡ true) × (row-ok m s ≡ true)
+  at-state : (s : ℕ) → s < length (m .states) → (all (choice-ok m s) (executable m s) ≡ true) × (row-ok m s ≡ true)
   unfolding state-ok
-  at-state s k = and-both (all (choice-ok m s) (enabled m s)) _ (every-at (state-ok m) (length (m .states)) (parts .2) k)
+  at-state s k = and-both (all (choice-ok m s) (executable m s)) _ (every-at (state-ok m) (length (m .states)) (parts .2) k)
 
-  -- What is no choice has no outcomes: it is no silent move, and its row ends before it or passed the test.
-  none-there : (s a : ℕ) → s < length (m .states) → (List·Memᴰ a (enabled m s) → ⊥) → outcomes m s a ≡ []
+  -- An action that cannot be executed has no outcomes: its row ends before it, or passed the test.
+  none-there : (s a : ℕ) → s < length (m .states) → (List·Memᴰ a (executable m s) → ⊥) → stored m s a ≡ []
   unfolding row-ok stored
-  none-there s a k h = no-choice-stored m s a h ∙ by (ltb a (length (getD (m .rows) s []))) refl
+  none-there s a k h = by (ltb a (length (getD (m .rows) s []))) refl
     where
-      tested : (t : Bool) → any (eqb a) (enabled m s) ≡ t → (t || is-empty (stored m s a)) ≡ true → stored m s a ≡ []
-      tested true i e = let w = any-some (eqb a) (enabled m s) i in absurd (h (subst (λ c. List·Memᴰ c (enabled m s)) (sym (eqb-eq a (w .0) (w .2))) (w .1)))
+      tested : (t : Bool) → any (eqb a) (executable m s) ≡ t → (t || is-empty (stored m s a)) ≡ true → stored m s a ≡ []
+      tested true i e = let w = any-some (eqb a) (executable m s) i in absurd (h (subst (λ c. List·Memᴰ c (executable m s)) (sym (eqb-eq a (w .0) (w .2))) (w .1)))
       tested false i e = no-steps (stored m s a) e
 
       by : (t : Bool) → ltb a (length (getD (m .rows) s [])) ≡ t → stored m s a ≡ []
       by true e =
-          tested (any (eqb a) (enabled m s)) refl
-          (every-at (λ a. any (eqb a) (enabled m s) || is-empty (stored m s a)) (length (getD (m .rows) s [])) (at-state s k .1) (ltb-lt a (length (getD (m .rows) s [])) e))
+          tested (any (eqb a) (executable m s)) refl
+          (every-at (λ a. any (eqb a) (executable m s) || is-empty (stored m s a)) (length (getD (m .rows) s [])) (at-state s k .1) (ltb-lt a (length (getD (m .rows) s [])) e))
       by false e = List·getD-eq-default (getD (m .rows) s []) [] (ltb-false a (length (getD (m .rows) s [])) e)
 
-  module _ {s a : ℕ} (x : Executable m s a) where
+  module _ (s a : ℕ) (k : s < length (m .states)) (i : List·Memᴰ a (executable m s)) where
     at-choice : (sum naturals (λ o. o .weight) (outcomes m s a) ≡ m .denominator)
         × (all (step-ok m a) (outcomes m s a) ≡ true) × (targets-differ (outcomes m s a) ≡ true) × (fulfilled m (posts-of m a) (outcomes m s a) ≡ true)
     unfolding choice-ok
     at-choice =
-        let e = all-at (choice-ok m s) (enabled m s) (at-state s (x .state) .0) (x .choice) in
+        let e = all-at (choice-ok m s) (executable m s) (at-state s k .0) i in
         let w = and-both (eqb (sum naturals (λ o. o .weight) (outcomes m s a)) (m .denominator)) _ e in
         let u = and-both (all (step-ok m a) (outcomes m s a)) _ (w .1) in
         let v = and-both (targets-differ (outcomes m s a)) _ (u .1) in
@@ -138,25 +129,30 @@ module _ (m : Model) (passed : states-ok m ≡ true) where
 
     at-step : (o : Step) → List·Memᴰ o (outcomes m s a) → (o .choice ≡ a) × (o .target < length (m .states)) × (0 < o .weight)
     unfolding step-ok
-    at-step o i =
-        let w = and-both (eqb (o .choice) a) _ (all-at (step-ok m a) (outcomes m s a) (at-choice .1) i) in
+    at-step o j =
+        let w = and-both (eqb (o .choice) a) _ (all-at (step-ok m a) (outcomes m s a) (at-choice .1) j) in
         let u = and-both (ltb (o .target) (length (m .states))) _ (w .1) in
         (eqb-eq _ _ (w .0), ltb-lt _ _ (u .0), ltb-lt _ _ (u .1))
 
+    keeps : Keeps m s a
+    keeps =
+        record {
+          fulfils = matched m (posts-of m a) (outcomes m s a) (at-choice .3);
+          contrary = posts-rising a (executable-action m s i);
+          apart = rising-targets _ (at-choice .2);
+          sums = at-choice .0;
+          weighs = λ o j. at-step o j .2;
+          inside = λ o j. at-step o j .1;
+          named = λ o j. at-step o j .0;
+        }
+
   pub passed-accepted : Accepted m
   passed-accepted =
-      record {
-        some-choice = λ s k. some-choice m s;
-        defined = none-there;
-        fulfils = λ {s} {a} x. matched m (posts-of m a) (outcomes m s a) (at-choice x .3);
-        one-post = λ {s} {a} x o i k l. unique-post m (choice-rising x) o;
-        one-target = λ {s} {a} x. unique-target m (matched m (posts-of m a) (outcomes m s a) (at-choice x .3)) (choice-rising x);
-        contradicts = posts-rising;
-        numbered = numbered;
+      by-actions m
+      (record {
         divides = ltb-lt 0 (m .denominator) (parts .0);
-        apart = λ x. rising-targets _ (at-choice x .2);
-        sums = λ x. at-choice x .0;
-        weighs = λ x o i. at-step x o i .2;
-        inside = λ x o i. at-step x o i .1;
-        named = λ x o i. at-step x o i .0;
-      }
+        numbered = numbered;
+        contradicts = posts-rising;
+        unused = none-there;
+        keeps = keeps;
+      })

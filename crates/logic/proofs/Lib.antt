@@ -19,6 +19,7 @@ pub mod Postconditions
 pub mod PolicyPaths
 pub mod Policies
 pub mod SilentMove
+pub mod AcceptedByActions
 pub mod Acceptance
 pub mod Examples
 pub mod Depth

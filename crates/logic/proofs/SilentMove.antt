@@ -5,7 +5,7 @@ use native.Mathlib.Omega.{arith}
 use mathlib.Core.Path.{_≡_, refl, sym, ap, subst, _∙_}
 use mathlib.Core.Logic.{_⊎_, inl, inr}
 use mathlib.Core.Bool.{Bool, true, false, cond, _&&_}
-use mathlib.Core.List.{List, [], _∷_, List·Memᴰ, List·Memᴰ·head, List·Memᴰ·eq-of-singleton}
+use mathlib.Core.List.{List, [], _∷_, List·Memᴰ, List·Memᴰ·head, List·Memᴰ·not-nil, List·Memᴰ·eq-of-singleton}
 use lib.Dec.{eqb}
 use lib.IntN.{ℤ, +ℤ-idl}
 use lib.ListN.{length, take}
@@ -64,6 +64,14 @@ module _ (m : Model) (s : ℕ) where
       by : (t : Bool) → over m s ≡ t → List·Memᴰ a (executable m s) ⊎ ((over m s ≡ true) × (a ≡ silent))
       by true o = inr (o, List·Memᴰ·eq-of-singleton (subst (List·Memᴰ a) (silent-alone o) i))
       by false o = inl (subst (List·Memᴰ a) (actions-enabled o) i)
+
+  pub executable-enabled : {a : ℕ} → List·Memᴰ a (executable m s) → List·Memᴰ a (enabled m s)
+  unfolding enabled over is-empty
+  executable-enabled {a} = by (executable m s)
+    where
+      by : (l : List ℕ) → List·Memᴰ a l → List·Memᴰ a (cond (is-empty l) (silent ∷ []) l)
+      by [] i = absurd (List·Memᴰ·not-nil i)
+      by (x ∷ l) i = i
 
   pub some-choice : (a : ℕ) × (l : List ℕ) × (enabled m s ≡ a ∷ l)
   unfolding enabled over is-empty

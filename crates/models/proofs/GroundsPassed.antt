@@ -2,16 +2,15 @@
 use Prim.Native.Nat.{ℕ, _<_, _≤_}
 use mathlib.Core.Path.{_≡_, refl}
 use mathlib.Core.Bool.{true, _&&_}
-use Rattle.logic.specs.Lists.{every, some-below}
+use Rattle.logic.specs.Lists.{every}
 use Rattle.logic.specs.Checked.{ok}
 use Rattle.logic.specs.promises.Refusal.{refusal}
-use Rattle.logic.specs.Model.{true-of}
 use Rattle.logic.proofs.Checked.{guard-passed}
 use Rattle.logic.proofs.Tests.{and-both, every-at}
 use Rattle.blocks.specs.Bytes.{Bytes, within}
 use Rattle.blocks.specs.Block.{whole-blocks, sums-right}
 use Rattle.models.specs.Layout.{state-count, action-count, pre-of, state-mask, post-count, outcome-of, entries, model-of}
-use Rattle.models.specs.Grounds.{kinds-right, sizes-right, mask-in-range, literals-in-range, action-in-range, outcome-in-range, cell-in-range, fields-right, head-spare, rows-spare, cells-spare, posts-contradict, cell-consistent, consistent, no-dead-ends, read-model}
+use Rattle.models.specs.Grounds.{kinds-right, sizes-right, mask-in-range, literals-in-range, action-in-range, outcome-in-range, cell-in-range, fields-right, head-spare, rows-spare, cells-spare, posts-contradict, cell-consistent, consistent, read-model}
 use Rattle.models.specs.promises.Used.{Sized}
 use Rattle.models.proofs.EveryCell.{sized}
 use Rattle.blocks.proofs.RangeTests.{at-least}
@@ -24,7 +23,6 @@ pub record Passed (b : Bytes) : Type 0 where
   pub fields : fields-right b ≡ true
   pub spare : (head-spare b && rows-spare b && cells-spare b) ≡ true
   pub agrees : consistent b ≡ true
-  pub lives : no-dead-ends b ≡ true
 
 module _ (b : Bytes) (e : refusal (read-model b) ≡ 0) where
   pub passed-all : Passed b
@@ -37,7 +35,6 @@ module _ (b : Bytes) (e : refusal (read-model b) ≡ 0) where
       let t5 = guard-passed 4 (fields-right b) _ (t4 .1) in
       let t6 = guard-passed 5 (head-spare b && rows-spare b && cells-spare b) _ (t5 .1) in
       let t7 = guard-passed 6 (consistent b) _ (t6 .1) in
-      let t8 = guard-passed 7 (no-dead-ends b) _ (t7 .1) in
       record {
         whole = t1 .0;
         sums = t2 .0;
@@ -46,12 +43,11 @@ module _ (b : Bytes) (e : refusal (read-model b) ≡ 0) where
         fields = t5 .0;
         spare = t6 .0;
         agrees = t7 .0;
-        lives = t8 .0;
       }
 
 pub read-passed : (b : Bytes) → Passed b → read-model b ≡ ok (model-of b)
 unfolding read-model
-read-passed b p = rw (p .whole, p .sums, p .kinds, p .sizes, p .fields, p .spare, p .agrees, p .lives) refl
+read-passed b p = rw (p .whole, p .sums, p .kinds, p .sizes, p .fields, p .spare, p .agrees) refl
 
 module _ (b : Bytes) (p : Passed b) where
   pub passed-sized : Sized b
@@ -81,7 +77,3 @@ module _ (b : Bytes) (p : Passed b) where
   cell-passed s a h g =
       every-at (cell-consistent b s) (action-count b)
       (every-at (λ s. every (action-count b) (cell-consistent b s)) (state-count b) (and-both (every (action-count b) (posts-contradict b)) _ (p .agrees) .1) h) g
-
-  pub state-passed : (s : ℕ) → s < state-count b → some-below (action-count b) (λ a. true-of (pre-of b a) (state-mask b s)) ≡ true
-  unfolding no-dead-ends
-  state-passed s h = every-at (λ s. some-below (action-count b) (λ a. true-of (pre-of b a) (state-mask b s))) (state-count b) (p .lives) h

@@ -4,30 +4,32 @@ use Prim.Native.Nat.{ℕ, zero, suc, _+_, _<_, _≤_}
 use native.Mathlib.Omega.{arith}
 use native.Mathlib.Nat.{zero-add, add-zero}
 use mathlib.Core.Path.{_≡_, refl, sym, ap, ap₂, subst, _∙_}
-use mathlib.Core.Bool.{Bool, true, false, _&&_}
-use mathlib.Core.List.{List, [], _∷_, map, List·Memᴰ, List·Memᴰ·not-nil}
+use mathlib.Core.Bool.{Bool, true, false, cond, _&&_}
+use mathlib.Core.List.{List, [], _∷_, map, List·Memᴰ}
 use lib.Dec.{eqb, ltb}
 use lib.IntN.{negsuc}
 use lib.Signed.{leZ}
-use lib.ListN.{length, getD, List·getD-eq-default}
+use lib.ListN.{length, getD}
 use borrow.Author.Tests.{lt-ltb, le-ltb, ltb-false}
 use Rattle.logic.specs.Lists.{keep, count-from, tabulate, every}
-use Rattle.logic.specs.Model.{Literals, Step, Action, true-of, contradict, mask, enabled, outcomes, no-action}
+use Rattle.logic.specs.Model.{Literals, Step, Action, true-of, contradict, mask, silent, executable, stored, outcomes, no-action}
 use Rattle.logic.specs.Quantity.{naturals, sum}
 use Rattle.logic.specs.Order.{Rising, nothing, first}
 use Rattle.logic.specs.Plan.{Match, ends, pair}
-use Rattle.logic.specs.Accepted.{posts-of, Accepted, Executable}
+use Rattle.logic.specs.Accepted.{posts-of, Accepted}
 use Rattle.logic.proofs.Members.{map-member}
-use Rattle.logic.proofs.Tests.{and-both, eqb-eq, ne-eqb, ltb-lt, every-at, some-below-index, counted-in, counted-range, length-tabulate, getD-tabulate, count-more, in-keep, keep-member, keep-same}
+use Rattle.logic.proofs.Tests.{and-both, eqb-eq, ne-eqb, ltb-lt, every-at, counted-in, counted-range, length-tabulate, getD-tabulate, count-more, in-keep, keep-member, keep-same}
 use Rattle.logic.proofs.Sums.{naturals-additive, sum-append, sum-map}
 use Rattle.logic.proofs.Contradiction.{not-both}
-use Rattle.logic.proofs.Postconditions.{unique-post, unique-target}
+use Rattle.logic.proofs.SilentMove.{action-outcomes}
+use Rattle.logic.proofs.AcceptedByActions.{Keeps, By-actions, by-actions}
 use Rattle.blocks.specs.Bytes.{Bytes, within}
 use Rattle.blocks.specs.Block.{sum-below}
 use Rattle.models.specs.Layout.{state-count, action-count, prop-count, denominator-of, state-mask, pre-of, post-count, post-of, outcome-of, entries, model-of}
 use Rattle.models.specs.Grounds.{sizes-right, outcome-in-range, posts-contradict, cell-consistent}
-use Rattle.models.proofs.EveryCell.{entries-inside}
-use Rattle.models.proofs.GroundsPassed.{Passed, some-post, outcome-passed, action-passed, cell-passed, state-passed}
+use Rattle.models.proofs.EveryCell.{entries-inside, entries-past-actions}
+use Rattle.models.proofs.OutcomesOfCell.{stored-are}
+use Rattle.models.proofs.GroundsPassed.{Passed, passed-sized, some-post, outcome-passed, action-passed, cell-passed}
 use Rattle.blocks.proofs.RangeTests.{at-least}
 
 -- ---- lists
@@ -37,10 +39,6 @@ unfolding tabulate
 tabulate-member f n h =
     let w = map-member f (count-from 0 n) h in
     (w .0, omega (arith, counted-range 0 n (w .1) .1), w .2)
-
-first-of : {A : Type 0} (l : List A) {a : A} → List·Memᴰ a l → (x : A) × (k : List A) × (l ≡ x ∷ k)
-first-of [] h = absurd (List·Memᴰ·not-nil h)
-first-of (x ∷ k) h = (x, k, refl)
 
 pub sum-tabulate : (w : Step → ℕ) (f : ℕ → Step) (n : ℕ) → sum naturals w (tabulate n f) ≡ sum-below n (λ i. w (f i))
 unfolding tabulate count-from sum sum-below
@@ -91,46 +89,35 @@ module _ (b : Bytes) where
   unfolding model-of mask
   mask-held s h = getD-tabulate (state-mask b) (state-count b) 0 h
 
-  pub outcomes-held : (s a : ℕ) → s < state-count b → a < action-count b → outcomes (model-of b) s a ≡ tabulate (entries b s a) (outcome-of b s a)
-  unfolding model-of outcomes
-  outcomes-held s a h g =
-      ap (λ r. getD r a []) (getD-tabulate (λ s. tabulate (action-count b) (λ a. tabulate (entries b s a) (outcome-of b s a))) (state-count b) [] h)
-      ∙ getD-tabulate (λ a. tabulate (entries b s a) (outcome-of b s a)) (action-count b) [] g
-
-  outcomes-past : (s a : ℕ) → s < state-count b → action-count b ≤ a → outcomes (model-of b) s a ≡ []
-  unfolding model-of outcomes
-  outcomes-past s a h g =
-      ap (λ r. getD r a []) (getD-tabulate (λ s. tabulate (action-count b) (λ a. tabulate (entries b s a) (outcome-of b s a))) (state-count b) [] h)
-      ∙ List·getD-eq-default (tabulate (action-count b) (λ a. tabulate (entries b s a) (outcome-of b s a))) []
-      (rw (length-tabulate (λ a. tabulate (entries b s a) (outcome-of b s a)) (action-count b)) g)
-
   -- The postconditions of an action.
-  posts-held : (a : ℕ) → a < action-count b → posts-of (model-of b) a ≡ tabulate (post-count b a) (post-of b a)
+  posts-held : (a : ℕ) → a < action-count b → (a ≡ silent → ⊥) → posts-of (model-of b) a ≡ tabulate (post-count b a) (post-of b a)
   unfolding model-of
-  posts-held a h =
-      ap (λ (x : Action). x .posts)
+  posts-held a h n =
+      ap (λ t. cond t (record { positive = 0; negative = 0 } ∷ []) ((getD (model-of b .actions) a no-action) .posts)) (ne-eqb a silent n)
+      ∙ ap (λ (x : Action). x .posts)
       (getD-tabulate (λ a. record { pre = pre-of b a; posts = tabulate (post-count b a) (post-of b a) }) (action-count b) no-action h)
 
   actions-held : length (model-of b .actions) ≡ action-count b
   unfolding model-of
   actions-held = length-tabulate _ (action-count b)
 
-  -- The enabled actions of a state: those whose precondition is true there.
-  pub enabled-held : (s : ℕ) → s < state-count b → enabled (model-of b) s ≡ keep (λ a. true-of (pre-of b a) (state-mask b s)) (count-from 0 (action-count b))
-  unfolding model-of enabled
-  enabled-held s h =
+  -- The actions that can be executed in a state: those whose precondition is true there.
+  pub executable-held : (s : ℕ) → s < state-count b
+      → executable (model-of b) s ≡ keep (λ a. true-of (pre-of b a) (state-mask b s)) (count-from 0 (action-count b))
+  unfolding model-of executable
+  executable-held s h =
       let acts : ℕ → Action = λ a. record { pre = pre-of b a; posts = tabulate (post-count b a) (post-of b a) } in
       ap (λ n. keep (λ a. true-of ((getD (tabulate (action-count b) acts) a no-action) .pre) (mask (model-of b) s)) (count-from 0 n)) (length-tabulate acts (action-count b))
       ∙ keep-same _ _ (count-from 0 (action-count b))
       (λ a i. ap₂ (λ (x : Action) v. true-of (x .pre) v) (getD-tabulate acts (action-count b) no-action (omega (arith, counted-range 0 (action-count b) i .1))) (mask-held s h))
 
-  pub enabled-in : (s a : ℕ) → s < state-count b → a < action-count b → true-of (pre-of b a) (state-mask b s) ≡ true → List·Memᴰ a (enabled (model-of b) s)
-  enabled-in s a h g e =
-      subst (List·Memᴰ a) (sym (enabled-held s h)) (in-keep (λ a. true-of (pre-of b a) (state-mask b s)) (counted-in 0 (action-count b) (omega arith) (omega arith)) e)
+  pub executable-in : (s a : ℕ) → s < state-count b → a < action-count b → true-of (pre-of b a) (state-mask b s) ≡ true → List·Memᴰ a (executable (model-of b) s)
+  executable-in s a h g e =
+      subst (List·Memᴰ a) (sym (executable-held s h)) (in-keep (λ a. true-of (pre-of b a) (state-mask b s)) (counted-in 0 (action-count b) (omega arith) (omega arith)) e)
 
-  pub enabled-range : (s a : ℕ) → s < state-count b → List·Memᴰ a (enabled (model-of b) s) → (a < action-count b) × (true-of (pre-of b a) (state-mask b s) ≡ true)
-  enabled-range s a h i =
-      let w = keep-member (λ a. true-of (pre-of b a) (state-mask b s)) (count-from 0 (action-count b)) (subst (List·Memᴰ a) (enabled-held s h) i) in
+  pub executable-range : (s a : ℕ) → s < state-count b → List·Memᴰ a (executable (model-of b) s) → (a < action-count b) × (true-of (pre-of b a) (state-mask b s) ≡ true)
+  executable-range s a h i =
+      let w = keep-member (λ a. true-of (pre-of b a) (state-mask b s)) (count-from 0 (action-count b)) (subst (List·Memᴰ a) (executable-held s h) i) in
       (omega (arith, counted-range 0 (action-count b) (w .0) .1), w .1)
 
 -- ---- what is promised
@@ -140,15 +127,19 @@ module _ (b : Bytes) (p : Passed b) where
   pub entries-enabled : (s a : ℕ) → s < state-count b → a < action-count b → true-of (pre-of b a) (state-mask b s) ≡ true → entries b s a ≡ post-count b a
   entries-enabled s a h g e = entries-inside b s a h g ∙ rw e refl
 
-  -- An action is enabled where it has outcomes.
-  pub enabled-entries : (s : ℕ) → s < state-count b → enabled (model-of b) s ≡ keep (λ a. ltb 0 (entries b s a)) (count-from 0 (action-count b))
-  enabled-entries s h =
-      enabled-held b s h
+  -- An action can be executed where it has outcomes.
+  pub executable-entries : (s : ℕ) → s < state-count b → executable (model-of b) s ≡ keep (λ a. ltb 0 (entries b s a)) (count-from 0 (action-count b))
+  executable-entries s h =
+      executable-held b s h
       ∙ keep-same _ _ (count-from 0 (action-count b)) (λ a i. let l = counted-range 0 (action-count b) i .1 in used a (omega arith) (true-of (pre-of b a) (state-mask b s)) refl)
     where
       used : (a : ℕ) → a < action-count b → (t : Bool) → true-of (pre-of b a) (state-mask b s) ≡ t → t ≡ ltb 0 (entries b s a)
       used a g true e = sym (lt-ltb 0 (entries b s a) (rw (entries-enabled s a h g e) (some-post b p a g)))
       used a g false e = sym (le-ltb 0 (entries b s a) (rw (entries-inside b s a h g, e) (omega arith)))
+
+  -- No action has the number of the silent move.
+  not-silent : (a : ℕ) → a < action-count b → a ≡ silent → ⊥
+  not-silent a h e = omega (arith, passed-sized b p .actions)
 
   -- Any two postconditions of an action contradict.
   contrary : (a : ℕ) → a < action-count b → (i j : ℕ) → i < j → j < post-count b a → contradict (post-of b a i) (post-of b a j) ≡ true
@@ -159,7 +150,7 @@ module _ (b : Bytes) (p : Passed b) where
 
   posts-rising : (a : ℕ) → a < action-count b → Rising (λ k l. contradict k l ≡ true) (posts-of (model-of b) a)
   posts-rising a l =
-      subst (Rising (λ k l. contradict k l ≡ true)) (sym (posts-held b a l)) (rising-tabulate (λ k l. contradict k l ≡ true) (post-of b a) (post-count b a) (contrary a l))
+      subst (Rising (λ k l. contradict k l ≡ true)) (sym (posts-held b a l (not-silent a l))) (rising-tabulate (λ k l. contradict k l ≡ true) (post-of b a) (post-count b a) (contrary a l))
 
   -- The denominator is at least 1.
   some-weight : 0 < denominator-of b
@@ -169,18 +160,15 @@ module _ (b : Bytes) (p : Passed b) where
       let w = and-both (three && within 1 100 (denominator-of b)) _ (p .sizes) in
       at-least 1 100 (denominator-of b) (and-both three (within 1 100 (denominator-of b)) (w .0) .1)
 
-  module _ {s a : ℕ} (x : Executable (model-of b) s a) where
-    state : s < state-count b
-    state = subst (λ n. s < n) (states-held b) (x .state)
-
+  module _ (s a : ℕ) (state : s < state-count b) (x : List·Memᴰ a (executable (model-of b) s)) where
     choice : (a < action-count b) × (true-of (pre-of b a) (state-mask b s) ≡ true)
-    choice = enabled-range b s a state (x .choice)
+    choice = executable-range b s a state x
 
     count : entries b s a ≡ post-count b a
     count = entries-enabled s a state (choice .0) (choice .1)
 
     held : outcomes (model-of b) s a ≡ tabulate (entries b s a) (outcome-of b s a)
-    held = outcomes-held b s a state (choice .0)
+    held = action-outcomes (model-of b) s a (not-silent a (choice .0)) ∙ stored-are b s a
 
     member : (o : Step) → List·Memᴰ o (outcomes (model-of b) s a) → (i : ℕ) × (i < entries b s a) × (o ≡ outcome-of b s a i)
     member o i = tabulate-member (outcome-of b s a) (entries b s a) (subst (List·Memᴰ o) held i)
@@ -217,40 +205,44 @@ module _ (b : Bytes) (p : Passed b) where
     fulfilled : Match (λ k o. true-of k (mask (model-of b) (o .target)) ≡ true) (posts-of (model-of b) a) (outcomes (model-of b) s a)
     fulfilled =
         let R : Literals → Step → Type 0 = λ k o. true-of k (mask (model-of b) (o .target)) ≡ true in
-        subst (λ l. Match R l (outcomes (model-of b) s a)) (sym (posts-held b a (choice .0)))
+        subst (λ l. Match R l (outcomes (model-of b) s a)) (sym (posts-held b a (choice .0) (not-silent a (choice .0))))
         (subst (Match R (tabulate (post-count b a) (post-of b a))) (sym held)
         (subst (λ n. Match R (tabulate n (post-of b a)) (tabulate (entries b s a) (outcome-of b s a))) count
         (matched R (post-of b a) (outcome-of b s a) (entries b s a) (λ i l. ap (true-of (post-of b a i)) (mask-held b _ (range i l .0)) ∙ true-there i l))))
 
-  -- An action that is not enabled has no outcomes.
-  undefined : (s a : ℕ) → s < state-count b → (List·Memᴰ a (enabled (model-of b) s) → ⊥) → outcomes (model-of b) s a ≡ []
-  unfolding tabulate count-from
-  undefined s a h e = by (ltb a (action-count b)) refl
-    where
-      unused : a < action-count b → (t : Bool) → true-of (pre-of b a) (state-mask b s) ≡ t → outcomes (model-of b) s a ≡ []
-      unused l true i = absurd (e (enabled-in b s a h l i))
-      unused l false i =
-          let z : entries b s a ≡ 0 = rw (entries-inside b s a h l, i) refl in
-          outcomes-held b s a h l ∙ ap (λ n. tabulate n (outcome-of b s a)) z
+    keeps : Keeps (model-of b) s a
+    unfolding outcome-of
+    keeps =
+        record {
+          fulfils = fulfilled;
+          contrary = posts-rising a (choice .0);
+          apart = subst (Rising (λ x y. x .target ≡ y .target → ⊥)) (sym held) (rising-tabulate (λ x y. x .target ≡ y .target → ⊥) (outcome-of b s a) (entries b s a) differ);
+          sums = summed ∙ sym (denominator-held b);
+          weighs = λ o i. let w = member o i in subst (λ z. 0 < z .weight) (sym (w .2)) (range (w .0) (w .1) .1);
+          inside = λ o i. let w = member o i in rw (states-held b) (subst (λ z. z .target < state-count b) (sym (w .2)) (range (w .0) (w .1) .0));
+          named = λ o i. let w = member o i in ap (λ z. z .choice) (w .2);
+        }
 
-      by : (t : Bool) → ltb a (action-count b) ≡ t → outcomes (model-of b) s a ≡ []
-      by true i = unused (ltb-lt a (action-count b) i) (true-of (pre-of b a) (state-mask b s)) refl
-      by false i = outcomes-past b s a h (ltb-false a (action-count b) i)
+  -- An action that cannot be executed has no outcomes.
+  unused : (s a : ℕ) → s < state-count b → (List·Memᴰ a (executable (model-of b) s) → ⊥) → stored (model-of b) s a ≡ []
+  unfolding tabulate count-from
+  unused s a h e = stored-are b s a ∙ ap (λ n. tabulate n (outcome-of b s a)) (by (ltb a (action-count b)) refl)
+    where
+      no-entries : a < action-count b → (t : Bool) → true-of (pre-of b a) (state-mask b s) ≡ t → entries b s a ≡ 0
+      no-entries l true i = absurd (e (executable-in b s a h l i))
+      no-entries l false i = rw (entries-inside b s a h l, i) refl
+
+      by : (t : Bool) → ltb a (action-count b) ≡ t → entries b s a ≡ 0
+      by true i = no-entries (ltb-lt a (action-count b) i) (true-of (pre-of b a) (state-mask b s)) refl
+      by false i = entries-past-actions b s a (ltb-false a (action-count b) i)
 
   pub accepted : Accepted (model-of b)
-  unfolding outcome-of
   accepted =
-      record {
-        some-choice = λ s h. let l = subst (λ n. s < n) (states-held b) h in let w = some-below-index _ (action-count b) (state-passed b p s l) in first-of (enabled (model-of b) s) (enabled-in b s (w .0) l (w .1) (w .2));
-        defined = λ s a h e. undefined s a (subst (λ n. s < n) (states-held b) h) e;
-        fulfils = λ x. fulfilled x;
-        one-post = λ {s} {a} x o i k l. unique-post (model-of b) (posts-rising a (choice x .0)) o;
-        one-target = λ {s} {a} x. unique-target (model-of b) (fulfilled x) (posts-rising a (choice x .0));
-        contradicts = λ a h. posts-rising a (subst (λ n. a < n) (actions-held b) h);
+      by-actions (model-of b)
+      (record {
         divides = rw (denominator-held b) some-weight;
-        sums = λ x. summed x ∙ sym (denominator-held b);
-        weighs = λ x o i. let w = member x o i in subst (λ z. 0 < z .weight) (sym (w .2)) (range x (w .0) (w .1) .1);
-        inside = λ x o i. let w = member x o i in rw (states-held b) (subst (λ z. z .target < state-count b) (sym (w .2)) (range x (w .0) (w .1) .0));
-        named = λ x o i. let w = member x o i in ap (λ z. z .choice) (w .2);
-        apart = λ {s} {a} x. subst (Rising (λ x y. x .target ≡ y .target → ⊥)) (sym (held x)) (rising-tabulate (λ x y. x .target ≡ y .target → ⊥) (outcome-of b s a) (entries b s a) (differ x));
-      }
+        numbered = omega (arith, actions-held b, passed-sized b p .actions);
+        contradicts = λ a h. posts-rising a (subst (λ n. a < n) (actions-held b) h);
+        unused = λ s a h. unused s a (subst (λ n. s < n) (states-held b) h);
+        keeps = λ s a h. keeps s a (subst (λ n. s < n) (states-held b) h);
+      })

@@ -1,4 +1,4 @@
--- A model's rows as they stand in its bytes: a choice's outcomes are the used entries of its cell, in order.
+-- A model's rows as they stand in its bytes: the outcomes that it gives for an action are the used entries of the cell, in order.
 use Prim.Native.Nat.{ℕ, _≤_, _<_}
 use native.Mathlib.Omega.{arith}
 use native.Mathlib.Decide.{decLt}
@@ -7,7 +7,7 @@ use mathlib.Core.Bool.{Bool, true, false, cond}
 use mathlib.Core.List.{List, []}
 use lib.ListN.{getD, List·getD-eq-default}
 use Rattle.logic.specs.Lists.{count-from, tabulate}
-use Rattle.logic.specs.Model.{Step, true-of, outcomes}
+use Rattle.logic.specs.Model.{Step, true-of, stored}
 use Rattle.logic.proofs.Tests.{length-tabulate, getD-tabulate}
 use Rattle.blocks.specs.Bytes.{Bytes}
 use Rattle.models.specs.Layout.{state-count, action-count, state-mask, pre-of, post-count, outcome-of, entries, model-of}
@@ -34,9 +34,9 @@ module _ (b : Bytes) where
   row : ℕ → List (List Step)
   row s = tabulate (action-count b) (cell s)
 
-  pub outcomes-are : (s a : ℕ) → outcomes (model-of b) s a ≡ tabulate (entries b s a) (outcome-of b s a)
-  unfolding outcomes model-of row cell tabulate count-from
-  outcomes-are s a = go (decLt s (state-count b)) (decLt a (action-count b))
+  pub stored-are : (s a : ℕ) → stored (model-of b) s a ≡ tabulate (entries b s a) (outcome-of b s a)
+  unfolding stored model-of row cell tabulate count-from
+  stored-are s a = go (decLt s (state-count b)) (decLt a (action-count b))
     where
       rows : List (List (List Step))
       rows = tabulate (state-count b) row

@@ -11,7 +11,7 @@ use lib.ListN.{length, getD}
 use lib.Seq.{ext-getD}
 use borrow.Author.Tests.{ltb-true, ltb-false}
 use Rattle.logic.specs.Lists.{tabulate, every}
-use Rattle.logic.specs.Model.{Step, Literals, Action, no-action, mask, outcomes}
+use Rattle.logic.specs.Model.{Step, Literals, Action, no-action, mask, stored}
 use Rattle.logic.proofs.Tests.{and-left, and-right, eqb-eq, every-at, length-tabulate, getD-tabulate}
 use Rattle.blocks.specs.Bytes.{Bytes, byte, u16, u32, i16, signed, zeros}
 use Rattle.blocks.specs.Block.{sum-below, block-count, word-sum, sums-right, headed}
@@ -19,7 +19,7 @@ use Rattle.models.specs.Layout.{state-count, action-count, literals, sta
 use Rattle.models.specs.Grounds.{kinds-right, action-spare, head-spare, row-spare, rows-spare, cell-spare, cells-spare}
 use Rattle.models.proofs.GroundsPassed.{Passed, passed-sized}
 use Rattle.models.proofs.EveryCell.{entries-small}
-use Rattle.models.proofs.OutcomesOfCell.{outcomes-are}
+use Rattle.models.proofs.OutcomesOfCell.{stored-are}
 use Rattle.models.proofs.ModelOfBytes.{states-held, mask-held}
 
 -- Every element is a byte.
@@ -259,7 +259,7 @@ module _ (b c : Bytes) where
 
       module _ (s a : ℕ) where
         same-cell : tabulate (entries b s a) (outcome-of b s a) ≡ tabulate (entries c s a) (outcome-of c s a)
-        same-cell = sym (outcomes-are b s a) ∙ ap (λ m. outcomes m s a) e ∙ outcomes-are c s a
+        same-cell = sym (stored-are b s a) ∙ ap (λ m. stored m s a) e ∙ stored-are c s a
 
         same-entries : entries b s a ≡ entries c s a
         same-entries = sym (length-tabulate (outcome-of b s a) (entries b s a)) ∙ ap length same-cell ∙ length-tabulate (outcome-of c s a) (entries c s a)

@@ -1,4 +1,5 @@
--- The grounds on which a model is refused, 1 to 8, each a test on the whole input. Document 01, "Refused because of the input".
+-- The grounds on which a model is refused, 1 to 7, each a test on the whole input. Document 01, "Refused because of the input". (Ground 8, a
+-- state with no enabled action, no longer occurs: document 02, A.1. The cells of such a state are spare.)
 use Prim.Native.Nat.{ℕ, _+_, _*_, _-_, _/_, _^_}
 use mathlib.Core.Bool.{Bool, _&&_, _||_}
 use mathlib.Core.List.{List, [], _∷_}
@@ -6,7 +7,7 @@ use lib.Bits.{bitAnd}
 use lib.Dec.{eqb, ltb}
 use lib.IntN.{pos, negsuc}
 use lib.Signed.{leZ}
-use Rattle.logic.specs.Lists.{every, some-below}
+use Rattle.logic.specs.Lists.{every}
 use Rattle.logic.specs.Checked.{Checked}
 use Rattle.logic.specs.Grounds.{Ground, _unless_, decided}
 use Rattle.logic.specs.Model.{Literals, Step, Model, true-of, contradict}
@@ -84,10 +85,6 @@ cell-consistent b s a =
 unfoldable pub consistent : Bytes → Bool
 consistent b = every (action-count b) (posts-contradict b) && every (state-count b) (λ s. every (action-count b) (cell-consistent b s))
 
--- 8: every state has an enabled action.
-unfoldable pub no-dead-ends : Bytes → Bool
-no-dead-ends b = every (state-count b) (λ s. some-below (action-count b) (λ a. true-of (pre-of b a) (state-mask b s)))
-
 -- The grounds of a model, in document 01's order.
 abbrev pub model-grounds : Bytes → List Ground
 model-grounds b =
@@ -98,7 +95,6 @@ model-grounds b =
     ∷ 5 unless fields-right b
     ∷ 6 unless (head-spare b && rows-spare b && cells-spare b)
     ∷ 7 unless consistent b
-    ∷ 8 unless no-dead-ends b
     ∷ []
 
 -- What a model's bytes are read as.

@@ -1,4 +1,4 @@
-// Models: readers of their bytes, and the grounds on which they are refused (document 01, numbers 1 to 8).
+// Models: readers of their bytes, and the grounds on which they are refused (document 01, numbers 1 to 7; there is no ground 8 since document 02, A.1).
 ghost use mathlib.Core.Path.{_≡_};
 ghost use Prim.Native.Nat.{_+_, _*_, _<_};
 ghost use mathlib.Core.Bool.{true};
@@ -10,8 +10,8 @@ ghost use Rattle.models.specs.Layout as layout;
 ghost use Rattle.models.specs.Grounds.{kinds-right, sizes-right, read-model};
 ghost use Rattle.models.specs.promises.Used.{Used};
 
+pub mod choices;
 mod consistent;
-mod dead_ends;
 mod fields;
 mod passes;
 mod spare;
@@ -34,6 +34,9 @@ pub const ACTIONS: usize = 8;
 pub const PROPS: usize = 32;
 
 pub const POSTS: usize = 4;
+
+// The choice byte of the silent move: the number of no action.
+pub const SILENT: usize = 255;
 
 // The most that a weight and the denominator may be.
 pub const MOST_WEIGHT: usize = 100;
@@ -287,9 +290,6 @@ pub fn model_refusal(b: &[u8]) -> u32
     }
     if !consistent::consistent(b, &used) {
         return 7;
-    }
-    if !dead_ends::no_dead_ends(b) {
-        return 8;
     }
     0
 }

@@ -43,9 +43,6 @@ start-6 c = start-5 (c .before .before .before)
 abbrev start-7 : tie.Else7 → tie.Start
 start-7 c = start-6 (c .before .before .before)
 
-abbrev start-8 : tie.Else8 → tie.Start
-start-8 c = start-7 (c .before .before)
-
 -- Past a test, the refusal is that of the grounds after it.
 
 rest-1 : (c : tie.Else1) → refusal (read-model (start-1 c .args .b .now)) ≡ refusal (rest (start-1 c .args .b .now) 1)
@@ -69,9 +66,6 @@ rest-6 c = rest-5 (c .before .before .before) ∙ goes-on (c .before .spare-zero
 
 rest-7 : (c : tie.Else7) → refusal (read-model (start-7 c .args .b .now)) ≡ refusal (rest (start-7 c .args .b .now) 7)
 rest-7 c = rest-6 (c .before .before .before) ∙ goes-on (c .before .consistent .ensures) 7 (rest (start-7 c .args .b .now) 7) (c .if7 .left)
-
-rest-8 : (c : tie.Else8) → refusal (read-model (start-8 c .args .b .now)) ≡ refusal (rest (start-8 c .args .b .now) 8)
-rest-8 c = rest-7 (c .before .before) ∙ goes-on (c .before .no-dead-ends .ensures) 8 (rest (start-8 c .args .b .now) 8) (c .if8 .left)
 
 -- What the tests of grounds 5 to 7 are handed.
 
@@ -130,14 +124,8 @@ consistent-requires c κs = (earlier 7 (c .before .before .before .before .befor
 returns-7 : tie.Need-returns-7
 returns-7 c = let b = start-6 (c .before .before .before) .args .b .now in stops (c .before .consistent .ensures) 7 (rest b 7) (c .if7 .taken) ∙ sym (rest-6 (c .before .before .before))
 
-no-dead-ends-requires : tie.Need-no-dead-ends-requires
-no-dead-ends-requires c κs = tt
-
 returns-8 : tie.Need-returns-8
-returns-8 c = let b = start-7 (c .before .before) .args .b .now in stops (c .before .no-dead-ends .ensures) 8 (rest b 8) (c .if8 .taken) ∙ sym (rest-7 (c .before .before))
-
-returns-9 : tie.Need-returns-9
-returns-9 c = sym (rest-8 c)
+returns-8 c = sym (rest-7 c)
 
 pub model-refusal-spec : {M : Type 1} → statement M
 model-refusal-spec =
@@ -158,6 +146,4 @@ model-refusal-spec =
     returns-6
     consistent-requires
     returns-7
-    no-dead-ends-requires
-    returns-8
-    returns-9)
+    returns-8)

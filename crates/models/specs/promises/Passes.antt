@@ -11,7 +11,7 @@ use Rattle.blocks.specs.Block.{whole-blocks, headed}
 use Rattle.models.specs.Layout.{state-mask, post-of, outcome-of}
 use Rattle.models.specs.Grounds.{sizes-right, fields-right, literals-in-range, action-in-range, outcome-in-range, cell-in-range, action-spare, row-spare, cell-spare, posts-contradict, cell-consistent}
 
--- What the grounds before this one have found, where it is one of 5 to 8.
+-- What the grounds before this one have found, where it is one of 5 to 7.
 pub record Earlier (ground : ℕ) (b : Bytes) : Type 0 where
   pub whole : whole-blocks 2 12 b ≡ true
   pub sizes : sizes-right b ≡ true

@@ -6,8 +6,8 @@ use Rattle.logic.specs.Lists.{some-below}
 use Rattle.logic.specs.Model.{true-of}
 use Rattle.models.specs.Layout.{literals, pre-of, state-mask, action-count}
 use Rattle.logic.proofs.Tests.{some-more}
-use Rattle.models.proofs.dead_ends.has_choice.Statement.{statement}
-use Rattle.models.proofs.dead_ends.has_choice.Tie as tie
+use Rattle.models.proofs.choices.has_choice.Statement.{statement}
+use Rattle.models.proofs.choices.has_choice.Tie as tie
 
 abbrev Inv-loop : tie.InvT-loop
 Inv-loop b s v actions found₀ a₀ found a = (a ≤ actions) × (found ≡ some-below a (λ a. true-of (pre-of b a) (state-mask b s)))
