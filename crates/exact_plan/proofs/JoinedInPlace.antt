@@ -8,6 +8,7 @@ use mathlib.Core.Bool.{Bool, true, false}
 use mathlib.Core.List.{List, [], _∷_, _++_, map, flatMap, map-append, map-map, map-id, List·Memᴰ, List·Memᴰ·head, List·Memᴰ·tail}
 use lib.ListN.{length, drop, getD, set, replicate, length-map, length-drop, length-replicate, replicate-append-replicate}
 use lib.Seq.{drop-cons, drop-length}
+use Rattle.logic.proofs.Tests.{getD-member}
 use Rattle.blocks.specs.Splice.{splice}
 use Rattle.blocks.proofs.Splice
 use Rattle.exact_plan.specs.promises.Totals.{part, grid, joined}
@@ -15,15 +16,10 @@ use Rattle.exact_plan.specs.promises.Spread.{Shifts, Spreads, Joins}
 use Rattle.exact_plan.proofs.Parts
 use Rattle.exact_plan.proofs.Grid.{length-grid}
 
-pub getD-member : (l : List ℕ) (i : ℕ) → i < length l → List·Memᴰ (getD l i 0) l
-getD-member [] i h = absurd (omega arith)
-getD-member (x ∷ l) zero h = List·Memᴰ·head refl
-getD-member (x ∷ l) (suc i) h = List·Memᴰ·tail (getD-member l i (omega arith))
-
 pub part-member : (l : List ℕ) (p n i : ℕ) → p + n ≤ length l → i < n → List·Memᴰ (getD l (p + i) 0) (part l p n)
 part-member l p n i k h =
     subst (λ v. List·Memᴰ v (part l p n)) (Parts.getD-part l p n i h)
-    (getD-member (part l p n) i (omega (arith, Parts.part-length l p n k)))
+    (getD-member (part l p n) i 0 (omega (arith, Parts.part-length l p n k)))
 
 -- The buffer after i turns of `shift`.
 abbrev pub shifted : List ℕ → (from to w x i : ℕ) → List ℕ

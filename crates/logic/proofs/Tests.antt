@@ -67,6 +67,11 @@ pub member-place : {A : Type 0} {l : List A} {a : A} → List·Memᴰ a l → (d
 member-place (List·Memᴰ·head e) d = (0, omega arith, sym e)
 member-place (List·Memᴰ·tail t) d = let w = member-place t d in (suc (w .0), suc-le-suc (w .1), w .2)
 
+pub getD-member : {A : Type 0} (l : List A) (i : ℕ) (d : A) → i < length l → List·Memᴰ (getD l i d) l
+getD-member [] i d h = absurd (omega arith)
+getD-member (x ∷ l) zero d h = List·Memᴰ·head refl
+getD-member (x ∷ l) (suc i) d h = List·Memᴰ·tail (getD-member l i d (omega arith))
+
 module _ {A : Type 0} (f : A → Bool) where
   pub all-true : (l : List A) → ((y : A) → List·Memᴰ y l → f y ≡ true) → all f l ≡ true
   unfolding all

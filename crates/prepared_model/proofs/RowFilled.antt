@@ -16,7 +16,7 @@ use borrow.Author.Count.{below-more}
 use borrow.Author.Tests.{lt-ltb}
 use Rattle.logic.specs.promises.Refusal.{refusal}
 use Rattle.logic.specs.Lists.{keep, count-from}
-use Rattle.logic.proofs.Tests.{count-more, keep-append, keep-member, counted-range}
+use Rattle.logic.proofs.Tests.{count-more, keep-append, keep-member, counted-range, getD-member}
 use Rattle.blocks.specs.Bytes.{Bytes, byte, u16}
 use Rattle.models.specs.Layout.{state-count, action-count, entries}
 use Rattle.models.specs.Grounds.{read-model}
@@ -56,11 +56,6 @@ module _ (f : ℕ → Bool) where
           let w = k l in
           let r : List ℕ = cond (f n) (n ∷ []) [] in
           (w .0 ++ r, kept-next n ∙ ap (λ z. z ++ r) (w .1) ∙ append-assoc (keep f (count-from 0 a)) (a ∷ w .0) r)
-
-getD-member : (l : List ℕ) (i d : ℕ) → i < length l → List·Memᴰ (getD l i d) l
-getD-member [] i d h = absurd (omega arith)
-getD-member (x ∷ l) zero d h = List·Memᴰ·head refl
-getD-member (x ∷ l) (suc i) d h = List·Memᴰ·tail (getD-member l i d (omega arith))
 
 -- The actions listed are among the first n.
 pub listed-few : (b : Bytes) (s n : ℕ) → length (listed b s n) ≤ n

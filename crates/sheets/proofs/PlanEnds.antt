@@ -3,64 +3,65 @@ use Prim.Native.Nat.{ℕ, zero, suc, _+_, _-_, _≤_, _<_}
 use native.Mathlib.Omega.{arith}
 use native.Mathlib.Numerals.{add-one}
 use mathlib.Core.Path.{_≡_, refl, sym, ap, ap₂, subst, _∙_}
-use mathlib.Core.Bool.{Bool, true, false, _&&_}
+use mathlib.Core.Bool.{Bool, true, false, false≢true}
 use mathlib.Core.List.{List, [], _∷_, _++_, List·Memᴰ}
 use lib.Dec.{eqb, ltb}
-use lib.IntN.{negsuc}
-use lib.Signed.{leZ}
 use lib.ListN.{length, drop, getD, length-append, length-drop, drop-of-length-le}
 use lib.Seq.{drop-cons, drop-drop, drop-at}
-use borrow.Author.Tests.{lt-ltb, ltb-true, ltb-false}
-use Rattle.logic.specs.Lists.{any, is-empty, keep, count-from, tabulate}
+use borrow.Author.Tests.{lt-ltb}
+use Rattle.logic.specs.Lists.{any, is-empty}
 use Rattle.logic.specs.Checked.{Checked, ok, refused, _>>=_, _>>_, guard}
 use Rattle.logic.specs.promises.Refusal.{refusal}
-use Rattle.logic.specs.Model.{Model, Step, enabled, outcomes}
+use Rattle.logic.specs.Model.{Model, Step, silent-step, enabled, outcomes}
+use Rattle.logic.specs.Quantity.{naturals, sum}
+use Rattle.logic.specs.Accepted.{Accepted}
 use Rattle.logic.specs.Plan.{Plan, choices}
 use Rattle.logic.specs.Choices.{read-each, read-plan, plan-of}
-use Rattle.logic.proofs.Tests.{same-test, and-both, ltb-lt, in-keep, keep-member, counted-in, length-tabulate, getD-tabulate}
+use Rattle.logic.proofs.Tests.{getD-member}
 use Rattle.logic.proofs.Reading.{any-member, member-any, read-sound}
-use Rattle.blocks.specs.Bytes.{Bytes, within}
-use Rattle.models.specs.Layout.{state-count, action-count, outcome-of, entries, model-of}
-use Rattle.models.specs.Grounds.{outcome-in-range, read-model}
-use Rattle.models.proofs.EveryCell.{sizes, entries-past-actions}
-use Rattle.models.proofs.GroundsPassed.{passed-all, outcome-passed}
-use Rattle.models.proofs.ModelOfBytes.{outcomes-held, enabled-entries}
+use Rattle.blocks.specs.Bytes.{Bytes}
+use Rattle.models.specs.Layout.{state-count, model-of}
+use Rattle.models.specs.Grounds.{read-model}
+use Rattle.models.proofs.EveryCell.{sizes}
+use Rattle.models.proofs.GroundsPassed.{passed-all}
+use Rattle.models.proofs.ModelOfBytes.{states-held, accepted}
 use Rattle.sheets.specs.declared.plans.End.{End}
 use Rattle.sheets.specs.declared.plans.End.the-variants.{At, Refused}
 use Rattle.sheets.specs.promises.Ends.{end-of}
 
 -- ---- the model
 
+-- The state of an outcome that stands past the end of a choice's outcomes; nobody asks for one.
+abbrev pub past : Bytes → ℕ → Step
+past b s = silent-step (model-of b) s
+
 module _ (b : Bytes) (e : refusal (read-model b) ≡ 0) (s : ℕ) (h : s < state-count b) where
-  pub some-entries : (a : ℕ) → 0 < entries b s a → a < action-count b
-  some-entries a l = by (ltb a (action-count b)) refl
+  a-state : s < length (model-of b .states)
+  a-state = subst (λ n. s < n) (sym (states-held b)) h
+
+  -- A choice is enabled where it has outcomes.
+  enabled-test : (a : ℕ) → any (eqb a) (enabled (model-of b) s) ≡ ltb 0 (length (outcomes (model-of b) s a))
+  unfolding sum
+  enabled-test a = by (any (eqb a) (enabled (model-of b) s)) refl
     where
-      by : (t : Bool) → ltb a (action-count b) ≡ t → a < action-count b
-      by true q = ltb-true a (action-count b) q
-      by false q = absurd (omega (arith, entries-past-actions b s a (ltb-false a (action-count b) q)))
+      A : Accepted (model-of b)
+      A = accepted b (passed-all b e)
 
-  -- An action is enabled where it has outcomes.
-  enabled-test : (a : ℕ) → any (eqb a) (enabled (model-of b) s) ≡ ltb 0 (entries b s a)
-  enabled-test a = same-test _ _ (λ q. there (any-member a (enabled (model-of b) s) q)) (λ q. member-any (back q))
-    where
-      held : enabled (model-of b) s ≡ keep (λ x. ltb 0 (entries b s x)) (count-from 0 (action-count b))
-      held = enabled-entries b (passed-all b e) s h
+      some : (l : List Step) → sum naturals (λ o. o .weight) l ≡ model-of b .denominator → 0 < length l
+      some [] q = absurd (omega (arith, A .divides))
+      some (o ∷ l) q = omega arith
 
-      there : List·Memᴰ a (enabled (model-of b) s) → ltb 0 (entries b s a) ≡ true
-      there i = keep-member (λ x. ltb 0 (entries b s x)) (count-from 0 (action-count b)) (subst (List·Memᴰ a) held i) .1
+      by : (t : Bool) → any (eqb a) (enabled (model-of b) s) ≡ t → t ≡ ltb 0 (length (outcomes (model-of b) s a))
+      by true q =
+          let i = any-member a (enabled (model-of b) s) q in
+          sym (lt-ltb 0 (length (outcomes (model-of b) s a)) (some (outcomes (model-of b) s a) (A .sums (record { state = a-state; choice = i }))))
+      by false q = sym (ap (λ l. ltb 0 (length l)) (A .defined s a a-state (λ i. false≢true (sym q ∙ member-any i))))
 
-      back : ltb 0 (entries b s a) ≡ true → List·Memᴰ a (enabled (model-of b) s)
-      back q =
-          let l = some-entries a (ltb-true 0 (entries b s a) q) in
-          subst (List·Memᴰ a) (sym held) (in-keep (λ x. ltb 0 (entries b s x)) (counted-in 0 (action-count b) (omega arith) (omega arith)) q)
-
-  pub target-inside : (a i : ℕ) → a < action-count b → i < entries b s a → (outcome-of b s a i) .target < state-count b
-  unfolding outcome-in-range
-  target-inside a i g l =
-      let o = outcome-of b s a i in
-      let u = and-both (ltb (o .target) (state-count b) && within 1 100 (o .weight) && leZ (negsuc 999) (o .reward)) _ (outcome-passed b (passed-all b e) s a i h g l) in
-      let v = and-both (ltb (o .target) (state-count b) && within 1 100 (o .weight)) _ (u .0) in
-      ltb-lt _ _ (and-both (ltb (o .target) (state-count b)) _ (v .0) .0)
+  pub target-inside : (a i : ℕ) → i < length (outcomes (model-of b) s a) → (getD (outcomes (model-of b) s a) i (past b s)) .target < state-count b
+  target-inside a i l =
+      let c = any-member a (enabled (model-of b) s) (enabled-test a ∙ lt-ltb 0 (length (outcomes (model-of b) s a)) (omega arith)) in
+      subst (λ n. (getD (outcomes (model-of b) s a) i (past b s)) .target < n) (states-held b)
+      (accepted b (passed-all b e) .inside (record { state = a-state; choice = c }) _ (getD-member (outcomes (model-of b) s a) i (past b s) l))
 
 -- ---- ends
 
@@ -152,55 +153,54 @@ module _ (M : Model) (cs : List ℕ) where
 -- ---- by the model's bytes
 
 module _ (b : Bytes) (e : refusal (read-model b) ≡ 0) where
-  pub model-small : (state-count b ≤ 32) × (action-count b ≤ 8)
-  model-small = let z = sizes b (passed-all b e .sizes) in (z .states, z .actions)
+  pub model-small : state-count b ≤ 32
+  model-small = sizes b (passed-all b e .sizes) .states
 
   module _ (cs : List ℕ) (s at : ℕ) (h : s < state-count b) (l : at < length cs) (n : ℕ) (z : n ≡ 0 → ⊥) where
-    pub choice-refused : entries b s (getD cs at 0) ≡ 0 → Refused 10 ≡ end-of (length cs) (read-plan (model-of b) n s (drop at cs))
+    abbrev count : ℕ
+    count = length (outcomes (model-of b) s (getD cs at 0))
+
+    pub choice-refused : count ≡ 0 → Refused 10 ≡ end-of (length cs) (read-plan (model-of b) n s (drop at cs))
     choice-refused q = end-disabled (model-of b) cs s at l n z (enabled-test b e s h (getD cs at 0) ∙ ap (ltb 0) q)
 
-    pub choice-taken : (entries b s (getD cs at 0) ≡ 0 → ⊥)
+    pub choice-taken : (count ≡ 0 → ⊥)
         → end-of (length cs) (read-each (λ o. read-plan (model-of b) (n - 1) (o .target)) (outcomes (model-of b) s (getD cs at 0)) (drop (at + 1) cs))
         ≡ end-of (length cs) (read-plan (model-of b) n s (drop at cs))
-    choice-taken q = end-choice (model-of b) cs s at l n z (enabled-test b e s h (getD cs at 0) ∙ lt-ltb 0 (entries b s (getD cs at 0)) (positive (entries b s (getD cs at 0)) q))
+    choice-taken q = end-choice (model-of b) cs s at l n z (enabled-test b e s h (getD cs at 0) ∙ lt-ltb 0 count (positive count q))
       where
         positive : (x : ℕ) → (x ≡ 0 → ⊥) → 0 < x
         positive zero q = absurd (q refl)
         positive (suc x) q = omega arith
 
-  module _ (cs : List ℕ) (s a k : ℕ) (h : s < state-count b) (g : a < action-count b) where
-    -- What is read below the outcomes from i on, from a place on.
-    abbrev from : ℕ → ℕ → End
-    from i at = end-of (length cs) (read-each (λ o. read-plan (model-of b) k (o .target)) (drop i (outcomes (model-of b) s a)) (drop at cs))
+module _ (b : Bytes) (cs : List ℕ) (s a k : ℕ) where
+  -- What is read below the outcomes from i on, from a place on.
+  abbrev from : ℕ → ℕ → End
+  from i at = end-of (length cs) (read-each (λ o. read-plan (model-of b) k (o .target)) (drop i (outcomes (model-of b) s a)) (drop at cs))
 
-    outcome-at : (i : ℕ) → i < entries b s a → drop i (outcomes (model-of b) s a) ≡ outcome-of b s a i ∷ drop (i + 1) (outcomes (model-of b) s a)
-    outcome-at i l =
-        let os = outcomes (model-of b) s a in
-        let d = outcome-of b s a i in
-        let e₁ : os ≡ tabulate (entries b s a) (outcome-of b s a) = outcomes-held b s a h g in
-        let n : length os ≡ entries b s a = ap length e₁ ∙ length-tabulate (outcome-of b s a) (entries b s a) in
-        drop-cons os i d (omega arith)
-        ∙ ap₂ (λ o j. o ∷ drop j os) (ap (λ r. getD r i d) e₁ ∙ getD-tabulate (outcome-of b s a) (entries b s a) d l) (sym (add-one i))
+  outcome-at : (i : ℕ) → i < length (outcomes (model-of b) s a)
+      → drop i (outcomes (model-of b) s a) ≡ getD (outcomes (model-of b) s a) i (past b s) ∷ drop (i + 1) (outcomes (model-of b) s a)
+  outcome-at i l =
+      let os = outcomes (model-of b) s a in
+      drop-cons os i (past b s) l ∙ ap (λ j. getD os i (past b s) ∷ drop j os) (sym (add-one i))
 
-    module _ (i at t : ℕ) (l : i < entries b s a) (q : t ≡ (outcome-of b s a i) .target) where
-      pub outcome-refused : (j : ℕ) → Refused j ≡ end-of (length cs) (read-plan (model-of b) k t (drop at cs)) → from i at ≡ Refused j
-      outcome-refused j r =
-          let o = outcome-of b s a i in
-          ap (λ os. end-of (length cs) (read-each (λ o. read-plan (model-of b) k (o .target)) os (drop at cs))) (outcome-at i l)
-          ∙ walk-refused (model-of b) cs k o (drop (i + 1) (outcomes (model-of b) s a)) at j (ap (λ u. end-of (length cs) (read-plan (model-of b) k u (drop at cs))) (sym q) ∙ sym r)
+  module _ (i at t : ℕ) (l : i < length (outcomes (model-of b) s a)) (q : t ≡ (getD (outcomes (model-of b) s a) i (past b s)) .target) where
+    pub outcome-refused : (j : ℕ) → Refused j ≡ end-of (length cs) (read-plan (model-of b) k t (drop at cs)) → from i at ≡ Refused j
+    outcome-refused j r =
+        let o = getD (outcomes (model-of b) s a) i (past b s) in
+        ap (λ os. end-of (length cs) (read-each (λ o. read-plan (model-of b) k (o .target)) os (drop at cs))) (outcome-at i l)
+        ∙ walk-refused (model-of b) cs k o (drop (i + 1) (outcomes (model-of b) s a)) at j (ap (λ u. end-of (length cs) (read-plan (model-of b) k u (drop at cs))) (sym q) ∙ sym r)
 
-      pub outcome-read : (p : ℕ) → at ≤ length cs → At p ≡ end-of (length cs) (read-plan (model-of b) k t (drop at cs)) → (p ≤ length cs) × (from i at ≡ from (i + 1) p)
-      outcome-read p m r =
-          let o = outcome-of b s a i in
-          let w = walk-on (model-of b) cs k o (drop (i + 1) (outcomes (model-of b) s a)) at p m (ap (λ u. end-of (length cs) (read-plan (model-of b) k u (drop at cs))) (sym q) ∙ sym r) in
-          (w .0, ap (λ os. end-of (length cs) (read-each (λ o. read-plan (model-of b) k (o .target)) os (drop at cs))) (outcome-at i l) ∙ w .1)
+    pub outcome-read : (p : ℕ) → at ≤ length cs → At p ≡ end-of (length cs) (read-plan (model-of b) k t (drop at cs)) → (p ≤ length cs) × (from i at ≡ from (i + 1) p)
+    outcome-read p m r =
+        let o = getD (outcomes (model-of b) s a) i (past b s) in
+        let w = walk-on (model-of b) cs k o (drop (i + 1) (outcomes (model-of b) s a)) at p m (ap (λ u. end-of (length cs) (read-plan (model-of b) k u (drop at cs))) (sym q) ∙ sym r) in
+        (w .0, ap (λ os. end-of (length cs) (read-each (λ o. read-plan (model-of b) k (o .target)) os (drop at cs))) (outcome-at i l) ∙ w .1)
 
-    pub outcomes-read : (i at : ℕ) → entries b s a ≤ i → at ≤ length cs → At at ≡ from i at
-    unfolding read-each
-    outcomes-read i at l m =
-        let os = outcomes (model-of b) s a in
-        let n : length os ≡ entries b s a = ap length (outcomes-held b s a h g) ∙ length-tabulate (outcome-of b s a) (entries b s a) in
-        sym (ap (λ os. end-of (length cs) (read-each (λ o. read-plan (model-of b) k (o .target)) os (drop at cs))) (drop-of-length-le os {i = i} (omega arith)) ∙ end-here [] cs at m)
+  pub outcomes-read : (i at : ℕ) → length (outcomes (model-of b) s a) ≤ i → at ≤ length cs → At at ≡ from i at
+  unfolding read-each
+  outcomes-read i at l m =
+      let os = outcomes (model-of b) s a in
+      sym (ap (λ os. end-of (length cs) (read-each (λ o. read-plan (model-of b) k (o .target)) os (drop at cs))) (drop-of-length-le os {i = i} l) ∙ end-here [] cs at m)
 
 -- All choices are the plan's, or some are left over, or there is no plan.
 module _ (M : Model) (cs : List ℕ) (n s : ℕ) where

@@ -14,13 +14,13 @@ use Rattle.logic.specs.Model.{outcomes}
 use Rattle.logic.specs.Plan.{Plan}
 use Rattle.logic.specs.Choices.{read-each, read-plan}
 use Rattle.blocks.specs.Bytes.{Bytes}
-use Rattle.models.specs.Layout.{state-count, action-count, outcome-of, entries, model-of}
+use Rattle.models.specs.Layout.{state-count, model-of}
 use Rattle.models.specs.Grounds.{read-model}
 use Rattle.sheets.specs.declared.plans.End.{End}
 use Rattle.sheets.specs.declared.plans.End.the-variants.{At, Refused}
 use Rattle.sheets.specs.promises.Ends.{end-of}
 use Rattle.sheets.specs.promises.Writer.{place, stored, Ahead, Stored}
-use Rattle.sheets.proofs.PlanEnds.{some-entries, end-zero, end-missing, choice-refused, choice-taken, outcome-refused, outcome-read, outcomes-read}
+use Rattle.sheets.proofs.PlanEnds.{past, end-zero, end-missing, choice-refused, choice-taken, outcome-refused, outcome-read, outcomes-read}
 use Rattle.sheets.proofs.StoredChoices.{stored-length, stored-none, stored-one, stored-on}
 
 apart : {x : End} {p j : ℕ} → At p ≡ x → Refused j ≡ x → ⊥
@@ -46,11 +46,8 @@ module _ (b : Bytes) (e : refusal (read-model b) ≡ 0) (cs : List ℕ) where
         by true q = ltb-true p (length cs) q
         by false q = absurd (apart (w .ends) (end-missing (model-of b) cs n s p z (omega (arith, ltb-false p (length cs) q, w .inside))))
 
-    some : entries b s a ≡ 0 → ⊥
+    some : length (outcomes (model-of b) s a) ≡ 0 → ⊥
     some q = apart (w .ends) (choice-refused b e cs s p h choice-there n z q)
-
-    pub choice-action : a < action-count b
-    choice-action = some-entries b e s h a (omega (arith, some))
 
     ends-alike : end-of (length cs) below ≡ end-of (length cs) (read-plan (model-of b) n s (drop p cs))
     ends-alike = choice-taken b e cs s p h choice-there n z some
@@ -68,7 +65,7 @@ module _ (b : Bytes) (e : refusal (read-model b) ≡ 0) (cs : List ℕ) where
           bytes = stored-on cs p (p + 1) r buf buf₁ buf₂ (omega arith) (t .onward) (f ∙ stored-one cs p buf ∙ ap (λ i. stored cs p i buf) (sym one)) (t .bytes);
         }
 
--- ---- the outcomes of an action
+-- ---- the outcomes of a choice
 
 module _ (b : Bytes) (cs : List ℕ) (s a k : ℕ) where
   -- What is read below the outcomes from i on, from choice p on.
@@ -85,8 +82,9 @@ module _ (b : Bytes) (cs : List ℕ) (s a k : ℕ) where
   pub walked-none : (p : ℕ) (buf : Bytes) → Ahead (from 0 p) cs p buf → Walked 0 p p buf buf
   walked-none p buf w = record { ahead = w; same = refl; onward = omega arith; bytes = stored-none cs p buf }
 
-module _ (b : Bytes) (e : refusal (read-model b) ≡ 0) (cs : List ℕ) (s a k : ℕ) (h : s < state-count b) (g : a < action-count b) where
-  module _ (i p q t : ℕ) (buf buf′ : Bytes) (w : Walked b cs s a k i p q buf buf′) (l : i < entries b s a) (o : t ≡ (outcome-of b s a i) .target) where
+module _ (b : Bytes) (cs : List ℕ) (s a k : ℕ) where
+  module _ (i p q t : ℕ) (buf buf′ : Bytes) (w : Walked b cs s a k i p q buf buf′) (l : i < length (outcomes (model-of b) s a))
+      (o : t ≡ (getD (outcomes (model-of b) s a) i (past b s)) .target) where
     abbrev next : Checked (Plan k × List ℕ)
     next = read-plan (model-of b) k t (drop q cs)
 
@@ -95,11 +93,11 @@ module _ (b : Bytes) (e : refusal (read-model b) ≡ 0) (cs : List ℕ) (s a k :
       where
         by : (x : End) → end-of (length cs) next ≡ x → Ahead next cs q buf′
         by (At r) f = record { end = r; ends = sym f; inside = w .ahead .inside; few = w .ahead .few; room = w .ahead .room }
-        by (Refused j) f = absurd (apart (w .ahead .ends) (sym (outcome-refused b e cs s a k h g i q t l o j (sym f))))
+        by (Refused j) f = absurd (apart (w .ahead .ends) (sym (outcome-refused b cs s a k i q t l o j (sym f))))
 
     pub walked-more : (r : ℕ) (buf″ : Bytes) → Stored next cs q r buf′ buf″ → Walked b cs s a k (i + 1) p r buf buf″
     walked-more r buf″ x =
-        let y = outcome-read b e cs s a k h g i q t l o r (w .ahead .inside) (x .ends) in
+        let y = outcome-read b cs s a k i q t l o r (w .ahead .inside) (x .ends) in
         let n : length buf″ ≡ length buf′ = ap length (x .bytes) ∙ stored-length cs q (r - q) buf′ in
         record {
           ahead = record { end = w .ahead .end; ends = w .ahead .ends ∙ y .1; inside = y .0; few = w .ahead .few; room = omega (arith, w .ahead .room) };
@@ -108,6 +106,6 @@ module _ (b : Bytes) (e : refusal (read-model b) ≡ 0) (cs : List ℕ) (s a k :
           bytes = stored-on cs p q r buf buf′ buf″ (w .onward) (x .onward) (w .bytes) (x .bytes);
         }
 
-  pub walked-all : (i p q : ℕ) (buf buf′ : Bytes) → Walked b cs s a k i p q buf buf′ → entries b s a ≤ i → Stored (from b cs s a k 0 p) cs p q buf buf′
+  pub walked-all : (i p q : ℕ) (buf buf′ : Bytes) → Walked b cs s a k i p q buf buf′ → length (outcomes (model-of b) s a) ≤ i → Stored (from b cs s a k 0 p) cs p q buf buf′
   walked-all i p q buf buf′ w l =
-      record { ends = outcomes-read b e cs s a k h g i q l (w .ahead .inside) ∙ w .same; onward = w .onward; bytes = w .bytes }
+      record { ends = outcomes-read b cs s a k i q l (w .ahead .inside) ∙ w .same; onward = w .onward; bytes = w .bytes }

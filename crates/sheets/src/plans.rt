@@ -5,9 +5,11 @@ ghost use lib.ListN.{length, drop};
 ghost use Rattle.logic.specs.promises.Refusal.{refusal};
 ghost use Rattle.logic.specs.Model.{outcomes};
 ghost use Rattle.logic.specs.Choices.{read-each, read-plan, plan-of};
-ghost use Rattle.models.specs.Layout.{state-count, action-count, model-of};
+ghost use Rattle.models.specs.Layout.{state-count, model-of};
 ghost use Rattle.models.specs.Grounds.{read-model};
 ghost use Rattle.sheets.specs.promises.Ends.{end-of};
+use models::choices::outcome_count;
+use models::choices::outcome_target;
 
 // Where the choices of a plan end, or the number of a refusal.
 pub enum End {
@@ -29,26 +31,27 @@ pub fn plan_end(m: &[u8], choices: &[u8], n: usize, s: usize, at: usize) -> End
         return End::Refused(10);
     }
     let a = choices[at] as usize;
-    if models::entries(m, s, a) == 0 {
+    let count = outcome_count(m, s, a);
+    if count == 0 {
         return End::Refused(10);
     }
-    below(m, choices, n - 1, s, a, at + 1)
+    below(m, choices, n - 1, s, a, count, at + 1)
 }
 
-// Reads a plan of k steps below each outcome of the action a.
-fn below(m: &[u8], choices: &[u8], k: usize, s: usize, a: usize, at: usize) -> End
+// Reads a plan of k steps below each outcome of the choice a, which has so many.
+fn below(m: &[u8], choices: &[u8], k: usize, s: usize, a: usize, count: usize, at: usize) -> End
     requires { ⌜
-        (refusal (read-model (now m)) ≡ 0) × (s < state-count (now m)) × (a < action-count (now m)) × (at ≤ length (now choices)) ⌝ }
+        (refusal (read-model (now m)) ≡ 0) × (s < state-count (now m)) × (a < 256)
+        × (count ≡ length (outcomes (model-of (now m)) s a)) × (at ≤ length (now choices)) ⌝ }
     ensures value { λ r.
         let choices = now (choices .entry) in let m = now (m .entry) in
         ⌜ r ≡ end-of (length choices) (read-each (λ o. read-plan (model-of m) k (o .target)) (outcomes (model-of m) s a) (drop at choices))
         ⌝ }
 {
-    let count = models::entries(m, s, a);
     let mut next = at;
     let mut i: usize = 0;
     while i < count {
-        let end = plan_end(m, choices, k, models::target(m, s, a, i), next);
+        let end = plan_end(m, choices, k, outcome_target(m, s, a, i), next);
         match end {
             End::At(p) => next = p,
             End::Refused(ground) => return End::Refused(ground),

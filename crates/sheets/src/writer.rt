@@ -8,7 +8,7 @@ ghost use Rattle.logic.specs.promises.Refusal.{refusal};
 ghost use Rattle.logic.specs.Model.{outcomes};
 ghost use Rattle.logic.specs.Choices.{read-each, read-plan};
 ghost use Rattle.blocks.specs.Bytes.{little-endian};
-ghost use Rattle.models.specs.Layout.{state-count, action-count, model-of};
+ghost use Rattle.models.specs.Layout.{state-count, model-of};
 ghost use Rattle.models.specs.Grounds.{read-model};
 ghost use Rattle.sheets.specs.Layout.{with-word-sum, blocks-for, sheet-bytes};
 ghost use Rattle.sheets.specs.promises.Ends.{all-read};
@@ -27,6 +27,8 @@ use blocks::NUMBER_AT;
 use blocks::buffers::clear;
 use blocks::buffers::put_number;
 use blocks::buffers::store;
+use models::choices::outcome_count;
+use models::choices::outcome_target;
 
 // The kind of a sheet's blocks, as it is stored.
 const KIND: u8 = 4;
@@ -125,7 +127,7 @@ fn store_plan(buf: &mut [u8], m: &[u8], choices: &[u8], n: usize, s: usize, p: u
     store_below(buf, m, choices, n - 1, s, a as usize, p + 1)
 }
 
-// Stores the choices of a plan of k steps below each outcome of the action a.
+// Stores the choices of a plan of k steps below each outcome of the choice a.
 fn store_below(
     buf: &mut [u8],
     m: &[u8],
@@ -135,7 +137,7 @@ fn store_below(
     a: usize,
     p: usize,
 ) -> usize
-    requires { ⌜ (refusal (read-model (now m)) ≡ 0) × (s < state-count (now m)) × (a < action-count (now m)) ⌝ }
+    requires { ⌜ (refusal (read-model (now m)) ≡ 0) × (s < state-count (now m)) × (a < 256) ⌝ }
     requires { ⌜
         Ahead (read-each (λ o. read-plan (model-of (now m)) k (o .target)) (outcomes (model-of (now m)) s a) (drop p (now choices)))
         (now choices) p (now buf) ⌝ }
@@ -143,11 +145,11 @@ fn store_below(
         let buf′ = now (buf .exit) in let m = now (m .entry) in let choices = now (choices .entry) in let buf = now (buf .entry) in
         ⌜ Stored (read-each (λ o. read-plan (model-of m) k (o .target)) (outcomes (model-of m) s a) (drop p choices)) choices p r buf buf′ ⌝ }
 {
-    let count = models::entries(m, s, a);
+    let count = outcome_count(m, s, a);
     let mut next = p;
     let mut i: usize = 0;
     while i < count {
-        let t = models::target(m, s, a, i);
+        let t = outcome_target(m, s, a, i);
         next = store_plan(buf, m, choices, k, t, next);
         i += 1;
     }

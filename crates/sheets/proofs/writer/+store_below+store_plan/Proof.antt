@@ -6,13 +6,14 @@ use mathlib.Core.Path.{ap, _∙_}
 use lib.ListN.{length}
 use borrow.Fn.Kinds.{In}
 use borrow.Fn.PlainCycle.{Measures, is, falls, and}
-use Rattle.models.specs.Layout.{state-count, entries}
-use Rattle.models.proofs.entries.Reads as entries-reads
-use Rattle.models.proofs.target.Reads as target-reads
+use Rattle.logic.specs.Model.{outcomes}
+use Rattle.models.specs.Layout.{state-count, model-of}
+use Rattle.models.proofs.choices.outcome_count.Reads as outcome-count-reads
+use Rattle.models.proofs.choices.outcome_target.Reads as outcome-target-reads
 use Rattle.sheets.specs.Layout.{blocks-for}
-use Rattle.sheets.proofs.PlanEnds.{model-small, target-inside}
+use Rattle.sheets.proofs.PlanEnds.{target-inside}
 use Rattle.sheets.proofs.StoredChoices.{stored-length}
-use Rattle.sheets.proofs.StoredBelow.{no-step, choice-there, choice-action, below-ahead, choice-stored, Walked, walked-none, outcome-ahead, walked-more, walked-all}
+use Rattle.sheets.proofs.StoredBelow.{no-step, choice-there, below-ahead, choice-stored, Walked, walked-none, outcome-ahead, walked-more, walked-all}
 use Rattle.sheets.proofs.writer.store_below.Reads as store-below
 use Rattle.sheets.proofs.writer.store_below.Kinds as store-below-kinds
 use Rattle.sheets.proofs.writer.+store_below+store_plan.Lts-store_below as store-below-lts
@@ -54,34 +55,31 @@ store-below-μ-loop buf₀ m choices k s a p count next₀ i₀ buf next i = cou
 -- What the callees of `store_below` ask and yield.
 abbrev store-below-claims : ℕ → store-below-lts.Claims
 store-below-claims t = (
-  entries-reads.Asked,
-  entries-reads.Learnt,
-  target-reads.Asked,
-  target-reads.Learnt,
+  outcome-count-reads.Asked,
+  outcome-count-reads.Learnt,
+  outcome-target-reads.Asked,
+  outcome-target-reads.Learnt,
   store-plan-below t,
   store-plan.Post,
 )
 
-store-below-entries-requires : (t : ℕ) → store-below-lts.Need-entries-requires (store-below-claims t) (store-below-at t) store-below.Post store-below-Inv-loop store-below-μ-loop
-store-below-entries-requires t c κs = let S = c .before .before .before in
-    let small = model-small (S .args .m .now) (S .pre .1 .0 .0) in
-    (omega arith, omega arith)
+store-below-outcome-count-requires : (t : ℕ) → store-below-lts.Need-outcome-count-requires (store-below-claims t) (store-below-at t) store-below.Post store-below-Inv-loop store-below-μ-loop
+store-below-outcome-count-requires t c κs = let S = c .before .before .before in S .pre .1 .0
 
 store-below-loop-holds : (t : ℕ) → store-below-lts.Need-loop-holds (store-below-claims t) (store-below-at t) store-below.Post store-below-Inv-loop store-below-μ-loop
 store-below-loop-holds t c = let S = c .before .before .before .before in
     (omega arith, walked-none (S .args .m .now) (S .args .choices .now) (S .args .s) (S .args .a) (S .args .k) (S .args .p) (S .args .buf .now) (S .pre .1 .1))
 
-store-below-target-requires : (t : ℕ) → store-below-lts.Need-target-requires (store-below-claims t) (store-below-at t) store-below.Post store-below-Inv-loop store-below-μ-loop
-store-below-target-requires t c κs = let S = c .before .before .before .before .before .before in
-    let small = model-small (S .args .m .now) (S .pre .1 .0 .0) in
-    (omega arith, omega arith, omega arith)
+store-below-outcome-target-requires : (t : ℕ) → store-below-lts.Need-outcome-target-requires (store-below-claims t) (store-below-at t) store-below.Post store-below-Inv-loop store-below-μ-loop
+store-below-outcome-target-requires t c κs = let S = c .before .before .before .before .before .before in
+    (S .pre .1 .0 .0, S .pre .1 .0 .1, S .pre .1 .0 .2, omega (arith, c .before .before .outcome-count .ensures))
 
 store-below-store-plan-requires : (t : ℕ) → store-below-lts.Need-store-plan-requires (store-below-claims t) (store-below-at t) store-below.Post store-below-Inv-loop store-below-μ-loop
 store-below-store-plan-requires t c κs = let S = c .before .before .before .before .before .before .before .before in
     let L = c .before .before .before .loop in
-    let l : L .i < entries (S .args .m .now) (S .args .s) (S .args .a) = omega (arith, c .before .before .before .before .entries .ensures .0) in
-    let t : c .before .target .result < state-count (S .args .m .now) = omega (arith, c .before .target .ensures .0, target-inside (S .args .m .now) (S .pre .1 .0 .0) (S .args .s) (S .pre .1 .0 .1) (S .args .a) (L .i) (S .pre .1 .0 .2) l) in
-    (omega arith, ((S .pre .1 .0 .0, t), outcome-ahead (S .args .m .now) (S .pre .1 .0 .0) (S .args .choices .now) (S .args .s) (S .args .a) (S .args .k) (S .pre .1 .0 .1) (S .pre .1 .0 .2) (L .i) (S .args .p) (L .next) (c .before .target .result) (S .args .buf .now) (L .buf) (L .inv .1) l (c .before .target .ensures .0)))
+    let l : L .i < length (outcomes (model-of (S .args .m .now)) (S .args .s) (S .args .a)) = omega (arith, c .before .before .before .before .outcome-count .ensures) in
+    let t : c .before .outcome-target .result < state-count (S .args .m .now) = omega (arith, c .before .outcome-target .ensures, target-inside (S .args .m .now) (S .pre .1 .0 .0) (S .args .s) (S .pre .1 .0 .1) (S .args .a) (L .i) l) in
+    (omega arith, ((S .pre .1 .0 .0, t), outcome-ahead (S .args .m .now) (S .args .choices .now) (S .args .s) (S .args .a) (S .args .k) (L .i) (S .args .p) (L .next) (c .before .outcome-target .result) (S .args .buf .now) (L .buf) (L .inv .1) l (c .before .outcome-target .ensures)))
 
 store-below-add-i : (t : ℕ) → store-below-lts.Need-add-i (store-below-claims t) (store-below-at t) store-below.Post store-below-Inv-loop store-below-μ-loop
 store-below-add-i t c = omega arith
@@ -92,8 +90,8 @@ store-below-loop-less t c = omega arith
 store-below-loop-again : (t : ℕ) → store-below-lts.Need-loop-again (store-below-claims t) (store-below-at t) store-below.Post store-below-Inv-loop store-below-μ-loop
 store-below-loop-again t c = let S = c .before .before .before .before .before .before .before .before .before .before .before in
     let L = c .before .before .before .before .before .before .loop in
-    let l : L .i < entries (S .args .m .now) (S .args .s) (S .args .a) = omega (arith, c .before .before .before .before .before .before .before .entries .ensures .0) in
-    (omega arith, walked-more (S .args .m .now) (S .pre .1 .0 .0) (S .args .choices .now) (S .args .s) (S .args .a) (S .args .k) (S .pre .1 .0 .1) (S .pre .1 .0 .2) (L .i) (S .args .p) (L .next) (c .before .before .before .before .target .result) (S .args .buf .now) (L .buf) (L .inv .1) l (c .before .before .before .before .target .ensures .0) (c .before .before .store-plan .result) (c .before .before .store-plan .last .0) (c .before .before .store-plan .ensures))
+    let l : L .i < length (outcomes (model-of (S .args .m .now)) (S .args .s) (S .args .a)) = omega (arith, c .before .before .before .before .before .before .before .outcome-count .ensures) in
+    (omega arith, walked-more (S .args .m .now) (S .args .choices .now) (S .args .s) (S .args .a) (S .args .k) (L .i) (S .args .p) (L .next) (c .before .before .before .before .outcome-target .result) (S .args .buf .now) (L .buf) (L .inv .1) l (c .before .before .before .before .outcome-target .ensures) (c .before .before .store-plan .result) (c .before .before .store-plan .last .0) (c .before .before .store-plan .ensures))
 
 store-below-same-length : (t : ℕ) → store-below-lts.Need-same-length (store-below-claims t) (store-below-at t) store-below.Post store-below-Inv-loop store-below-μ-loop
 store-below-same-length t c = let S = c .before .before .before .before .before .before in
@@ -103,7 +101,7 @@ store-below-same-length t c = let S = c .before .before .before .before .before 
 store-below-returns : (t : ℕ) → store-below-lts.Need-returns (store-below-claims t) (store-below-at t) store-below.Post store-below-Inv-loop store-below-μ-loop
 store-below-returns t c = let S = c .before .before .before .before .before .before in
     let L = c .before .loop in
-    walked-all (S .args .m .now) (S .pre .1 .0 .0) (S .args .choices .now) (S .args .s) (S .args .a) (S .args .k) (S .pre .1 .0 .1) (S .pre .1 .0 .2) (L .i) (S .args .p) (L .next) (S .args .buf .now) (L .buf) (L .inv .1) (omega (arith, c .before .before .entries .ensures .0))
+    walked-all (S .args .m .now) (S .args .choices .now) (S .args .s) (S .args .a) (S .args .k) (L .i) (S .args .p) (L .next) (S .args .buf .now) (L .buf) (L .inv .1) (omega (arith, c .before .before .outcome-count .ensures))
 
 -- What the callees of `store_plan` ask and yield.
 abbrev store-plan-claims : ℕ → store-plan-lts.Claims
@@ -139,7 +137,7 @@ store-plan-add-store-below t c = let S = c .before .before .before .before .befo
 
 store-plan-store-below-requires : (t : ℕ) → store-plan-lts.Need-store-below-requires (store-plan-claims t) (store-plan-at t) store-plan.Post
 store-plan-store-below-requires t c κs = let S = c .before .before .before .before .before .before .before .before .before .before in
-    (omega (arith, c .before .before .before .before .before .before .if1 .left), ((S .pre .1 .0 .0, S .pre .1 .0 .1, choice-action (S .args .m .now) (S .pre .1 .0 .0) (S .args .choices .now) (S .args .n) (S .args .s) (S .args .p) (S .args .buf .now) (S .pre .1 .0 .1) (c .before .before .before .before .before .before .if1 .left) (S .pre .1 .1)), below-ahead (S .args .m .now) (S .pre .1 .0 .0) (S .args .choices .now) (S .args .n) (S .args .s) (S .args .p) (S .args .buf .now) (S .pre .1 .0 .1) (c .before .before .before .before .before .before .if1 .left) (S .pre .1 .1) (c .before .before .before .store-choice .last .0) (c .before .before .before .store-choice .kept .0)))
+    (omega (arith, c .before .before .before .before .before .before .if1 .left), ((S .pre .1 .0 .0, S .pre .1 .0 .1, omega (arith, c .before .before .before .before .before .shared-slice-known3 .given (S .args .p))), below-ahead (S .args .m .now) (S .pre .1 .0 .0) (S .args .choices .now) (S .args .n) (S .args .s) (S .args .p) (S .args .buf .now) (S .pre .1 .0 .1) (c .before .before .before .before .before .before .if1 .left) (S .pre .1 .1) (c .before .before .before .store-choice .last .0) (c .before .before .before .store-choice .kept .0)))
 
 store-plan-same-length : (t : ℕ) → store-plan-lts.Need-same-length (store-plan-claims t) (store-plan-at t) store-plan.Post
 store-plan-same-length t c = c .before .before .store-below .kept .0 ∙ c .before .before .before .before .before .before .store-choice .kept .0
@@ -150,10 +148,10 @@ store-plan-returns-2 t c = let S = c .before .before .before .before .before .be
 
 pub +store-below+store-plan-spec : {M : Type 1} → statement M
 +store-below+store-plan-spec = close μ-store-below μ-store-plan (λ t. store-below-lts.spec (
-  entries-reads.Asked,
-  entries-reads.Learnt,
-  target-reads.Asked,
-  target-reads.Learnt,
+  outcome-count-reads.Asked,
+  outcome-count-reads.Learnt,
+  outcome-target-reads.Asked,
+  outcome-target-reads.Learnt,
   store-plan-below t,
   store-plan.Post,
 )
@@ -161,9 +159,9 @@ pub +store-below+store-plan-spec : {M : Type 1} → statement M
     store-below.Post
     store-below-Inv-loop
     store-below-μ-loop
-    (store-below-entries-requires t)
+    (store-below-outcome-count-requires t)
     (store-below-loop-holds t)
-    (store-below-target-requires t)
+    (store-below-outcome-target-requires t)
     (store-below-store-plan-requires t)
     (store-below-add-i t)
     (store-below-loop-less t)
