@@ -5,12 +5,13 @@ use native.Mathlib.Nat.{add-le-add, mul-le-mul-left, mul-le-mul-right, le-refl, 
 use native.Mathlib.Omega.{arith}
 use native.Mathlib.Decide.{ℕ-discrete, decLt}
 use mathlib.Core.Path.{_≡_, sym, ap, subst, _∙_}
-use mathlib.Core.Bool.{Bool, cond}
+use mathlib.Core.Bool.{Bool, true, false, cond, _&&_}
+use lib.Dec.{eqb}
 use mathlib.Core.Logic.{_⊎_, inl, inr, ⊎-elim}
 use mathlib.Core.List.{List, [], _∷_, flatMap}
 use lib.ListN.{length, getD, length-append, List·getD-eq-default}
 use Rattle.logic.specs.Lists.{tabulate}
-use Rattle.logic.specs.Model.{Model, Step, enabled, outcomes}
+use Rattle.logic.specs.Model.{Model, Step, silent, silent-step, over, enabled, stored, outcomes}
 use Rattle.logic.specs.Quantity.{naturals, sum}
 use Rattle.logic.specs.promises.Orders.{weights, order}
 use Rattle.logic.specs.Plan.{paths, weight, choices}
@@ -70,19 +71,24 @@ module _ {m : List ℕ} (w : Prepared m) where
           last i e (yes z) l = g (ap (choice-in m s) (sym z) ∙ e)
           last i e (no z) l = f i (omega arith) e
 
-  -- Past the states there is nothing.
-  none-past : (s a : ℕ) → state-count m ≤ s → outcomes (model-in m) s a ≡ []
-  unfolding outcomes model-in
+  -- Past the states the model gives nothing.
+  none-past : (s a : ℕ) → state-count m ≤ s → stored (model-in m) s a ≡ []
+  unfolding stored model-in
   none-past s a h =
       let rows : List (List (List Step)) = tabulate (state-count m) (λ s. tabulate (action-count m) (λ a. cond (enabled-in m s a) (row-in m s (place-of m s a)) [])) in
       ap (λ r. getD r a []) (List·getD-eq-default rows [] (omega (arith, length-tabulate (λ s. tabulate (action-count m) (λ a. cond (enabled-in m s a) (row-in m s (place-of m s a)) [])) (state-count m))))
       ∙ List·getD-eq-default [] [] {n = a} zero-le
 
   outcomes-few : (s a : ℕ) → length (outcomes (model-in m) s a) ≤ 4
+  unfolding outcomes
   outcomes-few s a = go (decLt s (state-count m))
     where
+      past : (t : Bool) → stored (model-in m) s a ≡ [] → length (cond t (silent-step (model-in m) s ∷ []) (stored (model-in m) s a)) ≤ 4
+      past true e = omega arith
+      past false e = rw e zero-le
+
       go : Dec (s < state-count m) → length (outcomes (model-in m) s a) ≤ 4
-      go (no h) = rw (none-past s a (omega arith)) zero-le
+      go (no h) = past (over (model-in m) s && eqb a silent) (none-past s a (omega arith))
       go (yes h) =
           ⊎-elim
           (λ x.

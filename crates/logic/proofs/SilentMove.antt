@@ -1,22 +1,23 @@
 -- The silent move of a state where the work is over: it is the one choice there, and a choice nowhere else; no "do" is true of it; "next" and
--- "gain" pass through it; such a state has one path and one plan for every number of steps.
+-- "gain" pass through it; such a state has one path and one plan for every number of steps. (Document 02, A.1.)
 use Prim.Native.Nat.{ℕ, zero, suc, _+_, _*_, _<_, _≤_}
 use native.Mathlib.Omega.{arith}
 use mathlib.Core.Path.{_≡_, refl, sym, ap, subst, _∙_}
 use mathlib.Core.Logic.{_⊎_, inl, inr}
-use mathlib.Core.Bool.{Bool, true, false, cond, _&&_}
+use mathlib.Core.Bool.{Bool, true, false, cond, _&&_, or-false}
 use mathlib.Core.List.{List, [], _∷_, List·Memᴰ, List·Memᴰ·head, List·Memᴰ·not-nil, List·Memᴰ·eq-of-singleton}
 use lib.Dec.{eqb}
 use lib.IntN.{ℤ, +ℤ-idl}
 use lib.ListN.{length, take}
-use Rattle.logic.specs.Lists.{is-empty}
+use Rattle.logic.specs.Lists.{is-empty, any}
 use Rattle.logic.specs.Model.{Model, Step, silent, silent-step, executable, over, enabled, stored, outcomes}
 use Rattle.logic.specs.Quantity.{naturals, integers, sum, Relation, related}
 use Rattle.logic.specs.Formula.{Formula, does, next, gain, sat}
 use Rattle.logic.specs.Limits.{path-total, multiply, plan-total}
 use Rattle.logic.specs.Accepted.{Accepted}
 use Rattle.logic.specs.promises.Paths.{Path-from, move}
-use Rattle.logic.proofs.Tests.{ne-eqb, keep-member, counted-range}
+use Rattle.logic.proofs.Tests.{not-true, ne-eqb, keep-member, counted-range}
+use Rattle.logic.proofs.Reading.{any-member}
 
 -- An action that can be executed is an action of the model.
 pub executable-action : (m : Model) (s : ℕ) {a : ℕ} → List·Memᴰ a (executable m s) → a < length (m .actions)
@@ -30,6 +31,11 @@ module _ (m : Model) (s : ℕ) where
     pub silent-alone : enabled m s ≡ silent ∷ []
     unfolding enabled
     silent-alone = ap (λ t. cond t (silent ∷ []) (executable m s)) o
+
+    -- As ground 10 tests a choice.
+    pub only-silent : (a : ℕ) → any (eqb a) (enabled m s) ≡ eqb a silent
+    unfolding any
+    only-silent a = ap (any (eqb a)) silent-alone ∙ or-false (eqb a silent)
 
     pub silent-outcomes : outcomes m s silent ≡ silent-step m s ∷ []
     unfolding outcomes
@@ -109,6 +115,14 @@ module _ {m : Model} (accepted : Accepted m) where
   -- Where an action can be executed, the silent move is no choice.
   pub silent-nowhere-else : (s : ℕ) → over m s ≡ false → List·Memᴰ silent (enabled m s) → ⊥
   silent-nowhere-else s o i = let l = executable-action m s (subst (List·Memᴰ silent) (actions-enabled m s o) i) in omega (arith, accepted .numbered)
+
+  -- Ground 10 takes it for a choice where the work is over, and nowhere else.
+  pub silent-only-there : (s : ℕ) → any (eqb silent) (enabled m s) ≡ over m s
+  silent-only-there s = by (over m s) refl
+    where
+      by : (t : Bool) → over m s ≡ t → any (eqb silent) (enabled m s) ≡ t
+      by true o = only-silent m s o silent
+      by false o = not-true _ (λ e. silent-nowhere-else s o (any-member silent (enabled m s) e))
 
   -- No "do" is true of a silent step.
   pub no-do : (s a : ℕ) (r : List Step) → a < length (m .actions) → sat m (does a) s (silent-step m s ∷ r) ≡ false

@@ -3,11 +3,12 @@ use Prim.Native.Nat.{ℕ, _≤_, _<_}
 use native.Mathlib.Omega.{arith}
 use native.Mathlib.Decide.{decLt}
 use mathlib.Core.Path.{_≡_, refl, ap, _∙_}
-use mathlib.Core.Bool.{Bool, true, false, cond}
-use mathlib.Core.List.{List, []}
-use lib.ListN.{getD, List·getD-eq-default}
+use mathlib.Core.Bool.{Bool, true, false, cond, _&&_}
+use mathlib.Core.List.{List, [], _∷_}
+use lib.Dec.{eqb}
+use lib.ListN.{length, getD, List·getD-eq-default}
 use Rattle.logic.specs.Lists.{count-from, tabulate}
-use Rattle.logic.specs.Model.{Step, true-of, stored}
+use Rattle.logic.specs.Model.{Step, true-of, silent, silent-step, over, stored, outcomes}
 use Rattle.logic.proofs.Tests.{length-tabulate, getD-tabulate}
 use Rattle.blocks.specs.Bytes.{Bytes}
 use Rattle.models.specs.Layout.{state-count, action-count, state-mask, pre-of, post-count, outcome-of, entries, model-of}
@@ -53,3 +54,11 @@ module _ (b : Bytes) where
       go (no h) g =
           ap (λ l. getD l a []) (List·getD-eq-default rows [] (rw (length-tabulate row (state-count b)) (omega arith)))
           ∙ nothing (entries-past-states b s a (omega arith))
+
+  pub outcomes-few : Readable b → (s a : ℕ) → length (outcomes (model-of b) s a) ≤ 4
+  unfolding outcomes
+  outcomes-few r s a = go (over (model-of b) s && eqb a silent)
+    where
+      go : (t : Bool) → length (cond t (silent-step (model-of b) s ∷ []) (stored (model-of b) s a)) ≤ 4
+      go true = omega arith
+      go false = rw (stored-are s a, length-tabulate (outcome-of b s a) (entries b s a)) (entries-few r s a)

@@ -1,4 +1,5 @@
 pub mod RowFilled
+pub mod RowTold
 pub mod RowsAreModel
 pub mod ReadByPlace
 pub mod PlacesInRange

@@ -1,27 +1,27 @@
--- How a row is filled: one choice more is listed, one outcome more is put, the sums of one choice more.
+-- How a row is filled: one choice more is listed, one outcome more is put, the silent move is put, the sums of one choice more.
 use Prim.Native.Nat.{ℕ, zero, suc, _+_, _*_, _≤_, _<_}
 use native.Mathlib.Omega.{arith}
 use native.Mathlib.Numerals.{add-one}
 use native.Mathlib.Decide.{decLt}
 use native.Mathlib.Nat.{le-of-suc-le-suc, eq-or-lt-of-le}
-use mathlib.Core.Path.{_≡_, refl, sym, ap, ap₂, _∙_}
+use mathlib.Core.Path.{_≡_, refl, sym, ap, ap₂, subst, _∙_}
 use mathlib.Core.Logic.{_⊎_, inl, inr}
-use mathlib.Core.Bool.{Bool, true, false, cond}
-use mathlib.Core.List.{List, [], _∷_, _++_, append-nil, append-assoc, List·Memᴰ, List·Memᴰ·head, List·Memᴰ·tail}
-use lib.Dec.{ltb}
+use mathlib.Core.Bool.{Bool, true, false, cond, false≢true}
+use mathlib.Core.List.{List, [], _∷_, _++_, append-nil, append-assoc, List·Memᴰ}
+use lib.Dec.{eqb, ltb}
 use lib.ListN.{length, getD, set, take, drop, length-append, length-set, length-drop, take-append-drop, List·getD-append}
 use lib.Seq.{length-take-le, getD-append-seam, getD-set-same, getD-set-other, getD-take, take-append-le, drop-append-le, take-at, drop-at}
 use borrow.Rule.Slice.PartMut.{putMid, postOf, take-put}
 use borrow.Author.Count.{below-more}
-use borrow.Author.Tests.{lt-ltb}
+use borrow.Author.Tests.{lt-ltb, eq-eqb, eqb-true}
 use Rattle.logic.specs.promises.Refusal.{refusal}
 use Rattle.logic.specs.Lists.{keep, count-from}
 use Rattle.logic.proofs.Tests.{count-more, keep-append, keep-member, counted-range, getD-member}
 use Rattle.blocks.specs.Bytes.{Bytes, byte, u16}
-use Rattle.models.specs.Layout.{state-count, action-count, entries}
+use Rattle.models.specs.Layout.{state-count, action-count, denominator-of, entries}
 use Rattle.models.specs.Grounds.{read-model}
 use Rattle.models.proofs.GroundsPassed.{passed-all, passed-sized}
-use Rattle.prepared_model.specs.promises.Filled.{listed, Listed, Chosen, source, put-at, Spelled, pattern-sum, Partly, Summed, Row}
+use Rattle.prepared_model.specs.promises.Filled.{listed, Listed, Chosen, source, put-at, Spelled, pattern-sum, Partly, Summed, silent-at, Acting, Silent, Row, acting, silent}
 
 -- ---- lists
 
@@ -219,12 +219,111 @@ summed-more {i} {before} {row} {after} h w p =
     same : (x : ℕ) → pattern-sum row i x ≡ pattern-sum before i x
     same x = rw (w .kept (64 + 4 * i) (omega arith), weight 1 (omega arith), weight 2 (omega arith), weight 3 (omega arith)) refl
 
+-- ---- the silent move
+
+set-read : (l : List ℕ) (k v j : ℕ) → k < length l → getD (set l k v) j 0 ≡ cond (eqb j k) v (getD l j 0)
+set-read l k v j h = by (eqb j k) refl
+  where
+    by : (t : Bool) → eqb j k ≡ t → getD (set l k v) j 0 ≡ cond t v (getD l j 0)
+    by true e = ap (λ i. getD (set l k v) i 0) (eqb-true j k e) ∙ getD-set-same l k v 0 h
+    by false e = getD-set-other l k j v 0 (λ q. false≢true (sym e ∙ eq-eqb j k q))
+
+module _ (row : List ℕ) (s d : ℕ) (n : length row ≡ 256) where
+  -- The row after each of the nine places written, and that it is as long.
+  abbrev r₁ : List ℕ
+  r₁ = set row 0 255
+
+  abbrev r₂ : List ℕ
+  r₂ = set r₁ 8 1
+
+  abbrev r₃ : List ℕ
+  r₃ = set r₂ 16 1
+
+  abbrev r₄ : List ℕ
+  r₄ = set r₃ 32 s
+
+  abbrev r₅ : List ℕ
+  r₅ = set r₄ 64 d
+
+  abbrev r₆ : List ℕ
+  r₆ = set r₅ 65 0
+
+  abbrev r₇ : List ℕ
+  r₇ = set r₆ 66 0
+
+  abbrev r₈ : List ℕ
+  r₈ = set r₇ 67 0
+
+  pub l₁ : length r₁ ≡ 256
+  l₁ = length-set row 0 255 ∙ n
+
+  pub l₂ : length r₂ ≡ 256
+  l₂ = length-set r₁ 8 1 ∙ l₁
+
+  pub l₃ : length r₃ ≡ 256
+  l₃ = length-set r₂ 16 1 ∙ l₂
+
+  pub l₄ : length r₄ ≡ 256
+  l₄ = length-set r₃ 32 s ∙ l₃
+
+  pub l₅ : length r₅ ≡ 256
+  l₅ = length-set r₄ 64 d ∙ l₄
+
+  pub l₆ : length r₆ ≡ 256
+  l₆ = length-set r₅ 65 0 ∙ l₅
+
+  pub l₇ : length r₇ ≡ 256
+  l₇ = length-set r₆ 66 0 ∙ l₆
+
+  pub l₈ : length r₈ ≡ 256
+  l₈ = length-set r₇ 67 0 ∙ l₇
+
+  pub silent-length : length (silent-at row s d) ≡ 256
+  silent-length = length-set r₈ 96 0 ∙ l₈
+
+  -- What stands in the row with the silent move: by the last of the places written.
+  pub silent-read : (j : ℕ) → getD (silent-at row s d) j 0
+      ≡ cond (eqb j 96) 0 (cond (eqb j 67) 0 (cond (eqb j 66) 0 (cond (eqb j 65) 0 (cond (eqb j 64) d (cond (eqb j 32) s (cond (eqb j 16) 1 (cond (eqb j 8) 1 (cond (eqb j 0) 255 (getD row j 0)))))))))
+  silent-read j =
+      set-read r₈ 96 0 j (omega (arith, l₈))
+      ∙ ap (cond (eqb j 96) 0) (set-read r₇ 67 0 j (omega (arith, l₇))
+      ∙ ap (cond (eqb j 67) 0) (set-read r₆ 66 0 j (omega (arith, l₆))
+      ∙ ap (cond (eqb j 66) 0) (set-read r₅ 65 0 j (omega (arith, l₅))
+      ∙ ap (cond (eqb j 65) 0) (set-read r₄ 64 d j (omega (arith, l₄))
+      ∙ ap (cond (eqb j 64) d) (set-read r₃ 32 s j (omega (arith, l₃))
+      ∙ ap (cond (eqb j 32) s) (set-read r₂ 16 1 j (omega (arith, l₂))
+      ∙ ap (cond (eqb j 16) 1) (set-read r₁ 8 1 j (omega (arith, l₁))
+      ∙ ap (cond (eqb j 8) 1) (set-read row 0 255 j (omega arith)))))))))
+
+  -- The four weights are a byte and zeros.
+  pub silent-light : d < 256 → (j : ℕ) → j < 4 → getD (silent-at row s d) (64 + j) 0 < 256
+  silent-light h zero g = rw (silent-read 64) h
+  silent-light h (suc zero) g = rw (silent-read 65) (omega arith)
+  silent-light h (suc (suc zero)) g = rw (silent-read 66) (omega arith)
+  silent-light h (suc (suc (suc zero))) g = rw (silent-read 67) (omega arith)
+  silent-light h (suc (suc (suc (suc j)))) g = absurd (omega arith)
+
+  -- With its sums it is the row of a state in which the work is over.
+  pub silent-filled : {b : Bytes} {after : List ℕ} → d ≡ denominator-of b → length (listed b s (action-count b)) ≡ 0 → Summed 1 (silent-at row s d) after → Silent b s after
+  silent-filled {b} {after} e z p =
+      record {
+        none = z;
+        count = p .kept 16 (omega arith) ∙ silent-read 16;
+        choice = p .kept 0 (omega arith) ∙ silent-read 0;
+        outcomes = p .kept 8 (omega arith) ∙ silent-read 8;
+        target = p .kept 32 (omega arith) ∙ silent-read 32;
+        weight = p .kept 64 (omega arith) ∙ silent-read 64 ∙ e;
+        reward = p .kept 96 (omega arith) ∙ silent-read 96;
+        summed = λ y l. p .at 0 y (omega arith) l ∙ rw (silent-read 64, silent-read 65, silent-read 66, silent-read 67, e) (omega arith);
+      }
+
 -- ---- the row
 
-pub row-filled : {b : Bytes} {s n : ℕ} {row after : List ℕ} → n ≡ getD row 16 0 → Chosen b s row → Spelled b s (4 * getD row 16 0) row → n ≤ 8 → Summed n row after
-    → Row b s after
-row-filled {b} {s} {n} {row} {after} e c w h p =
+pub acting-filled : {b : Bytes} {s n : ℕ} {row after : List ℕ} → n ≡ getD row 16 0 → 0 < n → Chosen b s row → Spelled b s (4 * getD row 16 0) row → n ≤ 8
+    → Summed n row after → Acting b s after
+acting-filled {b} {s} {n} {row} {after} e o c w h p =
     record {
+      some = rw (p .kept 16 (omega arith)) (omega arith);
       chosen =
           rw (p .kept 16 (omega arith))
           (record { many = c .many; bytes = λ j l. p .kept j (omega arith) ∙ c .bytes j l; counts = λ j l. p .kept (8 + j) (omega arith) ∙ c .counts j l });
@@ -242,6 +341,28 @@ row-filled {b} {s} {n} {row} {after} e c w h p =
     same : (i y : ℕ) → i < 8 → pattern-sum after i y ≡ pattern-sum row i y
     same i y l =
         rw (p .kept (64 + 4 * i) (omega arith), p .kept (64 + 4 * i + 1) (omega arith), p .kept (64 + 4 * i + 2) (omega arith), p .kept (64 + 4 * i + 3) (omega arith)) refl
+
+-- What is listed and spelled out, or else the silent move: ready to be summed, and with its sums the row of s.
+module _ {b : Bytes} {s d r : ℕ} {row row′ : List ℕ} (e : refusal (read-model b) ≡ 0) (c : Chosen b s row) (w : Spelled b s (4 * getD row 16 0) row)
+    (n : length row ≡ 256) (g : d ≡ denominator-of b) (h : d < 256) (some : 0 < getD row 16 0 → (r ≡ getD row 16 0) × (row′ ≡ row))
+    (none : getD row 16 0 ≡ 0 → (r ≡ 1) × (row′ ≡ silent-at row s d)) where
+  pub ready : (r ≤ 8) × (length row′ ≡ 256) × ((j : ℕ) → j < 4 * r → getD row′ (64 + j) 0 < 256)
+  ready = by (decLt 0 (getD row 16 0))
+    where
+      by : Dec (0 < getD row 16 0) → (r ≤ 8) × (length row′ ≡ 256) × ((j : ℕ) → j < 4 * r → getD row′ (64 + j) 0 < 256)
+      by (yes l) = let x = some l in (omega (arith, x .0, chosen-few e c), rw (x .1) n, λ j k. rw (x .1) (w .light j (omega (arith, x .0))))
+      by (no l) = let x = none (omega arith) in (omega (arith, x .0), rw (x .1) (silent-length row s d n), λ j k. rw (x .1) (silent-light row s d n h j (omega (arith, x .0))))
+
+  pub row-filled : {after : List ℕ} → Summed r row′ after → Row b s after
+  row-filled {after} p = by (decLt 0 (getD row 16 0))
+    where
+      by : Dec (0 < getD row 16 0) → Row b s after
+      by (yes l) =
+          let x = some l in
+          acting (acting-filled (x .0) (omega (arith, x .0)) c w (omega (arith, x .0, chosen-few e c)) (subst (λ z. Summed r z after) (x .1) p))
+      by (no l) =
+          let x = none (omega arith) in
+          silent (silent-filled row s d n g (omega (arith, c .many)) (subst (λ k. Summed k (silent-at row s d) after) (x .0) (subst (λ z. Summed r z after) (x .1) p)))
 
 -- ---- the rows in the array
 

@@ -8,11 +8,11 @@ use lib.Dec.{ltb, leb}
 use lib.IntN.{ℤ, pos, negsuc}
 use lib.Signed.{mag, leZ}
 use borrow.Author.Tests.{lt-ltb, ltb-true, leb-true}
-use lib.ListN.{getD, length, drop}
-use lib.Seq.{ext-getD, getD-take, getD-drop}
+use lib.ListN.{getD, length}
+use lib.Seq.{ext-getD}
 use Rattle.logic.specs.promises.Refusal.{refusal}
-use Rattle.logic.specs.Lists.{count-from, tabulate}
-use Rattle.logic.specs.Model.{Model, Action, Step, true-of}
+use Rattle.logic.specs.Lists.{is-empty, count-from, tabulate}
+use Rattle.logic.specs.Model.{Model, Action, Step, true-of, over}
 use Rattle.logic.proofs.Tests.{and-both, length-tabulate, getD-tabulate, tabulate-more, counted-range, keep-same}
 use Rattle.blocks.specs.Bytes.{Bytes, byte, u16, u32, i16, signed, within}
 use Rattle.blocks.specs.Block.{sum-below}
@@ -20,12 +20,14 @@ use Rattle.models.specs.Grounds.{outcome-in-range, read-model}
 use Rattle.models.specs.Layout.{state-count, action-count, literals, state-mask, pre-of, post-count, post-of, cell-at, outcome-of, entries, model-of}
 use Rattle.models.proofs.EveryCell.{sizes, entries-inside, entries-small}
 use Rattle.models.proofs.GroundsPassed.{Passed, passed-all, passed-sized, some-post, outcome-passed}
-use Rattle.models.proofs.OutcomesOfCell.{outcomes-are}
-use Rattle.models.proofs.ModelOfBytes.{enabled-entries, accepted}
+use Rattle.models.proofs.OutcomesOfCell.{stored-are}
+use Rattle.models.proofs.ModelOfBytes.{executable-entries, accepted}
+use Rattle.logic.proofs.SilentMove.{actions-enabled, actions-outcomes}
 use Rattle.prepared_model.specs.promises.Rows.{choices-in, choice-in, outcomes-in, step-in, row-in, Offers, sum-in, weighed, lane, enabled-in, place-of, model-in, Prepared, Prepares}
-use Rattle.prepared_model.specs.promises.Filled.{listed, source, Row}
+use Rattle.prepared_model.specs.promises.Filled.{listed, source, Acting, Row, acting, silent}
 use Rattle.blocks.proofs.Sums.{sum-same}
 use Rattle.prepared_model.proofs.UnusedWeighNothing.{used-only}
+use Rattle.prepared_model.proofs.RowTold.{Fair, Told, at-row, silent-told}
 use Rattle.prepared_model.proofs.RowFilled.{listed-few, listed-below, listed-place, row-at}
 
 tabulate-same : {A : Type 0} (f g : ℕ → A) (n : ℕ) → ((i : ℕ) → i < n → f i ≡ g i) → tabulate n f ≡ tabulate n g
@@ -45,16 +47,11 @@ model-alike {p} {p′} {d} {d′} {s} {s′} {a} {a′} {r} {r′} e1 e2 e3 e4 e
     let make : ℕ → ℕ → List ℕ → List Action → List (List (List Step)) → Model = λ p d s a r. record { propositions = p; denominator = d; states = s; actions = a; rows = r } in
     ap₂ (λ x y. make x y s a r) e1 e2 ∙ ap₂ (λ x y. make p′ d′ x y r) e3 e4 ∙ ap (make p′ d′ s′ a′) e5
 
--- What ground 5 found of an outcome.
-record Fair (b : Bytes) (o : Step) : Type 0 where
-  reaches : o .target < state-count b
-  light : o .weight ≤ 100
-  modest : mag (o .reward) ≤ 1000
-
 modest-reward : (z : ℤ) → leZ (negsuc 999) z ≡ true → leZ z (pos 1000) ≡ true → mag z ≤ 1000
 modest-reward (pos k) a b = leb-true k 1000 b
 modest-reward (negsuc k) a b = omega (arith, leb-true k 999 a)
 
+-- What ground 5 found of an outcome.
 fair-range : (b : Bytes) (o : Step) → outcome-in-range b o ≡ true → Fair b o
 unfolding outcome-in-range within
 fair-range b o e =
@@ -105,23 +102,20 @@ module _ (b : Bytes) (e : refusal (read-model b) ≡ 0) (m : List ℕ) (small : 
       tabulate-alike (post-of m a) (post-of b a) (head (136 + 44 * a + 8) (omega (arith, actions)))
       (λ i l. literals-same (136 + 44 * a + 12 + 8 * i) (omega (arith, actions, few)))
 
-  -- ---- the row of a state
+  -- ---- the row of a state in which an action can be executed
 
-  module _ (s : ℕ) (h : s < state-count b) where
-    at-row : (k : ℕ) → k < 256 → getD m (512 + 256 * s + k) 0 ≡ getD (row-at m s) k 0
-    at-row k g = sym (getD-take 256 (drop (512 + 256 * s) m) k 0 g ∙ getD-drop (512 + 256 * s) m k 0)
-
+  module _ (s : ℕ) (h : s < state-count b) (w : Acting b s (row-at m s)) where
     count-is : choices-in m s ≡ length (listed b s (action-count b))
-    count-is = at-row 16 (omega arith) ∙ rows s h .chosen .many
+    count-is = at-row m s 16 (omega arith) ∙ w .chosen .many
 
     few-choices : choices-in m s ≤ 8
     few-choices = omega (arith, count-is, listed-few b s (action-count b), actions)
 
     below-count : (i : ℕ) → i < choices-in m s → i < getD (row-at m s) 16 0
-    below-count i g = omega (arith, at-row 16 (omega arith))
+    below-count i g = omega (arith, at-row m s 16 (omega arith))
 
     choice-is : (i : ℕ) → i < choices-in m s → choice-in m s i ≡ getD (listed b s (action-count b)) i 0
-    choice-is i g = at-row i (omega (arith, few-choices)) ∙ rows s h .chosen .bytes i (below-count i g)
+    choice-is i g = at-row m s i (omega (arith, few-choices)) ∙ w .chosen .bytes i (below-count i g)
 
     choice-small : (i : ℕ) → i < choices-in m s → choice-in m s i < action-count b
     choice-small i g = rw (choice-is i g) (listed-below b s (action-count b) i (omega (arith, count-is)))
@@ -131,11 +125,20 @@ module _ (b : Bytes) (e : refusal (read-model b) ≡ 0) (m : List ℕ) (small : 
         ext-getD 0 _ _ (sym count-is ∙ sym (length-tabulate (choice-in m s) (choices-in m s)))
         (λ i g. let l : i < choices-in m s = omega (arith, count-is) in sym (choice-is i l) ∙ sym (getD-tabulate (choice-in m s) (choices-in m s) 0 l))
 
+    -- Some action is listed, so the work is not over.
+    not-over : over (model-of b) s ≡ false
+    unfolding over is-empty
+    not-over = ap is-empty (executable-entries b passed s h) ∙ some (listed b s (action-count b)) (omega (arith, w .some, w .chosen .many))
+      where
+        some : (l : List ℕ) → 0 < length l → is-empty l ≡ false
+        some [] g = absurd (omega arith)
+        some (x ∷ l) g = refl
+
     module _ (i : ℕ) (g : i < choices-in m s) where
       outcomes-is : outcomes-in m s i ≡ entries b s (choice-in m s i)
       outcomes-is =
           let k : 512 + 256 * s + 8 + i ≡ 512 + 256 * s + (8 + i) = omega arith in
-          ap (λ j. getD m j 0) k ∙ at-row (8 + i) (omega (arith, few-choices)) ∙ rows s h .chosen .counts i (below-count i g) ∙ ap (entries b s) (sym (choice-is i g))
+          ap (λ j. getD m j 0) k ∙ at-row m s (8 + i) (omega (arith, few-choices)) ∙ w .chosen .counts i (below-count i g) ∙ ap (entries b s) (sym (choice-is i g))
 
       source-is : (o : ℕ) → o < 4 → source b s (4 * i + o) ≡ cell-at s (choice-in m s i) + 4 * o
       source-is o l =
@@ -146,18 +149,17 @@ module _ (b : Bytes) (e : refusal (read-model b) ≡ 0) (m : List ℕ) (small : 
       lane-at : (k o : ℕ) → k ≤ 96 → o < 4 → getD m (512 + 256 * s + k + 4 * i + o) 0 ≡ getD (row-at m s) (k + (4 * i + o)) 0
       lane-at k o l n =
           let z : 512 + 256 * s + k + 4 * i + o ≡ 512 + 256 * s + (k + (4 * i + o)) = omega arith in
-          ap (λ j. getD m j 0) z ∙ at-row (k + (4 * i + o)) (omega (arith, few-choices))
+          ap (λ j. getD m j 0) z ∙ at-row m s (k + (4 * i + o)) (omega (arith, few-choices))
 
       step-is : (o : ℕ) → o < 4 → step-in m s i o ≡ outcome-of b s (choice-in m s i) o
       unfolding outcome-of i16
       step-is o l =
-          let w = rows s h .spelled in
           let n : 4 * i + o < 4 * getD (row-at m s) 16 0 = omega (arith, below-count i g) in
           let at : ℕ = cell-at s (choice-in m s i) + 4 * o in
           let make : ℕ → ℕ → ℕ → Step = λ t v x. record { choice = choice-in m s i; target = t; weight = v; reward = signed 15 x } in
-          ap (λ t. make t (step-in m s i o .weight) (getD m (512 + 256 * s + 96 + 4 * i + o) 0)) (lane-at 32 o (omega arith) l ∙ w .targets (4 * i + o) n ∙ ap (byte b) (source-is o l))
-          ∙ ap (λ v. make (byte b at) v (getD m (512 + 256 * s + 96 + 4 * i + o) 0)) (lane-at 64 o (omega arith) l ∙ w .weights (4 * i + o) n ∙ ap (λ k. byte b (k + 1)) (source-is o l))
-          ∙ ap (make (byte b at) (byte b (at + 1))) (lane-at 96 o (omega arith) l ∙ w .rewards (4 * i + o) n ∙ ap (λ k. u16 b (k + 2)) (source-is o l))
+          ap (λ t. make t (step-in m s i o .weight) (getD m (512 + 256 * s + 96 + 4 * i + o) 0)) (lane-at 32 o (omega arith) l ∙ w .spelled .targets (4 * i + o) n ∙ ap (byte b) (source-is o l))
+          ∙ ap (λ v. make (byte b at) v (getD m (512 + 256 * s + 96 + 4 * i + o) 0)) (lane-at 64 o (omega arith) l ∙ w .spelled .weights (4 * i + o) n ∙ ap (λ k. byte b (k + 1)) (source-is o l))
+          ∙ ap (make (byte b at) (byte b (at + 1))) (lane-at 96 o (omega arith) l ∙ w .spelled .rewards (4 * i + o) n ∙ ap (λ k. u16 b (k + 2)) (source-is o l))
 
       few-outcomes : outcomes-in m s i ≤ 4
       few-outcomes = rw outcomes-is (entries-small b (passed-sized b passed) s (choice-in m s i))
@@ -177,12 +179,37 @@ module _ (b : Bytes) (e : refusal (read-model b) ≡ 0) (m : List ℕ) (small : 
           let k : 512 + 256 * s + 128 + 16 * i + y ≡ 512 + 256 * s + (128 + 16 * i + y) = omega arith in
           let z : 64 + 4 * i ≡ 64 + 4 * i + 0 = omega arith in
           ap (λ j. getD m j 0) k
-          ∙ at-row (128 + 16 * i + y) (omega (arith, few-choices))
-          ∙ rows s h .summed i y (below-count i g) l
+          ∙ at-row m s (128 + 16 * i + y) (omega (arith, few-choices))
+          ∙ w .summed i y (below-count i g) l
           ∙ ap (λ j. getD (row-at m s) j 0 * lane y 0 + getD (row-at m s) (64 + 4 * i + 1) 0 * lane y 1 + getD (row-at m s) (64 + 4 * i + 2) 0 * lane y 2 + getD (row-at m s) (64 + 4 * i + 3) 0 * lane y 3) z
           ∙ rw (weight-is 0 (omega arith), weight-is 1 (omega arith), weight-is 2 (omega arith), weight-is 3 (omega arith)) (used-only b e s a (lane y) h (omega (arith, choice-small i g, actions)))
           ∙ sum-same _ _ (entries b s a) (λ o n. ap (λ (x : Step). x .weight * lane y o) (sym (step-is o (omega (arith, few-outcomes, outcomes-is)))))
           ∙ ap (λ n. sum-below n (λ o. (step-in m s i o) .weight * lane y o)) (sym outcomes-is)
+
+      step-fair : (o : ℕ) → o < outcomes-in m s i → Fair b (step-in m s i o)
+      step-fair o l =
+          fair-range b (step-in m s i o)
+          (rw (step-is o (omega (arith, few-outcomes))) (outcome-passed b passed s (choice-in m s i) o h (choice-small i g) (omega (arith, outcomes-is))))
+
+    acting-told : Told b m s
+    acting-told =
+        record {
+          choices = actions-enabled (model-of b) s not-over ∙ executable-entries b passed s h ∙ listed-is;
+          few-choices = few-choices;
+          bytes = λ i g. omega (arith, choice-small i g, actions);
+          rows = λ i g. actions-outcomes (model-of b) s not-over (choice-in m s i) ∙ stored-are b s (choice-in m s i) ∙ sym (row-is i g);
+          few-outcomes = few-outcomes;
+          fair = λ i o (g, l). step-fair i g o l;
+          sums = λ i y g. sum-is i g y;
+        }
+
+  -- Whichever it is.
+  told : (s : ℕ) → s < state-count b → Told b m s
+  told s h = by (rows s h)
+    where
+      by : Row b s (row-at m s) → Told b m s
+      by (acting w) = acting-told s h w
+      by (silent w) = silent-told b e m s h w
 
   -- ---- the model
 
@@ -208,12 +235,18 @@ module _ (b : Bytes) (e : refusal (read-model b) ≡ 0) (m : List ℕ) (small : 
   unfolding tabulate count-from
   cell-same s a h g = ap₂ (λ t l. cond t l []) (enabled-same s a h g) (ap (row-in m s) (place-is s a h g)) ∙ go (true-of (pre-of b a) (state-mask b s)) refl
     where
+      by : length (listed b s a) < length (listed b s (action-count b)) → getD (listed b s (action-count b)) (length (listed b s a)) 0 ≡ a → Row b s (row-at m s)
+          → row-in m s (length (listed b s a)) ≡ tabulate (entries b s a) (outcome-of b s a)
+      by n q (acting w) =
+          let l : length (listed b s a) < choices-in m s = omega (arith, count-is s h w) in
+          row-is s h w (length (listed b s a)) l ∙ ap (λ x. tabulate (entries b s x) (outcome-of b s x)) (choice-is s h w (length (listed b s a)) l ∙ q)
+      by n q (silent w) = absurd (omega (arith, w .none))
+
       go : (t : Bool) → true-of (pre-of b a) (state-mask b s) ≡ t → cond t (row-in m s (length (listed b s a))) [] ≡ tabulate (entries b s a) (outcome-of b s a)
       go true q =
           let n : 0 < entries b s a = rw (entries-inside b s a h g, q) (some-post b passed a g) in
           let w = listed-place b s a (action-count b) n g in
-          let l : length (listed b s a) < choices-in m s = omega (arith, w .0, count-is s h) in
-          row-is s h (length (listed b s a)) l ∙ ap (λ x. tabulate (entries b s x) (outcome-of b s x)) (choice-is s h (length (listed b s a)) l ∙ w .1)
+          by (w .0) (w .1) (rows s h)
       go false q = let z : entries b s a ≡ 0 = rw (entries-inside b s a h g, q) refl in ap (λ n. tabulate n (outcome-of b s a)) (sym z)
 
   pub same : model-in m ≡ model-of b
@@ -227,11 +260,6 @@ module _ (b : Bytes) (e : refusal (read-model b) ≡ 0) (m : List ℕ) (small : 
 
   -- ---- the law
 
-  outcome-fair : (s i o : ℕ) → s < state-count b → Offers m s i o → outcome-in-range b (step-in m s i o) ≡ true
-  outcome-fair s i o h (g, l) =
-      rw (step-is s h i g o (omega (arith, few-outcomes s h i g)))
-      (outcome-passed b passed s (choice-in m s i) o h (choice-small s h i g) (omega (arith, outcomes-is s h i g)))
-
   pub prepared : Prepared m
   prepared =
       let counts : state-count m ≡ state-count b = head 2 (omega arith) in
@@ -243,15 +271,15 @@ module _ (b : Bytes) (e : refusal (read-model b) ≡ 0) (m : List ℕ) (small : 
         actions = omega (arith, actions);
         props = rw (head 4 (omega arith)) (sizes b (passed .sizes) .props);
         parts = rw (head 5 (omega arith)) (sizes b (passed .sizes) .parts);
-        choices = λ s h. rw same (enabled-entries b passed s (omega arith)) ∙ listed-is s (omega arith);
-        few-choices = λ s h. few-choices s (omega arith);
-        bytes = λ s i h g. omega (arith, choice-small s (omega arith) i g, actions);
-        rows = λ s i h g. rw same (outcomes-are b s (choice-in m s i)) ∙ sym (row-is s (omega arith) i g);
-        few-outcomes = λ s i h g. few-outcomes s (omega arith) i g;
-        inside = λ s i o h g. rw counts (fair-range b (step-in m s i o) (outcome-fair s i o (omega arith) g) .reaches);
-        light = λ s i o h g. fair-range b (step-in m s i o) (outcome-fair s i o (omega arith) g) .light;
-        modest = λ s i o h g. fair-range b (step-in m s i o) (outcome-fair s i o (omega arith) g) .modest;
-        sums = λ s i y h g l. sum-is s (omega arith) i g y l;
+        choices = λ s h. rw same (told s (omega arith) .choices);
+        few-choices = λ s h. told s (omega arith) .few-choices;
+        bytes = λ s i h. told s (omega arith) .bytes i;
+        rows = λ s i h g. rw same (told s (omega arith) .rows i g);
+        few-outcomes = λ s i h. told s (omega arith) .few-outcomes i;
+        inside = λ s i o h g. rw counts (told s (omega arith) .fair i o g .reaches);
+        light = λ s i o h g. told s (omega arith) .fair i o g .light;
+        modest = λ s i o h g. told s (omega arith) .fair i o g .modest;
+        sums = λ s i y h. told s (omega arith) .sums i y;
       }
 
   pub prepares : Prepares b m

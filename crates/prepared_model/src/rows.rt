@@ -7,7 +7,7 @@ ghost use Rattle.blocks.specs.Bytes as bytes;
 ghost use Rattle.models.specs.Grounds.{read-model};
 ghost use Rattle.models.specs.Layout.{state-count};
 ghost use Rattle.prepared_model.specs.promises.Rows.{lane};
-ghost use Rattle.prepared_model.specs.promises.Filled.{put-at, Chosen, Spelled, Partly, Summed, Row};
+ghost use Rattle.prepared_model.specs.promises.Filled.{put-at, silent-at, Chosen, Spelled, Partly, Summed, Row};
 use crate::COUNT;
 use crate::OUTCOMES;
 use crate::REWARDS;
@@ -16,7 +16,9 @@ use crate::TARGETS;
 use crate::WEIGHTS;
 use blocks::u16_at;
 use blocks::wide;
+use models::SILENT;
 use models::action_count;
+use models::denominator;
 use models::entries;
 use models::outcome_at;
 
@@ -91,6 +93,32 @@ fn spell(b: &[u8], row: &mut [u16], s: usize)
     }
 }
 
+// Where no choice is listed the work is over: puts the silent move of the state s, whose weight is d, as the one choice there, in lane 0. Gives
+// the number of choices.
+fn or_silent(row: &mut [u16], s: usize, d: usize) -> usize
+    requires { ⌜ (s < 256) × (d < 256) × (length (now row) ≡ 256) ⌝ }
+    ensures effect { λ r.
+        let row′ = now (row .exit) in let row = now (row .entry) in
+        ⌜
+        (0 < getD row 16 0 → (r ≡ getD row 16 0) × (row′ ≡ row))
+        × (getD row 16 0 ≡ 0 → (r ≡ 1) × (row′ ≡ silent-at row s d)) ⌝ }
+{
+    let n = number(row[COUNT]);
+    if n != 0 {
+        return n;
+    }
+    row[0] = SILENT as u16;
+    row[OUTCOMES] = 1;
+    row[COUNT] = 1;
+    row[TARGETS] = short(s);
+    row[WEIGHTS] = short(d);
+    row[WEIGHTS + 1] = 0;
+    row[WEIGHTS + 2] = 0;
+    row[WEIGHTS + 3] = 0;
+    row[REWARDS] = 0;
+    1
+}
+
 // A weight, if the lowest bit is 1.
 fn part(w: u16, y: u16) -> u16
     requires { ⌜ w < 256 ⌝ }
@@ -144,6 +172,6 @@ pub fn fill(b: &[u8], row: &mut [u16], s: usize)
 {
     choose(b, row, s);
     spell(b, row, s);
-    let n = number(row[COUNT]);
+    let n = or_silent(row, s, denominator(b));
     sum_choices(row, n);
 }

@@ -14,7 +14,7 @@ use lib.ListN.{length, getD, length-append}
 use Rattle.logic.specs.Checked.{ok}
 use Rattle.logic.specs.promises.Refusal.{refusal}
 use Rattle.logic.specs.Lists.{keep}
-use Rattle.logic.specs.Model.{Model, outcomes}
+use Rattle.logic.specs.Model.{Model, silent, outcomes}
 use Rattle.logic.specs.Quantity.{naturals, sum, Relation}
 use Rattle.logic.specs.Plan.{Plan, plans, choices, paths, weight, Match, ends, pair}
 use Rattle.logic.specs.Accepted.{Accepted}
@@ -24,14 +24,13 @@ use Rattle.logic.specs.Verdict.{Goal, goal}
 use Rattle.logic.proofs.Checked.{not-ok, ok-same}
 use Rattle.logic.proofs.Dictionary.{plans-are}
 use Rattle.logic.proofs.PathWeights.{path-weights}
-use Rattle.logic.proofs.Tests.{length-tabulate}
 use Rattle.blocks.specs.Bytes.{Bytes}
-use Rattle.models.specs.Layout.{action-count, model-of, entries, outcome-of}
+use Rattle.models.specs.Layout.{model-of}
 use Rattle.models.specs.Grounds.{read-model}
 use Rattle.models.proofs.EveryCell.{sizes}
 use Rattle.models.proofs.GroundsPassed.{passed-all, read-passed}
 use Rattle.models.proofs.Readable.{readable}
-use Rattle.models.proofs.OutcomesOfCell.{entries-few, outcomes-are}
+use Rattle.models.proofs.OutcomesOfCell.{outcomes-few as models-few}
 use Rattle.models.proofs.ModelOfBytes.{accepted, states-held}
 use Rattle.questions.specs.Layout.{node-of, node-count, formulas-of, question-of}
 use Rattle.questions.specs.Grounds.{read-question}
@@ -49,7 +48,7 @@ use Rattle.protocol.proofs.AfterEachCall.{Sound, sound}
 use Rattle.protocol.proofs.HeldAccepted as held
 use Rattle.protocol.proofs.Demand3.{Reads-back, demand-3}
 use Rattle.logic.proofs.OnPlan.{by-plan}
-use Rattle.logic.proofs.Acceptance.{enabled-action}
+use Rattle.logic.proofs.SilentMove.{executable-action, choice-kind}
 use Rattle.questions.proofs.FormulaByOperator.{no-plan-at}
 use native.Mathlib.Decide.{ℕ-discrete}
 
@@ -80,13 +79,16 @@ unfolding flatMap
 each-member key k h ends i = absurd (List·Memᴰ·not-nil i)
 each-member key k h (pair {x} {y} r t) i = ⊎-elim (λ j. h x y r j) (λ j. each-member key k h t j) (List·Memᴰ·append-cases (key y) i)
 
--- Each choice of a plan is an action of the model.
-choice-action : (m : Model) (n s : ℕ) (π : Plan n) → Is-plan m n s π → {c : ℕ} → List·Memᴰ c (choices n π) → c < length (m .actions)
+-- Each choice of a plan is a byte: an action of the model, or the silent move.
+choice-byte : (m : Model) → length (m .actions) ≤ silent → (n s : ℕ) (π : Plan n) → Is-plan m n s π → {c : ℕ} → List·Memᴰ c (choices n π) → c < 256
 unfolding choices
-choice-action m zero s π h i = absurd (List·Memᴰ·not-nil i)
-choice-action m (suc n) s π h {c} i =
-    ⊎-elim (λ e. subst (λ a. a < length (m .actions)) (sym e) (enabled-action m s (h .0)))
-    (λ j. each-member (choices n) (length (m .actions)) (λ o q g k. choice-action m n (o .target) q g k) (h .1) j)
+choice-byte m few zero s π h i = absurd (List·Memᴰ·not-nil i)
+choice-byte m few (suc n) s π h {c} i =
+    ⊎-elim
+    (λ e.
+    subst (λ a. a < 256) (sym e)
+    (⊎-elim (λ x. omega (arith, executable-action m s x)) (λ x. omega (arith, x .1)) (choice-kind m s (h .0))))
+    (λ j. each-member (choices n) 256 (λ o q g k. choice-byte m few n (o .target) q g k) (h .1) j)
     (List·Memᴰ·cases-cons i)
 
 small-at : (l : List ℕ) → ((c : ℕ) → List·Memᴰ c l → c < 256) → (i : ℕ) → getD l i 0 < 256
@@ -199,8 +201,7 @@ module _ {h : Held} (sound-held : Sound h) (x : Plan-question h) where
 
   outcomes-few : (t a : ℕ) → length (outcomes (x .model) t a) ≤ 4
   outcomes-few t a =
-      subst (λ m. length (outcomes m t a) ≤ 4) (sym same-model)
-      (subst (λ n. n ≤ 4) (sym (ap length (outcomes-are b t a) ∙ length-tabulate (outcome-of b t a) (entries b t a))) (entries-few b (readable b passed) t a))
+      subst (λ m. length (outcomes m t a) ≤ 4) (sym same-model) (models-few b (readable b passed) t a)
 
   denominator-few : x .model .denominator ≤ 100
   unfolding model-of
@@ -211,9 +212,8 @@ module _ {h : Held} (sound-held : Sound h) (x : Plan-question h) where
       let n = subst (λ m. s < length (m .states)) same-model start-inside in
       omega (arith, states-held b, sizes b (passed-all b passed .sizes) .states, n)
 
-  actions-few : length (x .model .actions) ≤ 8
-  unfolding model-of
-  actions-few = subst (λ m. length (m .actions) ≤ 8) (sym same-model) (subst (λ n. n ≤ 8) (sym (length-tabulate _ (action-count b))) (sizes b (passed-all b passed .sizes) .actions))
+  accepted-model : Accepted (x .model)
+  accepted-model = subst Accepted (sym same-model) (accepted b (passed-all b passed))
 
   module _ (π : Plan (n)) (i : List·Memᴰ π (plans (x .model) (n) s)) where
     choices-few : length (choices (n) π) ≤ 1365
@@ -221,14 +221,13 @@ module _ {h : Held} (sound-held : Sound h) (x : Plan-question h) where
 
     choices-small : (k : ℕ) → getD (choices (n) π) k 0 < 256
     choices-small =
-        small-at (choices (n) π)
-        (λ c j. let h = choice-action (x .model) (n) s π (plans-are (x .model) (n) s π .0 i) j in omega (arith, actions-few, h))
+        small-at (choices (n) π) (λ c j. choice-byte (x .model) (accepted-model .numbered) (n) s π (plans-are (x .model) (n) s π .0 i) j)
 
     weight-few : W (x .model) (asked-for .condition) (n) s π < 18446744073709551616
     unfolding W
     weight-few =
         let k = kept-less weight (sat (x .model) (asked-for .condition) s) (paths (x .model) (n) s π) in
-        let e = path-weights (x .model) (subst Accepted (sym same-model) (accepted b (passed-all b passed))) (n) s start-inside π i in
+        let e = path-weights (x .model) accepted-model (n) s start-inside π i in
         let d : x .model .denominator ^ n ≤ 100 ^ 6 = le-trans (pow-le-pow-left denominator-few (n)) (pow-le-pow-right (lit< tt) (steps-asked .1)) in
         lt-of-le-of-lt (le-trans k (subst (λ z. z ≤ 100 ^ 6) (sym e) d)) (lit< tt)
 

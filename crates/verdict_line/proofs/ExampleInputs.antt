@@ -4,8 +4,8 @@ use Prim.Native.String.{String}
 use mathlib.Core.Path.{_≡_, refl, ap₂, _∙_}
 use mathlib.Core.List.{List, [], _∷_, _++_, map, flatMap, foldr}
 use lib.ListN.{replicate}
-use Rattle.logic.specs.Lists.{all, any, every, some-below, find, keep, product, join, count-from, tabulate}
-use Rattle.logic.specs.Model.{no-action, true-of, contradict, mask, prop-in, enabled, outcomes}
+use Rattle.logic.specs.Lists.{is-empty, all, any, every, find, keep, product, join, count-from, tabulate}
+use Rattle.logic.specs.Model.{no-action, true-of, contradict, mask, prop-in, executable, over, enabled, stored, outcomes}
 use Rattle.logic.specs.Quantity.{sum, related}
 use Rattle.logic.specs.Plan.{plans, choices, paths, weight}
 use Rattle.logic.specs.Formula.{nonnegative, relation, formula-of, formulas, depth, is-path, shallow, sat, W, meets}
@@ -14,7 +14,7 @@ use Rattle.logic.specs.Limits.{path-total, multiply, plan-total, every-plan, li
 use Rattle.blocks.specs.Bytes.{Bytes, u16, u32, signed, i16, i32, little-endian, zeros, within}
 use Rattle.blocks.specs.Block.{sum-below, block-count, whole-blocks, word-sum, sums-right, headed}
 use Rattle.models.specs.Layout.{literals, state-mask, pre-of, post-count, post-of, cell-at, outcome-of, entries, model-of}
-use Rattle.models.specs.Grounds.{kinds-right, sizes-right, mask-in-range, literals-in-range, action-in-range, outcome-in-range, cell-in-range, fields-right, action-spare, head-spare, row-spare, rows-spare, cell-spare, cells-spare, posts-contradict, cell-consistent, consistent, no-dead-ends, read-model}
+use Rattle.models.specs.Grounds.{kinds-right, sizes-right, mask-in-range, literals-in-range, action-in-range, outcome-in-range, cell-in-range, fields-right, action-spare, head-spare, row-spare, rows-spare, cell-spare, cells-spare, posts-contradict, cell-consistent, consistent, read-model}
 use Rattle.questions.specs.Layout.{node-of, formulas-of, question-of}
 use Rattle.questions.specs.Grounds.{compares, gain-bound, plan-bound, plan-in-range, node-in-range, node-spare, spare-zero, formed, read-question}
 use Rattle.sheets.specs.Layout.{with-word-sum}
@@ -29,8 +29,8 @@ unfoldable pub block : List (ℕ × List ℕ) → Bytes
 block runs = with-word-sum (foldr (λ r b. splice b (r .0) (r .1)) (replicate 510 0) runs)
 
 -- The two-shelf model: the head with three state masks and four actions, and one block of rows.
-unfoldable pub stored : Bytes
-stored =
+unfoldable pub two-shelf : Bytes
+two-shelf =
     block
     ((0, 1 ∷ 0 ∷ 3 ∷ 4 ∷ 2 ∷ 10 ∷ [])
     ∷ (12, 1 ∷ [])
@@ -51,6 +51,34 @@ stored =
 -- Proposition 1, next, next, and "plan": 2 steps, equal 45/100.
 unfoldable pub question : Bytes
 question = block ((0, 3 ∷ 0 ∷ 0 ∷ 4 ∷ []) ∷ (8, 2 ∷ 0 ∷ 1 ∷ []) ∷ (20, 6 ∷ []) ∷ (32, 6 ∷ 0 ∷ 1 ∷ []) ∷ (44, 8 ∷ 2 ∷ 2 ∷ 2 ∷ 45 ∷ 0 ∷ 0 ∷ 0 ∷ 100 ∷ []) ∷ [])
+
+-- The model without its wait action: in state 2 the work is over, and its cells are spare. They have some bytes.
+unfoldable pub without-wait : Bytes → Bytes
+without-wait spare =
+    block
+    ((0, 1 ∷ 0 ∷ 3 ∷ 3 ∷ 2 ∷ 10 ∷ [])
+    ∷ (12, 1 ∷ [])
+    ∷ (16, 2 ∷ [])
+    ∷ (140, 3 ∷ 0 ∷ 0 ∷ 0 ∷ 2 ∷ []) ∷ (148, 1 ∷ []) ∷ (160, 1 ∷ [])
+    ∷ (184, 3 ∷ 0 ∷ 0 ∷ 0 ∷ 2 ∷ []) ∷ (192, 1 ∷ []) ∷ (204, 1 ∷ [])
+    ∷ (224, 1 ∷ []) ∷ (232, 2 ∷ []) ∷ (236, 2 ∷ []) ∷ (248, 2 ∷ [])
+    ∷ [])
+    ++ block
+    ((0, 2 ∷ 1 ∷ [])
+    ∷ (4, 1 ∷ 8 ∷ 254 ∷ 255 ∷ 0 ∷ 2 ∷ 254 ∷ 255 ∷ [])
+    ∷ (20, 1 ∷ 5 ∷ 255 ∷ 255 ∷ 0 ∷ 5 ∷ 255 ∷ 255 ∷ [])
+    ∷ (164, 2 ∷ 9 ∷ 10 ∷ 0 ∷ 1 ∷ 1 ∷ [])
+    ∷ (260, spare)
+    ∷ [])
+
+-- Proposition 1, next, next, next, and "plan": 3 steps, equal 720/1000.
+unfoldable pub three-steps : Bytes
+three-steps =
+    block
+    ((0, 3 ∷ 0 ∷ 0 ∷ 5 ∷ [])
+    ∷ (8, 2 ∷ 0 ∷ 1 ∷ []) ∷ (20, 6 ∷ []) ∷ (32, 6 ∷ 0 ∷ 1 ∷ []) ∷ (44, 6 ∷ 0 ∷ 2 ∷ [])
+    ∷ (56, 8 ∷ 3 ∷ 3 ∷ 2 ∷ 208 ∷ 2 ∷ 0 ∷ 0 ∷ 232 ∷ 3 ∷ [])
+    ∷ [])
 
 -- Two states, and two actions that lead to both from each: 5 steps have 2 to the 31 plans.
 unfoldable pub coins : Bytes
@@ -81,17 +109,19 @@ row b t = record { input = b; printed = t }
 unfoldable pub table : List Row
 unfolding row
 table =
-    row (stored ++ question) "yes 45/100 plans 3 choices 1 2 0\n"
-    ∷ row (stored ++ replicate 512 1) "refused 2\n"
+    row (two-shelf ++ question) "yes 45/100 plans 3 choices 1 2 0\n"
+    ∷ row (two-shelf ++ replicate 512 1) "refused 2\n"
+    ∷ row (without-wait [] ++ three-steps) "yes 720/1000 plans 7 choices 1 2 255 2 1 2 0\n"
+    ∷ row (without-wait (2 ∷ 10 ∷ []) ++ three-steps) "refused 6\n"
     ∷ row (coins ++ five-steps) "refused 25\n"
-    ∷ row (question ++ stored) "refused 3\n"
+    ∷ row (question ++ two-shelf) "refused 3\n"
     ∷ row question "refused 1\n"
     ∷ row (replicate 511 0) "refused 1\n"
     ∷ row (replicate 6657 0) "refused 1\n"
     ∷ []
 
 chain-lines : map (λ r. answer-line (r .input)) table ≡ map (λ r. text (r .printed)) table
-unfolding table block stored question coins five-steps flatMap all any every some-below find keep product join count-from tabulate no-action true-of contradict mask prop-in enabled outcomes sum related plans choices paths weight nonnegative relation formula-of formulas depth is-path shallow sat W meets leads is-equal goal shown verdict path-total multiply plan-total every-plan limits u16 u32 signed i16 i32 little-endian zeros within sum-below block-count whole-blocks word-sum sums-right headed literals state-mask pre-of post-count post-of cell-at outcome-of entries model-of kinds-right sizes-right mask-in-range literals-in-range action-in-range outcome-in-range cell-in-range fields-right action-spare head-spare row-spare rows-spare cell-spare cells-spare posts-contradict cell-consistent consistent no-dead-ends read-model node-of formulas-of question-of compares gain-bound plan-bound plan-in-range node-in-range node-spare spare-zero formed read-question with-word-sum splice text decimal decimal-in refused-line plain-line no-plans-line yes-plan-line is-plan verdict-line judged-line line-of answer-line
+unfolding table block two-shelf question without-wait three-steps coins five-steps flatMap is-empty all any every find keep product join count-from tabulate no-action true-of contradict mask prop-in executable over enabled stored outcomes sum related plans choices paths weight nonnegative relation formula-of formulas depth is-path shallow sat W meets leads is-equal goal shown verdict path-total multiply plan-total every-plan limits u16 u32 signed i16 i32 little-endian zeros within sum-below block-count whole-blocks word-sum sums-right headed literals state-mask pre-of post-count post-of cell-at outcome-of entries model-of kinds-right sizes-right mask-in-range literals-in-range action-in-range outcome-in-range cell-in-range fields-right action-spare head-spare row-spare rows-spare cell-spare cells-spare posts-contradict cell-consistent consistent read-model node-of formulas-of question-of compares gain-bound plan-bound plan-in-range node-in-range node-spare spare-zero formed read-question with-word-sum splice text decimal decimal-in refused-line plain-line no-plans-line yes-plan-line is-plan verdict-line judged-line line-of answer-line
 chain-lines = refl
 
 map-same : {A B : Type 0} {f g : A → B} → ((x : A) → f x ≡ g x) → (l : List A) → map f l ≡ map g l

@@ -1,4 +1,5 @@
--- How the row of a state is filled, 256 numbers, from the blocks: its choices listed, their outcomes spelled out, their weights summed.
+-- How the row of a state is filled, 256 numbers, from the blocks: its choices listed, their outcomes spelled out, or the silent move put where
+-- there is none, and the weights summed.
 use Prim.Native.Nat.{ℕ, _+_, _*_, _/_, _%_, _<_}
 use mathlib.Core.Path.{_≡_}
 use mathlib.Core.List.{List}
@@ -6,7 +7,7 @@ use lib.Dec.{ltb}
 use lib.ListN.{getD, set, length}
 use Rattle.logic.specs.Lists.{keep, count-from}
 use Rattle.blocks.specs.Bytes.{Bytes, byte, u16}
-use Rattle.models.specs.Layout.{action-count, cell-at, entries}
+use Rattle.models.specs.Layout.{action-count, denominator-of, cell-at, entries}
 use Rattle.prepared_model.specs.promises.Rows.{lane}
 
 -- The first n actions, those that have outcomes in s.
@@ -53,8 +54,29 @@ pub record Summed (n : ℕ) (before row : List ℕ) : Type 0 where
   pub kept : (j : ℕ) → j < 128 → getD row j 0 ≡ getD before j 0
   pub at : (i x : ℕ) → i < n → x < 16 → getD row (128 + 16 * i + x) 0 ≡ pattern-sum before i x
 
--- The whole row of s.
-pub record Row (b : Bytes) (s : ℕ) (row : List ℕ) : Type 0 where
+-- The silent move put as the one choice, in lane 0: back to s, with the weight d and the reward 0. The weights of its other lanes are 0.
+abbrev pub silent-at : List ℕ → (s d : ℕ) → List ℕ
+silent-at row s d = set (set (set (set (set (set (set (set (set row 0 255) 8 1) 16 1) 32 s) 64 d) 65 0) 66 0) 67 0) 96 0
+
+-- The row of a state in which an action can be executed.
+pub record Acting (b : Bytes) (s : ℕ) (row : List ℕ) : Type 0 where
+  pub some : 0 < getD row 16 0
   pub chosen : Chosen b s row
   pub spelled : Spelled b s (4 * getD row 16 0) row
   pub summed : (i y : ℕ) → i < getD row 16 0 → y < 16 → getD row (128 + 16 * i + y) 0 ≡ pattern-sum row i y
+
+-- The row of a state in which the work is over.
+pub record Silent (b : Bytes) (s : ℕ) (row : List ℕ) : Type 0 where
+  pub none : length (listed b s (action-count b)) ≡ 0
+  pub count : getD row 16 0 ≡ 1
+  pub choice : getD row 0 0 ≡ 255
+  pub outcomes : getD row 8 0 ≡ 1
+  pub target : getD row 32 0 ≡ s
+  pub weight : getD row 64 0 ≡ denominator-of b
+  pub reward : getD row 96 0 ≡ 0
+  pub summed : (y : ℕ) → y < 16 → getD row (128 + y) 0 ≡ denominator-of b * lane y 0
+
+-- The whole row of s.
+pub data Row (b : Bytes) (s : ℕ) (row : List ℕ) : Type 0 where
+  acting : Acting b s row → Row b s row
+  silent : Silent b s row → Row b s row
