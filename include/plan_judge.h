@@ -23,7 +23,10 @@ extern "C" {
 #define PLAN_JUDGE_YES 1
 #define PLAN_JUDGE_REFUSED 100
 
-/* The numbers of refusals that this call can give.
+/* The choice byte of the silent move: in a state where no action is enabled the arm stays, with certainty and reward 0. */
+#define PLAN_JUDGE_SILENT 255
+
+/* The numbers of refusals that this call can give. (8 is not among them: a state with no enabled action is no ground any more.)
  *    1  length: model not 2 to 12 whole blocks, question not 1
  *    2  a block's words do not sum to 0
  *    3  wrong kind, or number out of sequence
@@ -31,7 +34,6 @@ extern "C" {
  *    5  a used field beyond its range
  *    6  a spare byte not zero
  *    7  postconditions that do not contradict, a target where its postcondition is false, weights not summing to the denominator
- *    8  a state with no enabled action
  *    9  the question's root is a path formula, or the child of a "plan" looks further than the plan's steps
  *   12  the sheet buffer is shorter than the sheet
  *   24  over 1,000,000 paths for some "plan" node and some state
@@ -40,7 +42,8 @@ extern "C" {
 
 /* Judges the question on the model. On yes to a question whose root is "plan", the sheet of the shown plan fills the first blocks of
  * `sheet` (1 to 3 blocks: byte 1 of each is its number, and every block but the last holds exactly 490 choices); a buffer of
- * PLAN_JUDGE_SHEET_MAX bytes is always long enough. In every other case, and beyond the sheet, no byte of `sheet` changes.
+ * PLAN_JUDGE_SHEET_MAX bytes is always long enough. A choice is the number of an action, or PLAN_JUDGE_SILENT where no action is
+ * enabled. In every other case, and beyond the sheet, no byte of `sheet` changes.
  *
  * The three slices may have any length and any contents; a pointer may be null where its length is 0. `sheet` must not overlap the
  * others. Nothing is allocated, nothing is kept between calls, and calls on different buffers may run at the same time. The call uses

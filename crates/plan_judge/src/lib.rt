@@ -129,7 +129,7 @@ pub fn empty() -> Desk
     }
 }
 
-// Loads a model, which clears the question and the verdict; or refuses it by grounds 1 to 8.
+// Loads a model, which clears the question and the verdict; or refuses it by grounds 1 to 7.
 pub fn load(d: Desk, b: &[u8]) -> Taking
     ensures value { λ r. ⌜ r ≡ loaded-by d (now (b .entry)) ⌝ }
 {
