@@ -42,8 +42,8 @@ extern "C" {
 
 /* Judges the question on the model. On yes to a question whose root is "plan", the sheet of the shown plan fills the first blocks of
  * `sheet` (1 to 3 blocks: byte 1 of each is its number, and every block but the last holds exactly 490 choices); a buffer of
- * PLAN_JUDGE_SHEET_MAX bytes is always long enough. A choice is the number of an action, or PLAN_JUDGE_SILENT where no action is
- * enabled. In every other case, and beyond the sheet, no byte of `sheet` changes.
+ * PLAN_JUDGE_SHEET_MAX bytes is always long enough. In every other case, and beyond the sheet, no byte of `sheet` changes. A choice
+ * is the number of an action, or PLAN_JUDGE_SILENT where no action is enabled.
  *
  * The three slices may have any length and any contents; a pointer may be null where its length is 0. `sheet` must not overlap the
  * others. Nothing is allocated, nothing is kept between calls, and calls on different buffers may run at the same time. The call uses

@@ -11,7 +11,7 @@ use mathlib.Core.Logic.{_⊎_, inl, inr, ⊎-elim}
 use mathlib.Core.List.{List, [], _∷_, flatMap}
 use lib.ListN.{length, getD, length-append, List·getD-eq-default}
 use Rattle.logic.specs.Lists.{tabulate}
-use Rattle.logic.specs.Model.{Model, Step, silent, silent-step, over, enabled, stored, outcomes}
+use Rattle.logic.specs.Model.{Model, Step, silent, silent-step, deadlocked, enabled, stored, outcomes}
 use Rattle.logic.specs.Quantity.{naturals, sum}
 use Rattle.logic.specs.promises.Orders.{weights, order}
 use Rattle.logic.specs.Plan.{paths, weight, choices}
@@ -88,7 +88,7 @@ module _ {m : List ℕ} (w : Prepared m) where
       past false e = rw e zero-le
 
       go : Dec (s < state-count m) → length (outcomes (model-in m) s a) ≤ 4
-      go (no h) = past (over (model-in m) s && eqb a silent) (none-past s a (omega arith))
+      go (no h) = past (deadlocked (model-in m) s && eqb a silent) (none-past s a (omega arith))
       go (yes h) =
           ⊎-elim
           (λ x.

@@ -21,7 +21,7 @@ use Rattle.exact_plan.proofs.Spans.{flatMap-more, flatMap-within}
 use Rattle.exact_plan.proofs.RoomForEach.{room-part}
 use Rattle.exact_plan.proofs.ListsWritten.{written-none, written-more, rebased, still}
 
--- The totals of the plans that begin with the action a, and the first i choices of a state.
+-- The totals of the plans that begin with the choice a, and the first i choices of a state.
 abbrev pub chosen : (m q : Bytes) (start : ℕ) (cone : List ℕ) (s j : ℕ) → List ℕ → ℕ → List ℕ
 chosen m q start cone s j T a = combined (weighed (model-in m) j (on-path m q start cone T)) (outcomes (model-in m) s a)
 

@@ -5,7 +5,7 @@ use native.Mathlib.Omega.{arith}
 use mathlib.Core.Path.{_≡_, refl, sym, ap, ap₂, subst, _∙_, fun-ext}
 use mathlib.Core.Logic.{_⊎_, inl, inr, ⊎-elim}
 use mathlib.Core.Bool.{Bool, true, false}
-use mathlib.Core.List.{List, [], _∷_, _++_, map, flatMap, map-append, map-map, map-id, List·Memᴰ, List·Memᴰ·head, List·Memᴰ·tail}
+use mathlib.Core.List.{List, [], _∷_, _++_, map, flatMap, map-append, map-map, map-id, List·Memᴰ}
 use lib.ListN.{length, drop, getD, set, replicate, length-map, length-drop, length-replicate, replicate-append-replicate}
 use lib.Seq.{drop-cons, drop-length}
 use Rattle.logic.proofs.Tests.{getD-member}

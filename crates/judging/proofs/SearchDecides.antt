@@ -1,5 +1,5 @@
 -- What a search's result decides. The search for "less" or "greater" goes as deep as the condition looks; the plan that it finds, continued
--- with first enabled actions, is the shown plan or none is. The search for "equal" finds the first place of the totals of all plans that
+-- with first choices, is the shown plan or none is. The search for "equal" finds the first place of the totals of all plans that
 -- has the one number that meets the bound, if there is such a number.
 use Prim.Native.Nat.{ℕ, zero, suc, _+_, _*_, _≤_, _<_}
 use native.Mathlib.Omega.{arith}

@@ -1,8 +1,7 @@
--- A test that computes, and gives what an accepted model promises: where an action can be executed its outcomes have weights that sum to D,
--- name it, lead to states by weights of at least 1 and to different ones, and fulfil its postconditions; an action that cannot be executed has none;
+-- A test that computes, and gives what an accepted model promises: where an action is enabled its outcomes have weights that sum to D,
+-- name it, lead to states by weights of at least 1 and to different ones, and fulfil its postconditions; an action that is not enabled has none;
 -- postconditions contradict in pairs; no action has the number of the silent move.
 use Prim.Native.Nat.{ℕ, _<_, _≤_}
-use native.Mathlib.Omega.{arith}
 use mathlib.Core.Path.{_≡_, refl, sym, ap, subst, _∙_}
 use mathlib.Core.Bool.{Bool, true, false, not, _&&_, _||_, false≢true}
 use mathlib.Core.List.{List, [], _∷_, List·Memᴰ}
@@ -10,14 +9,14 @@ use lib.Dec.{eqb, leb, ltb}
 use lib.ListN.{length, getD, List·getD-eq-default}
 use borrow.Author.Tests.{leb-true, ltb-false}
 use Rattle.logic.specs.Lists.{all, any, every, is-empty}
-use Rattle.logic.specs.Model.{Literals, Model, Step, true-of, contradict, mask, silent, executable, stored, outcomes}
+use Rattle.logic.specs.Model.{Literals, Model, Step, true-of, contradict, mask, silent, enabled-actions, stored, outcomes}
 use Rattle.logic.specs.Quantity.{naturals, sum}
 use Rattle.logic.specs.Order.{Rising, nothing, first}
 use Rattle.logic.specs.Plan.{Match, ends, pair}
 use Rattle.logic.specs.Accepted.{posts-of, Accepted}
 use Rattle.logic.proofs.Tests.{and-both, eqb-eq, eq-eqb, ltb-lt, all-at, any-some, every-at}
-use Rattle.logic.proofs.SilentMove.{executable-action}
-use Rattle.logic.proofs.AcceptedByActions.{Keeps, By-actions, by-actions}
+use Rattle.logic.proofs.SilentMove.{action-below}
+use Rattle.logic.proofs.AcceptedByActions.{Keeps, by-actions}
 
 unfoldable pub step-ok : Model → ℕ → Step → Bool
 step-ok m a o = eqb (o .choice) a && (ltb (o .target) (length (m .states)) && ltb 0 (o .weight))
@@ -42,12 +41,12 @@ choice-ok m s a =
     eqb (sum naturals (λ o. o .weight) (outcomes m s a)) (m .denominator)
     && (all (step-ok m a) (outcomes m s a) && (targets-differ (outcomes m s a) && fulfilled m (posts-of m a) (outcomes m s a)))
 
--- The row of a state has outcomes for no action that cannot be executed.
+-- The row of a state has outcomes for no action that is not enabled.
 unfoldable pub row-ok : Model → ℕ → Bool
-row-ok m s = every (length (getD (m .rows) s [])) (λ a. any (eqb a) (executable m s) || is-empty (stored m s a))
+row-ok m s = every (length (getD (m .rows) s [])) (λ a. any (eqb a) (enabled-actions m s) || is-empty (stored m s a))
 
 unfoldable pub state-ok : Model → ℕ → Bool
-state-ok m s = all (choice-ok m s) (executable m s) && row-ok m s
+state-ok m s = all (choice-ok m s) (enabled-actions m s) && row-ok m s
 
 unfoldable pub states-ok : Model → Bool
 states-ok m =
@@ -97,31 +96,31 @@ module _ (m : Model) (passed : states-ok m ≡ true) where
   posts-rising : (a : ℕ) → a < length (m .actions) → Rising (λ k l. contradict k l ≡ true) (posts-of m a)
   posts-rising a k = rising-posts (posts-of m a) (every-at (λ a. all-contradict (posts-of m a)) (length (m .actions)) (parts .3) k)
 
-  at-state : (s : ℕ) → s < length (m .states) → (all (choice-ok m s) (executable m s) ≡ true) × (row-ok m s ≡ true)
+  at-state : (s : ℕ) → s < length (m .states) → (all (choice-ok m s) (enabled-actions m s) ≡ true) × (row-ok m s ≡ true)
   unfolding state-ok
-  at-state s k = and-both (all (choice-ok m s) (executable m s)) _ (every-at (state-ok m) (length (m .states)) (parts .2) k)
+  at-state s k = and-both (all (choice-ok m s) (enabled-actions m s)) _ (every-at (state-ok m) (length (m .states)) (parts .2) k)
 
-  -- An action that cannot be executed has no outcomes: its row ends before it, or passed the test.
-  none-there : (s a : ℕ) → s < length (m .states) → (List·Memᴰ a (executable m s) → ⊥) → stored m s a ≡ []
+  -- An action that is not enabled has no outcomes: its row ends before it, or passed the test.
+  none-there : (s a : ℕ) → s < length (m .states) → (List·Memᴰ a (enabled-actions m s) → ⊥) → stored m s a ≡ []
   unfolding row-ok stored
   none-there s a k h = by (ltb a (length (getD (m .rows) s []))) refl
     where
-      tested : (t : Bool) → any (eqb a) (executable m s) ≡ t → (t || is-empty (stored m s a)) ≡ true → stored m s a ≡ []
-      tested true i e = let w = any-some (eqb a) (executable m s) i in absurd (h (subst (λ c. List·Memᴰ c (executable m s)) (sym (eqb-eq a (w .0) (w .2))) (w .1)))
+      tested : (t : Bool) → any (eqb a) (enabled-actions m s) ≡ t → (t || is-empty (stored m s a)) ≡ true → stored m s a ≡ []
+      tested true i e = let w = any-some (eqb a) (enabled-actions m s) i in absurd (h (subst (λ c. List·Memᴰ c (enabled-actions m s)) (sym (eqb-eq a (w .0) (w .2))) (w .1)))
       tested false i e = no-steps (stored m s a) e
 
       by : (t : Bool) → ltb a (length (getD (m .rows) s [])) ≡ t → stored m s a ≡ []
       by true e =
-          tested (any (eqb a) (executable m s)) refl
-          (every-at (λ a. any (eqb a) (executable m s) || is-empty (stored m s a)) (length (getD (m .rows) s [])) (at-state s k .1) (ltb-lt a (length (getD (m .rows) s [])) e))
+          tested (any (eqb a) (enabled-actions m s)) refl
+          (every-at (λ a. any (eqb a) (enabled-actions m s) || is-empty (stored m s a)) (length (getD (m .rows) s [])) (at-state s k .1) (ltb-lt a (length (getD (m .rows) s [])) e))
       by false e = List·getD-eq-default (getD (m .rows) s []) [] (ltb-false a (length (getD (m .rows) s [])) e)
 
-  module _ (s a : ℕ) (k : s < length (m .states)) (i : List·Memᴰ a (executable m s)) where
+  module _ (s a : ℕ) (k : s < length (m .states)) (i : List·Memᴰ a (enabled-actions m s)) where
     at-choice : (sum naturals (λ o. o .weight) (outcomes m s a) ≡ m .denominator)
         × (all (step-ok m a) (outcomes m s a) ≡ true) × (targets-differ (outcomes m s a) ≡ true) × (fulfilled m (posts-of m a) (outcomes m s a) ≡ true)
     unfolding choice-ok
     at-choice =
-        let e = all-at (choice-ok m s) (executable m s) (at-state s k .0) i in
+        let e = all-at (choice-ok m s) (enabled-actions m s) (at-state s k .0) i in
         let w = and-both (eqb (sum naturals (λ o. o .weight) (outcomes m s a)) (m .denominator)) _ e in
         let u = and-both (all (step-ok m a) (outcomes m s a)) _ (w .1) in
         let v = and-both (targets-differ (outcomes m s a)) _ (u .1) in
@@ -138,7 +137,7 @@ module _ (m : Model) (passed : states-ok m ≡ true) where
     keeps =
         record {
           fulfils = matched m (posts-of m a) (outcomes m s a) (at-choice .3);
-          contrary = posts-rising a (executable-action m s i);
+          contrary = posts-rising a (action-below m s i);
           apart = rising-targets _ (at-choice .2);
           sums = at-choice .0;
           weighs = λ o j. at-step o j .2;

@@ -1,22 +1,21 @@
--- A model is accepted if its actions keep what is promised wherever they can be executed: where the work is over, the silent move keeps it.
+-- A model is accepted if its actions keep what is promised wherever they are enabled: where the work is over, the silent move keeps it.
 use Prim.Native.Nat.{ℕ, _<_, _≤_}
-use native.Mathlib.Omega.{arith}
 use native.Mathlib.Nat.{add-zero}
-use mathlib.Core.Path.{_≡_, refl, sym, ap, subst, _∙_}
+use mathlib.Core.Path.{_≡_, sym, ap, subst, _∙_}
 use mathlib.Core.Logic.{⊎-elim}
 use mathlib.Core.Bool.{true, _&&_}
-use mathlib.Core.List.{List, [], _∷_, List·Memᴰ, List·Memᴰ·eq-of-singleton}
+use mathlib.Core.List.{[], _∷_, List·Memᴰ}
 use lib.Bits.{and-zero-r}
 use lib.Dec.{eqb}
 use lib.ListN.{length}
-use Rattle.logic.specs.Model.{Literals, Model, Step, true-of, contradict, mask, silent, silent-step, executable, over, stored, outcomes}
+use Rattle.logic.specs.Model.{Model, Step, always, true-of, contradict, mask, silent, silent-step, enabled-actions, deadlocked, stored, outcomes}
 use Rattle.logic.specs.Quantity.{naturals, sum}
 use Rattle.logic.specs.Order.{Rising}
 use Rattle.logic.specs.Plan.{Match, ends, pair}
 use Rattle.logic.specs.Accepted.{posts-of, Accepted, Executable}
 use Rattle.logic.proofs.Rising.{rising-one}
 use Rattle.logic.proofs.Postconditions.{unique-post, unique-target}
-use Rattle.logic.proofs.SilentMove.{silent-outcomes, choice-kind, some-choice, executable-enabled, no-choice-stored}
+use Rattle.logic.proofs.SilentMove.{silent-outcomes, one-outcome, choice-kind, some-choice, action-is-choice, no-choice-stored}
 
 -- What is promised of the outcomes of a choice.
 pub record Keeps (m : Model) (s a : ℕ) : Type 0 where
@@ -33,18 +32,14 @@ pub record By-actions (m : Model) : Type 0 where
   pub divides : 0 < m .denominator
   pub numbered : length (m .actions) ≤ silent
   pub contradicts : (a : ℕ) → a < length (m .actions) → Rising (λ k l. contradict k l ≡ true) (posts-of m a)
-  pub unused : (s a : ℕ) → s < length (m .states) → (List·Memᴰ a (executable m s) → ⊥) → stored m s a ≡ []
-  pub keeps : (s a : ℕ) → s < length (m .states) → List·Memᴰ a (executable m s) → Keeps m s a
+  pub unused : (s a : ℕ) → s < length (m .states) → (List·Memᴰ a (enabled-actions m s) → ⊥) → stored m s a ≡ []
+  pub keeps : (s a : ℕ) → s < length (m .states) → List·Memᴰ a (enabled-actions m s) → Keeps m s a
 
--- Two zero masks are true of every state.
-always-true : (v : ℕ) → true-of (record { positive = 0; negative = 0 }) v ≡ true
+always-true : (v : ℕ) → true-of always v ≡ true
 unfolding true-of
 always-true v = ap (λ x. eqb x 0 && eqb x 0) (and-zero-r v)
 
-module _ (m : Model) (s : ℕ) (d : 0 < m .denominator) (h : s < length (m .states)) (w : over m s ≡ true) where
-  one-outcome : {o : Step} → List·Memᴰ o (outcomes m s silent) → o ≡ silent-step m s
-  one-outcome {o} i = List·Memᴰ·eq-of-singleton (subst (List·Memᴰ o) (silent-outcomes m s w) i)
-
+module _ (m : Model) (s : ℕ) (d : 0 < m .denominator) (h : s < length (m .states)) (w : deadlocked m s ≡ true) where
   silent-keeps : Keeps m s silent
   unfolding sum
   silent-keeps =
@@ -54,9 +49,9 @@ module _ (m : Model) (s : ℕ) (d : 0 < m .denominator) (h : s < length (m .stat
         contrary = rising-one _ _;
         apart = subst (Rising (λ x y. x .target ≡ y .target → ⊥)) (sym e) (rising-one _ _);
         sums = ap (sum naturals (λ o. o .weight)) e ∙ add-zero (m .denominator);
-        weighs = λ o i. subst (λ (x : Step). 0 < x .weight) (sym (one-outcome i)) d;
-        inside = λ o i. subst (λ (x : Step). x .target < length (m .states)) (sym (one-outcome i)) h;
-        named = λ o i. ap (λ x. x .choice) (one-outcome i);
+        weighs = λ o i. subst (λ (x : Step). 0 < x .weight) (sym (one-outcome m s w i)) d;
+        inside = λ o i. subst (λ (x : Step). x .target < length (m .states)) (sym (one-outcome m s w i)) h;
+        named = λ o i. ap (λ x. x .choice) (one-outcome m s w i);
       }
 
 module _ (m : Model) (g : By-actions m) where
@@ -68,7 +63,7 @@ module _ (m : Model) (g : By-actions m) where
   by-actions =
       record {
         some-choice = λ s h. some-choice m s;
-        defined = λ s a h e. no-choice-stored m s a e ∙ g .unused s a h (λ i. e (executable-enabled m s i));
+        defined = λ s a h e. no-choice-stored m s a e ∙ g .unused s a h (λ i. e (action-is-choice m s i));
         fulfils = λ x. keeps x .fulfils;
         one-post = λ x o i k l. unique-post m (keeps x .contrary) o;
         one-target = λ x. unique-target m (keeps x .fulfils) (keeps x .contrary);

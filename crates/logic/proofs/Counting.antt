@@ -1,5 +1,5 @@
 -- `all-paths` has the n-step paths under enabled choices and no others, each once in an accepted model, and `path-total` is their number.
--- Paths that begin with different actions differ since a step names its action; those of one action differ by the outcome's target.
+-- Paths that begin with different choices differ since a step names its choice; those of one choice differ by the outcome's target.
 use Prim.Native.Nat.{ℕ, zero, suc, _<_}
 use native.Mathlib.Omega.{arith}
 use mathlib.Core.Path.{_≡_, refl, sym, ap, subst, _∙_}
@@ -19,7 +19,7 @@ use Rattle.logic.proofs.Dictionary.{enabled-rising}
 use Rattle.logic.proofs.Steps.{Differ, heads, each-first, first-member, in-first, length-first, first-once}
 
 module _ (m : Model) where
-  -- The paths below an outcome, and those that begin with the action a.
+  -- The paths below an outcome, and those that begin with the choice a.
   below : ℕ → Step → List (List Step)
   below n o = all-paths m n (o .target)
 

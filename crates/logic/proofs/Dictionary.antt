@@ -8,7 +8,7 @@ use mathlib.Core.Bool.{Bool, true, false, cond}
 use mathlib.Core.List.{List, [], _∷_, _++_, map, flatMap, List·Memᴰ, List·Memᴰ·head}
 use lib.ListN.{length, length-map}
 use Rattle.logic.specs.Lists.{product}
-use Rattle.logic.specs.Model.{Model, silent, executable, over, enabled, outcomes}
+use Rattle.logic.specs.Model.{Model, silent, enabled-actions, deadlocked, enabled, outcomes}
 use Rattle.logic.specs.Plan.{Plan, plans, choices}
 use Rattle.logic.specs.Order.{Before, differ, agree, Rising, Is-plan}
 use Rattle.logic.specs.Quantity.{naturals}
@@ -83,10 +83,10 @@ module _ {A B : Type 0} (key : B → List ℕ) (g : A → List B) where
 
 -- The choices in a state stand in rising order.
 pub enabled-rising : (m : Model) (s : ℕ) → Rising (λ a b. a < b) (enabled m s)
-unfolding enabled executable
-enabled-rising m s = by (over m s)
+unfolding enabled enabled-actions
+enabled-rising m s = by (deadlocked m s)
   where
-    by : (t : Bool) → Rising (λ a b. a < b) (cond t (silent ∷ []) (executable m s))
+    by : (t : Bool) → Rising (λ a b. a < b) (cond t (silent ∷ []) (enabled-actions m s))
     by true = rising-one _ silent
     by false = rising-keep (λ a b. a < b) _ (rising-count 0 (length (m .actions)))
 

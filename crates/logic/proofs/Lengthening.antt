@@ -1,6 +1,6 @@
 -- A value that looks at the first d steps only: over n steps its greatest total is that over d steps, times D to the n - d, and the plan of
--- first-best choices is the one of d steps, continued with first enabled actions. Beyond d every enabled choice is worth the same, since an
--- action's weights sum to D. The same for the least total: the order is any that does not mind a factor.
+-- first-best choices is the one of d steps, continued with first choices. Beyond d every enabled choice is worth the same, since a
+-- choice's weights sum to D. The same for the least total: the order is any that does not mind a factor.
 use Prim.Native.Nat.{ℕ, zero, suc, _+_, _*_, _-_, _^_, _<_, _≤_}
 use native.Mathlib.Omega.{arith}
 use native.Mathlib.Nat.{le-of-suc-le-suc, not-suc-le-zero, mul-assoc, mul-left-comm, mul-comm, one-mul, pow-zero, pow-suc, mul-pos, le-refl, mul-le-mul-left, le-of-mul-le-mul-left}

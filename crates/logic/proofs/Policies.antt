@@ -1,6 +1,6 @@
--- "Some plan" is the published "some policy". A policy gives a plan: its actions on the histories that it meets. A plan gives a policy:
+-- "Some plan" is the published "some policy". A policy gives a plan: its choices on the histories that it meets. A plan gives a policy:
 -- along a history of states it is followed into the plan below the outcome with the next state, which is one outcome at most since
--- targets of an action differ; after a history that the plan cannot meet, the first enabled action is taken. Each way the paths stay
+-- targets of a choice differ; after a history that the plan cannot meet, the first choice is taken. Each way the paths stay
 -- the same, in the same order, and so do the weights.
 use Prim.Native.Nat.{ℕ, zero, suc, _<_}
 use mathlib.Core.Path.{_≡_, refl, sym, ap, subst, _∙_}
@@ -25,7 +25,7 @@ use Rattle.logic.proofs.PolicyPaths.{onward, History, longer, no-steps,
 -- ---- from a policy to a plan
 
 module _ (m : Model) (act : List ℕ → ℕ) where
-  -- The policy's actions after the history h, which ends in s.
+  -- The policy's choices after the history h, which ends in s.
   unfoldable pub plan-from : (n : ℕ) → List ℕ → ℕ → Plan n
   plan-from zero h s = tt
   plan-from (suc n) h s = (act h, map (λ o. plan-from n (h ++ (o .target ∷ [])) (o .target)) (outcomes m s (act h)))
@@ -92,7 +92,7 @@ unfoldable pub first-enabled : Model → ℕ → ℕ
 first-enabled m s = elim (enabled m s) [ [] ↦ 0 | a ∷ l ↦ a ]
 
 module _ (m : Model) where
-  -- The plan's action after the states h that come after s; the first enabled action if h is too long, or not met.
+  -- The plan's choice after the states h that come after s; the first choice if h is too long, or not met.
   unfoldable pub follow : (n : ℕ) → Plan n → ℕ → List ℕ → ℕ
   follow zero p s h = first-enabled m (last s h)
   follow (suc n) p s [] = p .0

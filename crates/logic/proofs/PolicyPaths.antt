@@ -1,4 +1,4 @@
--- `policy-paths` has the n-step paths that follow a policy and no others, and each once in an accepted model: the policy's action is enabled
+-- `policy-paths` has the n-step paths that follow a policy and no others, and each once in an accepted model: the policy's choice is enabled
 -- after every history on the way, and its outcomes lead to different states.
 use Prim.Native.Nat.{ℕ, zero, suc, _+_, _<_, _≤_}
 use native.Mathlib.Omega.{arith}
@@ -61,7 +61,7 @@ unfolding last
 no-steps m n s k = record { ends-in = refl; state = k; states = λ u i. absurd (List·Memᴰ·not-nil i); room = omega arith }
 
 module _ {m : Model} {N s : ℕ} (π : Policy m N s) where
-  -- The policy's action after a history is enabled.
+  -- The policy's choice after a history is enabled.
   pub policy-enabled : {n : ℕ} {h : List ℕ} {t : ℕ} → History m N s (suc n) h t → Executable m t (π .act (s ∷ h))
   policy-enabled {n} {h} {t} y =
       let e = π .executable h (omega (arith, y .room)) (y .states) in

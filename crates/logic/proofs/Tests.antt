@@ -11,7 +11,7 @@ use mathlib.Core.Option.{none, some}
 use mathlib.Core.List.{List, [], _∷_, _++_, map, map-append, List·Memᴰ, List·Memᴰ·head, List·Memᴰ·tail, List·Memᴰ·not-nil, List·Memᴰ·cases-cons}
 use lib.Dec.{T, eqb, ltb, eqb→eq, eqb-refl, ltb→lt}
 use lib.ListN.{length, getD, length-map}
-use Rattle.logic.specs.Lists.{keep, any, all, find, count-from, tabulate, every, some-below}
+use Rattle.logic.specs.Lists.{is-empty, keep, any, all, find, count-from, tabulate, every, some-below}
 use Rattle.logic.proofs.Members.{map-member, in-map}
 
 -- ---- one test
@@ -66,6 +66,16 @@ module _ {A : Type 0} where
 pub member-place : {A : Type 0} {l : List A} {a : A} → List·Memᴰ a l → (d : A) → (i : ℕ) × (i < length l) × (getD l i d ≡ a)
 member-place (List·Memᴰ·head e) d = (0, omega arith, sym e)
 member-place (List·Memᴰ·tail t) d = let w = member-place t d in (suc (w .0), suc-le-suc (w .1), w .2)
+
+pub length-empty : {A : Type 0} (l : List A) → length l ≡ 0 → is-empty l ≡ true
+unfolding is-empty
+length-empty [] h = refl
+length-empty (x ∷ l) h = absurd (omega arith)
+
+pub length-some : {A : Type 0} (l : List A) → 0 < length l → is-empty l ≡ false
+unfolding is-empty
+length-some [] h = absurd (omega arith)
+length-some (x ∷ l) h = refl
 
 pub getD-member : {A : Type 0} (l : List A) (i : ℕ) (d : A) → i < length l → List·Memᴰ (getD l i d) l
 getD-member [] i d h = absurd (omega arith)

@@ -1,29 +1,30 @@
--- What an accepted model promises: Definition 1 of the PLBP paper in whole numbers, each of its conditions, the "do nothing" action that the
--- paper adds being one of the actions, and that postconditions contradict. (The ranges of document 01 are grounds 4 and 5.)
+-- What an accepted model promises: Definition 1 of the PLBP paper in whole numbers, each of its conditions, and that postconditions
+-- contradict. The "do nothing" action that the paper adds, the silent move, is among the choices. (The ranges of document 01 are grounds 4
+-- and 5.)
 use Prim.Native.Nat.{ℕ, _<_, _≤_}
 use mathlib.Core.Path.{_≡_}
 use mathlib.Core.List.{List, [], _∷_, List·Memᴰ}
 use mathlib.Core.Bool.{true, cond}
 use lib.Dec.{eqb}
 use lib.ListN.{length, getD}
-use Rattle.logic.specs.Model.{Literals, Model, Step, no-action, true-of, contradict, mask, silent, enabled, outcomes}
+use Rattle.logic.specs.Model.{Literals, Model, Step, always, no-action, true-of, contradict, mask, silent, enabled, outcomes}
 use Rattle.logic.specs.Quantity.{naturals, sum}
 use Rattle.logic.specs.Plan.{Match}
 use Rattle.logic.specs.Order.{Rising}
 
 -- The postconditions of a choice: those of the action; the silent move has one, which is always true.
 abbrev pub posts-of : Model → ℕ → List Literals
-posts-of m a = cond (eqb a silent) (record { positive = 0; negative = 0 } ∷ []) ((getD (m .actions) a no-action) .posts)
+posts-of m a = cond (eqb a silent) (always ∷ []) ((getD (m .actions) a no-action) .posts)
 
--- The state s and the choice a are a state of the model and a choice there: an action that can be executed, or the silent move.
+-- The state s and the choice a are a state of the model and a choice there: an enabled action, or the silent move.
 pub record Executable (m : Model) (s a : ℕ) : Type 0 where
   pub state : s < length (m .states)
   pub choice : List·Memᴰ a (enabled m s)
 
 pub record Accepted (m : Model) : Type 0 where
-  -- (i) every state has a choice, since the silent move is one where the work is over
+  -- (i) every state has a choice (it does in any model, by the silent move: `SilentMove.some-choice`)
   pub some-choice : (s : ℕ) → s < length (m .states) → (a : ℕ) × (l : List ℕ) × (enabled m s ≡ a ∷ l)
-  -- (ii) what a choice leads to is given where it is enabled, for an action by its precondition (`executable`), and not elsewhere
+  -- (ii) a choice leads somewhere only where it is enabled, an action where its precondition is true (`enabled-actions`)
   pub defined : (s a : ℕ) → s < length (m .states) → (List·Memᴰ a (enabled m s) → ⊥) → outcomes m s a ≡ []
   -- (iii) a choice has one outcome for each postcondition, in their order, in a target where that postcondition is true;
   pub fulfils : {s a : ℕ} → Executable m s a → Match (λ k o. true-of k (mask m (o .target)) ≡ true) (posts-of m a) (outcomes m s a)

@@ -33,9 +33,13 @@ pub record Model : Type 0 where
   pub actions : List Action
   pub rows : List (List (List Step))
 
+-- Two zero masks: true of every state.
+abbrev pub always : Literals
+always = record { positive = 0; negative = 0 }
+
 -- What stands past the end of the actions.
 unfoldable pub no-action : Action
-no-action = record { pre = record { positive = 0; negative = 0 }; posts = [] }
+no-action = record { pre = always; posts = [] }
 
 -- The literals are true of a state's mask.
 unfoldable pub true-of : Literals → ℕ → Bool
@@ -53,13 +57,13 @@ mask m s = getD (m .states) s 0
 unfoldable pub prop-in : Model → ℕ → ℕ → Bool
 prop-in m s i = eqb (mask m s / 2 ^ i % 2) 1
 
--- The actions that can be executed in a state, rising: those whose precondition is true there. Condition (ii) of Definition 1.
-unfoldable pub executable : Model → ℕ → List ℕ
-executable m s = keep (λ a. true-of ((getD (m .actions) a no-action) .pre) (mask m s)) (count-from 0 (length (m .actions)))
+-- The actions that are enabled in a state, rising: those whose precondition is true there. Condition (ii) of Definition 1.
+unfoldable pub enabled-actions : Model → ℕ → List ℕ
+enabled-actions m s = keep (λ a. true-of ((getD (m .actions) a no-action) .pre) (mask m s)) (count-from 0 (length (m .actions)))
 
--- The work is over in a state: no action can be executed there.
-unfoldable pub over : Model → ℕ → Bool
-over m s = is-empty (executable m s)
+-- No action is enabled in the state: a deadlock of Definition 1, in document 02's words a state where the work is over.
+unfoldable pub deadlocked : Model → ℕ → Bool
+deadlocked m s = is-empty (enabled-actions m s)
 
 -- The silent move, document 02's word for the "do nothing" action that the PLBP paper adds after Definition 1: its choice byte, which is the
 -- number of no action, and its one outcome in s, back to s itself, with the weight D and the reward 0.
@@ -69,14 +73,14 @@ silent = 255
 abbrev pub silent-step : Model → ℕ → Step
 silent-step m s = record { choice = silent; target = s; weight = m .denominator; reward = pos 0 }
 
--- The choices in a state, rising: the actions that can be executed; where the work is over, the silent move alone.
+-- The choices in a state, rising: the enabled actions; where there is none, the silent move alone.
 unfoldable pub enabled : Model → ℕ → List ℕ
-enabled m s = cond (over m s) (silent ∷ []) (executable m s)
+enabled m s = cond (deadlocked m s) (silent ∷ []) (enabled-actions m s)
 
 -- The outcomes of an action as the model gives them, in postcondition order.
 unfoldable pub stored : Model → ℕ → ℕ → List Step
 stored m s a = getD (getD (m .rows) s []) a []
 
--- What a choice can lead to, in postcondition order.
+-- What a choice can lead to, in postcondition order: the silent move's one outcome where it is a choice, else what the model gives.
 unfoldable pub outcomes : Model → ℕ → ℕ → List Step
-outcomes m s a = cond (over m s && eqb a silent) (silent-step m s ∷ []) (stored m s a)
+outcomes m s a = cond (deadlocked m s && eqb a silent) (silent-step m s ∷ []) (stored m s a)

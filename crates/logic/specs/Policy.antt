@@ -13,7 +13,7 @@ unfoldable pub last : ℕ → List ℕ → ℕ
 last s [] = s
 last s (t ∷ h) = last t h
 
--- An n-step policy from s: an action for every sequence of at most n states that begins with s, enabled in the sequence's last state,
+-- An n-step policy from s: a choice for every sequence of at most n states that begins with s, enabled in the sequence's last state,
 -- whether or not the policy can meet that sequence.
 pub record Policy (m : Model) (n s : ℕ) : Type 0 where
   pub act : List ℕ → ℕ

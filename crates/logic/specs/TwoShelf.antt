@@ -4,7 +4,7 @@ use mathlib.Core.Path.{_≡_, refl}
 use mathlib.Core.List.{List, [], _∷_, map, flatMap}
 use lib.IntN.{ℤ, pos, negsuc}
 use Rattle.logic.specs.Lists.{is-empty, all, any, find, keep, product, join, count-from}
-use Rattle.logic.specs.Model.{Model, Step, Literals, Action, no-action, true-of, mask, prop-in, executable, over, enabled, stored, outcomes}
+use Rattle.logic.specs.Model.{Model, Step, Literals, Action, no-action, true-of, mask, prop-in, enabled-actions, deadlocked, enabled, stored, outcomes}
 use Rattle.logic.specs.Quantity.{sum, Relation, less, equal, greater, related}
 use Rattle.logic.specs.Plan.{plans, choices, paths, weight}
 use Rattle.logic.specs.Formula.{Formula, prop, neg, both, does, next, gain, plan, sat, W, meets}
@@ -80,5 +80,5 @@ table =
     ∷ []
 
 pub two-shelf-verdicts : map (λ r. verdict two-shelf 0 (plan (r .steps) (r .condition) (r .rel) (r .p) (r .q))) table ≡ map (λ r. r .answer) table
-unfolding two-shelf table is-empty all any find keep product join count-from flatMap no-action true-of mask prop-in executable over enabled stored outcomes plans choices paths weight sum sat W meets related leads is-equal goal shown verdict
+unfolding two-shelf table is-empty all any find keep product join count-from flatMap no-action true-of mask prop-in enabled-actions deadlocked enabled stored outcomes plans choices paths weight sum sat W meets related leads is-equal goal shown verdict
 two-shelf-verdicts = refl

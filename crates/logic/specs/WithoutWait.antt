@@ -1,11 +1,10 @@
 -- The two-shelf model without its wait action, as document 02, A.1, allows it: in state 2, where the pack is delivered, the work is over. Its
 -- verdicts from state 0 over three steps, in which a pack that is delivered with the second step makes the silent move with the third.
-use Prim.Native.Nat.{ℕ}
 use mathlib.Core.Path.{_≡_, refl}
 use mathlib.Core.List.{List, [], _∷_, map, flatMap}
 use lib.IntN.{pos, negsuc}
 use Rattle.logic.specs.Lists.{is-empty, all, any, find, keep, product, join, count-from}
-use Rattle.logic.specs.Model.{Model, no-action, true-of, mask, prop-in, executable, over, enabled, stored, outcomes}
+use Rattle.logic.specs.Model.{Model, no-action, true-of, mask, prop-in, enabled-actions, deadlocked, enabled, stored, outcomes}
 use Rattle.logic.specs.Quantity.{sum, equal, greater, related}
 use Rattle.logic.specs.Plan.{plans, choices, paths, weight}
 use Rattle.logic.specs.Formula.{Formula, neg, both, does, next, gain, plan, sat, W, meets}
@@ -51,5 +50,5 @@ table =
     ∷ []
 
 pub without-wait-verdicts : map (λ r. verdict without-wait 0 (plan (r .steps) (r .condition) (r .rel) (r .p) (r .q))) table ≡ map (λ r. r .answer) table
-unfolding without-wait table is-empty all any find keep product join count-from flatMap no-action true-of mask prop-in executable over enabled stored outcomes plans choices paths weight sum sat W meets related leads is-equal goal shown verdict
+unfolding without-wait table is-empty all any find keep product join count-from flatMap no-action true-of mask prop-in enabled-actions deadlocked enabled stored outcomes plans choices paths weight sum sat W meets related leads is-equal goal shown verdict
 without-wait-verdicts = refl

@@ -1,48 +1,52 @@
 -- The choices of an accepted model, by its bytes: an action has as many outcomes as its cell has used entries; the silent move has one where no
 -- precondition is true, and none elsewhere.
-use Prim.Native.Nat.{ℕ, _<_}
+use Prim.Native.Nat.{ℕ, _+_, _*_, _-_, _/_, _<_}
 use native.Mathlib.Omega.{arith}
 use mathlib.Core.Path.{_≡_, refl, sym, ap, ap₂, _∙_}
-use mathlib.Core.Bool.{Bool, true, false, false≢true}
-use mathlib.Core.List.{List, [], _∷_, List·Memᴰ, List·Memᴰ·head, List·Memᴰ·not-nil}
+use mathlib.Core.Bool.{Bool, true, false, _&&_, false≢true}
+use mathlib.Core.List.{List, [], _∷_, List·Memᴰ, List·Memᴰ·head}
 use lib.ListN.{length, getD}
-use Rattle.logic.specs.Lists.{is-empty, some-below, count-from, tabulate}
+use Rattle.logic.specs.Lists.{is-empty, every, some-below}
 use Rattle.logic.specs.promises.Refusal.{refusal}
-use Rattle.logic.specs.Model.{true-of, silent, silent-step, executable, over, outcomes}
-use Rattle.logic.proofs.Tests.{some-below-at, some-below-index, length-tabulate, getD-tabulate}
-use Rattle.logic.proofs.SilentMove.{silent-outcomes, actions-outcomes, action-outcomes}
-use Rattle.blocks.specs.Bytes.{Bytes}
-use Rattle.models.specs.Layout.{state-count, action-count, state-mask, pre-of, outcome-of, entries, model-of}
-use Rattle.models.specs.Grounds.{read-model}
+use Rattle.logic.specs.Model.{true-of, silent, silent-step, enabled-actions, deadlocked, outcomes}
+use Rattle.logic.proofs.Tests.{and-right, every-at, member-place, length-some, some-below-at, some-below-index, length-tabulate, getD-tabulate}
+use Rattle.logic.proofs.SilentMove.{silent-outcomes, outcomes-stored, action-outcomes}
+use Rattle.blocks.specs.Bytes.{Bytes, zeros}
+use Rattle.blocks.specs.Block.{block-count}
+use Rattle.models.specs.Layout.{state-count, action-count, state-mask, pre-of, cell-at, outcome-of, entries, model-of}
+use Rattle.models.specs.Grounds.{head-spare, rows-spare, cell-spare, cells-spare, read-model}
 use Rattle.models.proofs.EveryCell.{entries-past-actions}
 use Rattle.models.proofs.GroundsPassed.{passed-all, passed-sized}
 use Rattle.models.proofs.OutcomesOfCell.{stored-are}
-use Rattle.models.proofs.ModelOfBytes.{executable-in, executable-range}
+use Rattle.models.proofs.ModelOfBytes.{enabled-in, enabled-range, no-entries}
 
-not-empty : (l : List ℕ) {a : ℕ} → List·Memᴰ a l → is-empty l ≡ false
+-- A list without members is empty.
+none-empty : (l : List ℕ) → ((a : ℕ) → List·Memᴰ a l → ⊥) → is-empty l ≡ true
 unfolding is-empty
-not-empty [] i = absurd (List·Memᴰ·not-nil i)
-not-empty (x ∷ l) i = refl
+none-empty [] h = refl
+none-empty (x ∷ l) h = absurd (h x (List·Memᴰ·head refl))
 
-empty : (l : List ℕ) → ((a : ℕ) → List·Memᴰ a l → ⊥) → is-empty l ≡ true
-unfolding is-empty
-empty [] h = refl
-empty (x ∷ l) h = absurd (h x (List·Memᴰ·head refl))
+-- An empty list has no members.
+empty-none : (l : List ℕ) → is-empty l ≡ true → (a : ℕ) → List·Memᴰ a l → ⊥
+empty-none l e a i = let w = member-place i 0 in false≢true (sym (length-some l (omega (arith, w .1))) ∙ e)
 
 module _ (b : Bytes) (s : ℕ) (h : s < state-count b) where
-  -- Some action can be executed in s, by the bytes.
+  -- Some action is enabled in s, by the bytes.
   abbrev some-action : Bool
   some-action = some-below (action-count b) (λ a. true-of (pre-of b a) (state-mask b s))
 
-  pub not-over : some-action ≡ true → over (model-of b) s ≡ false
-  unfolding over
-  not-over e = let w = some-below-index _ (action-count b) e in not-empty (executable (model-of b) s) (executable-in b s (w .0) h (w .1) (w .2))
+  pub not-deadlocked : some-action ≡ true → deadlocked (model-of b) s ≡ false
+  unfolding deadlocked
+  not-deadlocked e =
+      let w = some-below-index _ (action-count b) e in
+      let x = member-place (enabled-in b s (w .0) h (w .1) (w .2)) 0 in
+      length-some (enabled-actions (model-of b) s) (omega (arith, x .1))
 
-  pub is-over : some-action ≡ false → over (model-of b) s ≡ true
-  unfolding over
-  is-over e =
-      empty (executable (model-of b) s)
-      (λ a i. let w = executable-range b s a h i in false≢true (sym e ∙ some-below-at (λ a. true-of (pre-of b a) (state-mask b s)) (action-count b) (w .0) (w .1)))
+  pub is-deadlocked : some-action ≡ false → deadlocked (model-of b) s ≡ true
+  unfolding deadlocked
+  is-deadlocked e =
+      none-empty (enabled-actions (model-of b) s)
+      (λ a i. let w = enabled-range b s a h i in false≢true (sym e ∙ some-below-at (λ a. true-of (pre-of b a) (state-mask b s)) (action-count b) (w .0) (w .1)))
 
 module _ (b : Bytes) (e : refusal (read-model b) ≡ 0) (s : ℕ) (h : s < state-count b) where
   -- The silent move has no cell.
@@ -56,12 +60,12 @@ module _ (b : Bytes) (e : refusal (read-model b) ≡ 0) (s : ℕ) (h : s < state
   silent-none a z t =
       sym
       (ap (λ c. length (outcomes (model-of b) s c)) z
-      ∙ ap length (actions-outcomes (model-of b) s (not-over b s h t) silent ∙ stored-are b s silent)
+      ∙ ap length (outcomes-stored (model-of b) s (not-deadlocked b s h t) silent ∙ stored-are b s silent)
       ∙ length-tabulate (outcome-of b s silent) (entries b s silent)
       ∙ no-cell)
 
   pub silent-one : (a : ℕ) → a ≡ silent → some-action b s h ≡ false → 1 ≡ length (outcomes (model-of b) s a)
-  silent-one a z t = sym (ap (λ c. length (outcomes (model-of b) s c)) z ∙ ap length (silent-outcomes (model-of b) s (is-over b s h t)))
+  silent-one a z t = sym (ap (λ c. length (outcomes (model-of b) s c)) z ∙ ap length (silent-outcomes (model-of b) s (is-deadlocked b s h t)))
 
   pub action-target : (a i : ℕ) → (a ≡ silent → ⊥) → i < length (outcomes (model-of b) s a)
       → (outcome-of b s a i) .target ≡ (getD (outcomes (model-of b) s a) i (silent-step (model-of b) s)) .target
@@ -81,4 +85,16 @@ module _ (b : Bytes) (e : refusal (read-model b) ≡ 0) (s : ℕ) (h : s < state
           let first : i ≡ 0 = omega (arith, silent-one a z t) in
           sym
           (ap₂ (λ c j. (getD (outcomes (model-of b) s c) j (silent-step (model-of b) s)) .target) z first
-          ∙ ap (λ r. (getD r 0 (silent-step (model-of b) s)) .target) (silent-outcomes (model-of b) s (is-over b s h t)))
+          ∙ ap (λ r. (getD r 0 (silent-step (model-of b) s)) .target) (silent-outcomes (model-of b) s (is-deadlocked b s h t)))
+
+  -- Where the work is over every cell is spare: it has nothing but zeros.
+  pub cells-zero : deadlocked (model-of b) s ≡ true → (a : ℕ) → a < 8 → zeros b (cell-at s a) 16 ≡ true
+  unfolding deadlocked cells-spare cell-spare block-count
+  cells-zero w a g =
+      let p = passed-all b e in
+      let n = passed-sized b p .bytes in
+      let none : entries b s a ≡ 0 = no-entries b p s a h (empty-none (enabled-actions (model-of b) s) w a) in
+      let row = every-at (λ s. every 8 (cell-spare b s)) (3 * (length b / 512 - 1)) (and-right (head-spare b && rows-spare b) (cells-spare b) (p .spare)) {i = s} (omega arith) in
+      let at : cell-at s a + 4 * entries b s a ≡ cell-at s a = omega arith in
+      let size : 16 - 4 * entries b s a ≡ 16 = omega arith in
+      sym (ap₂ (zeros b) at size) ∙ every-at (cell-spare b s) 8 row g

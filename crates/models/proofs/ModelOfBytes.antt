@@ -11,8 +11,8 @@ use lib.IntN.{negsuc}
 use lib.Signed.{leZ}
 use lib.ListN.{length, getD}
 use borrow.Author.Tests.{lt-ltb, le-ltb, ltb-false}
-use Rattle.logic.specs.Lists.{keep, count-from, tabulate, every}
-use Rattle.logic.specs.Model.{Literals, Step, Action, true-of, contradict, mask, silent, executable, stored, outcomes, no-action}
+use Rattle.logic.specs.Lists.{is-empty, keep, count-from, tabulate, every}
+use Rattle.logic.specs.Model.{Literals, Step, Action, always, true-of, contradict, mask, silent, enabled-actions, deadlocked, stored, outcomes, no-action}
 use Rattle.logic.specs.Quantity.{naturals, sum}
 use Rattle.logic.specs.Order.{Rising, nothing, first}
 use Rattle.logic.specs.Plan.{Match, ends, pair}
@@ -22,7 +22,7 @@ use Rattle.logic.proofs.Tests.{and-both, eqb-eq, ne-eqb, ltb-lt, every-at, coun
 use Rattle.logic.proofs.Sums.{naturals-additive, sum-append, sum-map}
 use Rattle.logic.proofs.Contradiction.{not-both}
 use Rattle.logic.proofs.SilentMove.{action-outcomes}
-use Rattle.logic.proofs.AcceptedByActions.{Keeps, By-actions, by-actions}
+use Rattle.logic.proofs.AcceptedByActions.{Keeps, by-actions}
 use Rattle.blocks.specs.Bytes.{Bytes, within}
 use Rattle.blocks.specs.Block.{sum-below}
 use Rattle.models.specs.Layout.{state-count, action-count, prop-count, denominator-of, state-mask, pre-of, post-count, post-of, outcome-of, entries, model-of}
@@ -93,7 +93,7 @@ module _ (b : Bytes) where
   posts-held : (a : ℕ) → a < action-count b → (a ≡ silent → ⊥) → posts-of (model-of b) a ≡ tabulate (post-count b a) (post-of b a)
   unfolding model-of
   posts-held a h n =
-      ap (λ t. cond t (record { positive = 0; negative = 0 } ∷ []) ((getD (model-of b .actions) a no-action) .posts)) (ne-eqb a silent n)
+      ap (λ t. cond t (always ∷ []) ((getD (model-of b .actions) a no-action) .posts)) (ne-eqb a silent n)
       ∙ ap (λ (x : Action). x .posts)
       (getD-tabulate (λ a. record { pre = pre-of b a; posts = tabulate (post-count b a) (post-of b a) }) (action-count b) no-action h)
 
@@ -101,23 +101,23 @@ module _ (b : Bytes) where
   unfolding model-of
   actions-held = length-tabulate _ (action-count b)
 
-  -- The actions that can be executed in a state: those whose precondition is true there.
-  pub executable-held : (s : ℕ) → s < state-count b
-      → executable (model-of b) s ≡ keep (λ a. true-of (pre-of b a) (state-mask b s)) (count-from 0 (action-count b))
-  unfolding model-of executable
-  executable-held s h =
+  -- The enabled actions of a state: those whose precondition is true there.
+  pub enabled-held : (s : ℕ) → s < state-count b
+      → enabled-actions (model-of b) s ≡ keep (λ a. true-of (pre-of b a) (state-mask b s)) (count-from 0 (action-count b))
+  unfolding model-of enabled-actions
+  enabled-held s h =
       let acts : ℕ → Action = λ a. record { pre = pre-of b a; posts = tabulate (post-count b a) (post-of b a) } in
       ap (λ n. keep (λ a. true-of ((getD (tabulate (action-count b) acts) a no-action) .pre) (mask (model-of b) s)) (count-from 0 n)) (length-tabulate acts (action-count b))
       ∙ keep-same _ _ (count-from 0 (action-count b))
       (λ a i. ap₂ (λ (x : Action) v. true-of (x .pre) v) (getD-tabulate acts (action-count b) no-action (omega (arith, counted-range 0 (action-count b) i .1))) (mask-held s h))
 
-  pub executable-in : (s a : ℕ) → s < state-count b → a < action-count b → true-of (pre-of b a) (state-mask b s) ≡ true → List·Memᴰ a (executable (model-of b) s)
-  executable-in s a h g e =
-      subst (List·Memᴰ a) (sym (executable-held s h)) (in-keep (λ a. true-of (pre-of b a) (state-mask b s)) (counted-in 0 (action-count b) (omega arith) (omega arith)) e)
+  pub enabled-in : (s a : ℕ) → s < state-count b → a < action-count b → true-of (pre-of b a) (state-mask b s) ≡ true → List·Memᴰ a (enabled-actions (model-of b) s)
+  enabled-in s a h g e =
+      subst (List·Memᴰ a) (sym (enabled-held s h)) (in-keep (λ a. true-of (pre-of b a) (state-mask b s)) (counted-in 0 (action-count b) (omega arith) (omega arith)) e)
 
-  pub executable-range : (s a : ℕ) → s < state-count b → List·Memᴰ a (executable (model-of b) s) → (a < action-count b) × (true-of (pre-of b a) (state-mask b s) ≡ true)
-  executable-range s a h i =
-      let w = keep-member (λ a. true-of (pre-of b a) (state-mask b s)) (count-from 0 (action-count b)) (subst (List·Memᴰ a) (executable-held s h) i) in
+  pub enabled-range : (s a : ℕ) → s < state-count b → List·Memᴰ a (enabled-actions (model-of b) s) → (a < action-count b) × (true-of (pre-of b a) (state-mask b s) ≡ true)
+  enabled-range s a h i =
+      let w = keep-member (λ a. true-of (pre-of b a) (state-mask b s)) (count-from 0 (action-count b)) (subst (List·Memᴰ a) (enabled-held s h) i) in
       (omega (arith, counted-range 0 (action-count b) (w .0) .1), w .1)
 
 -- ---- what is promised
@@ -127,15 +127,21 @@ module _ (b : Bytes) (p : Passed b) where
   pub entries-enabled : (s a : ℕ) → s < state-count b → a < action-count b → true-of (pre-of b a) (state-mask b s) ≡ true → entries b s a ≡ post-count b a
   entries-enabled s a h g e = entries-inside b s a h g ∙ rw e refl
 
-  -- An action can be executed where it has outcomes.
-  pub executable-entries : (s : ℕ) → s < state-count b → executable (model-of b) s ≡ keep (λ a. ltb 0 (entries b s a)) (count-from 0 (action-count b))
-  executable-entries s h =
-      executable-held b s h
+  -- An action is enabled where it has outcomes.
+  pub enabled-entries : (s : ℕ) → s < state-count b → enabled-actions (model-of b) s ≡ keep (λ a. ltb 0 (entries b s a)) (count-from 0 (action-count b))
+  enabled-entries s h =
+      enabled-held b s h
       ∙ keep-same _ _ (count-from 0 (action-count b)) (λ a i. let l = counted-range 0 (action-count b) i .1 in used a (omega arith) (true-of (pre-of b a) (state-mask b s)) refl)
     where
       used : (a : ℕ) → a < action-count b → (t : Bool) → true-of (pre-of b a) (state-mask b s) ≡ t → t ≡ ltb 0 (entries b s a)
       used a g true e = sym (lt-ltb 0 (entries b s a) (rw (entries-enabled s a h g e) (some-post b p a g)))
       used a g false e = sym (le-ltb 0 (entries b s a) (rw (entries-inside b s a h g, e) (omega arith)))
+
+  -- A state is deadlocked where no action has outcomes.
+  pub deadlocked-entries : (s : ℕ) → s < state-count b
+      → deadlocked (model-of b) s ≡ is-empty (keep (λ a. ltb 0 (entries b s a)) (count-from 0 (action-count b)))
+  unfolding deadlocked
+  deadlocked-entries s h = ap is-empty (enabled-entries s h)
 
   -- No action has the number of the silent move.
   not-silent : (a : ℕ) → a < action-count b → a ≡ silent → ⊥
@@ -160,9 +166,9 @@ module _ (b : Bytes) (p : Passed b) where
       let w = and-both (three && within 1 100 (denominator-of b)) _ (p .sizes) in
       at-least 1 100 (denominator-of b) (and-both three (within 1 100 (denominator-of b)) (w .0) .1)
 
-  module _ (s a : ℕ) (state : s < state-count b) (x : List·Memᴰ a (executable (model-of b) s)) where
+  module _ (s a : ℕ) (state : s < state-count b) (x : List·Memᴰ a (enabled-actions (model-of b) s)) where
     choice : (a < action-count b) × (true-of (pre-of b a) (state-mask b s) ≡ true)
-    choice = executable-range b s a state x
+    choice = enabled-range b s a state x
 
     count : entries b s a ≡ post-count b a
     count = entries-enabled s a state (choice .0) (choice .1)
@@ -223,18 +229,21 @@ module _ (b : Bytes) (p : Passed b) where
           named = λ o i. let w = member o i in ap (λ z. z .choice) (w .2);
         }
 
-  -- An action that cannot be executed has no outcomes.
-  unused : (s a : ℕ) → s < state-count b → (List·Memᴰ a (executable (model-of b) s) → ⊥) → stored (model-of b) s a ≡ []
-  unfolding tabulate count-from
-  unused s a h e = stored-are b s a ∙ ap (λ n. tabulate n (outcome-of b s a)) (by (ltb a (action-count b)) refl)
+  -- The cell of an action that is not enabled has no used entries.
+  pub no-entries : (s a : ℕ) → s < state-count b → (List·Memᴰ a (enabled-actions (model-of b) s) → ⊥) → entries b s a ≡ 0
+  no-entries s a h e = by (ltb a (action-count b)) refl
     where
-      no-entries : a < action-count b → (t : Bool) → true-of (pre-of b a) (state-mask b s) ≡ t → entries b s a ≡ 0
-      no-entries l true i = absurd (e (executable-in b s a h l i))
-      no-entries l false i = rw (entries-inside b s a h l, i) refl
+      inside : a < action-count b → (t : Bool) → true-of (pre-of b a) (state-mask b s) ≡ t → entries b s a ≡ 0
+      inside l true i = absurd (e (enabled-in b s a h l i))
+      inside l false i = rw (entries-inside b s a h l, i) refl
 
       by : (t : Bool) → ltb a (action-count b) ≡ t → entries b s a ≡ 0
-      by true i = no-entries (ltb-lt a (action-count b) i) (true-of (pre-of b a) (state-mask b s)) refl
+      by true i = inside (ltb-lt a (action-count b) i) (true-of (pre-of b a) (state-mask b s)) refl
       by false i = entries-past-actions b s a (ltb-false a (action-count b) i)
+
+  unused : (s a : ℕ) → s < state-count b → (List·Memᴰ a (enabled-actions (model-of b) s) → ⊥) → stored (model-of b) s a ≡ []
+  unfolding tabulate count-from
+  unused s a h e = stored-are b s a ∙ ap (λ n. tabulate n (outcome-of b s a)) (no-entries s a h e)
 
   pub accepted : Accepted (model-of b)
   accepted =

@@ -8,7 +8,7 @@ use mathlib.Core.List.{List, [], _∷_}
 use lib.Dec.{eqb}
 use lib.ListN.{length, getD, List·getD-eq-default}
 use Rattle.logic.specs.Lists.{count-from, tabulate}
-use Rattle.logic.specs.Model.{Step, true-of, silent, silent-step, over, stored, outcomes}
+use Rattle.logic.specs.Model.{Step, true-of, silent, silent-step, deadlocked, stored, outcomes}
 use Rattle.logic.proofs.Tests.{length-tabulate, getD-tabulate}
 use Rattle.blocks.specs.Bytes.{Bytes}
 use Rattle.models.specs.Layout.{state-count, action-count, state-mask, pre-of, post-count, outcome-of, entries, model-of}
@@ -57,7 +57,7 @@ module _ (b : Bytes) where
 
   pub outcomes-few : Readable b → (s a : ℕ) → length (outcomes (model-of b) s a) ≤ 4
   unfolding outcomes
-  outcomes-few r s a = go (over (model-of b) s && eqb a silent)
+  outcomes-few r s a = go (deadlocked (model-of b) s && eqb a silent)
     where
       go : (t : Bool) → length (cond t (silent-step (model-of b) s ∷ []) (stored (model-of b) s a)) ≤ 4
       go true = omega arith

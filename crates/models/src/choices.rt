@@ -15,8 +15,8 @@ use crate::holds;
 use crate::state_mask;
 use crate::target;
 
-// Whether an action can be executed in the state s. Where none can, the work is over.
-fn has_choice(b: &[u8], s: usize) -> bool
+// Whether an action is enabled in the state s. Where none is, the work is over.
+fn has_action(b: &[u8], s: usize) -> bool
     requires { ⌜ s < 256 ⌝ }
     ensures value { λ r.
         let b = now (b .entry) in
@@ -41,13 +41,13 @@ pub fn outcome_count(b: &[u8], s: usize, a: usize) -> usize
     if a != SILENT {
         return entries(b, s, a);
     }
-    if has_choice(b, s) {
+    if has_action(b, s) {
         return 0;
     }
     1
 }
 
-// Where outcome i of the choice a leads.
+// Where outcome i of the choice a leads. (What the contract gives past the last outcome, the silent step, is never read.)
 pub fn outcome_target(b: &[u8], s: usize, a: usize, i: usize) -> usize
     requires { ⌜
         (refusal (read-model (now b)) ≡ 0) × (s < state-count (now b)) × (a < 256)

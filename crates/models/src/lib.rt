@@ -1,4 +1,5 @@
-// Models: readers of their bytes, and the grounds on which they are refused (document 01, numbers 1 to 7; there is no ground 8 since document 02, A.1).
+// Models: readers of their bytes, and the grounds on which they are refused (document 01, numbers 1 to 7; document 02, A.1, took ground 8
+// away).
 ghost use mathlib.Core.Path.{_≡_};
 ghost use Prim.Native.Nat.{_+_, _*_, _<_};
 ghost use mathlib.Core.Bool.{true};

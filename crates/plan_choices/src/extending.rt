@@ -1,4 +1,4 @@
-// A plan extended: the choices of a plan of d steps, followed by first enabled actions up to n steps.
+// A plan extended: the choices of a plan of d steps, followed by first choices up to n steps.
 ghost use mathlib.Core.Path.{_≡_};
 ghost use Prim.Native.Nat.{_+_, _<_, _≤_, min};
 ghost use lib.ListN.{length, drop};

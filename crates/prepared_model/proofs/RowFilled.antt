@@ -7,7 +7,7 @@ use native.Mathlib.Nat.{le-of-suc-le-suc, eq-or-lt-of-le}
 use mathlib.Core.Path.{_≡_, refl, sym, ap, ap₂, subst, _∙_}
 use mathlib.Core.Logic.{_⊎_, inl, inr}
 use mathlib.Core.Bool.{Bool, true, false, cond, false≢true}
-use mathlib.Core.List.{List, [], _∷_, _++_, append-nil, append-assoc, List·Memᴰ}
+use mathlib.Core.List.{List, [], _∷_, _++_, append-nil, append-assoc}
 use lib.Dec.{eqb, ltb}
 use lib.ListN.{length, getD, set, take, drop, length-append, length-set, length-drop, take-append-drop, List·getD-append}
 use lib.Seq.{length-take-le, getD-append-seam, getD-set-same, getD-set-other, getD-take, take-append-le, drop-append-le, take-at, drop-at}
@@ -228,10 +228,10 @@ set-read l k v j h = by (eqb j k) refl
     by true e = ap (λ i. getD (set l k v) i 0) (eqb-true j k e) ∙ getD-set-same l k v 0 h
     by false e = getD-set-other l k j v 0 (λ q. false≢true (sym e ∙ eq-eqb j k q))
 
-module _ (row : List ℕ) (s d : ℕ) (n : length row ≡ 256) where
-  -- The row after each of the nine places written, and that it is as long.
+-- The row after each of the first eight places that the silent move is written to, the choice byte v first, and that it is as long.
+module _ (row : List ℕ) (v s d : ℕ) where
   abbrev r₁ : List ℕ
-  r₁ = set row 0 255
+  r₁ = set row 0 v
 
   abbrev r₂ : List ℕ
   r₂ = set r₁ 8 1
@@ -251,48 +251,53 @@ module _ (row : List ℕ) (s d : ℕ) (n : length row ≡ 256) where
   abbrev r₇ : List ℕ
   r₇ = set r₆ 66 0
 
-  abbrev r₈ : List ℕ
+  abbrev pub r₈ : List ℕ
   r₈ = set r₇ 67 0
 
-  pub l₁ : length r₁ ≡ 256
-  l₁ = length-set row 0 255 ∙ n
+  module _ (n : length row ≡ 256) where
+    l₁ : length r₁ ≡ 256
+    l₁ = length-set row 0 v ∙ n
 
-  pub l₂ : length r₂ ≡ 256
-  l₂ = length-set r₁ 8 1 ∙ l₁
+    l₂ : length r₂ ≡ 256
+    l₂ = length-set r₁ 8 1 ∙ l₁
 
-  pub l₃ : length r₃ ≡ 256
-  l₃ = length-set r₂ 16 1 ∙ l₂
+    l₃ : length r₃ ≡ 256
+    l₃ = length-set r₂ 16 1 ∙ l₂
 
-  pub l₄ : length r₄ ≡ 256
-  l₄ = length-set r₃ 32 s ∙ l₃
+    pub l₄ : length r₄ ≡ 256
+    l₄ = length-set r₃ 32 s ∙ l₃
 
-  pub l₅ : length r₅ ≡ 256
-  l₅ = length-set r₄ 64 d ∙ l₄
+    pub l₅ : length r₅ ≡ 256
+    l₅ = length-set r₄ 64 d ∙ l₄
 
-  pub l₆ : length r₆ ≡ 256
-  l₆ = length-set r₅ 65 0 ∙ l₅
+    pub l₆ : length r₆ ≡ 256
+    l₆ = length-set r₅ 65 0 ∙ l₅
 
-  pub l₇ : length r₇ ≡ 256
-  l₇ = length-set r₆ 66 0 ∙ l₆
+    pub l₇ : length r₇ ≡ 256
+    l₇ = length-set r₆ 66 0 ∙ l₆
 
-  pub l₈ : length r₈ ≡ 256
-  l₈ = length-set r₇ 67 0 ∙ l₇
+    pub l₈ : length r₈ ≡ 256
+    l₈ = length-set r₇ 67 0 ∙ l₇
 
+    pub l₉ : length (set r₈ 96 0) ≡ 256
+    l₉ = length-set r₈ 96 0 ∙ l₈
+
+module _ (row : List ℕ) (s d : ℕ) (n : length row ≡ 256) where
   pub silent-length : length (silent-at row s d) ≡ 256
-  silent-length = length-set r₈ 96 0 ∙ l₈
+  silent-length = l₉ row 255 s d n
 
   -- What stands in the row with the silent move: by the last of the places written.
   pub silent-read : (j : ℕ) → getD (silent-at row s d) j 0
       ≡ cond (eqb j 96) 0 (cond (eqb j 67) 0 (cond (eqb j 66) 0 (cond (eqb j 65) 0 (cond (eqb j 64) d (cond (eqb j 32) s (cond (eqb j 16) 1 (cond (eqb j 8) 1 (cond (eqb j 0) 255 (getD row j 0)))))))))
   silent-read j =
-      set-read r₈ 96 0 j (omega (arith, l₈))
-      ∙ ap (cond (eqb j 96) 0) (set-read r₇ 67 0 j (omega (arith, l₇))
-      ∙ ap (cond (eqb j 67) 0) (set-read r₆ 66 0 j (omega (arith, l₆))
-      ∙ ap (cond (eqb j 66) 0) (set-read r₅ 65 0 j (omega (arith, l₅))
-      ∙ ap (cond (eqb j 65) 0) (set-read r₄ 64 d j (omega (arith, l₄))
-      ∙ ap (cond (eqb j 64) d) (set-read r₃ 32 s j (omega (arith, l₃))
-      ∙ ap (cond (eqb j 32) s) (set-read r₂ 16 1 j (omega (arith, l₂))
-      ∙ ap (cond (eqb j 16) 1) (set-read r₁ 8 1 j (omega (arith, l₁))
+      set-read (r₈ row 255 s d) 96 0 j (omega (arith, l₈ row 255 s d n))
+      ∙ ap (cond (eqb j 96) 0) (set-read (r₇ row 255 s d) 67 0 j (omega (arith, l₇ row 255 s d n))
+      ∙ ap (cond (eqb j 67) 0) (set-read (r₆ row 255 s d) 66 0 j (omega (arith, l₆ row 255 s d n))
+      ∙ ap (cond (eqb j 66) 0) (set-read (r₅ row 255 s d) 65 0 j (omega (arith, l₅ row 255 s d n))
+      ∙ ap (cond (eqb j 65) 0) (set-read (r₄ row 255 s d) 64 d j (omega (arith, l₄ row 255 s d n))
+      ∙ ap (cond (eqb j 64) d) (set-read (r₃ row 255 s d) 32 s j (omega (arith, l₃ row 255 s d n))
+      ∙ ap (cond (eqb j 32) s) (set-read (r₂ row 255 s d) 16 1 j (omega (arith, l₂ row 255 s d n))
+      ∙ ap (cond (eqb j 16) 1) (set-read (r₁ row 255 s d) 8 1 j (omega (arith, l₁ row 255 s d n))
       ∙ ap (cond (eqb j 8) 1) (set-read row 0 255 j (omega arith)))))))))
 
   -- The four weights are a byte and zeros.

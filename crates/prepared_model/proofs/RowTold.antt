@@ -1,26 +1,26 @@
--- What the row of a state has to say of the model of the blocks, whether an action can be executed there or the work is over; and that the row
+-- What the row of a state has to say of the model of the blocks, whether an action is enabled there or the work is over; and that the row
 -- of a state in which the work is over says it.
-use Prim.Native.Nat.{ℕ, zero, suc, _+_, _*_, _≤_, _<_}
+use Prim.Native.Nat.{ℕ, _+_, _*_, _≤_, _<_}
 use native.Mathlib.Omega.{arith}
 use native.Mathlib.Nat.{zero-add}
-use mathlib.Core.Path.{_≡_, refl, sym, ap, ap₂, subst, _∙_}
+use mathlib.Core.Path.{_≡_, sym, ap, ap₂, subst, _∙_}
 use mathlib.Core.Bool.{true}
 use mathlib.Core.List.{List, [], _∷_}
-use lib.IntN.{pos}
 use lib.ListN.{getD, length, drop}
 use lib.Seq.{getD-take, getD-drop}
 use lib.Signed.{mag}
 use Rattle.logic.specs.promises.Refusal.{refusal}
-use Rattle.logic.specs.Lists.{is-empty, count-from, tabulate}
-use Rattle.logic.specs.Model.{Step, silent-step, over, enabled, outcomes}
+use Rattle.logic.specs.Lists.{count-from, tabulate}
+use Rattle.logic.specs.Model.{Step, silent-step, deadlocked, enabled, outcomes}
+use Rattle.logic.proofs.Tests.{length-empty}
 use Rattle.logic.proofs.SilentMove.{silent-alone, silent-outcomes}
 use Rattle.blocks.specs.Bytes.{Bytes, signed}
 use Rattle.blocks.specs.Block.{sum-below}
 use Rattle.models.specs.Grounds.{read-model}
-use Rattle.models.specs.Layout.{state-count, action-count, denominator-of, model-of}
+use Rattle.models.specs.Layout.{state-count, action-count, model-of}
 use Rattle.models.proofs.EveryCell.{sizes}
 use Rattle.models.proofs.GroundsPassed.{passed-all}
-use Rattle.models.proofs.ModelOfBytes.{denominator-held, executable-entries}
+use Rattle.models.proofs.ModelOfBytes.{denominator-held, deadlocked-entries}
 use Rattle.prepared_model.specs.promises.Rows.{choices-in, choice-in, outcomes-in, step-in, row-in, Offers, sum-in, weighed, lane}
 use Rattle.prepared_model.specs.promises.Filled.{listed, Silent}
 use Rattle.prepared_model.proofs.RowFilled.{row-at}
@@ -45,23 +45,14 @@ pub at-row : (m : List ℕ) (s k : ℕ) → k < 256 → getD m (512 + 256 * s + 
 at-row m s k g = sym (getD-take 256 (drop (512 + 256 * s) m) k 0 g ∙ getD-drop (512 + 256 * s) m k 0)
 
 module _ (b : Bytes) (e : refusal (read-model b) ≡ 0) (m : List ℕ) (s : ℕ) (h : s < state-count b) (w : Silent b s (row-at m s)) where
-  nothing-listed : (l : List ℕ) → length l ≡ 0 → is-empty l ≡ true
-  unfolding is-empty
-  nothing-listed [] z = refl
-  nothing-listed (x ∷ l) z = absurd (omega arith)
-
-  is-over : over (model-of b) s ≡ true
-  unfolding over
-  is-over = ap is-empty (executable-entries b (passed-all b e) s h) ∙ nothing-listed (listed b s (action-count b)) (w .none)
+  over : deadlocked (model-of b) s ≡ true
+  over = deadlocked-entries b (passed-all b e) s h ∙ length-empty (listed b s (action-count b)) (w .none)
 
   one-choice : choices-in m s ≡ 1
   one-choice = at-row m s 16 (omega arith) ∙ w .count
 
   first : (i : ℕ) → i < choices-in m s → i ≡ 0
   first i g = omega (arith, one-choice)
-
-  place : 512 + 256 * s + 0 ≡ 512 + 256 * s
-  place = omega arith
 
   the-choice : choice-in m s 0 ≡ 255
   the-choice = at-row m s 0 (omega arith) ∙ w .choice
@@ -100,13 +91,13 @@ module _ (b : Bytes) (e : refusal (read-model b) ≡ 0) (m : List ℕ) (s : ℕ)
   silent-told =
       record {
         choices =
-            silent-alone (model-of b) s is-over ∙ sym (ap (λ n. tabulate n (choice-in m s)) one-choice ∙ ap (λ c. c ∷ []) the-choice);
+            silent-alone (model-of b) s over ∙ sym (ap (λ n. tabulate n (choice-in m s)) one-choice ∙ ap (λ c. c ∷ []) the-choice);
         few-choices = omega (arith, one-choice);
         bytes = λ i g. rw (first i g, the-choice) (omega arith);
         rows = λ i g.
             rw (first i g)
             (ap (outcomes (model-of b) s) the-choice
-            ∙ silent-outcomes (model-of b) s is-over
+            ∙ silent-outcomes (model-of b) s over
             ∙ sym (ap (λ n. tabulate n (step-in m s 0)) one-outcome ∙ ap (λ o. o ∷ []) the-step));
         few-outcomes = λ i g. rw (first i g) (omega (arith, one-outcome));
         fair = λ i o (g, l). rw (first i g) (let z : o ≡ 0 = omega (arith, one-outcome, ap (outcomes-in m s) (first i g)) in rw z fair-step);

@@ -11,9 +11,9 @@ use borrow.Author.Tests.{lt-ltb, ltb-true, leb-true}
 use lib.ListN.{getD, length}
 use lib.Seq.{ext-getD}
 use Rattle.logic.specs.promises.Refusal.{refusal}
-use Rattle.logic.specs.Lists.{is-empty, count-from, tabulate}
-use Rattle.logic.specs.Model.{Model, Action, Step, true-of, over}
-use Rattle.logic.proofs.Tests.{and-both, length-tabulate, getD-tabulate, tabulate-more, counted-range, keep-same}
+use Rattle.logic.specs.Lists.{count-from, tabulate}
+use Rattle.logic.specs.Model.{Model, Action, Step, true-of, deadlocked}
+use Rattle.logic.proofs.Tests.{and-both, length-some, length-tabulate, getD-tabulate, tabulate-more, counted-range, keep-same}
 use Rattle.blocks.specs.Bytes.{Bytes, byte, u16, u32, i16, signed, within}
 use Rattle.blocks.specs.Block.{sum-below}
 use Rattle.models.specs.Grounds.{outcome-in-range, read-model}
@@ -21,9 +21,9 @@ use Rattle.models.specs.Layout.{state-count, action-count, literals, state-mask
 use Rattle.models.proofs.EveryCell.{sizes, entries-inside, entries-small}
 use Rattle.models.proofs.GroundsPassed.{Passed, passed-all, passed-sized, some-post, outcome-passed}
 use Rattle.models.proofs.OutcomesOfCell.{stored-are}
-use Rattle.models.proofs.ModelOfBytes.{executable-entries, accepted}
-use Rattle.logic.proofs.SilentMove.{actions-enabled, actions-outcomes}
-use Rattle.prepared_model.specs.promises.Rows.{choices-in, choice-in, outcomes-in, step-in, row-in, Offers, sum-in, weighed, lane, enabled-in, place-of, model-in, Prepared, Prepares}
+use Rattle.models.proofs.ModelOfBytes.{enabled-entries, deadlocked-entries, accepted}
+use Rattle.logic.proofs.SilentMove.{choices-are-actions, outcomes-stored}
+use Rattle.prepared_model.specs.promises.Rows.{choices-in, choice-in, outcomes-in, step-in, row-in, sum-in, weighed, lane, enabled-in, place-of, model-in, Prepared, Prepares}
 use Rattle.prepared_model.specs.promises.Filled.{listed, source, Acting, Row, acting, silent}
 use Rattle.blocks.proofs.Sums.{sum-same}
 use Rattle.prepared_model.proofs.UnusedWeighNothing.{used-only}
@@ -102,7 +102,7 @@ module _ (b : Bytes) (e : refusal (read-model b) ≡ 0) (m : List ℕ) (small : 
       tabulate-alike (post-of m a) (post-of b a) (head (136 + 44 * a + 8) (omega (arith, actions)))
       (λ i l. literals-same (136 + 44 * a + 12 + 8 * i) (omega (arith, actions, few)))
 
-  -- ---- the row of a state in which an action can be executed
+  -- ---- the row of a state in which an action is enabled
 
   module _ (s : ℕ) (h : s < state-count b) (w : Acting b s (row-at m s)) where
     count-is : choices-in m s ≡ length (listed b s (action-count b))
@@ -126,13 +126,8 @@ module _ (b : Bytes) (e : refusal (read-model b) ≡ 0) (m : List ℕ) (small : 
         (λ i g. let l : i < choices-in m s = omega (arith, count-is) in sym (choice-is i l) ∙ sym (getD-tabulate (choice-in m s) (choices-in m s) 0 l))
 
     -- Some action is listed, so the work is not over.
-    not-over : over (model-of b) s ≡ false
-    unfolding over is-empty
-    not-over = ap is-empty (executable-entries b passed s h) ∙ some (listed b s (action-count b)) (omega (arith, w .some, w .chosen .many))
-      where
-        some : (l : List ℕ) → 0 < length l → is-empty l ≡ false
-        some [] g = absurd (omega arith)
-        some (x ∷ l) g = refl
+    not-over : deadlocked (model-of b) s ≡ false
+    not-over = deadlocked-entries b passed s h ∙ length-some (listed b s (action-count b)) (omega (arith, w .some, w .chosen .many))
 
     module _ (i : ℕ) (g : i < choices-in m s) where
       outcomes-is : outcomes-in m s i ≡ entries b s (choice-in m s i)
@@ -194,10 +189,10 @@ module _ (b : Bytes) (e : refusal (read-model b) ≡ 0) (m : List ℕ) (small : 
     acting-told : Told b m s
     acting-told =
         record {
-          choices = actions-enabled (model-of b) s not-over ∙ executable-entries b passed s h ∙ listed-is;
+          choices = choices-are-actions (model-of b) s not-over ∙ enabled-entries b passed s h ∙ listed-is;
           few-choices = few-choices;
           bytes = λ i g. omega (arith, choice-small i g, actions);
-          rows = λ i g. actions-outcomes (model-of b) s not-over (choice-in m s i) ∙ stored-are b s (choice-in m s i) ∙ sym (row-is i g);
+          rows = λ i g. outcomes-stored (model-of b) s not-over (choice-in m s i) ∙ stored-are b s (choice-in m s i) ∙ sym (row-is i g);
           few-outcomes = few-outcomes;
           fair = λ i o (g, l). step-fair i g o l;
           sums = λ i y g. sum-is i g y;

@@ -106,7 +106,7 @@ pub fn choices(m: &[u16; MODEL], s: usize) -> usize
     widened(m[ROWS + ROW * s + COUNT])
 }
 
-// The byte of choice i: its action.
+// The byte of choice i: its action's number, or 255.
 pub fn choice(m: &[u16; MODEL], s: usize, i: usize) -> u8
     requires { ⌜ Prepared (now m) × (s < state-count (now m)) × (i < choices-in (now m) s) ⌝ }
     ensures value { λ r. ⌜ r ≡ choice-in (now (m .entry)) s i ⌝ }

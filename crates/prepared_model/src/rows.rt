@@ -107,7 +107,7 @@ fn or_silent(row: &mut [u16], s: usize, d: usize) -> usize
     if n != 0 {
         return n;
     }
-    row[0] = SILENT as u16;
+    row[0] = short(SILENT);
     row[OUTCOMES] = 1;
     row[COUNT] = 1;
     row[TARGETS] = short(s);

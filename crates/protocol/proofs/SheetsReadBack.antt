@@ -1,6 +1,6 @@
--- A plan's sheet is read back from the bytes written of it: an accepted question asks for 1 to 6 steps, an action of an accepted model has
+-- A plan's sheet is read back from the bytes written of it: an accepted question asks for 1 to 6 steps, a choice in an accepted model has
 -- at most 4 outcomes, so that a plan has 1 to 1,365 choices; and W is at most D to the n, below 2 to the 64. The bytes are bytes: states
--- are below 32, choices below 8.
+-- are below 32, choices below 256.
 use Prim.Native.Nat.{ℕ, zero, suc, _+_, _*_, _-_, _^_, _≤_, _<_}
 use native.Mathlib.Omega.{arith}
 use native.Mathlib.Nat.{le-refl, le-trans, lt-of-le-of-lt, suc-mul, mul-le-mul-right, pow-le-pow-left, pow-le-pow-right}
@@ -48,7 +48,7 @@ use Rattle.protocol.proofs.AfterEachCall.{Sound, sound}
 use Rattle.protocol.proofs.HeldAccepted as held
 use Rattle.protocol.proofs.Demand3.{Reads-back, demand-3}
 use Rattle.logic.proofs.OnPlan.{by-plan}
-use Rattle.logic.proofs.SilentMove.{executable-action, choice-kind}
+use Rattle.logic.proofs.SilentMove.{action-below, choice-kind}
 use Rattle.questions.proofs.FormulaByOperator.{no-plan-at}
 use native.Mathlib.Decide.{ℕ-discrete}
 
@@ -87,7 +87,7 @@ choice-byte m few (suc n) s π h {c} i =
     ⊎-elim
     (λ e.
     subst (λ a. a < 256) (sym e)
-    (⊎-elim (λ x. omega (arith, executable-action m s x)) (λ x. omega (arith, x .1)) (choice-kind m s (h .0))))
+    (⊎-elim (λ x. omega (arith, action-below m s x)) (λ x. omega (arith, x .1)) (choice-kind m s (h .0))))
     (λ j. each-member (choices n) 256 (λ o q g k. choice-byte m few n (o .target) q g k) (h .1) j)
     (List·Memᴰ·cases-cons i)
 

@@ -4,7 +4,7 @@ use native.Mathlib.Omega.{arith}
 use native.Mathlib.Numerals.{add-one}
 use mathlib.Core.Path.{_≡_, refl, sym, ap, ap₂, subst, _∙_}
 use mathlib.Core.Bool.{Bool, true, false, false≢true}
-use mathlib.Core.List.{List, [], _∷_, _++_, List·Memᴰ}
+use mathlib.Core.List.{List, [], _∷_, _++_}
 use lib.Dec.{eqb, ltb}
 use lib.ListN.{length, drop, getD, length-append, length-drop, drop-of-length-le}
 use lib.Seq.{drop-cons, drop-drop, drop-at}
@@ -22,7 +22,6 @@ use Rattle.logic.proofs.Reading.{any-member, member-any, read-sound}
 use Rattle.blocks.specs.Bytes.{Bytes}
 use Rattle.models.specs.Layout.{state-count, model-of}
 use Rattle.models.specs.Grounds.{read-model}
-use Rattle.models.proofs.EveryCell.{sizes}
 use Rattle.models.proofs.GroundsPassed.{passed-all}
 use Rattle.models.proofs.ModelOfBytes.{states-held, accepted}
 use Rattle.sheets.specs.declared.plans.End.{End}
@@ -31,7 +30,7 @@ use Rattle.sheets.specs.promises.Ends.{end-of}
 
 -- ---- the model
 
--- The state of an outcome that stands past the end of a choice's outcomes; nobody asks for one.
+-- What stands past the end of a choice's outcomes; nobody asks for it.
 abbrev pub past : Bytes → ℕ → Step
 past b s = silent-step (model-of b) s
 
@@ -153,9 +152,6 @@ module _ (M : Model) (cs : List ℕ) where
 -- ---- by the model's bytes
 
 module _ (b : Bytes) (e : refusal (read-model b) ≡ 0) where
-  pub model-small : state-count b ≤ 32
-  model-small = sizes b (passed-all b e .sizes) .states
-
   module _ (cs : List ℕ) (s at : ℕ) (h : s < state-count b) (l : at < length cs) (n : ℕ) (z : n ≡ 0 → ⊥) where
     abbrev count : ℕ
     count = length (outcomes (model-of b) s (getD cs at 0))

@@ -1,4 +1,4 @@
--- The walk over a plan's histories that stores its choices. Where a plan lies ahead, its first choice is there and is an enabled action, and
+-- The walk over a plan's histories that stores its choices. Where a plan lies ahead, its first choice is there and is enabled, and
 -- a plan lies ahead below each outcome; what is stored below the outcomes, one behind the other, is stored of the plan.
 use Prim.Native.Nat.{ℕ, _+_, _-_, _≤_, _<_}
 use native.Mathlib.Omega.{arith}

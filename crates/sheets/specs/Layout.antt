@@ -13,7 +13,7 @@ pub record Sheet : Type 0 where
   pub weight : ℤ
   pub choices : List ℕ
 
--- In block k: at 8 the weight, at 16 the count of choices here, from 18 the choices, one action byte each.
+-- In block k: at 8 the weight, at 16 the count of choices here, from 18 the choices, one byte each.
 unfoldable pub weight-of : Bytes → ℕ → ℕ
 weight-of b k = u64 b (512 * k + 8)
 

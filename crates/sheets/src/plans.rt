@@ -38,7 +38,7 @@ pub fn plan_end(m: &[u8], choices: &[u8], n: usize, s: usize, at: usize) -> End
     below(m, choices, n - 1, s, a, count, at + 1)
 }
 
-// Reads a plan of k steps below each outcome of the choice a, which has so many.
+// Reads a plan of k steps below each of the `count` outcomes of the choice a.
 fn below(m: &[u8], choices: &[u8], k: usize, s: usize, a: usize, count: usize, at: usize) -> End
     requires { ⌜
         (refusal (read-model (now m)) ≡ 0) × (s < state-count (now m)) × (a < 256)

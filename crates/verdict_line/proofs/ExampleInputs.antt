@@ -5,7 +5,7 @@ use mathlib.Core.Path.{_≡_, refl, ap₂, _∙_}
 use mathlib.Core.List.{List, [], _∷_, _++_, map, flatMap, foldr}
 use lib.ListN.{replicate}
 use Rattle.logic.specs.Lists.{is-empty, all, any, every, find, keep, product, join, count-from, tabulate}
-use Rattle.logic.specs.Model.{no-action, true-of, contradict, mask, prop-in, executable, over, enabled, stored, outcomes}
+use Rattle.logic.specs.Model.{no-action, true-of, contradict, mask, prop-in, enabled-actions, deadlocked, enabled, stored, outcomes}
 use Rattle.logic.specs.Quantity.{sum, related}
 use Rattle.logic.specs.Plan.{plans, choices, paths, weight}
 use Rattle.logic.specs.Formula.{nonnegative, relation, formula-of, formulas, depth, is-path, shallow, sat, W, meets}
@@ -52,7 +52,8 @@ two-shelf =
 unfoldable pub question : Bytes
 question = block ((0, 3 ∷ 0 ∷ 0 ∷ 4 ∷ []) ∷ (8, 2 ∷ 0 ∷ 1 ∷ []) ∷ (20, 6 ∷ []) ∷ (32, 6 ∷ 0 ∷ 1 ∷ []) ∷ (44, 8 ∷ 2 ∷ 2 ∷ 2 ∷ 45 ∷ 0 ∷ 0 ∷ 0 ∷ 100 ∷ []) ∷ [])
 
--- The model without its wait action: in state 2 the work is over, and its cells are spare. They have some bytes.
+-- The model without its wait action: in state 2 the work is over, and its cells are spare. The first of them begins with the
+-- bytes given.
 unfoldable pub without-wait : Bytes → Bytes
 without-wait spare =
     block
@@ -121,7 +122,7 @@ table =
     ∷ []
 
 chain-lines : map (λ r. answer-line (r .input)) table ≡ map (λ r. text (r .printed)) table
-unfolding table block two-shelf question without-wait three-steps coins five-steps flatMap is-empty all any every find keep product join count-from tabulate no-action true-of contradict mask prop-in executable over enabled stored outcomes sum related plans choices paths weight nonnegative relation formula-of formulas depth is-path shallow sat W meets leads is-equal goal shown verdict path-total multiply plan-total every-plan limits u16 u32 signed i16 i32 little-endian zeros within sum-below block-count whole-blocks word-sum sums-right headed literals state-mask pre-of post-count post-of cell-at outcome-of entries model-of kinds-right sizes-right mask-in-range literals-in-range action-in-range outcome-in-range cell-in-range fields-right action-spare head-spare row-spare rows-spare cell-spare cells-spare posts-contradict cell-consistent consistent read-model node-of formulas-of question-of compares gain-bound plan-bound plan-in-range node-in-range node-spare spare-zero formed read-question with-word-sum splice text decimal decimal-in refused-line plain-line no-plans-line yes-plan-line is-plan verdict-line judged-line line-of answer-line
+unfolding table block two-shelf question without-wait three-steps coins five-steps flatMap is-empty all any every find keep product join count-from tabulate no-action true-of contradict mask prop-in enabled-actions deadlocked enabled stored outcomes sum related plans choices paths weight nonnegative relation formula-of formulas depth is-path shallow sat W meets leads is-equal goal shown verdict path-total multiply plan-total every-plan limits u16 u32 signed i16 i32 little-endian zeros within sum-below block-count whole-blocks word-sum sums-right headed literals state-mask pre-of post-count post-of cell-at outcome-of entries model-of kinds-right sizes-right mask-in-range literals-in-range action-in-range outcome-in-range cell-in-range fields-right action-spare head-spare row-spare rows-spare cell-spare cells-spare posts-contradict cell-consistent consistent read-model node-of formulas-of question-of compares gain-bound plan-bound plan-in-range node-in-range node-spare spare-zero formed read-question with-word-sum splice text decimal decimal-in refused-line plain-line no-plans-line yes-plan-line is-plan verdict-line judged-line line-of answer-line
 chain-lines = refl
 
 map-same : {A B : Type 0} {f g : A → B} → ((x : A) → f x ≡ g x) → (l : List A) → map f l ≡ map g l

@@ -4,7 +4,7 @@ use Prim.Native.String.{String}
 use mathlib.Core.Path.{_≡_, refl}
 use mathlib.Core.List.{List, [], _∷_, map, flatMap}
 use Rattle.logic.specs.Lists.{is-empty, all, any, find, keep, product, join, count-from}
-use Rattle.logic.specs.Model.{no-action, true-of, mask, prop-in, executable, over, enabled, stored, outcomes}
+use Rattle.logic.specs.Model.{no-action, true-of, mask, prop-in, enabled-actions, deadlocked, enabled, stored, outcomes}
 use Rattle.logic.specs.Quantity.{sum, less, equal, related}
 use Rattle.logic.specs.Plan.{plans, choices, paths, weight}
 use Rattle.logic.specs.Formula.{Formula, never, prop, neg, next, plan, nonnegative, sat, W, meets}
@@ -41,5 +41,5 @@ table =
     ∷ []
 
 pub printed-lines : map (λ r. r .line) table ≡ map (λ r. text (r .printed)) table
-unfolding table text decimal decimal-in refused-line plain-line no-plans-line yes-plan-line is-plan verdict-line nonnegative two-shelf is-empty all any find keep product join count-from flatMap no-action true-of mask prop-in executable over enabled stored outcomes plans choices paths weight sum sat W meets related leads is-equal goal shown verdict
+unfolding table text decimal decimal-in refused-line plain-line no-plans-line yes-plan-line is-plan verdict-line nonnegative two-shelf is-empty all any find keep product join count-from flatMap no-action true-of mask prop-in enabled-actions deadlocked enabled stored outcomes plans choices paths weight sum sat W meets related leads is-equal goal shown verdict
 printed-lines = refl

@@ -1,4 +1,4 @@
--- Plans that go on with the first enabled action: what a search that looks no further than its condition leaves to do.
+-- Plans that go on with the first choice of each state: what a search that looks no further than its condition leaves to do.
 use Prim.Native.Nat.{ℕ, zero, suc}
 use mathlib.Core.List.{[], _∷_, map}
 use lib.ListN.{getD}
@@ -6,7 +6,7 @@ use Rattle.logic.specs.Lists.{join}
 use Rattle.logic.specs.Model.{Model, enabled, outcomes}
 use Rattle.logic.specs.Plan.{Plan}
 
--- The first enabled action; 0 if there is none.
+-- The first choice in a state.
 unfoldable pub first-choice : Model → ℕ → ℕ
 first-choice m s = getD (enabled m s) 0 0
 
@@ -14,7 +14,7 @@ unfoldable pub first-plan : Model → (n : ℕ) → ℕ → Plan n
 first-plan m zero s = tt
 first-plan m (suc n) s = (first-choice m s, map (λ o. first-plan m n (o .target)) (outcomes m s (first-choice m s)))
 
--- The n-step plan that begins as a d-step plan and goes on with the first enabled action at every later history.
+-- The n-step plan that begins as a d-step plan and goes on with the first choice at every later history.
 unfoldable pub extended : Model → (d n : ℕ) → ℕ → Plan d → Plan n
 extended m zero n s p = first-plan m n s
 extended m (suc d) zero s p = tt

@@ -17,7 +17,7 @@ unfoldable pub each : {A : Type 0} → (A → List ℕ → Run) → List A → L
 each f [] cs = ([], cs)
 each f (x ∷ xs) cs = (f x cs .0 ++ each f xs (f x cs .1) .0, each f xs (f x cs .1) .1)
 
--- The choice at a history: read while the given plan has steps, then a, the first enabled action.
+-- The choice at a history: read while the given plan has steps, then a, the first choice of the state.
 unfoldable pub choice-at : ℕ → ℕ → List ℕ → ℕ
 choice-at a zero cs = a
 choice-at a (suc d) cs = getD cs 0 0

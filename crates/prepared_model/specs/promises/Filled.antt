@@ -58,7 +58,7 @@ pub record Summed (n : ℕ) (before row : List ℕ) : Type 0 where
 abbrev pub silent-at : List ℕ → (s d : ℕ) → List ℕ
 silent-at row s d = set (set (set (set (set (set (set (set (set row 0 255) 8 1) 16 1) 32 s) 64 d) 65 0) 66 0) 67 0) 96 0
 
--- The row of a state in which an action can be executed.
+-- The row of a state in which an action is enabled.
 pub record Acting (b : Bytes) (s : ℕ) (row : List ℕ) : Type 0 where
   pub some : 0 < getD row 16 0
   pub chosen : Chosen b s row

@@ -1,6 +1,6 @@
 -- The silent move leads back to its state; an action where its cell says.
 use native.Mathlib.Omega.{arith}
-use mathlib.Core.Path.{_≡_, sym, ap, subst, _∙_}
+use mathlib.Core.Path.{_∙_}
 use Rattle.models.proofs.GroundsPassed.{passed-all, passed-sized}
 use Rattle.models.proofs.ChoicesOfBytes.{action-count-is, action-target, silent-target}
 use Rattle.models.proofs.OutcomesOfCell.{entries-few}

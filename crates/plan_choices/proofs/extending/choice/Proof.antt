@@ -1,4 +1,4 @@
--- `choice` meets its contract: with no steps to read it is the first enabled action, else the next byte.
+-- `choice` meets its contract: with no steps to read it is the first choice of the state, else the next byte.
 use mathlib.Core.Path.{_∙_}
 use borrow.Author.Needs.{needs}
 use Rattle.plan_choices.proofs.Runs.{choice-first, choice-read}

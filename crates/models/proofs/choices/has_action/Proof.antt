@@ -1,4 +1,4 @@
--- The invariant: the flag says whether an action passed is enabled. The measure is what is left of the count.
+-- The invariant: the flag says whether one of the actions gone over is enabled. The measure is what is left of the count.
 use Prim.Native.Nat.{_-_, _≤_}
 use native.Mathlib.Omega.{arith}
 use mathlib.Core.Path.{_≡_, refl, ap, ap₂, _∙_}
@@ -6,8 +6,8 @@ use Rattle.logic.specs.Lists.{some-below}
 use Rattle.logic.specs.Model.{true-of}
 use Rattle.models.specs.Layout.{literals, pre-of, state-mask, action-count}
 use Rattle.logic.proofs.Tests.{some-more}
-use Rattle.models.proofs.choices.has_choice.Statement.{statement}
-use Rattle.models.proofs.choices.has_choice.Tie as tie
+use Rattle.models.proofs.choices.has_action.Statement.{statement}
+use Rattle.models.proofs.choices.has_action.Tie as tie
 
 abbrev Inv-loop : tie.InvT-loop
 Inv-loop b s v actions found₀ a₀ found a = (a ≤ actions) × (found ≡ some-below a (λ a. true-of (pre-of b a) (state-mask b s)))
@@ -50,8 +50,8 @@ returns c = let S = c .before .before .before .before .before .args in
     let e : L .a ≡ action-count (S .b .now) = omega arith in
     L .inv .1 ∙ ap (λ m. some-below m (λ a. true-of (pre-of (S .b .now) a) (state-mask (S .b .now) (S .s)))) e
 
-pub has-choice-spec : {M : Type 1} → statement M
-has-choice-spec =
+pub has-action-spec : {M : Type 1} → statement M
+has-action-spec =
     tie.close
     (tie.spec
     Inv-loop
