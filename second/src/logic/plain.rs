@@ -81,6 +81,7 @@ pub trait Meaning {
             Node::Proposition(number) => self.model().holds(state, number),
             Node::Not(number) => !child(number, place),
             Node::And(left, right) => child(left, place) && child(right, place),
+            // No action has the silent move's number, so no "do" is true of it.
             Node::Do(action) => path.actions.get(place) == Some(&action),
             Node::Next(number) => child(number, place + 1),
             Node::Gain {
