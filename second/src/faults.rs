@@ -2,7 +2,8 @@
 //! which calls of a stream they answer otherwise than a right one does. A
 //! stream in which they answer all alike cannot tell them from it.
 
-use crate::blocks::{fix_word_sums, read_model, ModelImage, Sheet, BLOCK};
+use crate::blocks::{fix_word_sums, read_model, ModelImage, NodeImage};
+use crate::blocks::{QuestionImage, Sheet, BLOCK};
 use crate::desk::{next_call, Answer, Call, Desk};
 use crate::ground::Ground;
 use crate::logic::{check_limits, fast, Judged, Model, Move, Plan, Question, Totals, SILENT};
@@ -14,6 +15,8 @@ pub enum Fault {
     StillEight,
     /// The rows of silent states are not looked at, so no byte there is spare.
     RowsUnread,
+    /// "Do 255" can be asked.
+    DoSilentAsked,
     /// The silent move is taken for action 0: shown, written, asked for.
     ShownAsZero,
     /// Its weight is 1.
@@ -42,9 +45,10 @@ pub enum Fault {
     UncountedInPlaces,
 }
 
-pub const ALL: [Fault; 15] = [
+pub const ALL: [Fault; 16] = [
     Fault::StillEight,
     Fault::RowsUnread,
+    Fault::DoSilentAsked,
     Fault::ShownAsZero,
     Fault::WeightOne,
     Fault::ToStateZero,
@@ -92,6 +96,9 @@ pub fn differences(stream: &[u8]) -> Differences {
 fn differs(fault: Fault, call: &Call, right: &Answer, desk: &Desk) -> bool {
     match (call, right) {
         (Call::Load(bytes), Answer::Load(answer)) => load_differs(fault, bytes, answer, desk),
+        (Call::Put(bytes), Answer::Put(Err(Ground::Range))) => {
+            fault == Fault::DoSilentAsked && only_do_silent(bytes, desk)
+        }
         (Call::Write(_), Answer::Write(Ok(length), buffer)) => {
             let sheet = Sheet::unpack(buffer.get(..*length).unwrap_or(buffer));
             fault == Fault::ShownAsZero && sheet.choices.contains(&SILENT)
@@ -122,6 +129,17 @@ fn load_differs(fault: Fault, bytes: &[u8], answer: &Result<(), Ground>, desk: &
         }
         _ => false,
     }
+}
+
+/// Whether ground 5 is against a question only for "do 255".
+fn only_do_silent(bytes: &[u8], desk: &Desk) -> bool {
+    let mut image = QuestionImage::unpack(bytes);
+    let silent = |node: &&mut NodeImage| (node.operator, node.left) == (5, SILENT);
+    for node in image.nodes.iter_mut().filter(silent) {
+        node.left = 0;
+    }
+    let put = desk.clone().put(&image.pack());
+    put.err() != Some(Ground::Range)
 }
 
 fn has_silent(model: &Model) -> bool {
@@ -235,6 +253,7 @@ fn wrong_check(
     match fault {
         Fault::StillEight
         | Fault::RowsUnread
+        | Fault::DoSilentAsked
         | Fault::SearchedEverywhere
         | Fault::UncountedInLimits
         | Fault::UncountedInPlaces => right,

@@ -154,10 +154,9 @@ fn outcome_line(state: usize, action: usize, arity: usize, way: usize, first: u8
 
 /// A model with exactly 1,000,000 six-step paths from some states or, with
 /// one more outcome, 1,000,001 from the last. States 0 to 3 have ten outcomes
-/// among themselves, 4 to 7 one, by an action or by the silent move; 8 has ten
-/// or eleven to those of one, and each of 9 to 13 nine to the first and one to
-/// the state before it.
-pub(super) fn million_paths(one_more: bool, silent: bool) -> Vec<u8> {
+/// among themselves, 4 to 7 one; 8 has ten or eleven to those of one, and
+/// each of 9 to 13 nine to the first and one to the state before it.
+pub(super) fn million_paths(one_more: bool) -> Vec<u8> {
     let mut text = String::from("model D 10\n");
     for (number, name) in ["b0", "b1", "still", "last"].iter().enumerate() {
         text += &format!("proposition {number} {name}\n");
@@ -178,9 +177,7 @@ pub(super) fn million_paths(one_more: bool, silent: bool) -> Vec<u8> {
     );
     text += &format!("action 2 needs !still !last\n{}", POSTS[1]);
     text += &format!("action 3 needs !still last\n{}", POSTS[2]);
-    if !silent {
-        text += &format!("action 4 needs still\n{}", POSTS[0]);
-    }
+    text += &format!("action 4 needs still\n{}", POSTS[0]);
     for state in (0..4).chain(8..14) {
         let base = if state == 8 { 4 } else { 0 };
         let first = if state > 8 { state - 1 } else { base + 3 };
@@ -191,8 +188,44 @@ pub(super) fn million_paths(one_more: bool, silent: bool) -> Vec<u8> {
             false => text += &based_line(state, 2, 2, base, first),
         }
     }
-    for state in (4..8).filter(|_| !silent) {
+    for state in 4..8 {
         text += &format!("outcome {state} 4: {state} weight 10\n");
+    }
+    pack(&text)
+}
+
+/// The same by paths with a silent step at the end. States 0 to 3 have ten
+/// outcomes among themselves, 4 to 7 none; 8 has nine to the first and ten or
+/// eleven to the silent ones, and each of 9 to 12 nine to the first and one to
+/// the state before it: 900,000 + 90,000 + 9,000 + 900 + 90 + 10 from the last.
+pub(super) fn million_silent_paths(one_more: bool) -> Vec<u8> {
+    let mut text = String::from("model D 10\n");
+    for (number, name) in ["b0", "b1", "over", "last"].iter().enumerate() {
+        text += &format!("proposition {number} {name}\n");
+    }
+    for state in 0..13usize {
+        let low = ["", "b0", "b1", "b0 b1"][if state < 8 { state % 4 } else { 3 }];
+        let over = if (4..8).contains(&state) { "over" } else { "" };
+        let last = if state == 8 { "last" } else { "" };
+        text += &format!("state {state}: {low} {over} {last}\n");
+    }
+    let rest = if one_more { 2 } else { 1 };
+    let posts = [3, 3, 1, 3, 3, rest - 1].map(|more: usize| POSTS[more]);
+    for (action, posts) in posts.iter().enumerate() {
+        let needs = if action < 3 { "!over" } else { "last" };
+        text += &format!("action {action} needs {needs}\n{posts}");
+    }
+    for state in (0..4).chain(8..13) {
+        let first = if state > 8 { state - 1 } else { 3 };
+        text += &based_line(state, 0, 4, 0, 3);
+        text += &based_line(state, 1, 4, 0, 3);
+        text += &match state {
+            8 => "outcome 8 2: 3 weight 7, 4 weight 3\n".to_string(),
+            _ => based_line(state, 2, 2, 0, first),
+        };
+    }
+    for (action, arity) in [(3, 4), (4, 4), (5, rest)] {
+        text += &based_line(8, action, arity, 4, 7);
     }
     pack(&text)
 }
@@ -511,8 +544,8 @@ mod tests {
     #[test]
     fn a_million_paths_and_one() {
         for (one_more, wanted) in [(false, 1_000_000), (true, 1_000_001)] {
-            for silent in [false, true] {
-                let (totals, states) = totals(&million_paths(one_more, silent));
+            for model in [million_paths(one_more), million_silent_paths(one_more)] {
+                let (totals, states) = totals(&model);
                 let most = (0..states).map(|state| totals.paths(6, state)).max();
                 assert_eq!(most, Some(wanted));
             }
@@ -544,10 +577,12 @@ mod tests {
 
     #[test]
     fn limits_just_met_and_just_passed() {
-        for silent in [false, true] {
-            let asked = |one_more| judged(&million_paths(one_more, silent), 0, 6, "greater");
+        for paths in [million_paths, million_silent_paths] {
+            let asked = |one_more| judged(&paths(one_more), 0, 6, "greater");
             assert_eq!(asked(false), Ok(()));
             assert_eq!(asked(true), Err(Ground::TooManyPaths));
+        }
+        for silent in [false, true] {
             let asked = |one_more, relation| judged(&most_plans(one_more, silent), 9, 3, relation);
             assert_eq!(asked(false, "equal"), Ok(()));
             assert_eq!(asked(true, "equal"), Err(Ground::TooManyPlans));
@@ -564,9 +599,9 @@ mod tests {
             states.filter(|state| model.is_silent(*state)).collect()
         };
         for one_more in [false, true] {
-            assert_eq!(silent(&million_paths(one_more, true)), [4, 5, 6, 7]);
+            assert_eq!(silent(&million_silent_paths(one_more)), [4, 5, 6, 7]);
             assert_eq!(silent(&most_plans(one_more, true)), [9, 10, 11, 12]);
-            assert_eq!(silent(&million_paths(one_more, false)), []);
+            assert_eq!(silent(&million_paths(one_more)), []);
             assert_eq!(silent(&most_plans(one_more, false)), []);
         }
         assert_eq!(silent(&late_silence()), [19]);
@@ -608,10 +643,6 @@ mod tests {
             assert!((0..states).all(|state| totals.paths(6, state) <= 1_000_000));
         }
         assert_eq!(totals(&ten_outcomes()).0.paths(6, 0), 1_000_000);
-        assert_eq!(
-            totals(&million_paths(false, true)).0.paths(6, 13),
-            1_000_000
-        );
         assert_eq!(totals(&all_silent()).0.paths(6, 0), 1);
         assert_eq!(totals(&half_silent()).0.paths(6, 0), 805_255);
         assert_eq!(totals(&most_plans(false, true)).0.plans(6, 0), 65_536);

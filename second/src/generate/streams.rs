@@ -176,11 +176,13 @@ fn limit_cases() -> Vec<(Vec<u8>, Vec<Vec<u8>>)> {
         ];
         cases::question(start, &nodes)
     };
-    let path_questions = vec![
-        ask(13, 5, "greater"),
-        ask(13, 6, "less"),
-        ask(0, 6, "greater"),
-    ];
+    let path_questions = |last| {
+        vec![
+            ask(last, 5, "greater"),
+            ask(last, 6, "less"),
+            ask(0, 6, "greater"),
+        ]
+    };
     let plan_questions = vec![
         ask(0, 3, "equal"),
         ask(0, 3, "greater"),
@@ -189,10 +191,10 @@ fn limit_cases() -> Vec<(Vec<u8>, Vec<Vec<u8>>)> {
         ask(9, 3, "equal"),
     ];
     vec![
-        (cases::million_paths(false, false), path_questions.clone()),
-        (cases::million_paths(true, false), path_questions.clone()),
-        (cases::million_paths(false, true), path_questions.clone()),
-        (cases::million_paths(true, true), path_questions),
+        (cases::million_paths(false), path_questions(13)),
+        (cases::million_paths(true), path_questions(13)),
+        (cases::million_silent_paths(false), path_questions(12)),
+        (cases::million_silent_paths(true), path_questions(12)),
         (cases::most_plans(false, false), plan_questions.clone()),
         (cases::most_plans(true, false), plan_questions.clone()),
         (cases::most_plans(false, true), plan_questions.clone()),
