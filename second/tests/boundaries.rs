@@ -79,6 +79,7 @@ fn model_sizes() {
         ("D 10 S 4", 5),
         ("D 10 S 33", 4),
         ("D 10 A 0", 4),
+        // Wait's fields are spare then, and so is the row of the last state.
         ("D 10 A 3", 6),
         ("D 10 A 5", 5),
         ("D 10 A 9", 4),

@@ -44,7 +44,7 @@ impl Names {
         let begins_right = name.starts_with(|c: char| c.is_alphabetic() || c == '_');
         let taken = RESERVED.contains(&name) || self.what == ACTION && name == SILENT_WORD;
         if taken || !begins_right || !name.chars().all(letters) {
-            return Err(format!("'{name}' cannot name a {}", self.what));
+            return Err(format!("no {} can be named '{name}'", self.what));
         }
         match self.numbers.insert(name.to_string(), number) {
             None => Ok(()),
