@@ -6,7 +6,8 @@ use crate::blocks::{fix_word_sums, read_model, ModelImage, NodeImage};
 use crate::blocks::{QuestionImage, Sheet, BLOCK};
 use crate::desk::{next_call, Answer, Call, Desk};
 use crate::ground::Ground;
-use crate::logic::{check_limits, fast, Judged, Model, Move, Plan, Question, Totals, SILENT};
+use crate::logic::{check_limits, fast, Judged, Model, Move, Node, Plan, PlanNode};
+use crate::logic::{Question, Totals, SILENT};
 use std::collections::BTreeMap;
 
 #[derive(Clone, Copy, Debug, PartialEq, Eq, PartialOrd, Ord)]
@@ -39,13 +40,17 @@ pub enum Fault {
     NowhereAccepted,
     /// A path ends at the silent state, and so does its plan.
     PathEnds,
-    /// Silent states have no paths and no plans when limits are tested.
-    UncountedInLimits,
+    /// Below the root, no plan is looked for in silent states.
+    NotBelowRoot,
+    /// Silent states have no paths when ground 24 is tested.
+    PathsUncounted,
+    /// Silent states have no plans when ground 25 is tested.
+    PlansUncounted,
     /// Silent states have no plans when a plan's place is counted.
     UncountedInPlaces,
 }
 
-pub const ALL: [Fault; 16] = [
+pub const ALL: [Fault; 18] = [
     Fault::StillEight,
     Fault::RowsUnread,
     Fault::DoSilentAsked,
@@ -60,7 +65,9 @@ pub const ALL: [Fault; 16] = [
     Fault::ActionsAccepted,
     Fault::NowhereAccepted,
     Fault::PathEnds,
-    Fault::UncountedInLimits,
+    Fault::NotBelowRoot,
+    Fault::PathsUncounted,
+    Fault::PlansUncounted,
     Fault::UncountedInPlaces,
 ];
 
@@ -178,9 +185,8 @@ fn judge(
     question: &Question,
     right: &Result<Judged, Ground>,
 ) -> Option<Result<Judged, Ground>> {
-    if fault == Fault::UncountedInLimits {
-        let missed = limits_missed(model, question, right.as_ref().err());
-        return missed.then_some(Err(Ground::NoShownPlan));
+    if limit_missed(fault, model, question, right.as_ref().err()) {
+        return Some(Err(Ground::NoShownPlan));
     }
     right.as_ref().ok()?;
     let wrong = wrong_verdict(fault, model, question)?;
@@ -212,6 +218,7 @@ fn wrong_verdict(
                 ..judged
             }))
         }
+        Fault::NotBelowRoot => Some(not_below_root(model, question)?.judge().cloned()),
         Fault::UncountedInPlaces => {
             let totals = Totals::of(&wrong_model(fault, model));
             Some(Ok(fast::judge(model, question, &totals)))
@@ -228,7 +235,7 @@ fn check(
     bytes: &[u8],
     right: Result<bool, Ground>,
 ) -> Result<bool, Ground> {
-    if fault == Fault::UncountedInLimits && limits_missed(model, question, right.as_ref().err()) {
+    if limit_missed(fault, model, question, right.as_ref().err()) {
         return Err(Ground::NoShownPlan);
     }
     let wrong = wrong_check(fault, model, question, bytes, right);
@@ -255,7 +262,8 @@ fn wrong_check(
         | Fault::RowsUnread
         | Fault::DoSilentAsked
         | Fault::SearchedEverywhere
-        | Fault::UncountedInLimits
+        | Fault::PathsUncounted
+        | Fault::PlansUncounted
         | Fault::UncountedInPlaces => right,
         Fault::DoZeroTrue | Fault::DoLastTrue => {
             let mut sheet = Sheet::unpack(bytes);
@@ -268,14 +276,64 @@ fn wrong_check(
                 _ => right,
             }
         }
+        Fault::NotBelowRoot => {
+            not_below_root(model, question).map_or(right, |desk| desk.check(bytes))
+        }
         _ => asked(bytes),
     }
 }
 
-/// Whether a limit is passed only if silent states are counted.
-fn limits_missed(model: &Model, question: &Question, right: Option<&Ground>) -> bool {
-    let uncounted = || Totals::of(&wrong_model(Fault::UncountedInLimits, model));
-    is_limit(right) && check_limits(question, &uncounted()).is_ok()
+/// Whether a limit is passed that is not, where silent states are not counted.
+fn limit_missed(fault: Fault, model: &Model, question: &Question, right: Option<&Ground>) -> bool {
+    let limit = match fault {
+        Fault::PathsUncounted => Ground::TooManyPaths,
+        Fault::PlansUncounted => Ground::TooManyPlans,
+        _ => return false,
+    };
+    let totals = || Totals::of(&wrong_model(fault, model));
+    right == Some(&limit) && check_limits(question, &totals()) != Err(limit)
+}
+
+/// A desk on which each plan below the root is asked for only where some
+/// action is enabled; none if the model has no proposition left to tell that.
+fn not_below_root(model: &Model, question: &Question) -> Option<Desk> {
+    const LIVE: u8 = 31;
+    if model.propositions > LIVE {
+        return None;
+    }
+    let mut told = model.clone();
+    for (state, mask) in (0u8..).zip(&mut told.valuation) {
+        *mask |= u32::from(!model.is_silent(state)) << LIVE;
+    }
+    let mut asked = Question {
+        start: question.start,
+        nodes: vec![Node::Proposition(LIVE)],
+    };
+    let mut places: Vec<u8> = Vec::new();
+    for (number, node) in question.nodes.iter().enumerate() {
+        asked.nodes.push(moved(*node, &places));
+        if matches!(node, Node::Plan(_)) && number != question.root() {
+            let plan = asked.root() as u8;
+            asked.nodes.push(Node::And(plan, 0));
+        }
+        places.push(asked.root() as u8);
+    }
+    Some(Desk::holding(told, asked))
+}
+
+/// A node whose children have moved to other places.
+fn moved(node: Node, places: &[u8]) -> Node {
+    let to = |child: u8| places.get(usize::from(child)).copied().unwrap_or(0);
+    match node {
+        Node::Not(child) => Node::Not(to(child)),
+        Node::And(left, right) => Node::And(to(left), to(right)),
+        Node::Next(child) => Node::Next(to(child)),
+        Node::Plan(plan) => Node::Plan(PlanNode {
+            condition: to(plan.condition),
+            ..plan
+        }),
+        other => other,
+    }
 }
 
 /// The choices of a plan of one model as those of another with as many moves
@@ -325,9 +383,10 @@ fn wrong_moves(fault: Fault, silent: Move, model: &Model, actions: u8) -> Vec<Mo
             entry.outcomes.iter_mut().for_each(|o| o.reward = reward);
         }
         Fault::PathEnds => entry.outcomes.clear(),
-        Fault::NowhereAccepted | Fault::UncountedInLimits | Fault::UncountedInPlaces => {
-            return Vec::new()
-        }
+        Fault::NowhereAccepted
+        | Fault::PathsUncounted
+        | Fault::PlansUncounted
+        | Fault::UncountedInPlaces => return Vec::new(),
         Fault::ActionsAccepted => {
             let named = |action| Move {
                 action,

@@ -177,3 +177,37 @@ fn depths() {
         }
     }
 }
+
+/// States without an enabled action are accepted, their rows spare.
+#[test]
+fn states_without_actions() {
+    let nowhere = ("wait needs done", "wait needs done held");
+    let outcome = "outcome over wait: over weight 10 reward 0\n";
+    assert_eq!(load(&[nowhere]), 6);
+    assert_eq!(load(&[nowhere, (outcome, "")]), 0);
+    let elsewhere = "outcome over drop: over weight 9 reward 10, loaded weight 1\n";
+    assert_eq!(load(&[nowhere, (outcome, elsewhere)]), 6);
+    // Grip, quick and drop are gone as well: no state has an action.
+    let gone = [
+        ("grip needs !held !done", "grip needs held done"),
+        ("quick needs !held !done", "quick needs held done"),
+        ("drop needs held", "drop needs held done"),
+    ];
+    let lines = [
+        (
+            "outcome empty grip: loaded weight 8 reward -2, empty weight 2 reward -2\n",
+            "",
+        ),
+        (
+            "outcome empty quick: loaded weight 5 reward -1, empty weight 5 reward -1\n",
+            "",
+        ),
+        (
+            "outcome loaded drop: over weight 9 reward 10, loaded weight 1 reward 0\n",
+            "",
+        ),
+    ];
+    let all = [&gone[..], &[nowhere]].concat();
+    assert_eq!(load(&all), 6);
+    assert_eq!(load(&[&all[..], &lines, &[(outcome, "")]].concat()), 0);
+}

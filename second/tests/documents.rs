@@ -211,70 +211,45 @@ fn two_shelf_table() {
     }
 }
 
+/// Start, steps, bound and the line for "done after these steps".
+const WITHOUT_WAIT: [(u8, usize, &str, &str); 8] = [
+    (0, 2, "equal 72/100", "yes 72/100 plans 1 choices 0 2 0"),
+    (0, 2, "equal 45/100", "yes 45/100 plans 3 choices 1 2 0"),
+    (0, 2, "equal 50/100", "no plans 4"),
+    (1, 2, "equal 99/100", "yes 99/100 plans 1 choices 2 255 2"),
+    (2, 2, "equal 1/1", "yes 100/100 plans 1 choices 255 255"),
+    // All three drops miss with 1 of 1000.
+    (
+        1,
+        3,
+        "less 1/1",
+        "yes 999/1000 plans 0 choices 2 255 255 2 255 2",
+    ),
+    (
+        0,
+        3,
+        "equal 882/1000",
+        "yes 882/1000 plans 3 choices 0 2 255 2 1 2 0",
+    ),
+    (
+        0,
+        3,
+        "greater 9/10",
+        "yes 936/1000 plans 0 choices 0 2 255 2 0 2 0",
+    ),
+];
+
 /// Document 01's verdicts once more without the wait action: from state 0 they
 /// are what they were, and where a plan came to wait it now has 255.
 #[test]
 fn two_shelf_without_wait() {
-    let done_in = |steps: usize| {
-        let nexts: String = (0..steps)
-            .map(|own| format!("{} next {own}\n", own + 1))
-            .collect();
-        format!(
-            "0 proposition 1\n{nexts}{} plan {steps} steps {steps} ",
-            steps + 1
-        )
-    };
-    let table = [
-        (
-            0,
-            done_in(2),
-            "equal 72/100",
-            "yes 72/100 plans 1 choices 0 2 0",
-        ),
-        (
-            0,
-            done_in(2),
-            "equal 45/100",
-            "yes 45/100 plans 3 choices 1 2 0",
-        ),
-        (0, done_in(2), "equal 50/100", "no plans 4"),
-        (
-            1,
-            done_in(2),
-            "equal 99/100",
-            "yes 99/100 plans 1 choices 2 255 2",
-        ),
-        (
-            2,
-            done_in(2),
-            "equal 1/1",
-            "yes 100/100 plans 1 choices 255 255",
-        ),
-        (
-            1,
-            done_in(3),
-            "equal 999/1000",
-            "yes 999/1000 plans 1 choices 2 255 255 2 255 2",
-        ),
-        (
-            0,
-            done_in(3),
-            "equal 882/1000",
-            "yes 882/1000 plans 3 choices 0 2 255 2 1 2 0",
-        ),
-        (
-            0,
-            done_in(3),
-            "greater 9/10",
-            "yes 936/1000 plans 0 choices 0 2 255 2 0 2 0",
-        ),
-    ];
-    let file = common::fixtures().join("two-shelf-silent.model");
-    let with_255 = pack(&[&file]).remove(0);
-    let file = common::fixtures().join("two-shelf.model");
-    let with_3 = pack(&[&file]).remove(0);
-    for (start, nodes, bound, wanted) in table {
-        let text = format!("question start {start}\n{nodes}{bound}\n");
+    let file = |name: &str| pack(&[&common::fixtures().join(name)]).remove(0);
+    let (with_255, with_3) = (file("two-shelf-silent.model"), file("two-shelf.model"));
+    for (start, steps, bound, wanted) in WITHOUT_WAIT {
+        let next = |own: usize| format!("{} next {own}\n", own + 1);
+        let nexts: String = (0..steps).map(next).collect();
+        let root = format!("{} plan {steps} steps {steps} {bound}", steps + 1);
+        let text = format!("question start {start}\n0 proposition 1\n{nexts}{root}\n");
         let question = second::text::pack_text(&text).expect("question");
         for line in verdicts(&with_255, &question) {
             assert_eq!(line, wanted, "{text}");

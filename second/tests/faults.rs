@@ -21,8 +21,8 @@ const TOLD: [(&str, &str, usize, &[Fault]); 11] = [
     ("lists", "check", 1, SHEETS),
     ("small", "write", 100, &[Fault::ShownAsZero]),
     ("sheets", "write", 100, &[Fault::ShownAsZero]),
-    ("judges", "judge", 4, &[Fault::UncountedInLimits]),
-    ("judges", "check", 3, &[Fault::UncountedInLimits]),
+    ("judges", "judge", 2, LIMITS),
+    ("judges", "check", 2, LIMITS),
 ];
 
 /// The faults that verdicts tell.
@@ -35,8 +35,12 @@ const VERDICTS: &[Fault] = &[
     Fault::DoLastTrue,
     Fault::SearchedEverywhere,
     Fault::PathEnds,
+    Fault::NotBelowRoot,
     Fault::UncountedInPlaces,
 ];
+
+/// The faults that only limits tell.
+const LIMITS: &[Fault] = &[Fault::PathsUncounted, Fault::PlansUncounted];
 
 /// The faults that checks tell.
 const SHEETS: &[Fault] = &[

@@ -121,10 +121,9 @@ fn forbid(literals: &mut Literals, mask: u32, bit: u32) {
 }
 
 /// Makes every precondition false where these propositions are true.
-pub(super) fn silence_state(rng: &mut Rng, image: &mut ModelImage, mask: u32) {
-    let propositions = usize::from(image.propositions).clamp(1, 32);
-    let actions = usize::from(image.actions).min(image.moves.len());
-    for action in &mut image.moves[..actions] {
+fn silence_state(rng: &mut Rng, image: &mut ModelImage, mask: u32) {
+    let propositions = usize::from(image.propositions);
+    for action in &mut image.moves[..usize::from(image.actions)] {
         if action.precondition.true_in(mask) {
             forbid(&mut action.precondition, mask, 1 << rng.below(propositions));
         }

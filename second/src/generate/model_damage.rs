@@ -1,7 +1,6 @@
 //! Ways to damage a model, at least one for each side of each ground.
 
 use super::damage::Patches;
-use super::model::silence_state;
 use super::rng::Rng;
 use crate::blocks::{ModelImage, OutcomeImage, BLOCK};
 use crate::logic::Literals;
@@ -355,6 +354,9 @@ fn silent_row(rng: &mut Rng, draft: &mut Draft) {
         silence(rng, draft, state);
         clear_spare_outcomes(draft, None);
     }
+    if !draft.is_silent(state) {
+        return;
+    }
     let action = match rng.once_in(4) {
         true => rng.below(8),
         false => rng.below(draft.actions()),
@@ -365,9 +367,25 @@ fn silent_row(rng: &mut Rng, draft: &mut Draft) {
     draft.patches.set(at, value);
 }
 
+/// Adds to each precondition that is true in a state a literal that is not,
+/// if it leaves a proposition to speak of. It is then true in no other state
+/// where it was not, so that no outcomes are wanted that are not there.
 fn silence(rng: &mut Rng, draft: &mut Draft, state: usize) {
     let mask = draft.image.masks[state];
-    silence_state(rng, &mut draft.image, mask);
+    let propositions = u32::from(draft.image.propositions).clamp(1, 32);
+    let actions = draft.actions();
+    for action in &mut draft.image.moves[..actions] {
+        let precondition = &mut action.precondition;
+        let named = precondition.demanded_true | precondition.demanded_false;
+        let bits = (0..propositions).map(|p| 1u32 << p);
+        let free: Vec<u32> = bits.filter(|bit| named & bit == 0).collect();
+        if let (true, Some(bit)) = (precondition.true_in(mask), rng.pick(&free)) {
+            match mask & bit {
+                0 => precondition.demanded_true |= bit,
+                _ => precondition.demanded_false |= bit,
+            }
+        }
+    }
 }
 
 /// Clears the outcomes of actions that are not enabled, but for one state's.
@@ -386,4 +404,49 @@ fn any_byte(rng: &mut Rng, draft: &mut Draft) {
     let at = rng.below(draft.len());
     let value = rng.byte(0, 255);
     draft.patches.set(at, value);
+}
+
+#[cfg(test)]
+mod tests {
+    use super::*;
+    use crate::blocks::read_model;
+    use crate::generate::{random_model, Size};
+    use crate::ground::Ground;
+
+    /// What loading says of random models after a harm, for those that had an
+    /// action in each state.
+    fn after(harm: Harm) -> Vec<Result<bool, Ground>> {
+        let mut rng = Rng::new(3);
+        let mut answers = Vec::new();
+        for _ in 0..300 {
+            let mut draft = Draft::of(random_model(&mut rng, Size::SMALL));
+            if (0..draft.states()).any(|state| draft.is_silent(state)) {
+                continue;
+            }
+            harm(&mut rng, &mut draft);
+            let silent = (0..draft.states()).any(|state| draft.is_silent(state));
+            answers.push(read_model(&draft.pack()).map(|_| silent));
+        }
+        assert!(answers.len() > 100);
+        answers
+    }
+
+    /// A precondition that names all propositions cannot be changed so; where
+    /// none can, nothing is harmed.
+    #[test]
+    fn silenced_states() {
+        let spare = Err(Ground::Spare);
+        for (harm, wanted) in [
+            (state_silenced as Harm, Ok(true)),
+            (state_silenced_row_left, spare),
+            (silent_row, spare),
+        ] {
+            let answers = after(harm);
+            let met = answers.iter().filter(|answer| **answer == wanted).count();
+            assert!(answers
+                .iter()
+                .all(|answer| *answer == wanted || answer.is_ok()));
+            assert!(met > answers.len() * 3 / 4, "{met} of {}", answers.len());
+        }
+    }
 }
