@@ -172,6 +172,10 @@ fn silent_rows_cleared(bytes: &[u8]) -> Vec<u8> {
     cleared
 }
 
+/// Stands for the answer of a judge that serves what is over a limit: some
+/// answer that is not the limit's.
+const SERVED: Ground = Ground::NoShownPlan;
+
 /// Whether an answer tells of a limit. A wrong model has other totals than the
 /// right one; that alone does not count as a wrong answer.
 fn is_limit(ground: Option<&Ground>) -> bool {
@@ -186,7 +190,7 @@ fn judge(
     right: &Result<Judged, Ground>,
 ) -> Option<Result<Judged, Ground>> {
     if limit_missed(fault, model, question, right.as_ref().err()) {
-        return Some(Err(Ground::NoShownPlan));
+        return Some(Err(SERVED));
     }
     right.as_ref().ok()?;
     let wrong = wrong_verdict(fault, model, question)?;
@@ -236,7 +240,7 @@ fn check(
     right: Result<bool, Ground>,
 ) -> Result<bool, Ground> {
     if limit_missed(fault, model, question, right.as_ref().err()) {
-        return Err(Ground::NoShownPlan);
+        return Err(SERVED);
     }
     let wrong = wrong_check(fault, model, question, bytes, right);
     match is_limit(right.as_ref().err()) || is_limit(wrong.as_ref().err()) {

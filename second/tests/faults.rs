@@ -59,7 +59,9 @@ const SHEETS: &[Fault] = &[
 #[test]
 fn streams_tell_faults() {
     for kind in ["models", "questions", "small", "judges", "sheets", "lists"] {
-        let counts = differences(&stream(kind, 1, 10_000).expect("kind"));
+        // Few of a list's sheets are for the question held.
+        let calls = if kind == "lists" { 50_000 } else { 10_000 };
+        let counts = differences(&stream(kind, 1, calls).expect("kind"));
         for (_, call, fewest, faults) in TOLD.iter().filter(|row| row.0 == kind) {
             for fault in *faults {
                 often(&counts, kind, call, *fault, *fewest);

@@ -20,6 +20,11 @@ impl Size {
         actions: 3,
         posts: 3,
     };
+    /// Few states, and as many actions as there can be.
+    pub const EIGHT_ACTIONS: Size = Size {
+        actions: 8,
+        ..Size::SMALL
+    };
     pub const LARGE: Size = Size {
         states: 32,
         propositions: 32,
@@ -43,6 +48,9 @@ pub fn random_model(rng: &mut Rng, size: Size) -> ModelImage {
         // The very largest sizes stand at the ends of their ranges.
         image.states = size.states;
         image.propositions = size.propositions;
+    }
+    if rng.once_in(8) {
+        image.actions = size.actions;
     }
     image.rows = vec![Default::default(); ModelImage::rows_for(image.states)];
     let used_bits = u32::MAX >> (32 - u32::from(image.propositions));

@@ -99,7 +99,7 @@ impl Drawer<'_> {
     fn about_silent_steps(&mut self) -> Node {
         let nexts = self.rng.below(4);
         let first = match self.rng.below(5) {
-            0..=1 => self.act(),
+            0..=1 => self.act_at_an_end(),
             2..=3 => self.close_gain(nexts),
             _ => Node::Proposition(self.rng.below(self.model.propositions.into()) as u8),
         };
@@ -107,7 +107,7 @@ impl Drawer<'_> {
         if self.rng.once_in(3) {
             self.add_over(Node::Not);
         }
-        if self.rng.once_in(3) {
+        if self.rng.once_in(2) {
             let inner = self.plan_over(self.question.root() as u8);
             self.question.nodes.extend(inner);
         }
@@ -130,6 +130,16 @@ impl Drawer<'_> {
 
     fn act(&mut self) -> Node {
         Node::Do(self.rng.below(self.model.actions.len()) as u8)
+    }
+
+    /// A "do" of the first or the last action, or of any.
+    fn act_at_an_end(&mut self) -> Node {
+        let last = self.model.actions.len().saturating_sub(1) as u8;
+        match self.rng.below(3) {
+            0 => Node::Do(0),
+            1 => Node::Do(last),
+            _ => self.act(),
+        }
     }
 
     fn gain(&mut self) -> Node {

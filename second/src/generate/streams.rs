@@ -47,6 +47,14 @@ fn size(rng: &mut Rng) -> Size {
     }
 }
 
+/// Few states, and now and then up to eight actions.
+pub(super) fn few_states(rng: &mut Rng) -> Size {
+    match rng.once_in(5) {
+        true => Size::EIGHT_ACTIONS,
+        false => Size::SMALL,
+    }
+}
+
 /// Loads of accepted, damaged and doubly damaged models.
 pub fn models(rng: &mut Rng, count: usize) -> Vec<Call> {
     let mut calls = Vec::new();
@@ -209,9 +217,10 @@ pub fn sheets(rng: &mut Rng, count: usize) -> Vec<Call> {
     while calls.len() < count {
         turn += 1;
         let large = rng.once_in(6).then(|| large_model(rng, turn));
+        let size = few_states(rng);
         let (bytes, start) = match large {
             Some(ref large) => large.clone(),
-            None => (random_model(rng, Size::SMALL).pack(), 0),
+            None => (random_model(rng, size).pack(), 0),
         };
         let Ok(model) = read_model(&bytes) else {
             continue;
