@@ -208,7 +208,8 @@ fn answers(judge: &FloatJudge, call: &Call, answer: &Answer) -> Vec<(Asked, bool
     }
 }
 
-/// The same for a sheet that is accepted, or refused for its weight alone.
+/// The same for a sheet that is accepted, or refused for its weight alone; a
+/// condition with plans in it can take long to read on every path.
 fn sheet_answers(
     judge: &FloatJudge,
     bytes: &[u8],
@@ -218,6 +219,10 @@ fn sheet_answers(
     let (Some(root), Ok(_) | Err(Ground::Weight)) = (root, checked) else {
         return Vec::new();
     };
+    let totals = Totals::of(judge.model);
+    if plain::weight_cost(judge.model, judge.question, &root, &totals) > AFFORDABLE {
+        return Vec::new();
+    }
     let sheet = Sheet::unpack(bytes);
     let Some(plan) = Plan::from_choices(judge.model, start, root.steps(), &sheet.choices) else {
         return Vec::new();

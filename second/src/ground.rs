@@ -1,4 +1,5 @@
-//! The grounds of refusal, numbered as in document 01.
+//! The grounds of refusal, numbered as in document 01. Since request A.1 of
+//! document 02, ground 8 no longer occurs; its number is not used again.
 
 /// A refusal yields one of these; where several apply, the first in the
 /// document's order.
@@ -11,7 +12,6 @@ pub enum Ground {
     Range = 5,
     Spare = 6,
     Outcomes = 7,
-    NoEnabledAction = 8,
     Formula = 9,
     Choices = 10,
     Weight = 11,

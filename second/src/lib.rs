@@ -6,6 +6,7 @@ pub mod bytes;
 pub mod compare;
 pub mod desk;
 pub mod draw;
+pub mod faults;
 pub mod floats;
 pub mod generate;
 pub mod ground;

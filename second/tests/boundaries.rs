@@ -79,6 +79,7 @@ fn model_sizes() {
         ("D 10 S 4", 5),
         ("D 10 S 33", 4),
         ("D 10 A 0", 4),
+        // Wait's fields are spare then, and so is the row of the last state.
         ("D 10 A 3", 6),
         ("D 10 A 5", 5),
         ("D 10 A 9", 4),
@@ -175,4 +176,38 @@ fn depths() {
             assert_eq!(put("start 0", &nodes), wanted, "{depth} {steps}");
         }
     }
+}
+
+/// States without an enabled action are accepted, their rows spare.
+#[test]
+fn states_without_actions() {
+    let nowhere = ("wait needs done", "wait needs done held");
+    let outcome = "outcome over wait: over weight 10 reward 0\n";
+    assert_eq!(load(&[nowhere]), 6);
+    assert_eq!(load(&[nowhere, (outcome, "")]), 0);
+    let elsewhere = "outcome over drop: over weight 9 reward 10, loaded weight 1\n";
+    assert_eq!(load(&[nowhere, (outcome, elsewhere)]), 6);
+    // Grip, quick and drop are gone as well: no state has an action.
+    let gone = [
+        ("grip needs !held !done", "grip needs held done"),
+        ("quick needs !held !done", "quick needs held done"),
+        ("drop needs held", "drop needs held done"),
+    ];
+    let lines = [
+        (
+            "outcome empty grip: loaded weight 8 reward -2, empty weight 2 reward -2\n",
+            "",
+        ),
+        (
+            "outcome empty quick: loaded weight 5 reward -1, empty weight 5 reward -1\n",
+            "",
+        ),
+        (
+            "outcome loaded drop: over weight 9 reward 10, loaded weight 1 reward 0\n",
+            "",
+        ),
+    ];
+    let all = [&gone[..], &[nowhere]].concat();
+    assert_eq!(load(&all), 6);
+    assert_eq!(load(&[&all[..], &lines, &[(outcome, "")]].concat()), 0);
 }

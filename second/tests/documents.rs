@@ -45,6 +45,19 @@ fn mary_questions() {
     check_questions("mary", 9);
 }
 
+/// Document 02, A.1: states without an enabled action.
+#[test]
+fn silent_questions() {
+    check_questions("two-shelf-silent", 24);
+    check_questions("silent", 12);
+}
+
+/// Mary as she is published, in industry and in a Ph.D. without a move.
+#[test]
+fn published_mary_questions() {
+    check_questions("mary-published", 12);
+}
+
 #[test]
 fn shelf_questions() {
     check_questions("shelf", 3);
@@ -57,18 +70,18 @@ fn six_tries_questions() {
 
 #[test]
 fn limit_questions() {
-    check_questions("limits", 12);
+    check_questions("limits", 19);
 }
 
 #[test]
 fn refused_questions() {
-    check_questions("refusals", 16);
+    check_questions("refusals", 17);
 }
 
 #[test]
 fn refused_models() {
     let models = files("refusals", "model");
-    assert!(models.len() >= 20);
+    assert!(models.len() >= 25);
     for file in models {
         let parts = pack(&[&file]);
         let answer = Desk::default().load(&parts[0]).map_err(|g| g.number());
@@ -84,10 +97,17 @@ fn refused_models() {
 
 #[test]
 fn accepted_models() {
-    for file in ["two-shelf.model", "mary.model"] {
-        let parts = pack(&[&common::fixtures().join(file)]);
-        assert_eq!(Desk::default().load(&parts[0]), Ok(()), "{file}");
+    let accepted = files(".", "model")
+        .into_iter()
+        .chain(files("silent", "model"));
+    let mut count = 0;
+    for file in accepted {
+        let parts = pack(&[&file]);
+        let loaded = Desk::default().load(&parts[0]);
+        assert_eq!(loaded, Ok(()), "{}", file.display());
+        count += 1;
     }
+    assert!(count >= 12);
 }
 
 fn check_sheet(file: &Path) {
@@ -110,12 +130,21 @@ fn check_sheet(file: &Path) {
 
 #[test]
 fn sheets() {
-    let folders = ["two-shelf", "mary", "shelf", "six-tries", "refusals"];
+    let folders = [
+        "two-shelf",
+        "two-shelf-silent",
+        "silent",
+        "mary",
+        "mary-published",
+        "shelf",
+        "six-tries",
+        "refusals",
+    ];
     let sheets: Vec<_> = folders
         .iter()
         .flat_map(|folder| files(folder, "sheet"))
         .collect();
-    assert!(sheets.len() >= 23);
+    assert!(sheets.len() >= 42);
     for file in sheets {
         check_sheet(&file);
     }
@@ -182,10 +211,65 @@ fn two_shelf_table() {
     }
 }
 
+/// Start, steps, bound and the line for "done after these steps".
+const WITHOUT_WAIT: [(u8, usize, &str, &str); 8] = [
+    (0, 2, "equal 72/100", "yes 72/100 plans 1 choices 0 2 0"),
+    (0, 2, "equal 45/100", "yes 45/100 plans 3 choices 1 2 0"),
+    (0, 2, "equal 50/100", "no plans 4"),
+    (1, 2, "equal 99/100", "yes 99/100 plans 1 choices 2 255 2"),
+    (2, 2, "equal 1/1", "yes 100/100 plans 1 choices 255 255"),
+    // All three drops miss with 1 of 1000.
+    (
+        1,
+        3,
+        "less 1/1",
+        "yes 999/1000 plans 0 choices 2 255 255 2 255 2",
+    ),
+    (
+        0,
+        3,
+        "equal 882/1000",
+        "yes 882/1000 plans 3 choices 0 2 255 2 1 2 0",
+    ),
+    (
+        0,
+        3,
+        "greater 9/10",
+        "yes 936/1000 plans 0 choices 0 2 255 2 0 2 0",
+    ),
+];
+
+/// Document 01's verdicts once more without the wait action: from state 0 they
+/// are what they were, and where a plan came to wait it now has 255.
+#[test]
+fn two_shelf_without_wait() {
+    let file = |name: &str| pack(&[&common::fixtures().join(name)]).remove(0);
+    let (with_255, with_3) = (file("two-shelf-silent.model"), file("two-shelf.model"));
+    for (start, steps, bound, wanted) in WITHOUT_WAIT {
+        let next = |own: usize| format!("{} next {own}\n", own + 1);
+        let nexts: String = (0..steps).map(next).collect();
+        let root = format!("{} plan {steps} steps {steps} {bound}", steps + 1);
+        let text = format!("question start {start}\n0 proposition 1\n{nexts}{root}\n");
+        let question = second::text::pack_text(&text).expect("question");
+        for line in verdicts(&with_255, &question) {
+            assert_eq!(line, wanted, "{text}");
+        }
+        for line in verdicts(&with_3, &question) {
+            assert_eq!(line, wanted.replace("255", "3"), "{text}");
+        }
+    }
+}
+
 /// 001, Example 3: the paths of Mary's policy and their weights.
 #[test]
 fn mary_path_distribution() {
-    let parts = pack(&[&common::fixtures().join("mary.model")]);
+    for file in ["mary.model", "mary-published.model"] {
+        check_path_distribution(file);
+    }
+}
+
+fn check_path_distribution(file: &str) {
+    let parts = pack(&[&common::fixtures().join(file)]);
     let model = read_model(&parts[0]).expect("mary");
     let plan = Plan::from_choices(&model, 0, 2, &[1, 3, 0]).expect("policy");
     let paths = plan.paths(&model);

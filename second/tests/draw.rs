@@ -29,6 +29,26 @@ fn two_shelf_picture() {
     assert!(svg.contains("Verdict: yes 45/100 plans 3<"));
 }
 
+/// Silent moves are loops: one at the state over, one where the plan comes to
+/// it, and no action box for either.
+#[test]
+fn silent_picture() {
+    let question = "two-shelf-silent/three-steps-done-equal-855-1000.question";
+    let svg = picture(question).expect("a picture");
+    assert_eq!(count(&svg, "silent: 10/10, reward 0"), 1);
+    assert_eq!(
+        count(&svg, "silent for 1 step: 450/1000, condition true"),
+        1
+    );
+    assert_eq!(count(&svg, "class=\"action\""), 3 + 6);
+    assert!(!svg.contains("a255"));
+    let svg = picture("two-shelf-silent/six-silent-steps.question").expect("a picture");
+    let words = "silent for 6 steps: 1000000/1000000, condition true";
+    assert_eq!(count(&svg, words), 1);
+    assert_eq!(count(&svg, "class=\"fulfilled\""), 1);
+    assert!(picture("silent/all-silent-gain.question").is_ok());
+}
+
 #[test]
 fn picture_without_a_plan() {
     let svg = picture("two-shelf/next-next-done-equal-50-100.question").expect("a picture");

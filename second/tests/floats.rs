@@ -104,7 +104,9 @@ fn tight_tells_floats() {
 #[test]
 fn ordinary_streams_do_not() {
     for kind in ["small", "judges", "lists"] {
-        let counts = replayed(kind, 1..=1, 2_000);
+        // In a list few calls are about a question with a close bound.
+        let calls = if kind == "lists" { 20_000 } else { 2_000 };
+        let counts = replayed(kind, 1..=1, calls);
         let passing = [Arithmetic::DividedDoubles, Arithmetic::MultipliedDoubles];
         assert!(counts.keys().all(|key| !passing.contains(&key.0)), "{kind}");
         assert!(!counts.is_empty(), "{kind}: no judge in floats is wrong");

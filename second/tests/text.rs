@@ -25,6 +25,23 @@ fn shown_and_packed() {
     }
 }
 
+/// The silent move's choice is told by a word, and 255 is read as well.
+#[test]
+fn silent_choices() {
+    let by_word = pack_text("sheet n 2 start 1 weight 99\nchoices 2 silent 2").expect("text");
+    let by_number = pack_text("sheet n 2 start 1 weight 99\nchoices 2 255 2").expect("text");
+    assert_eq!(by_word, by_number);
+    assert_eq!(by_word[18..21], [2, 255, 2]);
+    assert!(show_blocks(&by_word).contains("choices 2 silent 2\n"));
+}
+
+/// States and propositions may have any name.
+#[test]
+fn silent_as_a_name() {
+    let text = "model D 1\nproposition 0 silent\nstate 0 silent: silent\n";
+    assert!(pack_text(text).is_ok());
+}
+
 /// Accepted inputs are told in words alone.
 #[test]
 fn accepted_without_directives() {
@@ -85,6 +102,16 @@ fn faults_by_line() {
             "a bound is written p/q",
         ),
         ("sheet n 2 start 0", 1, "'weight' is missing"),
+        (
+            "model D 10\naction 0 silent",
+            2,
+            "no action can be named 'silent'",
+        ),
+        (
+            "question start 0\n0 do silent",
+            2,
+            "no action is named 'silent'",
+        ),
         (
             "sheet n 2 start 0 weight 1\nbyte 0 256",
             2,

@@ -2,10 +2,10 @@
 
 use second::compare::compare;
 use second::desk::{c_calls, next_call, verdict_line, Desk, JudgeKind};
-use second::floats::differences;
 use second::generate::{bench_cases, stream};
 use second::tally::tally;
 use second::timing::time;
+use second::{faults, floats};
 use std::io::{self, Read, Write};
 use std::process::ExitCode;
 
@@ -15,6 +15,7 @@ const USAGE: &str = "usage: second [--plain] COMMAND
   ccalls                     the C call on what a stream of calls loads and puts
   tally                      a stream of calls to counts of its answers
   floats                     a stream of calls to counts of the answers that judges in floats get wrong
+  faults                     a stream of calls to counts of the answers that judges that err about silent states get wrong
   generate KIND SEED COUNT   a stream of models, questions, judges, small, sheets, lists or tight
   compare SEED COUNT         the fast judge against the plain one
   bench-cases DIR            worst cases as DIR/NAME.bin
@@ -46,6 +47,7 @@ fn run(kind: JudgeKind, words: &[&str]) -> io::Result<ExitCode> {
         ["ccalls"] => ccalls(kind, &read_input()?)?,
         ["tally"] => print_tally(&read_input()?)?,
         ["floats"] => print_floats(&read_input()?)?,
+        ["faults"] => print_faults(&read_input()?)?,
         ["generate", kind, seed, count] => return generate(kind, seed, count),
         ["compare", seed, count] => return compare_judges(seed, count),
         ["bench-cases", folder] => write_cases(folder)?,
@@ -97,10 +99,17 @@ fn print_tally(stream: &[u8]) -> io::Result<()> {
 }
 
 fn print_floats(stream: &[u8]) -> io::Result<()> {
-    for ((arithmetic, asked, relation, right), count) in differences(stream) {
+    for ((arithmetic, asked, relation, right), count) in floats::differences(stream) {
         let right = if right { "yes" } else { "no" };
         let words = format!("{arithmetic:?} wrong on {asked:?} {relation:?}, rightly {right}");
         print_line(&format!("{count:8} {words}"))?;
+    }
+    Ok(())
+}
+
+fn print_faults(stream: &[u8]) -> io::Result<()> {
+    for ((fault, call), count) in faults::differences(stream) {
+        print_line(&format!("{count:8} {call} {fault:?}"))?;
     }
     Ok(())
 }

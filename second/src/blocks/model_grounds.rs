@@ -1,4 +1,6 @@
-//! Reading a model: grounds 1 to 8, each on the whole input before the next.
+//! Reading a model: grounds 1 to 7, each on the whole input before the next. A
+//! state with no enabled action is accepted (document 02, A.1); its row is
+//! spare.
 
 use super::frame::check_frame;
 use super::model_image::{ActionImage, ModelImage, OutcomeImage, POSTS};
@@ -15,10 +17,7 @@ pub fn read_model(bytes: &[u8]) -> Result<Model, Ground> {
     // are zero, and no other.
     demand(used_fields(&image).pack() == bytes, Ground::Spare)?;
     demand(outcomes_right(&image), Ground::Outcomes)?;
-    let model = accepted(&image);
-    let blocked = model.moves.iter().any(|moves| moves.is_empty());
-    demand(!blocked, Ground::NoEnabledAction)?;
-    Ok(model)
+    Ok(accepted(&image))
 }
 
 /// The head is kind 1, number 0; rows are kind 2 and count from 1.
@@ -166,6 +165,7 @@ fn accepted(image: &ModelImage) -> Model {
             list.push(entry);
         }
     }
+    add_silent_moves(&mut moves, image.denominator);
     let action = |entry: &ActionImage| Action {
         precondition: entry.precondition,
         postconditions: posts(entry).to_vec(),
@@ -176,5 +176,14 @@ fn accepted(image: &ModelImage) -> Model {
         valuation: masks(image).to_vec(),
         actions: actions(image).iter().map(action).collect(),
         moves,
+    }
+}
+
+/// Gives each state without an enabled action its silent move.
+fn add_silent_moves(moves: &mut [Vec<Move>], denominator: u8) {
+    for (state, list) in (0u8..).zip(moves) {
+        if list.is_empty() {
+            list.push(Move::silent(state, denominator));
+        }
     }
 }

@@ -18,7 +18,8 @@ pub struct Sheet {
     pub steps: u8,
     pub start: u8,
     pub weight: u64,
-    /// One action for each history, depth first.
+    /// One choice for each history, depth first: an action, or 255 for the
+    /// silent move.
     pub choices: Vec<u8>,
 }
 

@@ -7,7 +7,9 @@ use crate::ground::Ground;
 use crate::logic::Verdict;
 
 /// The lengths of the lent buffer to try: around each block boundary.
-const LENGTHS: [usize; 12] = [0, 1, 511, 512, 513, 1023, 1024, 1025, 1535, 1536, 1537, 1700];
+const LENGTHS: [usize; 12] = [
+    0, 1, 511, 512, 513, 1023, 1024, 1025, 1535, 1536, 1537, 1700,
+];
 
 /// 0 for no, 1 for yes, 100 plus the refusal.
 fn c_call(kind: JudgeKind, model: &[u8], question: &[u8], sheet: &mut [u8]) -> u32 {

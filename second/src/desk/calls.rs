@@ -33,6 +33,16 @@ impl Desk {
         }
     }
 
+    /// A desk that holds a model and a question without having read them, so
+    /// that `faults` can lay a wrong model beside a right one.
+    pub fn holding(model: Model, question: Question) -> Desk {
+        Desk {
+            model: Some(model),
+            question: Some(question),
+            ..Desk::default()
+        }
+    }
+
     /// The held model.
     pub fn model(&self) -> Result<&Model, Ground> {
         self.model.as_ref().ok_or(Ground::NoModel)

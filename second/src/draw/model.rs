@@ -1,6 +1,7 @@
 //! A model as a graph in four columns: each state, its enabled actions, their
 //! outcomes, and the states again that these lead to. Edges only run to the
-//! right, so that loops need no knots.
+//! right, so that loops need no knots; but a silent move is drawn as a small
+//! loop at its state.
 
 use super::svg::{Canvas, Look};
 use crate::logic::{Model, Move};
@@ -46,7 +47,7 @@ pub(super) fn draw(canvas: &mut Canvas, model: &Model, top: f64) -> f64 {
     columns.target_x + state_width
 }
 
-/// The enabled actions of a state, one below the other.
+/// The enabled actions of a state, one below the other, or its silent move.
 fn state_moves(
     canvas: &mut Canvas,
     model: &Model,
@@ -56,6 +57,10 @@ fn state_moves(
 ) {
     let mut y = place.first;
     for entry in moves {
+        if entry.is_silent() {
+            silent_move(canvas, model, place, columns);
+            continue;
+        }
         let middle = y + ROW * (entry.outcomes.len() as f64 - 1.0) / 2.0;
         let out = (STATE_X + columns.state_width, place.middle);
         let action = format!("a{}", entry.action);
@@ -70,6 +75,14 @@ fn state_moves(
         outcomes(canvas, model, entry, y, middle, columns);
         y += height_of(entry) + SPACE;
     }
+}
+
+/// The loop of a state in which no action is enabled.
+fn silent_move(canvas: &mut Canvas, model: &Model, place: &Place, columns: &Columns) {
+    let beside = canvas.loop_at(STATE_X + columns.state_width, place.middle);
+    let whole = model.denominator;
+    let words = format!("silent: {whole}/{whole}, reward 0");
+    canvas.words(beside, place.middle, &words);
 }
 
 /// The outcomes of a move, a row for each from `first` on.

@@ -1,7 +1,8 @@
-//! A shown plan as a tree of choices, from left to right.
+//! A shown plan as a tree of choices, from left to right. Where only silent
+//! moves are left, the last state has a small loop that stands for them.
 
 use super::svg::{Canvas, Look};
-use crate::logic::{plain, Model, Path, Plan, PlanNode, Question, Totals};
+use crate::logic::{plain, Model, Move, Path, Plan, PlanNode, Question, Totals};
 
 const ROW: f64 = 28.0;
 const STATE_WIDTH: f64 = 36.0;
@@ -85,8 +86,11 @@ impl Tree<'_> {
         let chosen = plan.and_then(|plan| Some((plan, plan.chosen(self.model)?)));
         let open = so_far.actions.len() < self.depth;
         let Some((plan, entry)) = chosen.filter(|_| open) else {
-            return self.end(so_far, x, &name);
+            return self.end(so_far, x, &name, 0);
         };
+        if entry.is_silent() {
+            return self.silent_end(entry, so_far, x, &name);
+        }
         let below_x = x + STEP;
         let mut rows = Vec::new();
         for (place, outcome) in entry.outcomes.iter().enumerate() {
@@ -113,8 +117,19 @@ impl Tree<'_> {
         y
     }
 
+    /// A silent state, which is not left in any of the steps to come.
+    fn silent_end(&mut self, entry: &Move, so_far: &Path, x: f64, name: &str) -> f64 {
+        let left = self.depth - so_far.actions.len();
+        let mut path = so_far.clone();
+        for outcome in entry.outcomes.iter().cycle().take(left) {
+            path = path.extended(entry.action, outcome);
+        }
+        self.end(&path, x, name, left)
+    }
+
     /// The end of a path, with its weight; marked if the condition is true.
-    fn end(&mut self, path: &Path, x: f64, name: &str) -> f64 {
+    /// The path's last steps may be silent.
+    fn end(&mut self, path: &Path, x: f64, name: &str, silent: usize) -> f64 {
         let y = self.next_row;
         self.next_row += ROW;
         let whole_path = path.actions.len() == self.root.steps();
@@ -123,12 +138,27 @@ impl Tree<'_> {
             && plain::condition_holds(self.model, self.question, self.root, path);
         let look = if met { Look::Fulfilled } else { Look::State };
         self.canvas.boxed(look, x, y, STATE_WIDTH, name);
+        let mut beside = x + STATE_WIDTH + 8.0;
+        let mut words = Vec::new();
+        if silent > 0 {
+            beside = self.canvas.loop_at(x + STATE_WIDTH, y);
+            words.push(silent_words(silent));
+        }
         if whole_path {
             let whole = self.model.whole(self.root.steps());
             let verb = if met { ", condition true" } else { "" };
-            let words = format!("{}/{whole}{verb}", path.weight);
-            self.canvas.words(x + STATE_WIDTH + 8.0, y, &words);
+            words.push(format!("{}/{whole}{verb}", path.weight));
+        }
+        if !words.is_empty() {
+            self.canvas.words(beside, y, &words.join(": "));
         }
         y
+    }
+}
+
+fn silent_words(steps: usize) -> String {
+    match steps {
+        1 => "silent for 1 step".to_string(),
+        _ => format!("silent for {steps} steps"),
     }
 }

@@ -1,5 +1,8 @@
 //! The few shapes that the pictures are made of.
 
+/// How far a loop's curve is drawn out.
+const LOOP: f64 = 26.0;
+
 /// How a box is drawn.
 #[derive(Clone, Copy)]
 pub(super) enum Look {
@@ -67,6 +70,20 @@ impl Canvas {
             from.0, from.1, from.1, to.1, to.0, to.1
         );
         self.reach(to.0, to.1);
+    }
+
+    /// A small loop at the right side of a box, back to the box. Gives where
+    /// words beside it may begin.
+    pub(super) fn loop_at(&mut self, x: f64, y: f64) -> f64 {
+        let (out, above, below) = (x + LOOP, y - 6.0, y + 6.0);
+        self.body += &format!(
+            "<path class=\"edge\" d=\"M{x:.1} {above:.1}C{out:.1} {:.1} {out:.1} {:.1} \
+             {x:.1} {below:.1}\" marker-end=\"url(#arrow)\"/>\n",
+            y - 14.0,
+            y + 14.0
+        );
+        self.reach(out, y + 14.0);
+        out
     }
 
     /// The whole picture.

@@ -1,9 +1,8 @@
 //! Random lists of all five calls.
 
-use super::model::Size;
 use super::question::{random_question, Scale};
 use super::rng::Rng;
-use super::streams::{any_model, any_question, any_sheet, canary, good_model, stretch};
+use super::streams::{any_model, any_question, any_sheet, canary, few_states, good_model, stretch};
 use crate::blocks::QuestionImage;
 use crate::desk::Call;
 
@@ -44,7 +43,8 @@ fn pool(rng: &mut Rng) -> Pool {
         sheets: Vec::new(),
     };
     for turn in 0..2 {
-        let Some((bytes, model, totals)) = good_model(rng, Size::SMALL) else {
+        let size = few_states(rng);
+        let Some((bytes, model, totals)) = good_model(rng, size) else {
             continue;
         };
         pool.loads.push(bytes);
@@ -63,7 +63,7 @@ fn pool(rng: &mut Rng) -> Pool {
         }
         let harm = rng.below(100) + turn;
         pool.puts.push(any_question(rng, &model, &totals, harm));
-        pool.loads.push(any_model(rng, Size::SMALL, harm));
+        pool.loads.push(any_model(rng, size, harm));
     }
     pool
 }

@@ -1,6 +1,7 @@
 //! Streams of calls for laying two implementations side by side. Everything
 //! follows from a seed.
 
+mod bench;
 mod cases;
 mod damage;
 mod lists;
@@ -13,7 +14,7 @@ mod sheet_damage;
 mod streams;
 mod tight;
 
-pub use cases::{bench_cases, Case};
+pub use bench::{bench_cases, Case};
 pub use lists::lists;
 pub use model::{random_model, Size};
 pub use question::{random_question, Scale};

@@ -1,4 +1,4 @@
-//! Random models that are accepted.
+//! Random models that are accepted, with silent states and without.
 
 use super::rng::Rng;
 use crate::blocks::{ActionImage, ModelImage, OutcomeImage};
@@ -19,6 +19,11 @@ impl Size {
         propositions: 4,
         actions: 3,
         posts: 3,
+    };
+    /// Few states, and as many actions as there can be.
+    pub const EIGHT_ACTIONS: Size = Size {
+        actions: 8,
+        ..Size::SMALL
     };
     pub const LARGE: Size = Size {
         states: 32,
@@ -44,17 +49,93 @@ pub fn random_model(rng: &mut Rng, size: Size) -> ModelImage {
         image.states = size.states;
         image.propositions = size.propositions;
     }
+    if rng.once_in(8) {
+        image.actions = size.actions;
+    }
     image.rows = vec![Default::default(); ModelImage::rows_for(image.states)];
     let used_bits = u32::MAX >> (32 - u32::from(image.propositions));
     for state in 0..usize::from(image.states) {
         image.masks[state] = rng.mask() & used_bits;
     }
+    let silence = Silence::drawn(rng);
+    let bit = 1 << rng.below(image.propositions.into());
+    if silence == Silence::Everywhere {
+        agree_on(rng, &mut image, bit);
+    }
     for action in 0..usize::from(image.actions) {
         image.moves[action] = random_action(rng, &image, size.posts);
     }
-    enable_everywhere(rng, &mut image);
+    silence.apply(rng, &mut image, bit);
     fill_rows(rng, &mut image);
     image
+}
+
+/// How a model comes by states in which no action is enabled. About a third
+/// of the models have some.
+#[derive(Clone, Copy, PartialEq)]
+enum Silence {
+    Nowhere,
+    /// Where no precondition happens to be true.
+    AsDrawn,
+    /// Wherever one proposition is as in some state: the work is over there.
+    Over,
+    /// In some state, each action for a reason of its own.
+    OneState,
+    Everywhere,
+}
+
+impl Silence {
+    fn drawn(rng: &mut Rng) -> Silence {
+        match rng.below(20) {
+            0..=10 => Silence::Nowhere,
+            11..=12 => Silence::AsDrawn,
+            13..=15 => Silence::Over,
+            16..=18 => Silence::OneState,
+            _ => Silence::Everywhere,
+        }
+    }
+
+    /// Changes the actions' preconditions so. For `Everywhere` the states
+    /// already agree on the bit.
+    fn apply(self, rng: &mut Rng, image: &mut ModelImage, bit: u32) {
+        let mask = rng.pick_or(masks(image), 0);
+        match self {
+            Silence::Nowhere => enable_everywhere(rng, image),
+            Silence::AsDrawn => {}
+            Silence::Over | Silence::Everywhere => {
+                for action in &mut image.moves[..usize::from(image.actions)] {
+                    forbid(&mut action.precondition, mask, bit);
+                }
+            }
+            Silence::OneState => silence_state(rng, image, mask),
+        }
+    }
+}
+
+/// Lets one proposition be true in all states, or in none.
+fn agree_on(rng: &mut Rng, image: &mut ModelImage, bit: u32) {
+    let held = rng.once_in(2);
+    let states = usize::from(image.states);
+    for mask in &mut image.masks[..states] {
+        *mask = if held { *mask | bit } else { *mask & !bit };
+    }
+}
+
+/// Makes a conjunction false in a state by the literal of one proposition.
+fn forbid(literals: &mut Literals, mask: u32, bit: u32) {
+    literals.demanded_true &= !bit;
+    literals.demanded_false &= !bit;
+    literal(literals, !mask, bit);
+}
+
+/// Makes every precondition false where these propositions are true.
+fn silence_state(rng: &mut Rng, image: &mut ModelImage, mask: u32) {
+    let propositions = usize::from(image.propositions);
+    for action in &mut image.moves[..usize::from(image.actions)] {
+        if action.precondition.true_in(mask) {
+            forbid(&mut action.precondition, mask, 1 << rng.below(propositions));
+        }
+    }
 }
 
 fn random_denominator(rng: &mut Rng) -> u8 {

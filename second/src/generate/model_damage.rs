@@ -36,6 +36,16 @@ impl Draft {
         usize::from(self.image.actions).clamp(1, 8)
     }
 
+    fn is_enabled(&self, state: usize, action: usize) -> bool {
+        let precondition = self.image.moves[action].precondition;
+        precondition.true_in(self.image.masks[state])
+    }
+
+    /// Whether no action is enabled in a state.
+    fn is_silent(&self, state: usize) -> bool {
+        !(0..self.actions()).any(|action| self.is_enabled(state, action))
+    }
+
     /// A bit from N up, or just below.
     fn bit_beyond(&self, rng: &mut Rng) -> u32 {
         let first = u32::from(self.image.propositions);
@@ -59,8 +69,7 @@ impl Draft {
         let mut pairs = Vec::new();
         for state in 0..self.states() {
             for action in 0..self.actions() {
-                let precondition = self.image.moves[action].precondition;
-                if precondition.true_in(self.image.masks[state]) == enabled {
+                if self.is_enabled(state, action) == enabled {
                     pairs.push((state, action));
                 }
             }
@@ -116,8 +125,10 @@ pub(super) const HARMS: &[Harm] = &[
     post_literal_dropped,
     target_elsewhere,
     weight_off_by_one,
-    state_blocked,
-    state_blocked,
+    state_silenced,
+    state_silenced_row_left,
+    silent_row,
+    silent_row,
     any_byte,
 ];
 
@@ -317,32 +328,71 @@ fn weight_off_by_one(rng: &mut Rng, draft: &mut Draft) {
     }
 }
 
-/// A state in which every precondition becomes false; outcomes that are then
-/// spare are cleared, so that only ground 8 is left.
-fn state_blocked(rng: &mut Rng, draft: &mut Draft) {
-    let mask = draft.image.masks[rng.below(draft.states())];
-    let propositions = usize::from(draft.image.propositions).clamp(1, 32);
-    for action in 0..draft.actions() {
-        let precondition = &mut draft.image.moves[action].precondition;
+/// A state in which every precondition becomes false. Outcomes that are then
+/// spare are cleared, so that the model is accepted: before request A.1 this
+/// was ground 8.
+fn state_silenced(rng: &mut Rng, draft: &mut Draft) {
+    let state = rng.below(draft.states());
+    silence(rng, draft, state);
+    clear_spare_outcomes(draft, None);
+}
+
+/// The same, but the state's own row stays as it was.
+fn state_silenced_row_left(rng: &mut Rng, draft: &mut Draft) {
+    let state = rng.below(draft.states());
+    silence(rng, draft, state);
+    clear_spare_outcomes(draft, Some(state));
+}
+
+/// A byte in the row of a silent state: of a target, a weight or a reward, of
+/// an action that the model has, or of none.
+fn silent_row(rng: &mut Rng, draft: &mut Draft) {
+    let silent = (0..draft.states()).filter(|state| draft.is_silent(*state));
+    let silent: Vec<usize> = silent.collect();
+    let state = rng.pick(&silent).unwrap_or(0);
+    if silent.is_empty() {
+        silence(rng, draft, state);
+        clear_spare_outcomes(draft, None);
+    }
+    if !draft.is_silent(state) {
+        return;
+    }
+    let action = match rng.once_in(4) {
+        true => rng.below(8),
+        false => rng.below(draft.actions()),
+    };
+    let post = if rng.once_in(2) { 0 } else { rng.below(4) };
+    let at = state_row(state) + 16 * action + 4 * post + rng.below(4);
+    let value = rng.pick_or(&[1, 1, 10, 255, 128], 1);
+    draft.patches.set(at, value);
+}
+
+/// Adds to each precondition that is true in a state a literal that is not,
+/// if it leaves a proposition to speak of. It is then true in no other state
+/// where it was not, so that no outcomes are wanted that are not there.
+fn silence(rng: &mut Rng, draft: &mut Draft, state: usize) {
+    let mask = draft.image.masks[state];
+    let propositions = u32::from(draft.image.propositions).clamp(1, 32);
+    let actions = draft.actions();
+    for action in &mut draft.image.moves[..actions] {
+        let precondition = &mut action.precondition;
         let named = precondition.demanded_true | precondition.demanded_false;
-        let free = (0..propositions)
-            .map(|p| 1u32 << p)
-            .find(|b| named & b == 0);
-        if let (true, Some(bit)) = (precondition.true_in(mask), free) {
+        let bits = (0..propositions).map(|p| 1u32 << p);
+        let free: Vec<u32> = bits.filter(|bit| named & bit == 0).collect();
+        if let (true, Some(bit)) = (precondition.true_in(mask), rng.pick(&free)) {
             match mask & bit {
                 0 => precondition.demanded_true |= bit,
                 _ => precondition.demanded_false |= bit,
             }
         }
     }
-    clear_spare_outcomes(draft);
 }
 
-fn clear_spare_outcomes(draft: &mut Draft) {
-    for state in 0..draft.states() {
+/// Clears the outcomes of actions that are not enabled, but for one state's.
+fn clear_spare_outcomes(draft: &mut Draft, kept: Option<usize>) {
+    for state in (0..draft.states()).filter(|state| Some(*state) != kept) {
         for action in 0..draft.actions() {
-            let precondition = draft.image.moves[action].precondition;
-            let enabled = precondition.true_in(draft.image.masks[state]);
+            let enabled = draft.is_enabled(state, action);
             if let (false, Some(places)) = (enabled, draft.image.outcomes_mut(state, action)) {
                 *places = Default::default();
             }
@@ -354,4 +404,49 @@ fn any_byte(rng: &mut Rng, draft: &mut Draft) {
     let at = rng.below(draft.len());
     let value = rng.byte(0, 255);
     draft.patches.set(at, value);
+}
+
+#[cfg(test)]
+mod tests {
+    use super::*;
+    use crate::blocks::read_model;
+    use crate::generate::{random_model, Size};
+    use crate::ground::Ground;
+
+    /// What loading says of random models after a harm, for those that had an
+    /// action in each state.
+    fn after(harm: Harm) -> Vec<Result<bool, Ground>> {
+        let mut rng = Rng::new(3);
+        let mut answers = Vec::new();
+        for _ in 0..300 {
+            let mut draft = Draft::of(random_model(&mut rng, Size::SMALL));
+            if (0..draft.states()).any(|state| draft.is_silent(state)) {
+                continue;
+            }
+            harm(&mut rng, &mut draft);
+            let silent = (0..draft.states()).any(|state| draft.is_silent(state));
+            answers.push(read_model(&draft.pack()).map(|_| silent));
+        }
+        assert!(answers.len() > 100);
+        answers
+    }
+
+    /// A precondition that names all propositions cannot be changed so; where
+    /// none can, nothing is harmed.
+    #[test]
+    fn silenced_states() {
+        let spare = Err(Ground::Spare);
+        for (harm, wanted) in [
+            (state_silenced as Harm, Ok(true)),
+            (state_silenced_row_left, spare),
+            (silent_row, spare),
+        ] {
+            let answers = after(harm);
+            let met = answers.iter().filter(|answer| **answer == wanted).count();
+            assert!(answers
+                .iter()
+                .all(|answer| *answer == wanted || answer.is_ok()));
+            assert!(met > answers.len() * 3 / 4, "{met} of {}", answers.len());
+        }
+    }
 }

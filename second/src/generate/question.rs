@@ -2,7 +2,8 @@
 //! just missed.
 
 use super::rng::Rng;
-use crate::logic::{fast, Bound, Model, Node, Plan, PlanNode, Question, Relation, Totals};
+use crate::logic::{fast, Bound, Model, Node, Outcome, Path, Plan, PlanNode};
+use crate::logic::{Question, Relation, Totals};
 
 /// How large the plans of a random question may be.
 #[derive(Clone, Copy)]
@@ -15,7 +16,7 @@ pub struct Scale {
 /// Draws nodes one after another; children are any earlier nodes, so that
 /// nodes are shared and some are left unused.
 pub fn random_question(rng: &mut Rng, model: &Model, totals: &Totals, scale: Scale) -> Question {
-    let start = rng.below(model.states()) as u8;
+    let start = random_start(rng, model);
     let mut drawer = Drawer {
         rng,
         model,
@@ -26,6 +27,12 @@ pub fn random_question(rng: &mut Rng, model: &Model, totals: &Totals, scale: Sca
             nodes: Vec::new(),
         },
     };
+    let silent = (0..model.states()).any(|state| model.is_silent(state as u8));
+    if silent && drawer.rng.once_in(3) {
+        let root = drawer.about_silent_steps();
+        drawer.question.nodes.push(root);
+        return drawer.question;
+    }
     let least = if drawer.rng.once_in(8) { 1 } else { 4 };
     let count = drawer.rng.range(least, scale.nodes);
     for _ in 1..count {
@@ -35,6 +42,18 @@ pub fn random_question(rng: &mut Rng, model: &Model, totals: &Totals, scale: Sca
     let root = drawer.root();
     drawer.question.nodes.push(root);
     drawer.question
+}
+
+/// Any state, but mostly one in which there is something to choose.
+fn random_start(rng: &mut Rng, model: &Model) -> u8 {
+    let start = rng.below(model.states()) as u8;
+    let live: Vec<u8> = (0..model.states() as u8)
+        .filter(|state| !model.is_silent(*state))
+        .collect();
+    match model.is_silent(start) && !rng.once_in(3) {
+        true => rng.pick_or(&live, start),
+        false => start,
+    }
 }
 
 struct Drawer<'a> {
@@ -75,12 +94,52 @@ impl Drawer<'_> {
         })
     }
 
+    /// A plan over a "do", a gain or a proposition, at the start or some steps
+    /// on; on the way also as what some plan from there could do.
+    fn about_silent_steps(&mut self) -> Node {
+        let nexts = self.rng.below(4);
+        let first = match self.rng.below(5) {
+            0..=1 => self.act_at_an_end(),
+            2..=3 => self.close_gain(nexts),
+            _ => Node::Proposition(self.rng.below(self.model.propositions.into()) as u8),
+        };
+        self.question.nodes.push(first);
+        if self.rng.once_in(3) {
+            self.add_over(Node::Not);
+        }
+        if self.rng.once_in(2) {
+            let inner = self.plan_over(self.question.root() as u8);
+            self.question.nodes.extend(inner);
+        }
+        for _ in 0..nexts {
+            self.add_over(Node::Next);
+        }
+        let condition = self.question.root() as u8;
+        self.plan_over(condition).unwrap_or(Node::False)
+    }
+
+    /// Adds a node over the last one.
+    fn add_over(&mut self, node: fn(u8) -> Node) {
+        let last = self.question.root() as u8;
+        self.question.nodes.push(node(last));
+    }
+
     fn both(&mut self) -> Option<Node> {
         Some(Node::And(self.child()?, self.child()?))
     }
 
     fn act(&mut self) -> Node {
         Node::Do(self.rng.below(self.model.actions.len()) as u8)
+    }
+
+    /// A "do" of the first or the last action, or of any.
+    fn act_at_an_end(&mut self) -> Node {
+        let last = self.model.actions.len().saturating_sub(1) as u8;
+        match self.rng.below(3) {
+            0 => Node::Do(0),
+            1 => Node::Do(last),
+            _ => self.act(),
+        }
     }
 
     fn gain(&mut self) -> Node {
@@ -90,6 +149,27 @@ impl Drawer<'_> {
             steps: self.rng.byte(1, steps),
             relation: self.relation(),
             bound: self.rng.pick_or(&bounds, 0),
+        }
+    }
+
+    /// A gain at, just below or just above what some path gains from a place
+    /// on.
+    fn close_gain(&mut self, place: usize) -> Node {
+        let steps = self.rng.range(1, 6 - place.min(5));
+        let mut path = Path::standing(self.question.start);
+        for _ in 0..place + steps {
+            let state = path.states.last().copied().unwrap_or(0);
+            let moves = self.model.moves(state);
+            let Some(entry) = moves.get(self.rng.below(moves.len())) else {
+                break;
+            };
+            let outcome = self.rng.pick_or(&entry.outcomes, Outcome::default());
+            path = path.extended(entry.action, &outcome);
+        }
+        Node::Gain {
+            steps: steps as u8,
+            relation: self.relation(),
+            bound: path.gain(place, steps) + self.rng.pick_or(&[0, 0, 0, -1, 1], 0),
         }
     }
 

@@ -47,6 +47,7 @@ pub(super) const HARMS: &[Harm] = &[
     node_count,
     operator,
     steps,
+    act,
     left,
     right,
     p,
@@ -79,6 +80,16 @@ fn operator(rng: &mut Rng, draft: &mut Draft) {
 fn steps(rng: &mut Rng, draft: &mut Draft) {
     let steps = rng.pick_or(&[0, 1, 6, 7, 255], 7);
     draft.node(rng).1.steps = steps;
+}
+
+/// A "do" of an action, of none, or of the silent move, which cannot be asked.
+fn act(rng: &mut Rng, draft: &mut Draft) {
+    let action = rng.pick_or(&[255, 255, 254, 8, 7, 0], 255);
+    *draft.node(rng).1 = NodeImage {
+        operator: 5,
+        left: action,
+        ..NodeImage::default()
+    };
 }
 
 /// A child, proposition or action at or about the end of its range.

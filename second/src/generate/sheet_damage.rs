@@ -3,6 +3,7 @@
 use super::damage::Patches;
 use super::rng::Rng;
 use crate::blocks::{Sheet, BLOCK};
+use crate::logic::SILENT;
 
 /// A sheet that is being damaged.
 #[derive(Clone)]
@@ -38,6 +39,8 @@ pub(super) type Harm = fn(&mut Rng, &mut Draft);
 /// All ways, in the order of the grounds they mostly lead to.
 pub(super) const HARMS: &[Harm] = &[
     |rng, draft| draft.patches.relength(rng),
+    |rng, draft| draft.patches.relength(rng),
+    |rng, draft| draft.patches.break_sum(rng, BLOCK * draft.blocks()),
     |rng, draft| draft.patches.break_sum(rng, BLOCK * draft.blocks()),
     |rng, draft| draft.patches.swap_words(rng, BLOCK * draft.blocks()),
     |rng, draft| draft.patches.set(draft.block(rng), rng.byte(0, 6)),
@@ -49,6 +52,7 @@ pub(super) const HARMS: &[Harm] = &[
             .patches
             .set(draft.block(rng) + 8 + rng.below(8), rng.byte(0, 255))
     },
+    count,
     count,
     count,
     |rng, draft| {
@@ -67,14 +71,18 @@ pub(super) const HARMS: &[Harm] = &[
     |_, draft| {
         draft.sheet.choices.pop();
     },
-    |rng, draft| draft.sheet.choices.push(rng.byte(0, 8)),
-    choice,
-    choice,
-    choice,
     |rng, draft| {
-        let near = [1, u64::MAX, 100, 1 << 40];
-        draft.sheet.weight = draft.sheet.weight.wrapping_add(rng.pick_or(&near, 1));
+        let choice = rng.pick_or(&[0, 1, 2, 7, 8, 255], 255);
+        draft.sheet.choices.push(choice);
     },
+    choice,
+    choice,
+    choice,
+    silent_for_action,
+    action_for_silent,
+    action_for_silent,
+    weight,
+    weight,
     any_byte,
 ];
 
@@ -99,6 +107,12 @@ fn count(rng: &mut Rng, draft: &mut Draft) {
     draft.patches.set(base + 17, high);
 }
 
+/// A weight near the right one, or far from it.
+fn weight(rng: &mut Rng, draft: &mut Draft) {
+    let near = [1, u64::MAX, 100, 1 << 40];
+    draft.sheet.weight = draft.sheet.weight.wrapping_add(rng.pick_or(&near, 1));
+}
+
 /// A choice byte beyond the last block's count.
 fn beyond_count(rng: &mut Rng, draft: &mut Draft) {
     let last = draft.blocks() - 1;
@@ -112,9 +126,31 @@ fn beyond_count(rng: &mut Rng, draft: &mut Draft) {
 /// Another action in place of a choice.
 fn choice(rng: &mut Rng, draft: &mut Draft) {
     let place = rng.below(draft.sheet.choices.len());
-    let choice = rng.pick_or(&[0, 1, 2, 3, 7, 8, 255], 255);
+    let choice = rng.pick_or(&[0, 1, 2, 3, 7, 8, 254, 255], 255);
     if let Some(byte) = draft.sheet.choices.get_mut(place) {
         *byte = choice;
+    }
+}
+
+/// The silent move in place of an action.
+fn silent_for_action(rng: &mut Rng, draft: &mut Draft) {
+    swap_choice(rng, draft, |choice| choice != SILENT, &[SILENT]);
+}
+
+/// An action, or what is no choice anywhere, in place of the silent move.
+fn action_for_silent(rng: &mut Rng, draft: &mut Draft) {
+    let others = [0, 0, 1, 2, 3, 7, 8, 254];
+    swap_choice(rng, draft, |choice| choice == SILENT, &others);
+}
+
+/// One of the others in place of a choice that fits; any choice if none does.
+fn swap_choice(rng: &mut Rng, draft: &mut Draft, fits: fn(u8) -> bool, others: &[u8]) {
+    let numbered = draft.sheet.choices.iter().enumerate();
+    let fitting = numbered.filter(|(_, choice)| fits(**choice));
+    let places: Vec<usize> = fitting.map(|(place, _)| place).collect();
+    match rng.pick(&places) {
+        Some(place) => draft.sheet.choices[place] = rng.pick_or(others, SILENT),
+        None => choice(rng, draft),
     }
 }
 

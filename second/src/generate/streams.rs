@@ -1,13 +1,13 @@
 //! Streams that dwell on one kind of call.
 
-use super::cases;
+use super::cases::{self, Ends};
 use super::model::{random_model, Size};
 use super::question::{random_choices, random_question, Scale};
 use super::rng::Rng;
 use super::{model_damage, question_damage, sheet_damage};
 use crate::blocks::{read_model, read_question, QuestionImage, Sheet, BLOCK};
 use crate::desk::Call;
-use crate::logic::{fast, plain, Model, Node, Plan, Question, Totals};
+use crate::logic::{fast, plain, Model, Move, Node, Plan, PlanNode, Question, Totals};
 
 /// Random questions whose judging takes about a microsecond to a millisecond.
 const SMALL: Scale = Scale {
@@ -44,6 +44,14 @@ fn size(rng: &mut Rng) -> Size {
             ..Size::SMALL
         },
         _ => Size::SMALL,
+    }
+}
+
+/// Few states, and now and then up to eight actions.
+pub(super) fn few_states(rng: &mut Rng) -> Size {
+    match rng.once_in(5) {
+        true => Size::EIGHT_ACTIONS,
+        false => Size::SMALL,
     }
 }
 
@@ -144,7 +152,7 @@ fn judged_question(rng: &mut Rng, model: &Model, totals: &Totals) -> Question {
         _ => SMALL,
     };
     let mut question = random_question(rng, model, totals, scale);
-    if rng.once_in(12) {
+    if rng.once_in(9) {
         stretch(rng, &mut question, model, totals);
     }
     question
@@ -166,7 +174,8 @@ pub(super) fn stretch(rng: &mut Rng, question: &mut Question, model: &Model, tot
     }
 }
 
-/// Models and questions that just meet a limit or just pass it.
+/// Models and questions that just meet a limit or just pass it, also by paths
+/// and plans that come to silent states.
 fn limit_cases() -> Vec<(Vec<u8>, Vec<Vec<u8>>)> {
     let ask = |start: u8, steps: usize, relation: &str| {
         let nodes = [
@@ -175,11 +184,13 @@ fn limit_cases() -> Vec<(Vec<u8>, Vec<Vec<u8>>)> {
         ];
         cases::question(start, &nodes)
     };
-    let path_questions = vec![
-        ask(13, 5, "greater"),
-        ask(13, 6, "less"),
-        ask(0, 6, "greater"),
-    ];
+    let path_questions = |last| {
+        vec![
+            ask(last, 5, "greater"),
+            ask(last, 6, "less"),
+            ask(0, 6, "greater"),
+        ]
+    };
     let plan_questions = vec![
         ask(0, 3, "equal"),
         ask(0, 3, "greater"),
@@ -188,33 +199,37 @@ fn limit_cases() -> Vec<(Vec<u8>, Vec<Vec<u8>>)> {
         ask(9, 3, "equal"),
     ];
     vec![
-        (cases::million_paths(false), path_questions.clone()),
-        (cases::million_paths(true), path_questions),
-        (cases::most_plans(false), plan_questions.clone()),
-        (cases::most_plans(true), plan_questions),
+        (cases::million_paths(false), path_questions(13)),
+        (cases::million_paths(true), path_questions(13)),
+        (cases::million_silent_paths(false), path_questions(12)),
+        (cases::million_silent_paths(true), path_questions(12)),
+        (cases::most_plans(false, false), plan_questions.clone()),
+        (cases::most_plans(true, false), plan_questions.clone()),
+        (cases::most_plans(false, true), plan_questions.clone()),
+        (cases::most_plans(true, true), plan_questions),
     ]
 }
 
 /// Sheets written and checked: right, damaged and made up.
 pub fn sheets(rng: &mut Rng, count: usize) -> Vec<Call> {
     let mut calls = vec![Call::Write(vec![7; 512]), Call::Check(vec![0; 512])];
-    let sizes = [489, 490, 491, 980, 981, 1365];
     let mut turn = 0;
     while calls.len() < count {
         turn += 1;
-        let (bytes, start) = match rng.once_in(6) {
-            true => cases::plan_of_size(sizes[turn % sizes.len()], 6),
-            false => (random_model(rng, Size::SMALL).pack(), 0),
+        let large = rng.once_in(6).then(|| large_model(rng, turn));
+        let size = few_states(rng);
+        let (bytes, start) = match large {
+            Some(ref large) => large.clone(),
+            None => (random_model(rng, size).pack(), 0),
         };
         let Ok(model) = read_model(&bytes) else {
             continue;
         };
         let totals = Totals::of(&model);
         calls.push(Call::Load(bytes));
-        let large = start > 0;
         let question = match large {
-            true => large_question(rng, start),
-            false => random_question(rng, &model, &totals, SMALL),
+            Some(_) => large_question(rng, &model, start),
+            None => random_question(rng, &model, &totals, SMALL),
         };
         calls.push(Call::Put(QuestionImage::from(&question).pack()));
         calls.extend(sheet_calls(rng, &model, &question, &totals, turn));
@@ -222,26 +237,32 @@ pub fn sheets(rng: &mut Rng, count: usize) -> Vec<Call> {
     calls
 }
 
+/// A model whose plans of six steps fill about a whole number of blocks, a
+/// third of the time with silent moves in them; and the start.
+fn large_model(rng: &mut Rng, turn: usize) -> (Vec<u8>, u8) {
+    let sizes = [489, 490, 491, 980, 981, 1365];
+    match rng.below(9) {
+        0 => cases::plan_of_size(490, 6, Ends::InStateTwo),
+        1 => cases::plan_of_size(491, 6, Ends::InStateTwo),
+        2 => (cases::late_silence(), 0),
+        _ => cases::plan_of_size(sizes[turn % sizes.len()], 6, Ends::Never),
+    }
+}
+
 /// A quick question of six steps: the condition looks only a little ahead.
-fn large_question(rng: &mut Rng, start: u8) -> Question {
+fn large_question(rng: &mut Rng, model: &Model, start: u8) -> Question {
     let nodes = [
         "gain 2 steps greater 0".to_string(),
-        format!("do {}", rng.below(8)),
+        format!("do {}", rng.below(model.actions.len())),
         "not 1".to_string(),
         "and 0 2".to_string(),
         format!("plan 3 steps 6 greater {}/10", rng.below(10)),
     ];
     let packed = cases::question(start, &nodes);
-    let image = QuestionImage::unpack(&packed);
-    let (model, _) = cases::plan_of_size(490, 6);
-    let fallback = Question {
-        start: image.start,
+    read_question(&packed, model).unwrap_or(Question {
+        start,
         nodes: vec![Node::False],
-    };
-    let model = read_model(&model);
-    model
-        .and_then(|model| read_question(&packed, &model))
-        .unwrap_or(fallback)
+    })
 }
 
 /// Writes into buffers of every length about whole blocks, and checks.
@@ -261,7 +282,7 @@ fn sheet_calls(
         calls.push(canary(rng));
     }
     for number in 0..10 {
-        let sheet = any_sheet(rng, model, question, totals, 7 * turn + number);
+        let sheet = any_sheet(rng, model, question, totals, 10 * turn + number);
         calls.push(Call::Check(sheet));
     }
     calls
@@ -292,15 +313,51 @@ pub(super) fn any_sheet(
     };
     if let Some(root) = question.root_plan() {
         sheet.steps = root.steps;
-        sheet.choices = random_choices(rng, model, question.start, root.steps());
-        let plan = Plan::from_choices(model, question.start, root.steps(), &sheet.choices);
-        if let Some(plan) = plan {
-            sheet.weight = fast::weight_of(model, question, &root, &plan, totals);
+        if rng.once_in(10) {
+            let offered = silent_everywhere(model);
+            fill_sheet(
+                rng,
+                &offered,
+                question,
+                &root,
+                &Totals::of(&offered),
+                &mut sheet,
+            );
+            return sheet.pack();
         }
+        fill_sheet(rng, model, question, &root, totals, &mut sheet);
     }
     let mut draft = sheet_damage::Draft::of(sheet);
     harmed(rng, &mut draft, sheet_damage::HARMS, turn);
     draft.pack()
+}
+
+/// Gives a sheet the choices of a random plan, and its weight.
+fn fill_sheet(
+    rng: &mut Rng,
+    model: &Model,
+    question: &Question,
+    root: &PlanNode,
+    totals: &Totals,
+    sheet: &mut Sheet,
+) {
+    sheet.choices = random_choices(rng, model, question.start, root.steps());
+    let plan = Plan::from_choices(model, question.start, root.steps(), &sheet.choices);
+    if let Some(plan) = plan {
+        sheet.weight = fast::weight_of(model, question, root, &plan, totals);
+    }
+}
+
+/// The model as it is not: with the silent move as a further choice where
+/// actions are enabled. Its plans make sheets that are right but for that.
+fn silent_everywhere(model: &Model) -> Model {
+    let mut offered = model.clone();
+    for (state, moves) in (0u8..).zip(&mut offered.moves) {
+        if !moves.iter().any(Move::is_silent) {
+            moves.push(Move::silent(state, model.denominator));
+        }
+    }
+    offered
 }
 
 /// Questions that the plain judge looks at no more nodes than this for.

@@ -9,7 +9,7 @@ use super::question::{gcd, random_choices};
 use super::rng::Rng;
 use crate::blocks::{read_model, read_question, Sheet, BLOCK};
 use crate::desk::Call;
-use crate::logic::{fast, Bound, Model, Plan, Question, Relation, Totals};
+use crate::logic::{fast, Bound, Model, Plan, Question, Relation, Totals, SILENT};
 use crate::text::pack_text;
 
 /// A try in each step.
@@ -69,7 +69,8 @@ fn shelf(rng: &mut Rng) -> Option<Shelf> {
         .iter()
         .map(|rival| rival.is_some() && rng.once_in(2))
         .collect();
-    let packed = pack_text(&text(base, &tries, &rivals, &swapped)).ok()?;
+    let silent = rng.once_in(3);
+    let packed = pack_text(&text(base, &tries, &rivals, &swapped, silent)).ok()?;
     let model = read_model(&packed).ok()?;
     let choices = tight_choices(&model, &swapped, 0, TRIES);
     Some(Shelf {
@@ -205,8 +206,15 @@ fn random_try(rng: &mut Rng, base: u64) -> Try {
 
 /// The model as text: states 0 to 5 before each try, 6 with the pack held, 7
 /// with it lost. Actions 0 and 1 are the try and its rival, or the other way
-/// round where they are swapped.
-fn text(base: u64, tries: &[Try], rivals: &[Option<Try>], swapped: &[bool]) -> String {
+/// round where they are swapped. In the end there is action 2, or nothing to
+/// do.
+fn text(
+    base: u64,
+    tries: &[Try],
+    rivals: &[Option<Try>],
+    swapped: &[bool],
+    silent: bool,
+) -> String {
     let posts = "post held over\npost !over\npost !held over\n";
     let mut text =
         format!("model D {base}\nproposition 0 held\nproposition 1 over\nproposition 2 two\n");
@@ -216,7 +224,6 @@ fn text(base: u64, tries: &[Try], rivals: &[Option<Try>], swapped: &[bool]) -> S
     }
     text += "state 6: held over\nstate 7: over\n";
     text += &format!("action 0 needs !over\n{posts}action 1 needs !over two\n{posts}");
-    text += "action 2 needs over\npost over\n";
     for (state, own) in tries.iter().enumerate() {
         let tight = usize::from(swapped[state]);
         text += &outcome_line(state, tight, base, own);
@@ -224,7 +231,11 @@ fn text(base: u64, tries: &[Try], rivals: &[Option<Try>], swapped: &[bool]) -> S
             text += &outcome_line(state, 1 - tight, base, rival);
         }
     }
-    text + &format!("outcome 6 2: 6 weight {base}\noutcome 7 2: 7 weight {base}\n")
+    if !silent {
+        text += "action 2 needs over\npost over\n";
+        text += &format!("outcome 6 2: 6 weight {base}\noutcome 7 2: 7 weight {base}\n");
+    }
+    text
 }
 
 /// After the last try, trying again leads nowhere.
@@ -237,9 +248,10 @@ fn outcome_line(state: usize, action: usize, base: u64, weights: &Try) -> String
 
 /// The choices of the plan that takes the tight try in each state.
 fn tight_choices(model: &Model, swapped: &[bool], state: u8, steps: usize) -> Vec<u8> {
+    let in_the_end = if model.is_silent(state) { SILENT } else { 2 };
     let action = swapped
         .get(usize::from(state))
-        .map_or(2, |swap| u8::from(*swap));
+        .map_or(in_the_end, |swap| u8::from(*swap));
     let mut choices = vec![action];
     if steps > 1 {
         for outcome in model.outcomes(state, action) {

@@ -1,5 +1,6 @@
 //! How many paths and plans there are, counted on states alone, and the two
-//! limits on them (grounds 24 and 25).
+//! limits on them (grounds 24 and 25). A silent move counts as any move with
+//! one outcome, so a silent state has one path and one plan of any length.
 
 use super::{Model, Question, Relation};
 use crate::ground::{demand, Ground};

@@ -13,7 +13,7 @@ pub mod plain;
 
 pub use formula::{Bound, Node, PlanNode, Question, Relation};
 pub use limits::{check_limits, Totals, MOST_PATHS, MOST_PLANS};
-pub use model::{Action, Literals, Model, Move, Outcome};
+pub use model::{Action, Literals, Model, Move, Outcome, SILENT};
 pub use path::Path;
 pub use plan::Plan;
 pub use verdict::{Judged, PlanRecord, Verdict};

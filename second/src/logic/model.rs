@@ -37,11 +37,35 @@ pub struct Outcome {
     pub reward: i16,
 }
 
-/// An action enabled in a state, with its outcomes in postcondition order.
+/// The choice byte of the silent move (document 02, A.1), which is no action.
+pub const SILENT: u8 = 255;
+
+/// What can be chosen in a state: an enabled action with its outcomes in
+/// postcondition order or, where none is enabled, the silent move.
 #[derive(Clone, Debug, PartialEq, Eq)]
 pub struct Move {
+    /// The action's number, or `SILENT`.
     pub action: u8,
     pub outcomes: Vec<Outcome>,
+}
+
+impl Move {
+    /// The silent move of a state: back to itself with the whole weight and
+    /// no reward.
+    pub fn silent(state: u8, denominator: u8) -> Move {
+        Move {
+            action: SILENT,
+            outcomes: vec![Outcome {
+                target: state,
+                weight: denominator,
+                reward: 0,
+            }],
+        }
+    }
+
+    pub fn is_silent(&self) -> bool {
+        self.action == SILENT
+    }
 }
 
 /// An accepted model. Probabilities are weights over one denominator.
@@ -52,7 +76,8 @@ pub struct Model {
     /// The true propositions of each state, as a mask.
     pub valuation: Vec<u32>,
     pub actions: Vec<Action>,
-    /// The enabled actions of each state, in rising order.
+    /// The enabled actions of each state, in rising order; the silent move
+    /// alone where there are none. So no state is without a move.
     pub moves: Vec<Vec<Move>>,
 }
 
@@ -61,14 +86,19 @@ impl Model {
         self.valuation.len()
     }
 
-    /// The enabled actions of a state with their outcomes.
+    /// The moves that can be chosen in a state.
     pub fn moves(&self, state: u8) -> &[Move] {
         self.moves
             .get(usize::from(state))
             .map_or(&[], Vec::as_slice)
     }
 
-    /// What an action leads to from a state where it is enabled.
+    /// Whether no action is enabled in a state.
+    pub fn is_silent(&self, state: u8) -> bool {
+        self.moves(state).iter().any(Move::is_silent)
+    }
+
+    /// What a choice leads to from a state where it can be made.
     pub fn outcomes(&self, state: u8, action: u8) -> &[Outcome] {
         let mut moves = self.moves(state).iter();
         moves

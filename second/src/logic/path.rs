@@ -7,6 +7,7 @@ use super::Outcome;
 pub struct Path {
     /// One more than there are steps.
     pub states: Vec<u8>,
+    /// The action of each step, or 255 for a silent one.
     pub actions: Vec<u8>,
     pub rewards: Vec<i16>,
     /// The product of the weights of its steps.

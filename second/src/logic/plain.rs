@@ -33,6 +33,20 @@ pub fn condition_holds(model: &Model, question: &Question, node: &PlanNode, path
 /// About how many nodes `judge` will look at: plans times paths times the
 /// formula followed as a tree.
 pub fn cost(model: &Model, question: &Question, totals: &Totals) -> u128 {
+    let costs = costs(model, question, totals);
+    costs.last().copied().unwrap_or(0)
+}
+
+/// The same for `weight_of`: the paths of one plan times the condition.
+pub fn weight_cost(model: &Model, question: &Question, root: &PlanNode, totals: &Totals) -> u128 {
+    let costs = costs(model, question, totals);
+    let condition = costs.get(usize::from(root.condition)).copied().unwrap_or(0);
+    let paths = 4u128.pow(u32::from(root.steps));
+    condition.saturating_add(8).saturating_mul(paths)
+}
+
+/// About how many nodes are looked at where each node is read once.
+fn costs(model: &Model, question: &Question, totals: &Totals) -> Vec<u128> {
     let mut costs: Vec<u128> = Vec::new();
     for node in &question.nodes {
         let of = |child: u8| costs.get(usize::from(child)).copied().unwrap_or(0);
@@ -46,7 +60,7 @@ pub fn cost(model: &Model, question: &Question, totals: &Totals) -> u128 {
         };
         costs.push(below.saturating_add(1));
     }
-    costs.last().copied().unwrap_or(0)
+    costs
 }
 
 /// The most (plan, path) pairs from any state.
@@ -81,6 +95,7 @@ pub trait Meaning {
             Node::Proposition(number) => self.model().holds(state, number),
             Node::Not(number) => !child(number, place),
             Node::And(left, right) => child(left, place) && child(right, place),
+            // No action has the silent move's number, so no "do" is true of it.
             Node::Do(action) => path.actions.get(place) == Some(&action),
             Node::Next(number) => child(number, place + 1),
             Node::Gain {

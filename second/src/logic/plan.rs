@@ -9,14 +9,14 @@ use super::{Model, Move, Path};
 #[derive(Clone, Debug, PartialEq, Eq)]
 pub struct Plan {
     state: u8,
-    /// The place of the chosen action among the state's enabled ones.
+    /// The place of the chosen move among the state's.
     option: usize,
     /// The plans below each outcome; none at the last step.
     below: Vec<Plan>,
 }
 
 impl Plan {
-    /// The first plan in dictionary order: the lowest enabled actions.
+    /// The first plan in dictionary order: the lowest choices everywhere.
     pub fn first(model: &Model, state: u8, steps: usize) -> Plan {
         Plan::first_with(model, state, steps, 0)
     }
@@ -69,8 +69,8 @@ impl Plan {
         more
     }
 
-    /// The choices depth first: the action for this history, then those below
-    /// each outcome.
+    /// The choices depth first: that for this history, then those below each
+    /// outcome.
     pub fn choices(&self, model: &Model) -> Vec<u8> {
         let mut list: Vec<u8> = self.chosen(model).map(|m| m.action).into_iter().collect();
         for plan in &self.below {
@@ -79,8 +79,8 @@ impl Plan {
         list
     }
 
-    /// The plan with exactly these choices, if they are enabled actions and
-    /// none is missing or left over.
+    /// The plan with exactly these choices, if each is an enabled action, or
+    /// 255 where none is enabled, and none is missing or left over.
     pub fn from_choices(model: &Model, state: u8, steps: usize, choices: &[u8]) -> Option<Plan> {
         let mut rest = choices.iter();
         let plan = Plan::read(model, state, steps, &mut rest)?;

@@ -1,6 +1,7 @@
 //! Names of propositions, actions and states. The blocks hold none; a model's
 //! names serve the text that follows it.
 
+use super::sheet::SILENT_WORD;
 use super::words::number;
 use crate::logic::Literals;
 use std::collections::HashMap;
@@ -13,6 +14,9 @@ pub(super) struct Names {
     /// One more than the highest declared number.
     pub(super) count: u8,
 }
+
+/// What actions are called; none may have the silent move's name.
+const ACTION: &str = "action";
 
 /// Words that the grammar uses where a name could stand.
 const RESERVED: [&str; 2] = ["needs", "always"];
@@ -38,8 +42,9 @@ impl Names {
     pub(super) fn name(&mut self, name: &str, number: u8) -> Result<(), String> {
         let letters = |c: char| c.is_alphanumeric() || c == '_' || c == '-';
         let begins_right = name.starts_with(|c: char| c.is_alphabetic() || c == '_');
-        if !begins_right || !name.chars().all(letters) || RESERVED.contains(&name) {
-            return Err(format!("'{name}' cannot name a {}", self.what));
+        let taken = RESERVED.contains(&name) || self.what == ACTION && name == SILENT_WORD;
+        if taken || !begins_right || !name.chars().all(letters) {
+            return Err(format!("no {} can be named '{name}'", self.what));
         }
         match self.numbers.insert(name.to_string(), number) {
             None => Ok(()),
@@ -68,7 +73,7 @@ impl Default for ModelNames {
     fn default() -> Self {
         ModelNames {
             propositions: Names::of("proposition"),
-            actions: Names::of("action"),
+            actions: Names::of(ACTION),
             states: Names::of("state"),
         }
     }

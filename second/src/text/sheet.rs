@@ -3,6 +3,7 @@
 use super::names::ModelNames;
 use super::words::Words;
 use crate::blocks::Sheet;
+use crate::logic::SILENT;
 
 /// A sheet has room for no more choices than its three blocks; a text may
 /// make a fourth block to be refused.
@@ -25,12 +26,18 @@ pub(super) fn begin(words: &mut Words, names: &ModelNames) -> Result<Sheet, Stri
     })
 }
 
-/// `choices 1 2 0`: further choices, by number or name.
+/// The word for the choice byte 255.
+pub(super) const SILENT_WORD: &str = "silent";
+
+/// `choices 1 2 silent`: further choices, by number or name.
 pub(super) fn line(sheet: &mut Sheet, words: &mut Words, names: &ModelNames) -> Result<(), String> {
     words.take_word("choices")?;
     while words.peek().is_some() {
-        let choice = names.actions.number(&words.take("a choice")?)?;
-        sheet.choices.push(choice);
+        let word = words.take("a choice")?;
+        sheet.choices.push(match word.as_str() {
+            SILENT_WORD => SILENT,
+            _ => names.actions.number(&word)?,
+        });
     }
     if sheet.choices.len() > MOST_CHOICES {
         return Err(format!("a text has at most {MOST_CHOICES} choices"));

@@ -4,10 +4,11 @@
 use super::names::ModelNames;
 use super::pack::pack_text;
 use super::question::node;
+use super::sheet::SILENT_WORD;
 use super::words::Words;
 use crate::blocks::{word_sum, ModelImage, NodeImage, QuestionImage, Sheet, BLOCK};
 use crate::bytes::u8_at;
-use crate::logic::{Literals, Question};
+use crate::logic::{Literals, Question, SILENT};
 
 /// The text of a stream of models, questions and sheets.
 pub fn show_blocks(bytes: &[u8]) -> String {
@@ -228,8 +229,16 @@ fn sheet_lines(sheet: &Sheet) -> String {
     let (steps, start, weight) = (sheet.steps, sheet.start, sheet.weight);
     let mut text = format!("sheet n {steps} start {start} weight {weight}\n");
     for part in sheet.choices.chunks(30) {
-        let words: String = part.iter().map(|choice| format!(" {choice}")).collect();
+        let words: String = part.iter().map(|choice| choice_word(*choice)).collect();
         text += &format!("choices{words}\n");
     }
     text
+}
+
+/// A choice after a space.
+fn choice_word(choice: u8) -> String {
+    match choice {
+        SILENT => format!(" {SILENT_WORD}"),
+        action => format!(" {action}"),
+    }
 }

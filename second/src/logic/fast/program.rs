@@ -12,7 +12,7 @@ pub(super) enum Rule {
     InSet(u32),
     Not(usize),
     And(usize, usize),
-    /// The last step was this action.
+    /// The last step was this action; a silent step was none.
     Did(u8),
     /// The rewards since a step relate to a bound.
     Gained {

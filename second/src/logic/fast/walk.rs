@@ -2,7 +2,7 @@
 
 use super::has;
 use super::program::{Program, Rule};
-use crate::logic::{Model, Outcome};
+use crate::logic::{Model, Outcome, SILENT};
 
 /// Where a history stands. Values of earlier steps stay as they are while
 /// later steps are tried, so going back costs nothing.
@@ -25,7 +25,8 @@ impl<'a> Walk<'a> {
             sums: [0; 8],
             start,
         };
-        walk.settle(0, start, u8::MAX);
+        // Nothing has been done yet, and no rule asks at step 0.
+        walk.settle(0, start, SILENT);
         walk
     }
 
