@@ -228,76 +228,30 @@ set-read l k v j h = by (eqb j k) refl
     by true e = ap (λ i. getD (set l k v) i 0) (eqb-true j k e) ∙ getD-set-same l k v 0 h
     by false e = getD-set-other l k j v 0 (λ q. false≢true (sym e ∙ eq-eqb j k q))
 
--- The row after each of the first eight places that the silent move is written to, the choice byte v first, and that it is as long.
-module _ (row : List ℕ) (v s d : ℕ) where
-  abbrev r₁ : List ℕ
-  r₁ = set row 0 v
-
-  abbrev r₂ : List ℕ
-  r₂ = set r₁ 8 1
-
-  abbrev r₃ : List ℕ
-  r₃ = set r₂ 16 1
-
-  abbrev r₄ : List ℕ
-  r₄ = set r₃ 32 s
-
-  abbrev r₅ : List ℕ
-  r₅ = set r₄ 64 d
-
-  abbrev r₆ : List ℕ
-  r₆ = set r₅ 65 0
-
-  abbrev r₇ : List ℕ
-  r₇ = set r₆ 66 0
-
-  abbrev pub r₈ : List ℕ
-  r₈ = set r₇ 67 0
-
-  module _ (n : length row ≡ 256) where
-    l₁ : length r₁ ≡ 256
-    l₁ = length-set row 0 v ∙ n
-
-    l₂ : length r₂ ≡ 256
-    l₂ = length-set r₁ 8 1 ∙ l₁
-
-    l₃ : length r₃ ≡ 256
-    l₃ = length-set r₂ 16 1 ∙ l₂
-
-    pub l₄ : length r₄ ≡ 256
-    l₄ = length-set r₃ 32 s ∙ l₃
-
-    pub l₅ : length r₅ ≡ 256
-    l₅ = length-set r₄ 64 d ∙ l₄
-
-    pub l₆ : length r₆ ≡ 256
-    l₆ = length-set r₅ 65 0 ∙ l₅
-
-    pub l₇ : length r₇ ≡ 256
-    l₇ = length-set r₆ 66 0 ∙ l₆
-
-    pub l₈ : length r₈ ≡ 256
-    l₈ = length-set r₇ 67 0 ∙ l₇
-
-    pub l₉ : length (set r₈ 96 0) ≡ 256
-    l₉ = length-set r₈ 96 0 ∙ l₈
-
 module _ (row : List ℕ) (s d : ℕ) (n : length row ≡ 256) where
   pub silent-length : length (silent-at row s d) ≡ 256
-  silent-length = l₉ row 255 s d n
+  silent-length = simp length-set n
 
-  -- What stands in the row with the silent move: by the last of the places written.
+  -- What stands in the row with the silent move: by the last of the nine places written.
   pub silent-read : (j : ℕ) → getD (silent-at row s d) j 0
       ≡ cond (eqb j 96) 0 (cond (eqb j 67) 0 (cond (eqb j 66) 0 (cond (eqb j 65) 0 (cond (eqb j 64) d (cond (eqb j 32) s (cond (eqb j 16) 1 (cond (eqb j 8) 1 (cond (eqb j 0) 255 (getD row j 0)))))))))
   silent-read j =
-      set-read (r₈ row 255 s d) 96 0 j (omega (arith, l₈ row 255 s d n))
-      ∙ ap (cond (eqb j 96) 0) (set-read (r₇ row 255 s d) 67 0 j (omega (arith, l₇ row 255 s d n))
-      ∙ ap (cond (eqb j 67) 0) (set-read (r₆ row 255 s d) 66 0 j (omega (arith, l₆ row 255 s d n))
-      ∙ ap (cond (eqb j 66) 0) (set-read (r₅ row 255 s d) 65 0 j (omega (arith, l₅ row 255 s d n))
-      ∙ ap (cond (eqb j 65) 0) (set-read (r₄ row 255 s d) 64 d j (omega (arith, l₄ row 255 s d n))
-      ∙ ap (cond (eqb j 64) d) (set-read (r₃ row 255 s d) 32 s j (omega (arith, l₃ row 255 s d n))
-      ∙ ap (cond (eqb j 32) s) (set-read (r₂ row 255 s d) 16 1 j (omega (arith, l₂ row 255 s d n))
-      ∙ ap (cond (eqb j 16) 1) (set-read (r₁ row 255 s d) 8 1 j (omega (arith, l₁ row 255 s d n))
+      let r₁ = set row 0 255 in
+      let r₂ = set r₁ 8 1 in
+      let r₃ = set r₂ 16 1 in
+      let r₄ = set r₃ 32 s in
+      let r₅ = set r₄ 64 d in
+      let r₆ = set r₅ 65 0 in
+      let r₇ = set r₆ 66 0 in
+      let r₈ = set r₇ 67 0 in
+      set-read r₈ 96 0 j (simp length-set (omega arith))
+      ∙ ap (cond (eqb j 96) 0) (set-read r₇ 67 0 j (simp length-set (omega arith))
+      ∙ ap (cond (eqb j 67) 0) (set-read r₆ 66 0 j (simp length-set (omega arith))
+      ∙ ap (cond (eqb j 66) 0) (set-read r₅ 65 0 j (simp length-set (omega arith))
+      ∙ ap (cond (eqb j 65) 0) (set-read r₄ 64 d j (simp length-set (omega arith))
+      ∙ ap (cond (eqb j 64) d) (set-read r₃ 32 s j (simp length-set (omega arith))
+      ∙ ap (cond (eqb j 32) s) (set-read r₂ 16 1 j (simp length-set (omega arith))
+      ∙ ap (cond (eqb j 16) 1) (set-read r₁ 8 1 j (simp length-set (omega arith))
       ∙ ap (cond (eqb j 8) 1) (set-read row 0 255 j (omega arith)))))))))
 
   -- The four weights are a byte and zeros.

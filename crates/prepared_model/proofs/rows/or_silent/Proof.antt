@@ -3,9 +3,8 @@ use native.Mathlib.Omega.{arith}
 use Prim.Native.Nat.{ℕ}
 use mathlib.Core.Path.{_≡_, refl, sym, ap, ap₂, _∙_}
 use mathlib.Core.List.{List}
-use lib.ListN.{set}
+use lib.ListN.{set, length-set}
 use borrow.Author.Needs.{needs}
-use Rattle.prepared_model.proofs.RowFilled.{r₈, l₄, l₅, l₆, l₇, l₈, l₉}
 use Rattle.prepared_model.proofs.rows.or_silent.Statement.{statement}
 use Rattle.prepared_model.proofs.rows.or_silent.Tie as tie
 
@@ -40,7 +39,7 @@ short-requires-3 : tie.Need-short-requires-3
 short-requires-3 c κs = search needs
 
 slice-write-row-5 : tie.Need-slice-write-row-5
-slice-write-row-5 c = let S = c .before .before .before .before .before .before .before in omega (arith, l₄ (S .args .row .now) (c .before .before .short .result) (c .before .short2 .result) (c .short3 .result) (S .pre .2))
+slice-write-row-5 c = let S = c .before .before .before .before .before .before .before in simp length-set (omega (arith, S .pre .2))
 
 add-row : tie.Need-add-row
 add-row c = search needs
@@ -49,7 +48,7 @@ mul-row : tie.Need-mul-row
 mul-row c = search needs
 
 slice-write-row-6 : tie.Need-slice-write-row-6
-slice-write-row-6 c = let S = c .before .before .before .before .before .before .before in omega (arith, l₅ (S .args .row .now) (c .before .before .short .result) (c .before .short2 .result) (c .short3 .result) (S .pre .2))
+slice-write-row-6 c = let S = c .before .before .before .before .before .before .before in simp length-set (omega (arith, S .pre .2))
 
 add-row-2 : tie.Need-add-row-2
 add-row-2 c = search needs
@@ -58,7 +57,7 @@ mul-row-2 : tie.Need-mul-row-2
 mul-row-2 c = search needs
 
 slice-write-row-7 : tie.Need-slice-write-row-7
-slice-write-row-7 c = let S = c .before .before .before .before .before .before .before in omega (arith, l₆ (S .args .row .now) (c .before .before .short .result) (c .before .short2 .result) (c .short3 .result) (S .pre .2))
+slice-write-row-7 c = let S = c .before .before .before .before .before .before .before in simp length-set (omega (arith, S .pre .2))
 
 add-row-3 : tie.Need-add-row-3
 add-row-3 c = search needs
@@ -67,18 +66,18 @@ mul-row-3 : tie.Need-mul-row-3
 mul-row-3 c = search needs
 
 slice-write-row-8 : tie.Need-slice-write-row-8
-slice-write-row-8 c = let S = c .before .before .before .before .before .before .before in omega (arith, l₇ (S .args .row .now) (c .before .before .short .result) (c .before .short2 .result) (c .short3 .result) (S .pre .2))
+slice-write-row-8 c = let S = c .before .before .before .before .before .before .before in simp length-set (omega (arith, S .pre .2))
 
 slice-write-row-9 : tie.Need-slice-write-row-9
-slice-write-row-9 c = let S = c .before .before .before .before .before .before .before in omega (arith, l₈ (S .args .row .now) (c .before .before .short .result) (c .before .short2 .result) (c .short3 .result) (S .pre .2))
+slice-write-row-9 c = let S = c .before .before .before .before .before .before .before in simp length-set (omega (arith, S .pre .2))
 
 same-length : tie.Need-same-length
-same-length c = let S = c .before .before .before .before .before .before .before in l₉ (S .args .row .now) (c .before .before .short .result) (c .before .short2 .result) (c .short3 .result) (S .pre .2) ∙ sym (S .pre .2)
+same-length c = let S = c .before .before .before .before .before .before .before in simp length-set refl
 
 returns-2 : tie.Need-returns-2
 returns-2 c = let S = c .before .before .before .before .before .before .before in
     let z : c .before .before .before .before .number .result ≡ 0 = c .before .before .before .if1 .left in
-    let written : ℕ → ℕ → ℕ → List ℕ = λ v s d. set (r₈ (S .args .row .now) v s d) 96 0 in (
+    let written : ℕ → ℕ → ℕ → List ℕ = λ v s d. set (set (set (set (set (set (set (set (set (S .args .row .now) 0 v) 8 1) 16 1) 32 s) 64 d) 65 0) 66 0) 67 0) 96 0 in (
       λ h. absurd (omega (arith, c .before .before .before .before .number .ensures)),
       λ e. (refl, ap (λ v. written v (c .before .short2 .result) (c .short3 .result)) (c .before .before .short .ensures) ∙ ap₂ (written 255) (c .before .short2 .ensures) (c .short3 .ensures)),
     )
