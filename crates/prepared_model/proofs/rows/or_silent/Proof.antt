@@ -1,7 +1,7 @@
 -- Where a choice is listed nothing is written; elsewhere nine places are, and the row stays as long.
 use native.Mathlib.Omega.{arith}
 use Prim.Native.Nat.{ℕ}
-use mathlib.Core.Path.{_≡_, refl, sym, ap, ap₂, _∙_}
+use mathlib.Core.Path.{_≡_, refl, ap, ap₂, _∙_}
 use mathlib.Core.List.{List}
 use lib.ListN.{set, length-set}
 use borrow.Author.Needs.{needs}
