@@ -4,7 +4,7 @@
 
 use crate::blocks::{fix_word_sums, read_model, ModelImage, NodeImage};
 use crate::blocks::{QuestionImage, Sheet, BLOCK};
-use crate::desk::{next_call, Answer, Call, Desk};
+use crate::desk::{replay, Answer, Call, Desk};
 use crate::ground::Ground;
 use crate::logic::{check_limits, fast, Judged, Model, Move, Node, Plan, PlanNode};
 use crate::logic::{Question, Totals, SILENT};
@@ -77,11 +77,8 @@ pub type Differences = BTreeMap<(Fault, &'static str), usize>;
 /// Replays a stream from the empty desk beside a judge of each fault. Each of
 /// their calls is made on what the right desk holds.
 pub fn differences(stream: &[u8]) -> Differences {
-    let mut rest = stream;
-    let mut desk = Desk::default();
     let mut counts = Differences::new();
-    while let Some(call) = next_call(&mut rest) {
-        let answer = call.make(&mut desk);
+    replay(stream, |call, answer, desk| {
         let name = match call {
             Call::Load(_) => "load",
             Call::Put(_) => "put",
@@ -90,11 +87,11 @@ pub fn differences(stream: &[u8]) -> Differences {
             Call::Check(_) => "check",
         };
         for fault in ALL {
-            if differs(fault, &call, &answer, &desk) {
+            if differs(fault, call, answer, desk) {
                 *counts.entry((fault, name)).or_default() += 1;
             }
         }
-    }
+    });
     counts
 }
 

@@ -3,7 +3,7 @@
 //! stream in which they answer all alike cannot tell them from a right judge.
 
 use crate::blocks::Sheet;
-use crate::desk::{next_call, Answer, Call, Desk};
+use crate::desk::{replay, Answer, Call};
 use crate::ground::Ground;
 use crate::logic::plain::{self, Meaning};
 use crate::logic::{Model, Path, Plan, PlanNode, Question};
@@ -159,16 +159,13 @@ pub type Differences = BTreeMap<(Arithmetic, Asked, Relation, bool), usize>;
 
 /// Replays a stream from the empty desk beside a judge of each arithmetic.
 pub fn differences(stream: &[u8]) -> Differences {
-    let mut rest = stream;
-    let mut desk = Desk::default();
     let mut counts = Differences::new();
-    while let Some(call) = next_call(&mut rest) {
-        let answer = call.make(&mut desk);
+    replay(stream, |call, answer, desk| {
         let (Ok(model), Ok(question)) = (desk.model(), desk.question()) else {
-            continue;
+            return;
         };
         let Some((_, first)) = question.plan_nodes().next() else {
-            continue;
+            return;
         };
         for arithmetic in ALL {
             let judge = FloatJudge {
@@ -176,14 +173,14 @@ pub fn differences(stream: &[u8]) -> Differences {
                 question,
                 arithmetic,
             };
-            for (asked, right, given) in answers(&judge, &call, &answer) {
+            for (asked, right, given) in answers(&judge, call, answer) {
                 if right != given {
                     let key = (arithmetic, asked, first.relation, right);
                     *counts.entry(key).or_default() += 1;
                 }
             }
         }
-    }
+    });
     counts
 }
 

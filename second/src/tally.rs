@@ -1,6 +1,6 @@
 //! How often each call got each answer.
 
-use crate::desk::{next_call, Answer, Desk};
+use crate::desk::{replay, Answer};
 use crate::logic::{Judged, Verdict};
 use std::collections::BTreeMap;
 
@@ -9,13 +9,10 @@ pub type Tally = BTreeMap<(&'static str, u8, String), usize>;
 
 /// Replays a stream from the empty desk and counts its answers.
 pub fn tally(stream: &[u8]) -> Tally {
-    let mut rest = stream;
-    let mut desk = Desk::default();
     let mut counts = Tally::new();
-    while let Some(call) = next_call(&mut rest) {
-        let answer = call.make(&mut desk);
-        *counts.entry(key(&answer)).or_default() += 1;
-    }
+    replay(stream, |_, answer, _| {
+        *counts.entry(key(answer)).or_default() += 1
+    });
     counts
 }
 

@@ -39,6 +39,17 @@ pub fn next_call(stream: &mut &[u8]) -> Option<Call> {
     }
 }
 
+/// Makes the calls of a stream one after the other from the empty desk; `seen`
+/// gets each call, its answer and the desk after it.
+pub fn replay(stream: &[u8], mut seen: impl FnMut(&Call, &Answer, &Desk)) {
+    let mut rest = stream;
+    let mut desk = Desk::default();
+    while let Some(call) = next_call(&mut rest) {
+        let answer = call.make(&mut desk);
+        seen(&call, &answer, &desk);
+    }
+}
+
 impl Call {
     /// The call as a record of the stream.
     pub fn record(&self) -> Vec<u8> {
