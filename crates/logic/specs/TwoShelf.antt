@@ -10,6 +10,8 @@ use Rattle.logic.specs.Plan.{plans, choices, paths, weight}
 use Rattle.logic.specs.Formula.{Formula, prop, neg, both, does, next, gain, plan, sat, W, meets}
 use Rattle.logic.specs.Verdict.{Verdict, no, yes-plan, leads, is-equal, goal, shown, verdict}
 
+-- How the actions, literals and outcomes of an example are written: a precondition's two masks with postconditions; two masks; the action, the
+-- target, the weight and the reward.
 unfoldable pub needs : ℕ → ℕ → List Literals → Action
 needs t f ps = record { pre = record { positive = t; negative = f }; posts = ps }
 
@@ -47,6 +49,7 @@ pub record Row : Type 0 where
   pub q : ℕ
   pub answer : Verdict
 
+-- A row of a table of examples, and the two answers in it.
 unfoldable pub row : ℕ → Formula → Relation → ℕ → ℕ → Verdict → Row
 row n φ r p q v = record { steps = n; condition = φ; rel = r; p = p; q = q; answer = v }
 
