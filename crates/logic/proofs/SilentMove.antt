@@ -32,7 +32,7 @@ module _ (m : Model) (s : ℕ) where
   module _ (o : deadlocked m s ≡ true) where
     pub silent-alone : enabled m s ≡ silent ∷ []
     unfolding enabled
-    silent-alone = ap (λ t. cond t (silent ∷ []) (enabled-actions m s)) o
+    silent-alone = rw o refl
 
     -- So any other choice on a sheet is none: 10.
     pub others-refused : (n a : ℕ) (cs : List ℕ) → (a ≡ silent → ⊥) → read-plan m (suc n) s (a ∷ cs) ≡ refused 10
@@ -47,7 +47,7 @@ module _ (m : Model) (s : ℕ) where
 
     pub silent-outcomes : outcomes m s silent ≡ silent-step m s ∷ []
     unfolding outcomes
-    silent-outcomes = ap (λ t. cond (t && true) (silent-step m s ∷ []) (stored m s silent)) o
+    silent-outcomes = rw o refl
 
     pub one-outcome : {o : Step} → List·Memᴰ o (outcomes m s silent) → o ≡ silent-step m s
     one-outcome {o} i = List·Memᴰ·eq-of-singleton (subst (List·Memᴰ o) silent-outcomes i)
@@ -57,11 +57,11 @@ module _ (m : Model) (s : ℕ) where
   module _ (o : deadlocked m s ≡ false) where
     pub choices-are-actions : enabled m s ≡ enabled-actions m s
     unfolding enabled
-    choices-are-actions = ap (λ t. cond t (silent ∷ []) (enabled-actions m s)) o
+    choices-are-actions = rw o refl
 
     pub outcomes-stored : (a : ℕ) → outcomes m s a ≡ stored m s a
     unfolding outcomes
-    outcomes-stored a = ap (λ t. cond (t && eqb a silent) (silent-step m s ∷ []) (stored m s a)) o
+    outcomes-stored a = rw o refl
 
   -- The outcomes of an action are those that the model gives.
   pub action-outcomes : (a : ℕ) → (a ≡ silent → ⊥) → outcomes m s a ≡ stored m s a
