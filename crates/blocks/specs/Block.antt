@@ -1,10 +1,11 @@
 -- Blocks of 512 bytes: how many, and their word sums.
-use Prim.Native.Nat.{ℕ, zero, suc, _+_, _*_, _/_, _%_}
+use Prim.Native.Nat.{ℕ, zero, suc, _+_, _*_, _-_, _/_, _%_}
 use mathlib.Core.Bool.{Bool, _&&_}
+use mathlib.Core.List.{_++_}
 use lib.Dec.{eqb}
 use lib.ListN.{length}
 use Rattle.logic.specs.Lists.{every}
-use Rattle.blocks.specs.Bytes.{Bytes, byte, u16, within}
+use Rattle.blocks.specs.Bytes.{Bytes, byte, u16, little-endian, within}
 
 -- f 0 + f 1 + .. + f (n - 1).
 unfoldable pub sum-below : ℕ → (ℕ → ℕ) → ℕ
@@ -29,3 +30,7 @@ sums-right b = every (block-count b) (λ k. eqb (word-sum b k % 65536) 0)
 -- Ground 3 of one block: its kind and its number.
 unfoldable pub headed : Bytes → ℕ → ℕ → ℕ → Bool
 headed b k kind number = eqb (byte b (512 * k)) kind && eqb (byte b (512 * k + 1)) number
+
+-- 510 bytes with the word that makes the 256 words sum to 0 modulo 65,536.
+unfoldable pub with-word-sum : Bytes → Bytes
+with-word-sum l = l ++ little-endian 2 ((65536 - sum-below 255 (λ j. u16 l (2 * j)) % 65536) % 65536)

@@ -1,5 +1,5 @@
 -- Numbers stored in bytes. Document 01, "Blocks of 512 bytes": multi-byte fields are little-endian, signed ones in two's complement.
-use Prim.Native.Nat.{ℕ, zero, suc, _+_, _*_, _-_, _^_, _/_, _%_}
+use Prim.Native.Nat.{ℕ, zero, suc, _+_, _*_, _-_, _^_, _/_, _%_, _<_}
 use mathlib.Core.Bool.{Bool, cond, _&&_}
 use mathlib.Core.List.{List, [], _∷_}
 use lib.Dec.{eqb, ltb, leb}
@@ -13,6 +13,10 @@ Bytes = List ℕ
 -- The byte at a place; 0 past the end.
 abbrev pub byte : Bytes → ℕ → ℕ
 byte b i = getD b i 0
+
+-- Every element is a byte: the lists here are of any numbers.
+abbrev pub All-bytes : Bytes → Type 0
+All-bytes b = (i : ℕ) → byte b i < 256
 
 unfoldable pub u16 : Bytes → ℕ → ℕ
 u16 b i = byte b i + 256 * byte b (i + 1)

@@ -1,3 +1,4 @@
 pub mod Bytes
 pub mod Block
+pub mod OneWord
 pub mod Splice

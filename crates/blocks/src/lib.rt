@@ -1,13 +1,15 @@
 // Bytes, numbers in bytes, and blocks of 512 bytes: what every reader and writer stands on.
 ghost use mathlib.Core.Path.{_≡_};
 ghost use Prim.Native.Nat.{_+_, _*_, _≤_, _<_, _%_};
-ghost use lib.ListN.{length};
+ghost use lib.ListN.{length, take};
 ghost use Rattle.blocks.specs.Bytes.{u16, u32, u64, signed, i16, i32};
 ghost use Rattle.blocks.specs.Bytes as spec;
-ghost use Rattle.blocks.specs.Block.{whole-blocks, word-sum, sums-right};
+ghost use Rattle.blocks.specs.Block.{whole-blocks, word-sum, sums-right, with-word-sum};
 ghost use Rattle.blocks.specs.Block as spec-block;
 
 pub mod buffers;
+
+use crate::buffers::put_number;
 
 // A block's size in bytes and in 16-bit words, and where its last word stands, which makes the words sum to 0.
 pub const BLOCK: usize = 512;
@@ -54,7 +56,9 @@ fn pair(b: &[u8], i: usize) -> u32
     ensures value { λ r. ⌜ r ≡ u16 (now (b .entry)) i ⌝ }
     ensures range { λ r. ⌜ r < 65536 ⌝ }
 {
-    b[i] as u32 + 256 * b[i + 1] as u32
+    let low = b[i] as u32;
+    let high = b[i + 1] as u32;
+    low + 256 * high
 }
 
 // The 16-bit number at i. Inside the slice, here and below, one comparison serves all its bytes.
@@ -140,20 +144,20 @@ pub fn within(least: usize, most: usize, x: usize) -> bool
     (least <= x) & (x <= most)
 }
 
-// The sum of the 256 words of block k.
+// The sum of the 256 words of block k, modulo 65,536. The words are added and the remainder is taken once: no word needs a branch, and the
+// compiler adds many at a time.
 pub fn word_sum(b: &[u8], k: usize) -> u32
     requires { ⌜ 512 * k + 512 ≤ length (now b) ⌝ }
-    ensures value { λ r. ⌜ r ≡ word-sum (now (b .entry)) k ⌝ }
+    ensures value { λ r. ⌜ r ≡ word-sum (now (b .entry)) k % 65536 ⌝ }
 {
     let at = BLOCK * k;
     let mut sum: u32 = 0;
     let mut j: usize = 0;
     while j < WORDS {
-        let i = at + 2 * j;
-        sum += b[i] as u32 + 256 * b[i + 1] as u32;
+        sum += pair(b, at + 2 * j);
         j += 1;
     }
-    sum
+    sum % WORD_VALUES
 }
 
 // Ground 2: whether the words of every block sum to 0 modulo 65,536.
@@ -163,12 +167,23 @@ pub fn sums_right(b: &[u8]) -> bool
     let n = b.len() / BLOCK;
     let mut k: usize = 0;
     while k < n {
-        if word_sum(b, k) % WORD_VALUES != 0 {
+        if word_sum(b, k) != 0 {
             return false;
         }
         k += 1;
     }
     true
+}
+
+// Seals a block: its last word, whatever it was, becomes the one with which all words sum to 0 modulo 65,536.
+pub fn seal(block: &mut [u8])
+    requires { ⌜ length (now block) ≡ 512 ⌝ }
+    ensures frame { λ _. ⌜ now (block .exit) ≡ with-word-sum (take 510 (now (block .entry))) ⌝ }
+{
+    let sum = word_sum(block, 0);
+    let last = pair(block, LAST_WORD);
+    let word = (WORD_VALUES + last - sum) % WORD_VALUES;
+    put_number(&mut block[LAST_WORD..], 2, word as u64);
 }
 
 // Ground 1: whether there are from `least` to `most` whole blocks.

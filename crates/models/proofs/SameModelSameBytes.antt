@@ -13,18 +13,16 @@ use borrow.Author.Tests.{ltb-true, ltb-false}
 use Rattle.logic.specs.Lists.{tabulate, every}
 use Rattle.logic.specs.Model.{Step, Literals, Action, no-action, mask, stored}
 use Rattle.logic.proofs.Tests.{and-left, and-right, eqb-eq, every-at, length-tabulate, getD-tabulate}
-use Rattle.blocks.specs.Bytes.{Bytes, byte, u16, u32, i16, signed, zeros}
-use Rattle.blocks.specs.Block.{sum-below, block-count, word-sum, sums-right, headed}
+use Rattle.blocks.specs.Bytes.{Bytes, All-bytes, byte, u16, u32, i16, signed, zeros}
+use Rattle.blocks.specs.Block.{block-count, word-sum, sums-right, headed}
+use Rattle.blocks.proofs.Sums.{told-word}
+use Rattle.blocks.proofs.OneWordChanged.{word-small}
 use Rattle.models.specs.Layout.{state-count, action-count, literals, state-mask, action-at, pre-of, post-count, post-of, cell-at, outcome-of, entries, model-of}
 use Rattle.models.specs.Grounds.{kinds-right, action-spare, head-spare, row-spare, rows-spare, cell-spare, cells-spare}
 use Rattle.models.proofs.GroundsPassed.{Passed, passed-sized}
 use Rattle.models.proofs.EveryCell.{entries-small}
 use Rattle.models.proofs.OutcomesOfCell.{stored-are}
 use Rattle.models.proofs.ModelOfBytes.{states-held, mask-held}
-
--- Every element is a byte.
-abbrev pub Small : Bytes → Type 0
-Small b = (i : ℕ) → byte b i < 256
 
 signed-same : (x y : ℕ) → x < 65536 → y < 65536 → signed 15 x ≡ signed 15 y → x ≡ y
 unfolding signed
@@ -113,11 +111,7 @@ module _ (b c : Bytes) where
       let second : (l : Bytes) → headed l k kind number ≡ true → byte l (512 * k + 1) ≡ number = λ l h. eqb-eq _ _ (and-right (eqb (byte l (512 * k)) kind) _ h) in
       agree-join (512 * k) 1 1 (agree-one (512 * k) (first b e ∙ sym (first c f))) (agree-one (512 * k + 1) (second b e ∙ sym (second c f)))
 
-  module _ (small-b : Small b) (small-c : Small c) where
-    word-small : (l : Bytes) → Small l → (at : ℕ) → u16 l at < 65536
-    unfolding u16
-    word-small l h at = omega (arith, h at, h (at + 1))
-
+  module _ (small-b : All-bytes b) (small-c : All-bytes c) where
     agree-16 : (at : ℕ) → u16 b at ≡ u16 c at → Agree at 2
     unfolding u16
     agree-16 at e =
@@ -139,28 +133,19 @@ module _ (b c : Bytes) where
     agree-literals at e = agree-join at 4 4 (agree-32 at (ap (λ l. l .positive) e)) (agree-32 (at + 4) (ap (λ l. l .negative) e))
 
     -- The last word of a block is told by the others.
-    same-sum : (n at : ℕ) → Agree at (2 * n) → sum-below n (λ j. u16 b (at + 2 * j)) ≡ sum-below n (λ j. u16 c (at + 2 * j))
-    unfolding sum-below u16
-    same-sum zero at h = refl
-    same-sum (suc n) at h =
-        let p = same-sum n at (λ i l. h i (omega arith)) in
-        let x : byte b (at + 2 * n) ≡ byte c (at + 2 * n) = h (2 * n) (omega arith) in
-        let z : at + (2 * n + 1) ≡ at + 2 * n + 1 = omega arith in
-        let y : byte b (at + 2 * n + 1) ≡ byte c (at + 2 * n + 1) = subst (λ k. byte b k ≡ byte c k) z (h (2 * n + 1) (omega arith)) in
-        ap₂ _+_ p (ap₂ (λ u v. u + 256 * v) x y)
+    same-word : (at j : ℕ) → j < 255 → Agree at 510 → u16 b (at + 2 * j) ≡ u16 c (at + 2 * j)
+    unfolding u16
+    same-word at j l h =
+        let z : at + (2 * j + 1) ≡ at + 2 * j + 1 = omega arith in
+        ap₂ (λ u v. u + 256 * v) (h (2 * j) (omega arith)) (subst (λ k. byte b k ≡ byte c k) z (h (2 * j + 1) (omega arith)))
 
     agree-block : (k : ℕ) → eqb (word-sum b k % 65536) 0 ≡ true → eqb (word-sum c k % 65536) 0 ≡ true → Agree (512 * k) 510 → Agree (512 * k) 512
-    unfolding word-sum sum-below
+    unfolding word-sum
     agree-block k e f h =
-        let x = same-sum 255 (512 * k) h in
-        let p = eqb-eq _ _ e in
-        let q = eqb-eq _ _ f in
-        let u = word-small b small-b (512 * k + 2 * 255) in
-        let v = word-small c small-c (512 * k + 2 * 255) in
-        agree-join (512 * k) 510 2 h (agree-16 (512 * k + 510) (last-word _ _ _ _ x u v p q))
-      where
-        last-word : (x y u v : ℕ) → x ≡ y → u < 65536 → v < 65536 → (x + u) % 65536 ≡ 0 → (y + v) % 65536 ≡ 0 → u ≡ v
-        last-word x y u v e h g p q = omega arith
+        agree-join (512 * k) 510 2 h
+        (agree-16 (512 * k + 510)
+        (told-word (λ j. u16 b (512 * k + 2 * j)) (λ j. u16 c (512 * k + 2 * j)) 255 256 (omega arith) (λ j l n. same-word (512 * k) j (omega arith) h)
+        (word-small b small-b (512 * k + 510)) (word-small c small-c (512 * k + 510)) (eqb-eq _ _ e ∙ sym (eqb-eq _ _ f))))
 
     module _ (p : Passed b) (q : Passed c) (e : model-of b ≡ model-of c) where
       same-states : state-count b ≡ state-count c

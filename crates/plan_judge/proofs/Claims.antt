@@ -3,3 +3,4 @@ pub mod Ran
 pub mod Demand1
 pub mod Offered
 pub mod Delivery
+pub mod OneWord

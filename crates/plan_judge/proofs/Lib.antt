@@ -8,6 +8,7 @@ pub mod CheckReturns
 pub mod JudgeReturns
 pub mod EveryList
 pub mod CodeDemand1
+pub mod OneWordChangedRefused
 pub mod NumbersListed
 pub mod CSteps
 pub mod CList

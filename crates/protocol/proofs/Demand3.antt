@@ -27,12 +27,12 @@ use Rattle.logic.proofs.Tests.{T→true, true→T, and-left, and-right}
 use Rattle.logic.proofs.Checked.{not-ok, ok-same, bind-ok, guard-ok}
 use Rattle.logic.proofs.Reading.{plan-of-sound, plan-of-complete}
 use Rattle.logic.proofs.Shown.{goal-led, shown-there, shown-meets}
-use Rattle.blocks.specs.Bytes.{Bytes}
+use Rattle.blocks.specs.Bytes.{Bytes, All-bytes}
 use Rattle.questions.specs.Layout.{Question}
 use Rattle.sheets.specs.Layout.{Sheet, sheet-of}
 use Rattle.sheets.specs.Grounds.{sheet-grounds, read-sheet}
 use Rattle.protocol.specs.Calls.{Call, judge, query, write, check, Held, Report, Answer, judged, written, accepted, refuse, Reply, says, written-bytes, same, reported, yields}
-use Rattle.protocol.specs.Demand3.{All-bytes, Plan-question, total, meets-bound, Claims, Accepts, Differs, Meeting-sheet, Says-yes, Writes-shown, Demand-3}
+use Rattle.protocol.specs.Demand3.{Plan-question, total, meets-bound, Claims, Accepts, Differs, Meeting-sheet, Says-yes, Writes-shown, Demand-3}
 use Rattle.protocol.specs.promises.Chains.{sheet-shown, do-write, check-on, do-check, answered, by-chain}
 use Rattle.protocol.proofs.AfterEachCall.{Sound, sound}
 use Rattle.protocol.proofs.Refusals.{first-passes, decided-none, decided-first, plan-only}

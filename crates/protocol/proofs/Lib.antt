@@ -2,6 +2,7 @@ pub mod AfterEachCall
 pub mod HeldAccepted
 pub mod Refusals
 pub mod FirstGround
+pub mod OneWordRefused
 pub mod Lists
 pub mod ShownPlan
 pub mod Demand2

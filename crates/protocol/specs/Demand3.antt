@@ -5,7 +5,7 @@
 --   paths that its plan allows and on which the condition is true. Judging says yes exactly when some accepted sheet meets the bound, and
 --   each write that is then not refused writes one of these, that of the shown plan."
 -- The clauses stand beside the parts.
-use Prim.Native.Nat.{ℕ, _<_}
+use Prim.Native.Nat.{ℕ}
 use mathlib.Core.Path.{_≡_}
 use mathlib.Core.Logic.{_↔_, _⊎_}
 use mathlib.Core.Bool.{Bool, true}
@@ -19,16 +19,12 @@ use Rattle.logic.specs.Model.{Model}
 use Rattle.logic.specs.Plan.{Plan, plans, choices}
 use Rattle.logic.specs.Verdict.{Goal, goal, shown, Shown-plan, yes-plan}
 use Rattle.logic.specs.Limits.{limit-grounds}
-use Rattle.blocks.specs.Bytes.{Bytes, byte}
+use Rattle.blocks.specs.Bytes.{Bytes, All-bytes}
 use Rattle.questions.specs.Layout.{Question}
 use Rattle.sheets.specs.Grounds.{read-sheet}
 use Rattle.protocol.specs.Calls.{Call, judge, query, write, check, Held, Report, judged, written, accepted, refuse, Reply}
 use Rattle.protocol.specs.History.{after}
 use Rattle.protocol.specs.Replies.{Session}
-
--- Every element is a byte: `Bytes` alone are numbers of any size.
-abbrev pub All-bytes : Bytes → Type 0
-All-bytes b = (i : ℕ) → byte b i < 256
 
 -- "for every plan question that the desk then holds with its accepted model, within the path and plan limits": its root is "plan", and
 -- asks of plans what the goal says: their steps, the total of each, and whether that meets the bound.

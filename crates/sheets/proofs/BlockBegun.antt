@@ -7,7 +7,8 @@ use lib.ListN.{length, take, drop, replicate, length-append, length-take, length
 use lib.Seq.{take-at, drop-at, length-take-le}
 use borrow.Rule.Slice.PartMut.{midOf, putMid}
 use Rattle.blocks.specs.Bytes.{little-endian}
-use Rattle.sheets.specs.Layout.{with-word-sum, sheet-block}
+use Rattle.blocks.specs.Block.{with-word-sum}
+use Rattle.sheets.specs.Layout.{sheet-block}
 use Rattle.sheets.specs.promises.Writer.{started, unsealed}
 use Rattle.blocks.proofs.PartPutBack.{mid-is, put-front}
 use Rattle.sheets.proofs.PiecesInOrder.{pieces, pieces-length}
@@ -68,7 +69,7 @@ module _ (n start w k count : ℕ) where
       let w₁ : Written (first n start k ++ little-endian 8 w) 16 d₁ = write-on _ 8 d₀ (little-endian 8 w) p₁ w₀ (omega arith) g₁ in
       write-on _ 16 d₁ (little-endian 2 count) p₂ w₁ (omega arith) g₂ .is
 
--- A block with all its choices: its last word is zero, and sealed it is the sheet's.
+-- A block with all its choices: sealed it is the sheet's.
 module _ (n start w k : ℕ) (cs : List ℕ) (few : length cs ≤ 490) where
   pub unsealed-length : (count : ℕ) → length (unsealed n start w k count cs) ≡ 512
   unfolding unsealed little-endian
@@ -93,9 +94,6 @@ module _ (n start w k : ℕ) (cs : List ℕ) (few : length cs ≤ 490) where
     where
       regroup : (a b c d : List ℕ) → a ++ (b ++ (c ++ d)) ≡ (a ++ (b ++ c)) ++ d
       regroup a b c d = simp append-assoc
-
-  pub last-word : drop 510 (unsealed n start w k (length cs) cs) ≡ replicate 2 0
-  last-word = ap (drop 510) front-first ∙ drop-at front (replicate 2 0) 510 front-length
 
   pub sealed-block : with-word-sum (take 510 (unsealed n start w k (length cs) cs)) ≡ sheet-block n start w k cs
   unfolding front fields first little-endian sheet-block

@@ -9,12 +9,13 @@ use lib.Dec.{ltb}
 use lib.ListN.{length, take, drop, getD, replicate, length-take, List·getD-eq-default}
 use lib.Seq.{getD-drop, getD-take}
 use borrow.Author.Tests.{ltb-true, ltb-false}
-use Rattle.blocks.specs.Bytes.{little-endian}
-use Rattle.sheets.specs.Layout.{with-word-sum, sheet-block, blocks-for, sheet-bytes}
+use Rattle.blocks.specs.Bytes.{All-bytes, little-endian}
+use Rattle.blocks.specs.Block.{with-word-sum}
+use Rattle.sheets.specs.Layout.{sheet-block, blocks-for, sheet-bytes}
 use Rattle.sheets.proofs.PiecesInOrder.{pieces, pieces-none, pieces-more}
 
 pub record Small (l : List ℕ) : Type 0 where
-  pub below : (i : ℕ) → getD l i 0 < 256
+  pub below : All-bytes l
 
 nil : Small []
 nil = record { below = λ i. omega arith }

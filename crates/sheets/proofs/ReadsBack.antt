@@ -15,11 +15,11 @@ use Rattle.logic.specs.Lists.{every}
 use Rattle.logic.specs.Checked.{ok}
 use Rattle.logic.proofs.Tests.{every-intro}
 use Rattle.blocks.specs.Bytes.{Bytes, zeros, within, little-endian}
-use Rattle.blocks.specs.Block.{block-count, whole-blocks, sums-right, word-sum, headed}
-use Rattle.sheets.specs.Layout.{weight-of, count-of, choices-of, sheet-of, with-word-sum, sheet-block, blocks-for, sheet-bytes}
+use Rattle.blocks.specs.Block.{block-count, whole-blocks, sums-right, word-sum, headed, with-word-sum}
+use Rattle.sheets.specs.Layout.{weight-of, count-of, choices-of, sheet-of, sheet-block, blocks-for, sheet-bytes}
 use Rattle.sheets.specs.Grounds.{head-right, count-right, weight-right, spare-right, read-sheet}
 use Rattle.blocks.proofs.NumberReadBack.{reads-16, reads-64}
-use Rattle.sheets.proofs.WordSumSealed.{sealed-sum}
+use Rattle.blocks.proofs.WordSumSealed.{sealed-sum}
 use Rattle.sheets.proofs.PiecesInOrder.{pieces, pieces-same, piece-at, parts}
 use Rattle.sheets.proofs.BlockBegun.{block-length, blocks-length}
 

@@ -9,11 +9,12 @@ use mathlib.Core.List.{List, [], _++_, append-assoc}
 use lib.ListN.{length, take, drop, set, getD, replicate, length-append, length-take, length-drop, length-set, length-replicate, take-append-drop}
 use lib.Seq.{paste, paste-zero, paste-suc, take-at, drop-at, drop-drop, drop-append-le, take-append-le, take-append-seam, getD-drop}
 use Rattle.blocks.specs.Bytes.{Bytes}
-use Rattle.sheets.specs.Layout.{with-word-sum, sheet-block, blocks-for, sheet-bytes}
+use Rattle.blocks.specs.Block.{with-word-sum}
+use Rattle.sheets.specs.Layout.{sheet-block, blocks-for, sheet-bytes}
 use Rattle.sheets.specs.promises.Writer.{unsealed, chunk-size, begun, sealed, place, stored}
 use Rattle.blocks.proofs.PartPutBack.{drop-replicate}
 use Rattle.sheets.proofs.PiecesInOrder.{pieces, pieces-none, pieces-more, pieces-same, pieces-length, next-piece}
-use Rattle.sheets.proofs.BlockBegun.{fields, fields-length, fields-first, unsealed-length, last-word, sealed-block}
+use Rattle.sheets.proofs.BlockBegun.{fields, fields-length, fields-first, unsealed-length, sealed-block}
 
 module _ (cs : List ℕ) where
   pub stored-length : (p j : ℕ) (b : Bytes) → length (stored cs p j b) ≡ length b
@@ -152,15 +153,10 @@ module _ (n start w : ℕ) (cs : List ℕ) where
         ∙ fills B (omega arith)
         ∙ ap (λ l. pieces full B ++ l) (drop-at (pieces empty B) t (512 * B) (pieces-length empty 512 B (λ i g. empty-length i)))
 
-    -- The full blocks are ready to be sealed, and then they are the sheet.
+    -- The full blocks, sealed, are the sheet.
     module _ (b : Bytes) (e : b ≡ pieces full (blocks-for count) ++ t) where
       block-is : (k : ℕ) → k < blocks-for count → (u : List ℕ) × (drop (512 * k) b ≡ full k ++ u)
       block-is k l = (_, ap (drop (512 * k)) e ∙ next-piece full 512 k (blocks-for count) t l (λ i g. full-length i))
-
-      pub last-words : (k : ℕ) → k < blocks-for count → drop 510 (take 512 (drop (512 * k) b)) ≡ replicate 2 0
-      last-words k l =
-          let u = block-is k l in
-          ap (λ x. drop 510 (take 512 x)) (u .1) ∙ ap (drop 510) (take-at (full k) (u .0) 512 (full-length k)) ∙ last-word n start w k (chunk k) (few k)
 
       pub all-sealed : sealed (blocks-for count) b ≡ sheet-bytes n start w cs ++ t
       unfolding sealed sheet-bytes

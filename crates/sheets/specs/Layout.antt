@@ -1,12 +1,12 @@
 -- Where a sheet's fields stand in its blocks, what they hold, and the blocks that are written of a plan. A sheet is document 01's word for
 -- a certificate: a plan's choices with the total claimed for them. Document 01, "Blocks of 512 bytes", Sheet.
-use Prim.Native.Nat.{ℕ, _+_, _*_, _-_, _/_, _%_}
+use Prim.Native.Nat.{ℕ, _+_, _*_, _-_, _/_}
 use mathlib.Core.List.{List, _∷_, _++_, flatMap}
 use lib.IntN.{ℤ, pos}
 use lib.ListN.{length, take, drop, replicate}
 use Rattle.logic.specs.Lists.{count-from}
 use Rattle.blocks.specs.Bytes.{Bytes, u16, u64, little-endian}
-use Rattle.blocks.specs.Block.{sum-below, block-count}
+use Rattle.blocks.specs.Block.{block-count, with-word-sum}
 
 -- What a sheet says.
 pub record Sheet : Type 0 where
@@ -27,10 +27,6 @@ unfoldable pub sheet-of : Bytes → Sheet
 sheet-of b = record { weight = pos (weight-of b 0); choices = flatMap (choices-of b) (count-from 0 (block-count b)) }
 
 -- ---- what is written
-
--- 510 bytes with the word that makes the 256 words sum to 0 modulo 65,536.
-unfoldable pub with-word-sum : Bytes → Bytes
-with-word-sum l = l ++ little-endian 2 ((65536 - sum-below 255 (λ j. u16 l (2 * j)) % 65536) % 65536)
 
 -- Block k of a sheet: kind 4, its number, n, the start state, the weight, and these choices of it.
 unfoldable pub sheet-block : (n start weight : ℕ) → ℕ → List ℕ → Bytes

@@ -10,7 +10,7 @@ ghost use Rattle.logic.specs.Choices.{read-each, read-plan};
 ghost use Rattle.blocks.specs.Bytes.{little-endian};
 ghost use Rattle.models.specs.Layout.{state-count, model-of};
 ghost use Rattle.models.specs.Grounds.{read-model};
-ghost use Rattle.sheets.specs.Layout.{with-word-sum, blocks-for, sheet-bytes};
+ghost use Rattle.sheets.specs.Layout.{blocks-for, sheet-bytes};
 ghost use Rattle.sheets.specs.promises.Ends.{all-read};
 ghost use Rattle.sheets.specs.promises.Writer.{started, unsealed, chunk-size, begun, sealed, place, Ahead, Stored};
 use crate::CHOICES_AT;
@@ -22,26 +22,16 @@ use crate::STEPS_AT;
 use crate::WEIGHT_AT;
 use crate::blocks_for;
 use blocks::BLOCK;
-use blocks::LAST_WORD;
 use blocks::NUMBER_AT;
 use blocks::buffers::clear;
 use blocks::buffers::put_number;
 use blocks::buffers::store;
+use blocks::seal;
 use models::choices::outcome_count;
 use models::choices::outcome_target;
 
 // The kind of a sheet's blocks, as it is stored.
 const KIND: u8 = 4;
-
-// The last word becomes the one with which all words sum to 0 modulo 65,536.
-fn seal(dst: &mut [u8])
-    requires { ⌜ (length (now dst) ≡ 512) × (drop 510 (now dst) ≡ replicate 2 0) ⌝ }
-    ensures frame { λ _. ⌜ now (dst .exit) ≡ with-word-sum (take 510 (now (dst .entry))) ⌝ }
-{
-    let sum = blocks::word_sum(dst, 0);
-    let word = (65536 - sum % 65536) % 65536;
-    put_number(&mut dst[LAST_WORD..], 2, word as u64);
-}
 
 // The first bytes of block k, which is zero as yet.
 fn head(dst: &mut [u8], k: u8, n: u8, start: u8)
@@ -159,7 +149,6 @@ fn store_below(
 // Seals the first blocks of buf.
 fn seal_blocks(buf: &mut [u8], blocks: usize)
     requires { ⌜ (blocks ≤ 3) × (512 * blocks ≤ length (now buf)) ⌝ }
-    requires { ⌜ ((k : ℕ) → k < blocks → drop 510 (take 512 (drop (512 * k) (now buf))) ≡ replicate 2 0) ⌝ }
     ensures frame { λ _. ⌜ now (buf .exit) ≡ sealed blocks (now (buf .entry)) ⌝ }
 {
     let mut k: usize = 0;

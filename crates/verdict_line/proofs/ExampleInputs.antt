@@ -12,12 +12,11 @@ use Rattle.logic.specs.Formula.{nonnegative, relation, formula-of, formulas, de
 use Rattle.logic.specs.Verdict.{leads, is-equal, goal, shown, verdict}
 use Rattle.logic.specs.Limits.{path-total, multiply, plan-total, every-plan, limits}
 use Rattle.blocks.specs.Bytes.{Bytes, u16, u32, signed, i16, i32, little-endian, zeros, within}
-use Rattle.blocks.specs.Block.{sum-below, block-count, whole-blocks, word-sum, sums-right, headed}
+use Rattle.blocks.specs.Block.{sum-below, block-count, whole-blocks, word-sum, sums-right, headed, with-word-sum}
 use Rattle.models.specs.Layout.{literals, state-mask, pre-of, post-count, post-of, cell-at, outcome-of, entries, model-of}
 use Rattle.models.specs.Grounds.{kinds-right, sizes-right, mask-in-range, literals-in-range, action-in-range, outcome-in-range, cell-in-range, fields-right, action-spare, head-spare, row-spare, rows-spare, cell-spare, cells-spare, posts-contradict, cell-consistent, consistent, read-model}
 use Rattle.questions.specs.Layout.{node-of, formulas-of, question-of}
 use Rattle.questions.specs.Grounds.{compares, gain-bound, plan-bound, plan-in-range, node-in-range, node-spare, spare-zero, formed, read-question}
-use Rattle.sheets.specs.Layout.{with-word-sum}
 use Rattle.blocks.specs.Splice.{splice}
 use Rattle.verdict_line.specs.Text.{text, decimal, decimal-in}
 use Rattle.verdict_line.specs.Line.{refused-line, plain-line, no-plans-line, yes-plan-line, is-plan, verdict-line, printed}

@@ -29,7 +29,7 @@ returns : tie.Need-returns Inv-loop μ-loop
 unfolding sums-right block-count
 returns c = let b = c .before .before .before .before .before .args .b .now in
     let e = c .before .word-sum .ensures in
-    sym (every-false (λ i. eqb (word-sum b i % 65536) 0) (length b / 512) (omega arith) (ne-eqb _ _ (λ q. c .if1 .taken (ap (λ z. z % 65536) e ∙ q))))
+    sym (every-false (λ i. eqb (word-sum b i % 65536) 0) (length b / 512) (omega arith) (ne-eqb _ _ (λ q. c .if1 .taken (e ∙ q))))
 
 add-k : tie.Need-add-k Inv-loop μ-loop
 add-k c = omega arith
@@ -42,7 +42,7 @@ unfolding every
 loop-again c = let b = c .before .before .before .before .before .args .b .now in
     let k = c .before .before .before .loop .k in
     let e = c .before .word-sum .ensures in
-    (omega arith, rw (add-one k, c .before .before .before .loop .inv .1) (eq-eqb _ _ (ap (λ z. z % 65536) (sym e) ∙ c .if1 .left)))
+    (omega arith, rw (add-one k, c .before .before .before .loop .inv .1) (eq-eqb _ _ (sym e ∙ c .if1 .left)))
 
 returns-2 : tie.Need-returns-2 Inv-loop μ-loop
 unfolding sums-right block-count

@@ -1,4 +1,5 @@
-use Prim.Native.Nat.{_+_, _-_, _*_, _≤_}
+-- The loop has added the words before j; each is below 65,536, so that the sum fits. The measure is what is left of the words.
+use Prim.Native.Nat.{_+_, _-_, _*_, _%_, _≤_}
 use native.Mathlib.Omega.{arith}
 use native.Mathlib.Numerals.{add-one}
 use mathlib.Core.Path.{_≡_, refl, ap, _∙_}
@@ -20,35 +21,17 @@ loop-holds : tie.Need-loop-holds Inv-loop μ-loop
 unfolding sum-below
 loop-holds c = (refl, omega arith, omega arith, refl)
 
-mul-i : tie.Need-mul-i Inv-loop μ-loop
-mul-i c = omega arith
+mul-pair : tie.Need-mul-pair Inv-loop μ-loop
+mul-pair c = omega arith
 
-add-i : tie.Need-add-i Inv-loop μ-loop
-add-i c = omega arith
+add-pair : tie.Need-add-pair Inv-loop μ-loop
+add-pair c = omega arith
 
-shared-slice-read-sum : tie.Need-shared-slice-read-sum Inv-loop μ-loop
-shared-slice-read-sum c = omega arith
-
-cast-sum : tie.Need-cast-sum Inv-loop μ-loop
-cast-sum c = omega (arith, c .shared-slice-known .given (512 * c .before .before .before .args .k + 2 * c .before .before .loop .j))
+pair-requires : tie.Need-pair-requires Inv-loop μ-loop
+pair-requires c κs = omega arith
 
 add-sum : tie.Need-add-sum Inv-loop μ-loop
 add-sum c = omega arith
-
-shared-slice-read-sum-2 : tie.Need-shared-slice-read-sum-2 Inv-loop μ-loop
-shared-slice-read-sum-2 c = omega arith
-
-cast-sum-2 : tie.Need-cast-sum-2 Inv-loop μ-loop
-cast-sum-2 c = omega (arith, c .shared-slice-known2 .given (512 * c .before .before .before .before .args .k + 2 * c .before .before .before .loop .j), c .shared-slice-known2 .given (512 * c .before .before .before .before .args .k + 2 * c .before .before .before .loop .j + 1))
-
-mul-sum : tie.Need-mul-sum Inv-loop μ-loop
-mul-sum c = omega (arith, c .shared-slice-known2 .given (512 * c .before .before .before .before .args .k + 2 * c .before .before .before .loop .j), c .shared-slice-known2 .given (512 * c .before .before .before .before .args .k + 2 * c .before .before .before .loop .j + 1))
-
-add-sum-2 : tie.Need-add-sum-2 Inv-loop μ-loop
-add-sum-2 c = omega (arith, c .shared-slice-known2 .given (512 * c .before .before .before .before .args .k + 2 * c .before .before .before .loop .j), c .shared-slice-known2 .given (512 * c .before .before .before .before .args .k + 2 * c .before .before .before .loop .j + 1))
-
-add-sum-3 : tie.Need-add-sum-3 Inv-loop μ-loop
-add-sum-3 c = omega (arith, c .shared-slice-known2 .given (512 * c .before .before .before .before .args .k + 2 * c .before .before .before .loop .j), c .shared-slice-known2 .given (512 * c .before .before .before .before .args .k + 2 * c .before .before .before .loop .j + 1))
 
 add-j : tie.Need-add-j Inv-loop μ-loop
 add-j c = omega arith
@@ -57,17 +40,17 @@ loop-less : tie.Need-loop-less Inv-loop μ-loop
 loop-less c = omega arith
 
 loop-again : tie.Need-loop-again Inv-loop μ-loop
-unfolding sum-below u16
-loop-again c = let j = c .before .before .before .loop .j in
-    let e = c .before .before .before .loop .inv .3 in
-    (refl, omega arith, omega (arith, c .shared-slice-known2 .given (512 * c .before .before .before .before .args .k + 2 * c .before .before .before .loop .j), c .shared-slice-known2 .given (512 * c .before .before .before .before .args .k + 2 * c .before .before .before .loop .j + 1)), rw (add-one j, e) refl)
+unfolding sum-below
+loop-again c = let L = c .before .before .loop in
+    (refl, omega arith, omega (arith, c .pair .ensures .1), rw (add-one (L .j), L .inv .3, c .pair .ensures .0) refl)
 
 returns : tie.Need-returns Inv-loop μ-loop
 unfolding word-sum
-returns c = let b = c .before .before .args .b .now in
-    let k = c .before .before .args .k in
+returns c = let S = c .before .before .before in
+    let b = S .args .b .now in
+    let k = S .args .k in
     let e : c .before .loop .j ≡ 256 = omega arith in
-    c .before .loop .inv .3 ∙ ap (λ n. sum-below n (λ i. u16 b (512 * k + 2 * i))) e
+    ap (λ x. x % 65536) (c .before .loop .inv .3 ∙ ap (λ n. sum-below n (λ i. u16 b (512 * k + 2 * i))) e)
 
 pub word-sum-spec : {M : Type 1} → statement M
 word-sum-spec =
@@ -77,16 +60,10 @@ word-sum-spec =
     μ-loop
     mul-at
     loop-holds
-    mul-i
-    add-i
-    shared-slice-read-sum
-    cast-sum
+    mul-pair
+    add-pair
+    pair-requires
     add-sum
-    shared-slice-read-sum-2
-    cast-sum-2
-    mul-sum
-    add-sum-2
-    add-sum-3
     add-j
     loop-less
     loop-again

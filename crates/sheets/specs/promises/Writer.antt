@@ -6,8 +6,9 @@ use lib.ListN.{length, take, drop, set, getD, replicate}
 use Rattle.logic.specs.Lists.{count-from}
 use Rattle.logic.specs.Checked.{Checked}
 use Rattle.blocks.specs.Bytes.{Bytes, little-endian}
+use Rattle.blocks.specs.Block.{with-word-sum}
 use Rattle.sheets.specs.declared.plans.End.the-variants.{At}
-use Rattle.sheets.specs.Layout.{with-word-sum, blocks-for}
+use Rattle.sheets.specs.Layout.{blocks-for}
 use Rattle.sheets.specs.promises.Ends.{end-of}
 
 -- ---- the blocks

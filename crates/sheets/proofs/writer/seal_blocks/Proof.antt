@@ -8,7 +8,7 @@ use lib.Seq.{take-take}
 use borrow.Author.Needs.{needs}
 use borrow.Rule.Slice.PartMut.{same-len-mid}
 use Rattle.logic.specs.Lists.{count-from}
-use Rattle.sheets.specs.Layout.{with-word-sum}
+use Rattle.blocks.specs.Block.{with-word-sum}
 use Rattle.sheets.specs.promises.Writer.{sealed}
 use Rattle.sheets.proofs.PiecesInOrder.{pieces, piece-put}
 use Rattle.sheets.proofs.BlockBegun.{sealed-length, block-lent}
@@ -45,7 +45,7 @@ seal-requires c κs = let S = c .before .before .before .before in
     let L = c .before .before .loop in
     let lt : L .k < S .args .blocks = c .before .loop-test .taken in
     let w = block-lent (S .args .buf .now) (L .buf) (L .k) (omega arith) (L .inv .2) in
-    (w .0, ap (drop 510) (w .1) ∙ S .pre .1 (L .k) lt)
+    w .0
 
 add-k : tie.Need-add-k Inv-loop μ-loop
 add-k c = omega arith

@@ -8,7 +8,7 @@ use borrow.Author.Needs.{needs}
 use Rattle.sheets.specs.Layout.{blocks-for, sheet-bytes}
 use Rattle.sheets.specs.promises.Writer.{stored, sealed}
 use Rattle.sheets.proofs.PiecesInOrder.{pieces}
-use Rattle.sheets.proofs.StoredChoices.{full, all-stored, last-words, all-sealed}
+use Rattle.sheets.proofs.StoredChoices.{full, all-stored, all-sealed}
 use Rattle.sheets.proofs.writer.write_sheet.Statement.{statement}
 use Rattle.sheets.proofs.writer.write_sheet.Tie as tie
 
@@ -39,10 +39,8 @@ blocks-for-requires c κs = c .before .before .before .before .before .before .b
 
 seal-blocks-requires : tie.Need-seal-blocks-requires
 seal-blocks-requires c κs = let S = c .before .before .before .before .before .before .before .before .before .before .before .before .before in
-    let e = c .before .blocks-for .ensures .0 in (
-      (c .before .blocks-for .ensures .1, omega (arith, e, S .pre .1 .1, c .before .before .before .before .store-plan .kept .0, c .before .before .before .before .before .before .before .before .begin-blocks .kept .0)),
-      λ k l. last-words (S .args .n) (S .args .start) (S .args .weight) (S .args .choices .now) (beyond S) (c .before .before .before .before .store-plan .last .0) (made (c .before .before .before .before)) k (subst (λ r. k < r) e l),
-    )
+    let e = c .before .blocks-for .ensures .0 in
+    (c .before .blocks-for .ensures .1, omega (arith, e, S .pre .1 .1, c .before .before .before .before .store-plan .kept .0, c .before .before .before .before .before .before .before .before .begin-blocks .kept .0))
 
 mul-result : tie.Need-mul-result
 mul-result c = search needs

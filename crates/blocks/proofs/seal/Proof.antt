@@ -1,11 +1,17 @@
--- The last word is zero when the words are summed, so the sum is that of the others.
+-- What is put in is told by the sum of all words and by the last word as it was, which may be any.
 use borrow.Author.Needs.{needs}
-use Rattle.sheets.proofs.WordSumSealed.{sealed}
-use Rattle.sheets.proofs.writer.seal.Statement.{statement}
-use Rattle.sheets.proofs.writer.seal.Tie as tie
+use Rattle.blocks.proofs.WordSumSealed.{sealed}
+use Rattle.blocks.proofs.seal.Statement.{statement}
+use Rattle.blocks.proofs.seal.Tie as tie
 
 word-sum-requires : tie.Need-word-sum-requires
 word-sum-requires c κs = search needs
+
+pair-requires : tie.Need-pair-requires
+pair-requires c κs = search needs
+
+add-word : tie.Need-add-word
+add-word c = search needs
 
 sub-word : tie.Need-sub-word
 sub-word c = search needs
@@ -29,14 +35,19 @@ same-length : tie.Need-same-length
 same-length c = search needs
 
 returns : tie.Need-returns
-returns c = let S = c .before .before .before .before .before .before .before in
-    sealed (S .args .dst .now) (c .before .before .put-number .last .0) (c .before .before .before .before .word-sum .result) (S .pre .0) (S .pre .1) (c .before .before .before .before .word-sum .ensures) (c .before .before .put-number .ensures)
+returns c = let S = c .before .before .before .before .before .before .before .before .before in
+    let sum = c .before .before .before .before .before .before .word-sum in
+    let last = c .before .before .before .before .pair in
+    let put = c .before .before .put-number in
+    sealed (S .args .block .now) (put .last .0) (sum .result) (last .result) (S .pre) (sum .ensures) (last .ensures .0) (last .ensures .1) (put .ensures)
 
 pub seal-spec : {M : Type 1} → statement M
 seal-spec =
     tie.close
     (tie.spec
     word-sum-requires
+    pair-requires
+    add-word
     sub-word
     sub-put-number
     part-put-number-start
