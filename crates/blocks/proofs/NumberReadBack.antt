@@ -23,7 +23,7 @@ next-byte k i rest l h n e =
     let g : getD l i 0 ∷ drop (suc i) l ≡ rest % 256 ∷ little-endian (k - (i + 1)) (rest / 256) = sym (drop-cons l i 0 (omega arith)) ∙ e ∙ ap (λ z. little-endian z rest) j in
     (cc, ap (λ z. drop z l) (add-one i) ∙ cc)
 
-two-bytes : (x : ℕ) → x % 256 + 256 * (x / 256 % 256) ≡ x % 65536
+pub two-bytes : (x : ℕ) → x % 256 + 256 * (x / 256 % 256) ≡ x % 65536
 two-bytes x = omega arith
 
 four-bytes : (x : ℕ) → x % 65536 + 65536 * (x / 256 / 256 % 65536) ≡ x % 4294967296

@@ -175,14 +175,15 @@ pub fn sums_right(b: &[u8]) -> bool
     true
 }
 
-// Seals a block: its last word, whatever it was, becomes the one with which all words sum to 0 modulo 65,536.
+// Seals a block: its last word, whatever it was, becomes the one with which all words sum to 0 modulo 65,536. Two bytes hold a number
+// modulo 65,536, so the word needs no remainder.
 pub fn seal(block: &mut [u8])
     requires { ⌜ length (now block) ≡ 512 ⌝ }
     ensures frame { λ _. ⌜ now (block .exit) ≡ with-word-sum (take 510 (now (block .entry))) ⌝ }
 {
     let sum = word_sum(block, 0);
     let last = pair(block, LAST_WORD);
-    let word = (WORD_VALUES + last - sum) % WORD_VALUES;
+    let word = WORD_VALUES + last - sum;
     put_number(&mut block[LAST_WORD..], 2, word as u64);
 }
 
