@@ -8,7 +8,7 @@ use lib.ListN.{length}
 use Rattle.logic.proofs.Tests.{eqb-eq, every-at}
 use Rattle.blocks.specs.Bytes.{Bytes, All-bytes, u16}
 use Rattle.blocks.specs.Block.{block-count, word-sum, sums-right}
-use Rattle.blocks.specs.OneWord.{One-word-changed, Spoiled}
+use Rattle.blocks.specs.OneWord.{Spoiled}
 use Rattle.blocks.proofs.Sums.{told-word}
 
 -- A word of bytes is below 65,536.

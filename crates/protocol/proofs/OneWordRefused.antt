@@ -1,5 +1,5 @@
 -- Input of which one word is changed is refused with 2 by the call that reads it: the desk's grounds and 1 pass, and the sum test does not.
-use mathlib.Core.Path.{_≡_, refl, sym, ap, _∙_}
+use mathlib.Core.Path.{_≡_, refl, sym, _∙_}
 use mathlib.Core.Bool.{Bool, true, false, cond}
 use mathlib.Core.List.{List, [], _∷_}
 use mathlib.Core.Option.{none, some}

@@ -1,13 +1,12 @@
 // The writer of a plan's sheet: its blocks are begun, its choices stored, its blocks sealed. One function stores the choice for a history,
 // another walks its outcomes and calls back, with fewer steps left. Each block, and its choices from byte 18, is lent on as a part of the buffer.
 ghost use mathlib.Core.Path.{_≡_};
-ghost use Prim.Native.Nat.{ℕ, _+_, _*_, _-_, _/_, _≤_, _<_};
+ghost use Prim.Native.Nat.{_+_, _*_, _-_, _/_, _≤_, _<_};
 ghost use mathlib.Core.List.{[], _++_};
-ghost use lib.ListN.{length, take, drop, set, replicate};
+ghost use lib.ListN.{length, drop, set, replicate};
 ghost use Rattle.logic.specs.promises.Refusal.{refusal};
 ghost use Rattle.logic.specs.Model.{outcomes};
 ghost use Rattle.logic.specs.Choices.{read-each, read-plan};
-ghost use Rattle.blocks.specs.Bytes.{little-endian};
 ghost use Rattle.models.specs.Layout.{state-count, model-of};
 ghost use Rattle.models.specs.Grounds.{read-model};
 ghost use Rattle.sheets.specs.Layout.{blocks-for, sheet-bytes};
