@@ -79,16 +79,9 @@ pub type Differences = BTreeMap<(Fault, &'static str), usize>;
 pub fn differences(stream: &[u8]) -> Differences {
     let mut counts = Differences::new();
     replay(stream, |call, answer, desk| {
-        let name = match call {
-            Call::Load(_) => "load",
-            Call::Put(_) => "put",
-            Call::Judge => "judge",
-            Call::Write(_) => "write",
-            Call::Check(_) => "check",
-        };
         for fault in ALL {
             if differs(fault, call, answer, desk) {
-                *counts.entry((fault, name)).or_default() += 1;
+                *counts.entry((fault, call.name())).or_default() += 1;
             }
         }
     });

@@ -11,6 +11,7 @@ pub mod floats;
 pub mod generate;
 pub mod ground;
 pub mod logic;
+pub mod sum_faults;
 pub mod tally;
 pub mod text;
 pub mod timing;

@@ -51,6 +51,17 @@ pub fn replay(stream: &[u8], mut seen: impl FnMut(&Call, &Answer, &Desk)) {
 }
 
 impl Call {
+    /// The call's name, as it stands before its answer.
+    pub fn name(&self) -> &'static str {
+        match self {
+            Call::Load(_) => "load",
+            Call::Put(_) => "put",
+            Call::Judge => "judge",
+            Call::Write(_) => "write",
+            Call::Check(_) => "check",
+        }
+    }
+
     /// The call as a record of the stream.
     pub fn record(&self) -> Vec<u8> {
         let (operation, input): (u8, &[u8]) = match self {

@@ -13,6 +13,7 @@ mod rng;
 mod sheet_damage;
 mod streams;
 mod tight;
+mod words;
 
 pub use bench::{bench_cases, Case};
 pub use lists::lists;
@@ -21,6 +22,7 @@ pub use question::{random_question, Scale};
 pub use rng::Rng;
 pub use streams::{judges, models, questions, sheets, small, AFFORDABLE};
 pub use tight::tight;
+pub use words::words;
 
 use crate::desk::Call;
 
@@ -35,6 +37,7 @@ pub fn stream(kind: &str, seed: u64, count: usize) -> Option<Vec<u8>> {
         "sheets" => sheets(&mut rng, count),
         "lists" => lists(&mut rng, count),
         "tight" => tight(&mut rng, count),
+        "words" => words(&mut rng),
         _ => return None,
     };
     calls.truncate(count);
