@@ -7,7 +7,7 @@ use mathlib.Core.Path.{_≡_, refl, sym, ap, ap₂, _∙_}
 use mathlib.Core.List.{List, _∷_, _++_}
 use lib.ListN.{length, drop, getD}
 use lib.Seq.{drop-cons, getD-drop}
-use Rattle.blocks.specs.Bytes.{u16, u32, u64, little-endian}
+use Rattle.blocks.specs.Bytes.{All-bytes, u16, u32, u64, little-endian}
 
 pub length-bytes : (k x : ℕ) → length (little-endian k x) ≡ k
 unfolding little-endian
@@ -22,6 +22,11 @@ next-byte k i rest l h n e =
     let j : k - i ≡ suc (k - (i + 1)) = omega arith in
     let g : getD l i 0 ∷ drop (suc i) l ≡ rest % 256 ∷ little-endian (k - (i + 1)) (rest / 256) = sym (drop-cons l i 0 (omega arith)) ∙ e ∙ ap (λ z. little-endian z rest) j in
     (cc, ap (λ z. drop z l) (add-one i) ∙ cc)
+
+-- A word of bytes is below 65,536.
+pub word-small : (b : List ℕ) → All-bytes b → (at : ℕ) → u16 b at < 65536
+unfolding u16
+word-small b h at = omega (arith, h at, h (at + 1))
 
 pub two-bytes : (x : ℕ) → x % 256 + 256 * (x / 256 % 256) ≡ x % 65536
 two-bytes x = omega arith

@@ -1,20 +1,18 @@
 -- A word that is changed in blocks that pass the sum test makes them fail it: the other words of its block and the sum tell what it was.
 use Prim.Native.Nat.{ℕ, _+_, _*_, _/_, _%_, _<_}
 use native.Mathlib.Omega.{arith}
-use mathlib.Core.Path.{_≡_, refl, sym, ap, subst, _∙_}
+use mathlib.Core.Path.{_≡_, refl, sym, ap, ap₂, subst, _∙_}
 use mathlib.Core.Bool.{Bool, true, false}
 use lib.Dec.{eqb}
-use lib.ListN.{length}
+use lib.ListN.{length, set, length-set}
+use lib.Seq.{getD-set-same, getD-set-other}
+use borrow.Author.Tests.{eqb-false}
 use Rattle.logic.proofs.Tests.{eqb-eq, every-at}
-use Rattle.blocks.specs.Bytes.{Bytes, All-bytes, u16}
+use Rattle.blocks.specs.Bytes.{Bytes, All-bytes, byte, u16}
 use Rattle.blocks.specs.Block.{block-count, word-sum, sums-right}
 use Rattle.blocks.specs.OneWord.{Spoiled}
+use Rattle.blocks.proofs.NumberReadBack.{word-small}
 use Rattle.blocks.proofs.Sums.{told-word}
-
--- A word of bytes is below 65,536.
-pub word-small : (b : Bytes) → All-bytes b → (at : ℕ) → u16 b at < 65536
-unfolding u16
-word-small b h at = omega (arith, h at, h (at + 1))
 
 -- The sum of a block's words, where all blocks pass.
 sum-zero : (b : Bytes) (k : ℕ) → sums-right b ≡ true → k < block-count b → word-sum b k % 65536 ≡ 0
@@ -51,3 +49,51 @@ module _ {b c : Bytes} (s : Spoiled b c) where
       by : (t : Bool) → sums-right c ≡ t → t ≡ false
       by true e = absurd (s .one-word .changed (unchanged e))
       by false e = refl
+
+-- One byte changed is one word changed: so there is such input for every byte of every block.
+module _ (b : Bytes) (i x : ℕ) (inside : i < 512 * block-count b) where
+  abbrev after : Bytes
+  after = set b i x
+
+  there : byte after i ≡ x
+  unfolding block-count
+  there = getD-set-same b i x 0 (omega arith)
+
+  elsewhere : (k : ℕ) → (k ≡ i → ⊥) → byte after k ≡ byte b k
+  elsewhere k n = getD-set-other b i k x 0 n
+
+  still-bytes : All-bytes b → x < 256 → All-bytes after
+  still-bytes h l k = by (eqb k i) refl
+    where
+      by : (t : Bool) → eqb k i ≡ t → byte after k < 256
+      by true e = subst (λ z. z < 256) (sym (ap (byte after) (eqb-eq k i e) ∙ there)) l
+      by false e = subst (λ z. z < 256) (sym (elsewhere k (eqb-false k i e))) (h k)
+
+  other-words : (v : ℕ) → (v ≡ i / 2 → ⊥) → u16 after (2 * v) ≡ u16 b (2 * v)
+  unfolding u16
+  other-words v n = ap₂ (λ y z. y + 256 * z) (elsewhere (2 * v) (λ e. n (omega arith))) (elsewhere (2 * v + 1) (λ e. n (omega arith)))
+
+  same-byte : u16 after (2 * (i / 2)) ≡ u16 b (2 * (i / 2)) → x ≡ byte b i
+  unfolding u16
+  same-byte e = by (eqb (i % 2) 0) refl
+    where
+      by : (t : Bool) → eqb (i % 2) 0 ≡ t → x ≡ byte b i
+      by true q =
+          let at : 2 * (i / 2) ≡ i = omega (arith, eqb-eq (i % 2) 0 q) in
+          let z = elsewhere (2 * (i / 2) + 1) (λ y. omega arith) in
+          let y : byte after (2 * (i / 2)) ≡ byte b (2 * (i / 2)) = omega arith in
+          sym there ∙ subst (λ k. byte after k ≡ byte b k) at y
+      by false q =
+          let at : 2 * (i / 2) + 1 ≡ i = omega (arith, eqb-false (i % 2) 0 q) in
+          let z = elsewhere (2 * (i / 2)) (λ y. omega arith) in
+          let y : byte after (2 * (i / 2) + 1) ≡ byte b (2 * (i / 2) + 1) = omega arith in
+          sym there ∙ subst (λ k. byte after k ≡ byte b k) at y
+
+  pub byte-changed : All-bytes b → sums-right b ≡ true → x < 256 → (x ≡ byte b i → ⊥) → Spoiled b after
+  byte-changed h r l n =
+      record {
+        bytes-before = h;
+        bytes-after = still-bytes h l;
+        right-before = r;
+        one-word = record { w = i / 2; in-a-block = omega arith; same-length = length-set b i x; changed = λ e. n (same-byte e); others-same = other-words };
+      }

@@ -14,7 +14,7 @@ sum-same f g (suc n) h = ap₂ _+_ (sum-same f g n (λ i l. h i (omega arith))) 
 
 -- Where all numbers but that at j are equal, the sums differ by what these two differ.
 module _ (f g : ℕ → ℕ) (j : ℕ) where
-  pub sum-but-one : (n : ℕ) → j < n → ((i : ℕ) → i < n → (i ≡ j → ⊥) → f i ≡ g i) → sum-below n f + g j ≡ sum-below n g + f j
+  sum-but-one : (n : ℕ) → j < n → ((i : ℕ) → i < n → (i ≡ j → ⊥) → f i ≡ g i) → sum-below n f + g j ≡ sum-below n g + f j
   unfolding sum-below
   sum-but-one zero l h = absurd (omega arith)
   sum-but-one (suc n) l h = by (ltb j n) refl (λ k. sum-but-one n k (λ i m. h i (omega arith)))

@@ -23,7 +23,7 @@ unfolding u16
 same-16 b l i j p q = ap₂ (λ x y. x + 256 * y) p q
 
 -- The sum of the words but the last.
-abbrev pub others-sum : List ℕ → ℕ
+abbrev others-sum : List ℕ → ℕ
 others-sum l = sum-below 255 (λ j. u16 l (2 * j))
 
 -- All words: the others, and the last.

@@ -146,7 +146,7 @@ pub fn within(least: usize, most: usize, x: usize) -> bool
 
 // The sum of the 256 words of block k, modulo 65,536. The words are added and the remainder is taken once: no word needs a branch, and the
 // compiler adds many at a time.
-pub fn word_sum(b: &[u8], k: usize) -> u32
+fn word_sum(b: &[u8], k: usize) -> u32
     requires { ⌜ 512 * k + 512 ≤ length (now b) ⌝ }
     ensures value { λ r. ⌜ r ≡ word-sum (now (b .entry)) k % 65536 ⌝ }
 {

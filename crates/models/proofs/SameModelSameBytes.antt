@@ -15,8 +15,8 @@ use Rattle.logic.specs.Model.{Step, Literals, Action, no-action, mask, stored}
 use Rattle.logic.proofs.Tests.{and-left, and-right, eqb-eq, every-at, length-tabulate, getD-tabulate}
 use Rattle.blocks.specs.Bytes.{Bytes, All-bytes, byte, u16, u32, i16, signed, zeros}
 use Rattle.blocks.specs.Block.{block-count, word-sum, sums-right, headed}
+use Rattle.blocks.proofs.NumberReadBack.{word-small}
 use Rattle.blocks.proofs.Sums.{told-word}
-use Rattle.blocks.proofs.OneWordChanged.{word-small}
 use Rattle.models.specs.Layout.{state-count, action-count, literals, state-mask, action-at, pre-of, post-count, post-of, cell-at, outcome-of, entries, model-of}
 use Rattle.models.specs.Grounds.{kinds-right, action-spare, head-spare, row-spare, rows-spare, cell-spare, cells-spare}
 use Rattle.models.proofs.GroundsPassed.{Passed, passed-sized}

@@ -1,6 +1,6 @@
--- Request A.2 of document 02, of the code's calls: "a passing block with exactly one word changed is proved to fail". Input c of which one
--- word was changed is refused with 2, whichever word and whatever it became, where its length is right and, for put and check, the desk
--- gives no ground before. (Proved in `OneWordChangedRefused`; that the desk stays as it was is of demand 1.)
+-- Request A.2 of document 02, of the code's calls: "a passing block with exactly one word changed is proved to fail". Input c whose sums
+-- were right until one word was changed is refused with 2, whichever word and whatever it became, where its length is right and, for put
+-- and check, the desk gives no ground before. (Proved in `OneWordChangedRefused`; that the desk stays as it was is of demand 1.)
 use mathlib.Core.Path.{_≡_}
 use mathlib.Core.Bool.{true}
 use mathlib.Core.Option.{some}
