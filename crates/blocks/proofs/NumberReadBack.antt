@@ -23,11 +23,17 @@ next-byte k i rest l h n e =
     let g : getD l i 0 ∷ drop (suc i) l ≡ rest % 256 ∷ little-endian (k - (i + 1)) (rest / 256) = sym (drop-cons l i 0 (omega arith)) ∙ e ∙ ap (λ z. little-endian z rest) j in
     (cc, ap (λ z. drop z l) (add-one i) ∙ cc)
 
+-- Words of the same bytes are the same.
+pub same-16 : (b l : List ℕ) (i j : ℕ) → getD b i 0 ≡ getD l j 0 → getD b (i + 1) 0 ≡ getD l (j + 1) 0 → u16 b i ≡ u16 l j
+unfolding u16
+same-16 b l i j p q = ap₂ (λ x y. x + 256 * y) p q
+
 -- A word of bytes is below 65,536.
 pub word-small : (b : List ℕ) → All-bytes b → (at : ℕ) → u16 b at < 65536
 unfolding u16
 word-small b h at = omega (arith, h at, h (at + 1))
 
+-- The number that a number's lowest 2, 4 and 8 bytes make.
 pub two-bytes : (x : ℕ) → x % 256 + 256 * (x / 256 % 256) ≡ x % 65536
 two-bytes x = omega arith
 

@@ -1,7 +1,7 @@
 -- A word that is changed in blocks that pass the sum test makes them fail it: the other words of its block and the sum tell what it was.
 use Prim.Native.Nat.{ℕ, _+_, _*_, _/_, _%_, _<_}
 use native.Mathlib.Omega.{arith}
-use mathlib.Core.Path.{_≡_, refl, sym, ap, ap₂, subst, _∙_}
+use mathlib.Core.Path.{_≡_, refl, sym, ap, subst, _∙_}
 use mathlib.Core.Bool.{Bool, true, false}
 use lib.Dec.{eqb}
 use lib.ListN.{length, set, length-set}
@@ -10,8 +10,8 @@ use borrow.Author.Tests.{eqb-false}
 use Rattle.logic.proofs.Tests.{eqb-eq, every-at}
 use Rattle.blocks.specs.Bytes.{Bytes, All-bytes, byte, u16}
 use Rattle.blocks.specs.Block.{block-count, word-sum, sums-right}
-use Rattle.blocks.specs.OneWord.{Spoiled}
-use Rattle.blocks.proofs.NumberReadBack.{word-small}
+use Rattle.blocks.specs.OneWord.{Corrupted}
+use Rattle.blocks.proofs.NumberReadBack.{same-16, word-small}
 use Rattle.blocks.proofs.Sums.{told-word}
 
 -- The sum of a block's words, where all blocks pass.
@@ -19,7 +19,7 @@ sum-zero : (b : Bytes) (k : ℕ) → sums-right b ≡ true → k < block-count b
 unfolding sums-right
 sum-zero b k e l = eqb-eq _ _ (every-at (λ i. eqb (word-sum b i % 65536) 0) (block-count b) e l)
 
-module _ {b c : Bytes} (s : Spoiled b c) where
+module _ {b c : Bytes} (s : Corrupted b c) where
   abbrev word : ℕ
   word = s .one-word .w
 
@@ -43,8 +43,8 @@ module _ {b c : Bytes} (s : Spoiled b c) where
           subst (λ x. u16 c x ≡ u16 b x) at (s .one-word .others-same (256 * (word / 256) + i) (λ z. n (omega arith)))
 
   -- The sum test fails.
-  pub spoiled-fails : sums-right c ≡ false
-  spoiled-fails = by (sums-right c) refl
+  pub corrupted-fails : sums-right c ≡ false
+  corrupted-fails = by (sums-right c) refl
     where
       by : (t : Bool) → sums-right c ≡ t → t ≡ false
       by true e = absurd (s .one-word .changed (unchanged e))
@@ -70,8 +70,7 @@ module _ (b : Bytes) (i x : ℕ) (inside : i < 512 * block-count b) where
       by false e = subst (λ z. z < 256) (sym (elsewhere k (eqb-false k i e))) (h k)
 
   other-words : (v : ℕ) → (v ≡ i / 2 → ⊥) → u16 after (2 * v) ≡ u16 b (2 * v)
-  unfolding u16
-  other-words v n = ap₂ (λ y z. y + 256 * z) (elsewhere (2 * v) (λ e. n (omega arith))) (elsewhere (2 * v + 1) (λ e. n (omega arith)))
+  other-words v n = same-16 after b (2 * v) (2 * v) (elsewhere (2 * v) (λ e. n (omega arith))) (elsewhere (2 * v + 1) (λ e. n (omega arith)))
 
   same-byte : u16 after (2 * (i / 2)) ≡ u16 b (2 * (i / 2)) → x ≡ byte b i
   unfolding u16
@@ -89,7 +88,7 @@ module _ (b : Bytes) (i x : ℕ) (inside : i < 512 * block-count b) where
           let y : byte after (2 * (i / 2) + 1) ≡ byte b (2 * (i / 2) + 1) = omega arith in
           sym there ∙ subst (λ k. byte after k ≡ byte b k) at y
 
-  pub byte-changed : All-bytes b → sums-right b ≡ true → x < 256 → (x ≡ byte b i → ⊥) → Spoiled b after
+  pub byte-changed : All-bytes b → sums-right b ≡ true → x < 256 → (x ≡ byte b i → ⊥) → Corrupted b after
   byte-changed h r l n =
       record {
         bytes-before = h;

@@ -12,15 +12,11 @@ use Rattle.blocks.specs.Bytes.{u16, little-endian}
 use Rattle.blocks.specs.Block.{sum-below, word-sum, with-word-sum}
 use Rattle.blocks.proofs.PartPutBack.{put-front}
 use Rattle.blocks.proofs.Sums.{sum-same}
-use Rattle.blocks.proofs.NumberReadBack.{two-bytes, reads-16}
+use Rattle.blocks.proofs.NumberReadBack.{same-16, two-bytes, reads-16}
 
 sum-last : (n : ℕ) (f : ℕ → ℕ) → sum-below (suc n) f ≡ sum-below n f + f n
 unfolding sum-below
 sum-last n f = refl
-
-same-16 : (b l : List ℕ) (i j : ℕ) → getD b i 0 ≡ getD l j 0 → getD b (i + 1) 0 ≡ getD l (j + 1) 0 → u16 b i ≡ u16 l j
-unfolding u16
-same-16 b l i j p q = ap₂ (λ x y. x + 256 * y) p q
 
 -- The sum of the words but the last.
 abbrev others-sum : List ℕ → ℕ

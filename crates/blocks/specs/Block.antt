@@ -1,4 +1,4 @@
--- Blocks of 512 bytes: how many, and their word sums.
+-- Blocks of 512 bytes: how many, and their word sums, which are checksums.
 use Prim.Native.Nat.{ℕ, zero, suc, _+_, _*_, _-_, _/_, _%_}
 use mathlib.Core.Bool.{Bool, _&&_}
 use mathlib.Core.List.{_++_}

@@ -17,7 +17,7 @@ pub record One-word-changed (b c : Bytes) : Type 0 where
 
 -- The words of every block of b sum to 0 modulo 65,536, and c is b with one word changed. Both are of bytes: among numbers of any size,
 -- 65,536 in place of 0 would leave every sum as it was.
-pub record Spoiled (b c : Bytes) : Type 0 where
+pub record Corrupted (b c : Bytes) : Type 0 where
   pub bytes-before : All-bytes b
   pub bytes-after : All-bytes c
   pub right-before : sums-right b ≡ true

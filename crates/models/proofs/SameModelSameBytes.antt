@@ -3,7 +3,7 @@
 use Prim.Native.Nat.{ℕ, zero, suc, _+_, _*_, _-_, _/_, _%_, _<_, _≤_}
 use native.Mathlib.Omega.{arith}
 use native.Mathlib.Nat.{mul-zero, mul-suc}
-use mathlib.Core.Path.{_≡_, refl, sym, ap, ap₂, subst, _∙_}
+use mathlib.Core.Path.{_≡_, refl, sym, ap, subst, _∙_}
 use mathlib.Core.Bool.{Bool, true, false, cond, _&&_}
 use lib.Dec.{eqb, ltb}
 use lib.IntN.{pos, negsuc}
@@ -15,7 +15,7 @@ use Rattle.logic.specs.Model.{Step, Literals, Action, no-action, mask, stored}
 use Rattle.logic.proofs.Tests.{and-left, and-right, eqb-eq, every-at, length-tabulate, getD-tabulate}
 use Rattle.blocks.specs.Bytes.{Bytes, All-bytes, byte, u16, u32, i16, signed, zeros}
 use Rattle.blocks.specs.Block.{block-count, word-sum, sums-right, headed}
-use Rattle.blocks.proofs.NumberReadBack.{word-small}
+use Rattle.blocks.proofs.NumberReadBack.{same-16, word-small}
 use Rattle.blocks.proofs.Sums.{told-word}
 use Rattle.models.specs.Layout.{state-count, action-count, literals, state-mask, action-at, pre-of, post-count, post-of, cell-at, outcome-of, entries, model-of}
 use Rattle.models.specs.Grounds.{kinds-right, action-spare, head-spare, row-spare, rows-spare, cell-spare, cells-spare}
@@ -134,10 +134,9 @@ module _ (b c : Bytes) where
 
     -- The last word of a block is told by the others.
     same-word : (at j : ℕ) → j < 255 → Agree at 510 → u16 b (at + 2 * j) ≡ u16 c (at + 2 * j)
-    unfolding u16
     same-word at j l h =
         let z : at + (2 * j + 1) ≡ at + 2 * j + 1 = omega arith in
-        ap₂ (λ u v. u + 256 * v) (h (2 * j) (omega arith)) (subst (λ k. byte b k ≡ byte c k) z (h (2 * j + 1) (omega arith)))
+        same-16 b c (at + 2 * j) (at + 2 * j) (h (2 * j) (omega arith)) (subst (λ k. byte b k ≡ byte c k) z (h (2 * j + 1) (omega arith)))
 
     agree-block : (k : ℕ) → eqb (word-sum b k % 65536) 0 ≡ true → eqb (word-sum c k % 65536) 0 ≡ true → Agree (512 * k) 510 → Agree (512 * k) 512
     unfolding word-sum

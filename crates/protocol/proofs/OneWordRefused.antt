@@ -10,8 +10,8 @@ use Rattle.logic.specs.Limits.{limit-grounds}
 use Rattle.logic.proofs.Tests.{none≢some}
 use Rattle.blocks.specs.Bytes.{Bytes}
 use Rattle.blocks.specs.Block.{whole-blocks}
-use Rattle.blocks.specs.OneWord.{Spoiled}
-use Rattle.blocks.proofs.OneWordChanged.{spoiled-fails}
+use Rattle.blocks.specs.OneWord.{Corrupted}
+use Rattle.blocks.proofs.OneWordChanged.{corrupted-fails}
 use Rattle.protocol.specs.Tested.{Tested, value, tests, run, _>>=_, _>>_}
 use Rattle.protocol.specs.Calls.{load, put, query, check, Held, accepted, refuse, Reply, says, accepted-plan, reported, described, yields}
 use Rattle.protocol.specs.Demand3.{Plan-question}
@@ -32,14 +32,14 @@ tests-pass (g ∷ gs) c e = by (g .passes) (λ i. tests-pass gs c i) e
 by-second : {A : Type 0} (t u : Bool) (x : Checked A) → t ≡ true → u ≡ false → cond t (cond u x (refused 2)) (refused 1) ≡ refused 2
 by-second t u x e f = rw (e, f) refl
 
-module _ {b c : Bytes} (s : Spoiled b c) (h : Held) where
+module _ {b c : Bytes} (s : Corrupted b c) (h : Held) where
   pub load-refused : whole-blocks 2 12 c ≡ true → (yields h (load c)) .answer ≡ refuse 2
   unfolding described run
-  load-refused e = refuse-run h (load c) 2 .1 (by-second _ _ _ e (spoiled-fails s))
+  load-refused e = refuse-run h (load c) 2 .1 (by-second _ _ _ e (corrupted-fails s))
 
   pub put-refused : {m : Model} → h .model ≡ some m → whole-blocks 1 1 c ≡ true → (yields h (put c)) .answer ≡ refuse 2
   unfolding described run
-  put-refused i e = refuse-run h (put c) 2 .1 (rw i (by-second _ _ _ e (spoiled-fails s)))
+  put-refused i e = refuse-run h (put c) 2 .1 (rw i (by-second _ _ _ e (corrupted-fails s)))
 
   pub check-refused : Plan-question h → whole-blocks 1 3 c ≡ true → (yields h (query (check c))) .answer ≡ refuse 2
   unfolding described run got accepted-plan
@@ -47,4 +47,4 @@ module _ {b c : Bytes} (s : Spoiled b c) (h : Held) where
       let rest : Tested Reply = accepted-plan (x .model) (x .question) (x .asked) c >>= (λ π. value (says (accepted (reported (x .asked) π)))) in
       refuse-run h (query (check c)) 2 .1
       (rw (x .held-model, x .held-question, x .plan-root)
-      (tests-pass (limit-grounds (x .model) (x .question .nodes)) rest (x .within-limits) ∙ by-second _ _ _ e (spoiled-fails s)))
+      (tests-pass (limit-grounds (x .model) (x .question .nodes)) rest (x .within-limits) ∙ by-second _ _ _ e (corrupted-fails s)))

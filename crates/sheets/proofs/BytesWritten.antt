@@ -14,6 +14,7 @@ use Rattle.blocks.specs.Block.{with-word-sum}
 use Rattle.sheets.specs.Layout.{sheet-block, blocks-for, sheet-bytes}
 use Rattle.sheets.proofs.PiecesInOrder.{pieces, pieces-none, pieces-more}
 
+-- As a record, so that the list is known from it.
 pub record Small (l : List ℕ) : Type 0 where
   pub below : All-bytes l
 
