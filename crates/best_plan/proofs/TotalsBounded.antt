@@ -17,7 +17,7 @@ use Rattle.logic.specs.promises.Orders.{weights, order}
 use Rattle.logic.specs.Plan.{paths, weight, choices}
 use Rattle.logic.specs.promises.Recursion.{greatest}
 use Rattle.logic.specs.Accepted.{Accepted}
-use Rattle.logic.specs.promises.Total.{total}
+use Rattle.logic.specs.Bound.{total}
 use Rattle.logic.proofs.Tests.{length-tabulate}
 use Rattle.logic.proofs.PathWeights.{total-ones}
 use Rattle.logic.proofs.Recursion.{greatest-is-maximum}

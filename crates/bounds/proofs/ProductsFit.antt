@@ -8,7 +8,8 @@ use mathlib.Core.Bool.{Bool, false}
 use lib.Dec.{eqb}
 use borrow.Author.Tests.{eq-eqb, ne-eqb, eqb-true, eqb-false}
 use Rattle.logic.specs.Quantity.{naturals, related, equal}
-use Rattle.logic.specs.Formula.{meets, relation, nonnegative}
+use Rattle.logic.specs.Bound.{meets}
+use Rattle.logic.specs.Formula.{relation, nonnegative}
 use Rattle.logic.proofs.Tests.{same-test}
 use Rattle.blocks.specs.Bytes.{Bytes}
 use Rattle.models.specs.Layout.{denominator-of, model-of}

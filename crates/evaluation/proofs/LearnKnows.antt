@@ -10,7 +10,8 @@ use lib.IntN.{ℤ, pos, _+ℤ_, +ℤ-idr}
 use lib.ListN.{length, getD, set, take, drop, length-append, length-drop}
 use lib.Seq.{take-all, take-length, take-append-le, drop-append-le, getD-set-same, getD-set-other}
 use Rattle.logic.specs.Formula.{depth}
-use Rattle.logic.specs.promises.Total.{one-if, value-of}
+use Rattle.logic.specs.Bound.{one-if}
+use Rattle.logic.specs.promises.Total.{value-of}
 use Rattle.logic.specs.Quantity.{sum}
 use Rattle.logic.proofs.Depth.{sat-same}
 use Rattle.blocks.specs.Bytes.{Bytes}

@@ -15,7 +15,8 @@ use lib.Seq.{take-all, drop-cons, getD-take}
 use Rattle.logic.specs.Model.{Step}
 use Rattle.logic.specs.Quantity.{integers, sum, related}
 use Rattle.logic.specs.Formula.{Formula, Node, does, next, sat, depth, relation}
-use Rattle.logic.specs.promises.Total.{one-if, value-of}
+use Rattle.logic.specs.Bound.{one-if}
+use Rattle.logic.specs.promises.Total.{value-of}
 use Rattle.blocks.specs.Bytes.{Bytes, byte}
 use Rattle.models.specs.Layout.{state-count, action-count, prop-count}
 use Rattle.prepared_model.specs.promises.Rows.{model-in}

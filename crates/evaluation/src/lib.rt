@@ -6,7 +6,7 @@ ghost use lib.ListN.{length, getD, set, take};
 ghost use Rattle.logic.specs.Quantity.{integers};
 ghost use Rattle.logic.specs.Quantity as quantity;
 ghost use Rattle.logic.specs.Formula.{relation};
-ghost use Rattle.logic.specs.promises.Total.{one-if};
+ghost use Rattle.logic.specs.Bound.{one-if};
 ghost use Rattle.evaluation.specs.promises.Learnt.{value-by, learn-node, learnt, Below-40};
 ghost use Rattle.evaluation.specs.promises.Learnt as spec;
 ghost use Rattle.evaluation.specs.promises.Reached.{Ready};

@@ -11,7 +11,7 @@ use Rattle.logic.specs.Quantity.{naturals}
 use Rattle.logic.specs.Plan.{plans, paths, weight}
 use Rattle.logic.specs.Limits.{plan-total}
 use Rattle.logic.specs.Accepted.{Accepted}
-use Rattle.logic.specs.promises.Total.{total}
+use Rattle.logic.specs.Bound.{total}
 use Rattle.logic.proofs.Members.{map-member, flatMap-member}
 use Rattle.logic.proofs.Sums.{naturals-additive, sum-ext, sum-times}
 use Rattle.logic.proofs.PathWeights.{total-ones}

@@ -8,7 +8,7 @@ use Rattle.logic.specs.Model.{Model, Step, enabled, outcomes}
 use Rattle.logic.specs.Quantity.{naturals}
 use Rattle.logic.specs.Plan.{Plan, plans}
 use Rattle.logic.specs.Limits.{plan-total}
-use Rattle.logic.specs.promises.Total.{total}
+use Rattle.logic.specs.Bound.{total}
 use Rattle.logic.proofs.Sums.{naturals-additive, sum-pairs, total-step}
 use Rattle.logic.proofs.Dictionary.{plan-count}
 use Rattle.logic.proofs.Members.{block}

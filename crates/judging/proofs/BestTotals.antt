@@ -12,7 +12,8 @@ use Rattle.logic.specs.Quantity.{sum}
 use Rattle.logic.specs.promises.Orders.{weights, order}
 use Rattle.logic.specs.Plan.{paths, weight, choices}
 use Rattle.logic.specs.Formula.{depth}
-use Rattle.logic.specs.promises.Total.{total, one-if, value-of}
+use Rattle.logic.specs.Bound.{total, one-if}
+use Rattle.logic.specs.promises.Total.{value-of}
 use Rattle.logic.specs.promises.Recursion.{greatest, best-plan}
 use Rattle.logic.proofs.Recursion.{best-plan-total}
 use Rattle.blocks.specs.Bytes.{Bytes}

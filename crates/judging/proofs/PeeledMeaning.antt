@@ -10,7 +10,8 @@ use lib.Dec.{eqb}
 use lib.ListN.{getD}
 use Rattle.logic.specs.Model.{Model, Step}
 use Rattle.logic.specs.Formula.{Formula, both, depth, sat}
-use Rattle.logic.specs.promises.Total.{one-if, value-of}
+use Rattle.logic.specs.Bound.{one-if}
+use Rattle.logic.specs.promises.Total.{value-of}
 use Rattle.logic.proofs.Depth.{sat-short}
 use Rattle.blocks.specs.Bytes.{Bytes}
 use Rattle.models.specs.Layout.{state-count, action-count, prop-count}

@@ -18,8 +18,10 @@ use Rattle.logic.specs.Model.{Model}
 use Rattle.logic.specs.Quantity.{naturals, Relation, less, equal, greater}
 use Rattle.logic.specs.promises.Orders.{reversed}
 use Rattle.logic.specs.Plan.{Plan, plans, paths, choices}
-use Rattle.logic.specs.Formula.{Formula, plan, Node, sat, W, meets, depth, relation, nonnegative}
-use Rattle.logic.specs.promises.Total.{total, value-of}
+use Rattle.logic.specs.Bound.{meets}
+use Rattle.logic.specs.Formula.{Formula, plan, Node, sat, W, depth, relation, nonnegative}
+use Rattle.logic.specs.Bound.{total}
+use Rattle.logic.specs.promises.Total.{value-of}
 use Rattle.logic.specs.promises.Extension.{first-plan}
 use Rattle.logic.specs.Verdict.{plan-goal, goal, shown, Verdict, announced, verdict, yes, no, yes-plan, is-equal, verdict-by}
 use Rattle.logic.specs.Accepted.{Accepted}

@@ -14,7 +14,8 @@ use Rattle.logic.specs.Formula.{depth, sat, nonnegative}
 use Rattle.logic.specs.Quantity.{naturals}
 use Rattle.logic.specs.Plan.{plans, choices}
 use Rattle.logic.specs.Limits.{plan-total}
-use Rattle.logic.specs.promises.Total.{total, value-of}
+use Rattle.logic.specs.Bound.{total}
+use Rattle.logic.specs.promises.Total.{value-of}
 use Rattle.logic.proofs.Dictionary.{plan-count}
 use Rattle.blocks.specs.Bytes.{Bytes}
 use Rattle.models.specs.Layout.{state-count, denominator-of}

@@ -12,7 +12,8 @@ use lib.ListN.{getD, length, set}
 use lib.Seq.{getD-set-same, getD-set-other}
 use Rattle.logic.specs.Model.{prop-in}
 use Rattle.logic.specs.Formula.{Formula, sat, depth}
-use Rattle.logic.specs.promises.Total.{one-if, value-of}
+use Rattle.logic.specs.Bound.{one-if}
+use Rattle.logic.specs.promises.Total.{value-of}
 use Rattle.blocks.specs.Bytes.{Bytes}
 use Rattle.models.specs.Layout.{state-count, action-count, prop-count}
 use Rattle.prepared_model.specs.promises.Rows.{model-in}

@@ -17,7 +17,8 @@ use Rattle.logic.specs.Plan.{Plan, choices}
 use Rattle.logic.specs.Choices.{plan-of}
 use Rattle.logic.specs.Limits.{plan-total}
 use Rattle.logic.specs.Order.{Is-plan}
-use Rattle.logic.specs.promises.Total.{one-if, total, value-of}
+use Rattle.logic.specs.Bound.{one-if, total}
+use Rattle.logic.specs.promises.Total.{value-of}
 use Rattle.logic.specs.Verdict.{Verdict, verdict}
 use Rattle.logic.specs.Verdict as verdicts
 use Rattle.logic.proofs.Best.{best-member}

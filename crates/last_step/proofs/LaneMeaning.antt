@@ -12,7 +12,8 @@ use lib.ListN.{length, getD, set, take, drop, drop-of-length-le}
 use lib.Seq.{take-all, take-length, getD-set-same, getD-set-other, getD-append-seam}
 use Rattle.logic.specs.Formula.{Node, depth, sat, relation}
 use Rattle.logic.specs.Quantity.{integers, related}
-use Rattle.logic.specs.promises.Total.{one-if, value-of}
+use Rattle.logic.specs.Bound.{one-if}
+use Rattle.logic.specs.promises.Total.{value-of}
 use Rattle.blocks.specs.Bytes.{Bytes, byte}
 use Rattle.models.specs.Layout.{state-count}
 use Rattle.prepared_model.specs.promises.Rows.{choice-in, step-in, Offers, lane, model-in}

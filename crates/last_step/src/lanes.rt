@@ -9,7 +9,7 @@ ghost use lib.IntN.{_+ℤ_, _-ℤ_};
 ghost use Rattle.logic.specs.Formula.{relation};
 ghost use Rattle.logic.specs.Quantity.{integers};
 ghost use Rattle.logic.specs.Quantity as quantity;
-ghost use Rattle.logic.specs.promises.Total.{one-if};
+ghost use Rattle.logic.specs.Bound.{one-if};
 ghost use Rattle.blocks.specs.Block.{sum-below};
 ghost use Rattle.blocks.specs.Bytes as bytes;
 ghost use Rattle.models.specs.Layout.{state-count};

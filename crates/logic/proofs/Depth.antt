@@ -8,7 +8,7 @@ use lib.ListN.{take}
 use lib.Seq.{take-take}
 use Rattle.logic.specs.Model.{Model, Step}
 use Rattle.logic.specs.Quantity.{integers, sum, related}
-use Rattle.logic.specs.Formula.{Formula, never, prop, neg, both, does, next, gain, plan, sat, depth, is-path}
+use Rattle.logic.specs.Formula.{Formula, never, prop, neg, both, does, next, gain, plan, earns, sat, depth, is-path}
 
 pub sat-short : (m : Model) (φ : Formula) (n s : ℕ) (r : List Step) → depth φ ≤ n → sat m φ s r ≡ sat m φ s (take n r)
 unfolding sat depth
@@ -25,6 +25,7 @@ sat-short m (next φ) (suc n) s [] h = refl
 sat-short m (next φ) (suc n) s (o ∷ r) h = sat-short m φ n (o .target) r (le-of-suc-le-suc h)
 sat-short m (gain k b p) n s r h = ap (λ z. related integers b (sum integers (λ o. o .reward) z) p) (sym (take-take k n r h))
 sat-short m (plan k φ b p q) n s r h = refl
+sat-short m (earns k l u b p q) n s r h = refl
 
 -- Steps beyond the depth may differ.
 pub sat-same : (m : Model) (φ : Formula) (n s : ℕ) (r t : List Step) → depth φ ≤ n → take n r ≡ take n t → sat m φ s r ≡ sat m φ s t
@@ -50,3 +51,4 @@ state-depth (does a) e = absurd (false≢true (sym e))
 state-depth (next φ) e = absurd (false≢true (sym e))
 state-depth (gain n b p) e = absurd (false≢true (sym e))
 state-depth (plan n φ b p q) e = refl
+state-depth (earns n l u b p q) e = refl

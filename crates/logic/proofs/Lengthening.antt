@@ -14,12 +14,14 @@ use Rattle.logic.specs.Model.{Model, Step, enabled, outcomes}
 use Rattle.logic.specs.Plan.{Plan}
 use Rattle.logic.specs.Quantity.{naturals, sum}
 use Rattle.logic.specs.promises.Orders.{weights, order}
-use Rattle.logic.specs.promises.Total.{one-if, value-of}
+use Rattle.logic.specs.Bound.{one-if}
+use Rattle.logic.specs.promises.Total.{value-of}
 use Rattle.logic.specs.Formula.{Formula, depth}
 use Rattle.logic.specs.promises.Recursion.{first-best, best-choice, greatest, best-plan}
 use Rattle.logic.specs.promises.Extension.{first-choice, first-plan, extended}
 use Rattle.logic.specs.Accepted.{Accepted, Executable}
 use Rattle.logic.proofs.Tests.{T→true, true→T, same-test}
+use Rattle.logic.proofs.FirstChoice.{map-same, join-map, sum-any, sum-scaled, first-best-constant, choice-in, choice-same}
 use Rattle.logic.proofs.Depth.{sat-short}
 
 -- A value that looks at the first d steps only.
@@ -31,60 +33,6 @@ short-after d f h o r = h (o ∷ r)
 
 constant-after : (f : List Step → ℕ) → Short 0 f → (o : Step) → Short 0 (λ r. f (o ∷ r))
 constant-after f h o r = h (o ∷ r) ∙ sym (h (o ∷ []))
-
--- ---- lists
-
-map-same : {A B : Type 0} (f g : A → B) (l : List A) → ((x : A) → List·Memᴰ x l → f x ≡ g x) → map f l ≡ map g l
-map-same f g [] h = refl
-map-same f g (x ∷ l) h = ap₂ _∷_ (h x (List·Memᴰ·head refl)) (map-same f g l (λ y i. h y (List·Memᴰ·tail i)))
-
-join-map : {A B C : Type 0} (f : A → B → C) (g : A → B) (l : List A) → join (λ x y. f x y ∷ []) l (map g l) ≡ map (λ x. f x (g x)) l
-unfolding join
-join-map f g [] = refl
-join-map f g (x ∷ l) = ap (λ z. f x (g x) ∷ z) (join-map f g l)
-
-sum-any : (le : ℕ → ℕ → Bool) (f : Step → ℕ) (l : List Step) → sum (weights le) f l ≡ sum naturals f l
-unfolding sum
-sum-any le f [] = refl
-sum-any le f (x ∷ l) = ap (λ z. f x + z) (sum-any le f l)
-
-sum-scaled : (k : ℕ) (f g : Step → ℕ) (l : List Step) → ((o : Step) → List·Memᴰ o l → f o ≡ k * g o) → sum naturals f l ≡ k * sum naturals g l
-unfolding sum
-sum-scaled k f g [] h = omega arith
-sum-scaled k f g (o ∷ l) h =
-    let i = sum-scaled k f g l (λ x j. h x (List·Memᴰ·tail j)) in
-    let j = h o (List·Memᴰ·head refl) in
-    omega arith
-
--- ---- first-best choices
-
-module _ (le : ℕ → ℕ → Bool) where
-  first-best-in : (v : ℕ → ℕ) (x : ℕ) (l : List ℕ) → List·Memᴰ (first-best (weights le) v x l) (x ∷ l)
-  unfolding first-best
-  first-best-in v x [] = List·Memᴰ·head refl
-  first-best-in v x (y ∷ l) = pick (le (v (first-best (weights le) v y l)) (v x)) (first-best-in v y l)
-    where
-      pick : (t : Bool) → List·Memᴰ (first-best (weights le) v y l) (y ∷ l) → List·Memᴰ (cond t x (first-best (weights le) v y l)) (x ∷ y ∷ l)
-      pick true i = List·Memᴰ·head refl
-      pick false i = List·Memᴰ·tail i
-
-  -- The first-best choice of a value times k is that of the value.
-  module _ (k : ℕ) (scale : (a b : ℕ) → le (k * a) (k * b) ≡ le a b) where
-    first-best-scaled : (u v : ℕ → ℕ) (x : ℕ) (l : List ℕ) → ((a : ℕ) → List·Memᴰ a (x ∷ l) → u a ≡ k * v a) → first-best (weights le) u x l ≡ first-best (weights le) v x l
-    unfolding first-best
-    first-best-scaled u v x [] h = refl
-    first-best-scaled u v x (y ∷ l) h =
-        let b : ℕ = first-best (weights le) v y l in
-        ap (λ z. cond (le (u z) (u x)) x z) (first-best-scaled u v y l (λ a i. h a (List·Memᴰ·tail i)))
-        ∙ ap (λ t. cond t x b) (ap₂ le (h b (List·Memᴰ·tail (first-best-in v y l))) (h x (List·Memᴰ·head refl)) ∙ scale (v b) (v x))
-
-  -- Among choices of one worth the first leads.
-  first-best-constant : ((a : ℕ) → le a a ≡ true) → (c : ℕ) (v : ℕ → ℕ) (x : ℕ) (l : List ℕ) → ((a : ℕ) → List·Memᴰ a (x ∷ l) → v a ≡ c) → first-best (weights le) v x l ≡ x
-  unfolding first-best
-  first-best-constant self c v x [] h = refl
-  first-best-constant self c v x (y ∷ l) h =
-      let b : ℕ = first-best (weights le) v y l in
-      ap (λ t. cond t x b) (ap₂ le (h b (List·Memᴰ·tail (first-best-in v y l))) (h x (List·Memᴰ·head refl)) ∙ self c)
 
 module _ (m : Model) (accepted : Accepted m) (some-weight : 0 < m .denominator) where
   module _ (le : ℕ → ℕ → Bool) (self : (a : ℕ) → le a a ≡ true) (scale : (k a b : ℕ) → 0 < k → le (k * a) (k * b) ≡ le a b) where
@@ -112,16 +60,9 @@ module _ (m : Model) (accepted : Accepted m) (some-weight : 0 < m .denominator) 
     unfolding best-plan worth chosen
     plan-step n s f = refl
 
-    choice-in : (v : ℕ → ℕ) (l : List ℕ) → (a : ℕ) × (k : List ℕ) × (l ≡ a ∷ k) → List·Memᴰ (best-choice (weights le) v l) l
-    unfolding best-choice
-    choice-in v l h = subst (λ z. List·Memᴰ (best-choice (weights le) v z) z) (sym (h .2)) (first-best-in le v (h .0) (h .1))
-
     choice-scaled : (k : ℕ) → 0 < k → (u v : ℕ → ℕ) (l : List ℕ) → (a : ℕ) × (r : List ℕ) × (l ≡ a ∷ r) → ((a : ℕ) → List·Memᴰ a l → u a ≡ k * v a)
         → best-choice (weights le) u l ≡ best-choice (weights le) v l
-    unfolding best-choice
-    choice-scaled k p u v l h =
-        subst (λ z. ((a : ℕ) → List·Memᴰ a z → u a ≡ k * v a) → best-choice (weights le) u z ≡ best-choice (weights le) v z) (sym (h .2))
-        (first-best-scaled le k (λ a b. scale k a b p) u v (h .0) (h .1))
+    choice-scaled k p u v l h e = choice-same le u v l h (λ a b i j. ap₂ le (e a i) (e b j) ∙ scale k (v a) (v b) p)
 
     choice-constant : (c : ℕ) (v : ℕ → ℕ) (l : List ℕ) → (a : ℕ) × (r : List ℕ) × (l ≡ a ∷ r) → ((a : ℕ) → List·Memᴰ a l → v a ≡ c) → best-choice (weights le) v l ≡ getD l 0 0
     unfolding best-choice
@@ -135,7 +76,7 @@ module _ (m : Model) (accepted : Accepted m) (some-weight : 0 < m .denominator) 
 
       chosen-in : (n : ℕ) (f : List Step → ℕ) → List·Memᴰ (chosen n s f) (enabled m s)
       unfolding chosen
-      chosen-in n f = choice-in (worth n s f) (enabled m s) (accepted .some-choice s k)
+      chosen-in n f = choice-in le (worth n s f) (enabled m s) (accepted .some-choice s k)
 
       -- What each enabled choice is worth, where the best values below it are c times g.
       worth-scaled : (c n : ℕ) (f : List Step → ℕ) (g : Step → ℕ) (a : ℕ) → List·Memᴰ a (enabled m s)

@@ -9,11 +9,13 @@ pub mod PathWeights
 pub mod Steps
 pub mod Counting
 pub mod Best
+pub mod Integers
 pub mod Recursion
 pub mod Reading
 pub mod OnPlan
 pub mod Shown
 pub mod Search
+pub mod WholeTotals
 pub mod Contradiction
 pub mod Postconditions
 pub mod PolicyPaths
@@ -23,5 +25,7 @@ pub mod AcceptedByActions
 pub mod Acceptance
 pub mod Examples
 pub mod Depth
+pub mod FirstChoice
 pub mod Lengthening
+pub mod GainsByTable
 pub mod MostChoices

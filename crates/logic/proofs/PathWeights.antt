@@ -11,7 +11,8 @@ use Rattle.logic.specs.Model.{Model, Step}
 use Rattle.logic.specs.Quantity.{naturals, sum}
 use Rattle.logic.specs.Plan.{Plan, plans, paths, weight, Match, ends, pair}
 use Rattle.logic.specs.Formula.{Formula, sat, W}
-use Rattle.logic.specs.promises.Total.{one-if, total, value-of}
+use Rattle.logic.specs.Bound.{one-if, total}
+use Rattle.logic.specs.promises.Total.{value-of}
 use Rattle.logic.specs.Accepted.{Accepted, Executable}
 use Rattle.logic.proofs.Members.{plan-member}
 use Rattle.logic.proofs.Sums.{naturals-additive, sum-pairs, total-step, sum-ext}

@@ -8,18 +8,21 @@ use mathlib.Core.Logic.{_↔_}
 use mathlib.Core.Bool.{Bool, true, false, cond}
 use mathlib.Core.List.{List, [], _∷_, _++_, map, flatMap, append-nil, append-assoc, List·Memᴰ, List·Memᴰ·head, List·Memᴰ·tail}
 use lib.Dec.{eqb}
+use lib.IntN.{ℤ}
 use lib.ListN.{length}
 use Rattle.logic.specs.Lists.{keep}
 use Rattle.logic.specs.Model.{Model, Step, enabled, outcomes}
-use Rattle.logic.specs.Quantity.{naturals, sum, Relation}
+use Rattle.logic.specs.Quantity.{naturals, integers, sum, Relation}
 use Rattle.logic.specs.Plan.{Plan, plans, paths, weight, Match, ends, pair}
 use Rattle.logic.specs.Order.{Rising, first, Is-plan}
-use Rattle.logic.specs.Formula.{Formula, plan, sat, meets}
-use Rattle.logic.specs.Policy.{last, Policy, policy-paths, policy-weight}
+use Rattle.logic.specs.Bound.{total, meets, gain-between}
+use Rattle.logic.specs.Formula.{Formula, plan, earns, sat, W}
+use Rattle.logic.specs.Policy.{last, Policy, policy-paths, policy-weight, policy-gain}
 use Rattle.logic.specs.Accepted.{Accepted, Executable}
 use Rattle.logic.proofs.Tests.{eqb-eq, eq-eqb, ne-eqb, any-some, any-there}
 use Rattle.logic.proofs.Members.{match-weaken, match-map, join-match}
 use Rattle.logic.proofs.Dictionary.{plans-are}
+use Rattle.logic.proofs.WholeTotals.{met-condition}
 use Rattle.logic.proofs.PolicyPaths.{onward, History, longer, no-steps, policy-enabled}
 
 -- ---- from a policy to a plan
@@ -153,13 +156,31 @@ module _ {m : Model} (accepted : Accepted m) where
     -- A "plan" formula is true exactly when the measure of some policy meets the bound: Definition 4 with its published policies.
     pub sat-policy : (φ : Formula) (r : Relation) (p q : ℕ) (ρ : List Step)
         → (sat m (plan n φ r p q) s ρ ≡ true) ↔ ((π : Policy m n s) × (meets naturals m n r p q (policy-weight m φ n s π) ≡ true))
-    unfolding sat policy-weight
+    unfolding sat W policy-weight
     sat-policy φ r p q ρ = (
       λ h.
           let w = any-some _ (plans m n s) h in
           let x = plan-policy (w .0) (w .1) in
-          (x .0, ap (λ l. meets naturals m n r p q (sum naturals weight (keep (sat m φ s) l))) (sym (x .1)) ∙ w .2),
+          (x .0,
+          ap (λ l. meets naturals m n r p q (sum naturals weight (keep (sat m φ s) l))) (sym (x .1)) ∙ sym (met-condition m s n φ r p q (w .0)) ∙ w .2),
       λ x.
           let w = policy-plan accepted (x .0) k in
-          any-there _ (w .1) (ap (λ l. meets naturals m n r p q (sum naturals weight (keep (sat m φ s) l))) (w .2) ∙ x .1),
+          any-there _ (w .1)
+          (met-condition m s n φ r p q (w .0) ∙ ap (λ l. meets naturals m n r p q (sum naturals weight (keep (sat m φ s) l))) (w .2) ∙ x .1),
     )
+
+    -- Operator 9 is true exactly when the expected gain of some policy meets the bound: Definition 13.
+    pub gain-policy : (l u : ℕ) (r : Relation) (p : ℤ) (q : ℕ) (ρ : List Step)
+        → (sat m (earns n l u r p q) s ρ ≡ true) ↔ ((π : Policy m n s) × (meets integers m n r p q (policy-gain m l u n s π) ≡ true))
+    unfolding sat total policy-gain
+    gain-policy l u r p q ρ =
+        let met : List (List Step) → Bool = λ ps. meets integers m n r p q (sum integers (λ σ. integers .times (weight σ) (gain-between l u σ)) ps) in
+        (
+          λ h.
+              let w = any-some _ (plans m n s) h in
+              let x = plan-policy (w .0) (w .1) in
+              (x .0, ap met (sym (x .1)) ∙ w .2),
+          λ x.
+              let w = policy-plan accepted (x .0) k in
+              any-there _ (w .1) (ap met (w .2) ∙ x .1),
+        )

@@ -8,7 +8,7 @@ use Rattle.logic.specs.Lists.{product}
 use Rattle.logic.specs.Model.{Model, Step, enabled, outcomes}
 use Rattle.logic.specs.Plan.{Plan, plans}
 use Rattle.logic.specs.Quantity.{Quantity, sum}
-use Rattle.logic.specs.promises.Total.{total}
+use Rattle.logic.specs.Bound.{total}
 use Rattle.logic.specs.promises.Recursion.{best-choice, greatest, best-plan}
 use Rattle.logic.specs.Accepted.{Accepted, Executable}
 use Rattle.logic.proofs.Members.{block}

@@ -1,77 +1,168 @@
--- What a search finds is the shown plan. For "greater" that is the plan of first-best choices, for "less" the same in the reversed order, and
--- where its total does not meet the bound there is none. For "equal" it is the plan at the first place of the list that meets the bound.
-use Prim.Native.Nat.{ℕ, _+_, _<_}
-use mathlib.Core.Path.{_≡_, sym, subst, _∙_, fun-ext}
-use mathlib.Core.Bool.{Bool, true, false, and-true}
+-- What a search finds is the shown plan. It searches natural numbers: the totals of a bound, all raised by one number, which changes no order.
+-- For "greater" the shown plan is that of first-best choices, for "less" the same in the reversed order, and where its total does not meet
+-- the bound there is none. For "equal" it is the plan at the first place of the list that meets the bound.
+use Prim.Native.Nat.{ℕ, suc, _+_, _-_, _<_, _≤_}
+use native.Mathlib.Omega.{arith}
+use mathlib.Core.Path.{_≡_, refl, sym, ap, ap₂, subst, _∙_, fun-ext}
+use mathlib.Core.Bool.{Bool, true, false, not, and-true}
+use mathlib.Core.List.{List, _∷_, List·Memᴰ, List·Memᴰ·head, List·Memᴰ·tail}
 use mathlib.Core.Option.{none, some}
+use lib.Dec.{T, leb, ltb, leb→le, le→leb, nltb→le, ltb→lt, not-T}
+use lib.IntN.{ℤ, pos, subℕ}
 use lib.ListN.{length, getD}
-use Rattle.logic.specs.Model.{Model}
+use lib.Signed.{leZ}
+use Rattle.logic.specs.Model.{Model, Step}
 use Rattle.logic.specs.Plan.{Plan, plans, paths}
-use Rattle.logic.specs.Quantity.{naturals, less, equal, greater, related}
-use Rattle.logic.specs.promises.Orders.{reversed}
-use Rattle.logic.specs.promises.Total.{total, value-of}
-use Rattle.logic.specs.Formula.{Formula, W, meets}
-use Rattle.logic.specs.promises.Recursion.{best-plan}
-use Rattle.logic.specs.Verdict.{leads, plan-goal, shown}
+use Rattle.logic.specs.Quantity.{Quantity, naturals, integers, Relation, less, equal, greater, related}
+use Rattle.logic.specs.Bound.{Bound, total, meets, total-of}
+use Rattle.logic.specs.promises.Orders.{reversed, weights, order}
+use Rattle.logic.specs.promises.Recursion.{greatest, best-plan}
+use Rattle.logic.specs.Verdict.{leads, bound-goal, shown}
 use Rattle.logic.specs.Accepted.{Accepted}
-use Rattle.logic.proofs.Tests.{find-at, find-nowhere}
+use Rattle.logic.proofs.Tests.{T→true, true→T, not-true, find-at, find-nowhere}
 use Rattle.logic.proofs.Sums.{naturals-additive, reversed-additive, sum-reversed}
-use Rattle.logic.proofs.PathWeights.{W-total}
-use Rattle.logic.proofs.Best.{Best, naturals-ordered, reversed-ordered}
-use Rattle.logic.proofs.Recursion.{best-plan-first}
+use Rattle.logic.proofs.Best.{Best, here, later, naturals-ordered, reversed-ordered, best-member}
+use Rattle.logic.proofs.Integers.{integers-ordered, subℕ-ge, subℕ-lt}
+use Rattle.logic.proofs.Recursion.{best-plan-first, best-plan-total}
 use Rattle.logic.proofs.Shown.{best-found, best-missed}
 
-module _ (m : Model) (φ : Formula) (n s : ℕ) where
-  W-total-reversed : (π : Plan n) → W m φ n s π ≡ total (reversed naturals) m n s π (value-of m φ s)
-  unfolding total
-  W-total-reversed π = W-total m φ n s π ∙ sym (sum-reversed naturals _ (paths m n s π))
+-- ---- lowering by one number
 
-  -- The plans of first-best choices, for the greatest and for the least weight.
-  abbrev pub most : Plan n
-  most = best-plan naturals m n s (value-of m φ s)
+-- Lowered by c, numbers keep their order.
+lowered-le : (a b c : ℕ) → a ≤ b → T (leZ (subℕ a c) (subℕ b c))
+lowered-le a b c h = pick (ltb a c) (ltb b c) refl refl
+  where
+    pick : (t u : Bool) → ltb a c ≡ t → ltb b c ≡ u → T (leZ (subℕ a c) (subℕ b c))
+    pick true true e f =
+        let x = ltb→lt a c (true→T e) in
+        let y = ltb→lt b c (true→T f) in
+        rw (subℕ-lt a c x, subℕ-lt b c y) (le→leb (c - suc b) (c - suc a) (omega arith))
+    pick true false e f =
+        let x = ltb→lt a c (true→T e) in
+        let y = nltb→le b c (subst (λ t. T (not t)) (sym f) tt) in
+        rw (subℕ-lt a c x, subℕ-ge b c y) tt
+    pick false u e f =
+        let x = nltb→le a c (subst (λ t. T (not t)) (sym e) tt) in
+        rw (subℕ-ge a c x, subℕ-ge b c (omega arith)) (le→leb (a - c) (b - c) (omega arith))
 
-  abbrev pub fewest : Plan n
-  fewest = best-plan (reversed naturals) m n s (value-of m φ s)
+lowered-lt : (a b c : ℕ) → b < a → T (leZ (subℕ a c) (subℕ b c)) → ⊥
+lowered-lt a b c h = pick (ltb a c) (ltb b c) refl refl
+  where
+    pick : (t u : Bool) → ltb a c ≡ t → ltb b c ≡ u → T (leZ (subℕ a c) (subℕ b c)) → ⊥
+    pick true u e f p =
+        let x = ltb→lt a c (true→T e) in
+        let q = leb→le (c - suc b) (c - suc a) (rw (subℕ-lt a c x, subℕ-lt b c (omega arith)) at p) in
+        omega arith
+    pick false true e f p =
+        let x = nltb→le a c (subst (λ t. T (not t)) (sym e) tt) in
+        let y = ltb→lt b c (true→T f) in
+        rw (subℕ-ge a c x, subℕ-lt b c y) at p
+    pick false false e f p =
+        let x = nltb→le a c (subst (λ t. T (not t)) (sym e) tt) in
+        let y = nltb→le b c (subst (λ t. T (not t)) (sym f) tt) in
+        let q = leb→le (a - c) (b - c) (rw (subℕ-ge a c x, subℕ-ge b c y) at p) in
+        omega arith
 
-  module _ (accepted : Accepted m) (k : s < length (m .states)) where
-    pub most-first : Best naturals (W m φ n s) (plans m n s) most
+pub lowered-order : (a b c : ℕ) → leZ (subℕ a c) (subℕ b c) ≡ leb a b
+lowered-order a b c = pick (leb a b) refl
+  where
+    pick : (t : Bool) → leb a b ≡ t → leZ (subℕ a c) (subℕ b c) ≡ t
+    pick true e = T→true _ (lowered-le a b c (leb→le a b (true→T e)))
+    pick false e = not-true _ (λ p. lowered-lt a b c (lib.Dec.nleb→lt a b (subst (λ t. T (not t)) (sym e) tt)) (true→T p))
+
+-- The best by one value is the best by another that has the same order.
+best-as : (Q R : Quantity) {A : Type 0} (v : A → Q .Value) (u : A → R .Value) {l : List A} {x : A}
+    → ((a b : A) → List·Memᴰ a l → List·Memᴰ b l → R .at-most (u a) (u b) ≡ Q .at-most (v a) (v b)) → Best Q v l x → Best R u l x
+best-as Q R v u same (here {x} {l} h) =
+    here (λ y i. subst T (sym (same y x (List·Memᴰ·tail i) (List·Memᴰ·head refl))) (h y i))
+best-as Q R v u same (later {x} {y} {l} p b) =
+    later (subst (λ t. T (not t)) (sym (same x y (List·Memᴰ·tail (member b)) (List·Memᴰ·head refl))) p) (best-as Q R v u (λ a c i j. same a c (List·Memᴰ·tail i) (List·Memᴰ·tail j)) b)
+  where
+    member : {A : Type 0} {v : A → Q .Value} {l : List A} {x : A} → Best Q v l x → List·Memᴰ x l
+    member (here h) = List·Memᴰ·head refl
+    member (later p b) = List·Memᴰ·tail (member b)
+
+-- ---- a bound whose totals, all raised by c, are those of f
+
+pub record Raises (m : Model) (s n : ℕ) (g : List Step → ℤ) (f : List Step → ℕ) (c : ℕ) : Type 0 where
+  pub lowered : (π : Plan n) → List·Memᴰ π (plans m n s) → total integers m n s π g ≡ subℕ (total naturals m n s π f) c
+
+-- The relation that the search for the least total is for, and that for the greatest.
+abbrev pub extreme : (least : Bool) → Relation
+extreme true = less
+extreme false = greater
+
+module _ (m : Model) (s n : ℕ) (g : List Step → ℤ) (p : ℤ) (q : ℕ) where
+  abbrev pub bound : Relation → Bound
+  bound r = record { steps = n; worth = g; relation = r; p = p; q = q }
+
+  -- The plan π, of the total w, decides: where w meets the bound π is the shown plan, and where not there is none.
+  pub record Decides (r : Relation) (w : ℤ) (π : Plan n) : Type 0 where
+    pub weighs : total integers m n s π g ≡ w
+    pub met : meets integers m n r p q w ≡ true → (k : ℕ) × (shown m s (bound-goal m s (bound r)) ≡ some (k, π))
+    pub missed : meets integers m n r p q w ≡ false → shown m s (bound-goal m s (bound r)) ≡ none
+
+  module _ {f : List Step → ℕ} {c : ℕ} (R : Raises m s n g f c) (accepted : Accepted m) (k : s < length (m .states)) where
+    same-order : (a b : Plan n) → List·Memᴰ a (plans m n s) → List·Memᴰ b (plans m n s)
+        → leZ (total integers m n s a g) (total integers m n s b g) ≡ leb (total naturals m n s a f) (total naturals m n s b f)
+    same-order a b i j = ap₂ leZ (R .lowered a i) (R .lowered b j) ∙ lowered-order (total naturals m n s a f) (total naturals m n s b f) c
+
+    most-first : Best integers (λ π. total integers m n s π g) (plans m n s) (best-plan naturals m n s f)
     most-first =
-        subst (λ v. Best naturals v (plans m n s) most) (sym (fun-ext (W-total m φ n s)))
-        (best-plan-first naturals naturals-additive naturals-ordered m accepted n s (value-of m φ s) k)
+        best-as naturals integers (λ π. total naturals m n s π f) (λ π. total integers m n s π g) same-order
+        (best-plan-first naturals naturals-additive naturals-ordered m accepted n s f k)
 
-    pub fewest-first : Best (reversed naturals) (W m φ n s) (plans m n s) fewest
+    forwards : (π : Plan n) → total (reversed naturals) m n s π f ≡ total naturals m n s π f
+    unfolding total
+    forwards π = sum-reversed naturals _ (paths m n s π)
+
+    fewest-first : Best (reversed integers) (λ π. total integers m n s π g) (plans m n s) (best-plan (reversed naturals) m n s f)
     fewest-first =
-        subst (λ v. Best (reversed naturals) v (plans m n s) fewest) (sym (fun-ext W-total-reversed))
-        (best-plan-first (reversed naturals) (reversed-additive naturals naturals-additive) (reversed-ordered naturals naturals-ordered)
-        m accepted n s (value-of m φ s) k)
+        best-as (reversed naturals) (reversed integers) (λ π. total (reversed naturals) m n s π f) (λ π. total integers m n s π g)
+        (λ a b i j. same-order b a j i ∙ sym (ap₂ leb (forwards b) (forwards a)))
+        (best-plan-first (reversed naturals) (reversed-additive naturals naturals-additive) (reversed-ordered naturals naturals-ordered) m accepted n s f k)
 
-    module _ (p q : ℕ) where
-      pub greater-shown : meets naturals m n greater p q (W m φ n s most) ≡ true → (j : ℕ) × (shown m s (plan-goal m s n φ greater p q) ≡ some (j, most))
-      unfolding shown
-      greater-shown e = best-found naturals naturals-ordered m n p q (W m φ n s) (plans m n s) most-first e
+    -- The best plan's total, lowered.
+    pub best-lowered : (least : Bool)
+        → total integers m n s (best-plan (weights (order least)) m n s f) g ≡ subℕ (greatest (weights (order least)) m n s f) c
+    best-lowered false =
+        R .lowered (best-plan naturals m n s f) (best-member integers integers-ordered (λ π. total integers m n s π g) most-first)
+        ∙ ap (λ x. subℕ x c) (best-plan-total naturals naturals-additive m n s f)
+    best-lowered true =
+        R .lowered (best-plan (reversed naturals) m n s f) (best-member (reversed integers) (reversed-ordered integers integers-ordered) (λ π. total integers m n s π g) fewest-first)
+        ∙ ap (λ x. subℕ x c)
+        (sym (forwards (best-plan (reversed naturals) m n s f)) ∙ best-plan-total (reversed naturals) (reversed-additive naturals naturals-additive) m n s f)
 
-      pub greater-none : meets naturals m n greater p q (W m φ n s most) ≡ false → shown m s (plan-goal m s n φ greater p q) ≡ none
-      unfolding shown
-      greater-none e = best-missed naturals naturals-ordered m n p q (W m φ n s) (plans m n s) most-first e
-
-      pub less-shown : meets naturals m n less p q (W m φ n s fewest) ≡ true → (j : ℕ) × (shown m s (plan-goal m s n φ less p q) ≡ some (j, fewest))
-      unfolding shown leads meets related
-      less-shown e = best-found (reversed naturals) (reversed-ordered naturals naturals-ordered) m n p q (W m φ n s) (plans m n s) fewest-first e
-
-      pub less-none : meets naturals m n less p q (W m φ n s fewest) ≡ false → shown m s (plan-goal m s n φ less p q) ≡ none
-      unfolding shown leads meets related
-      less-none e = best-missed (reversed naturals) (reversed-ordered naturals naturals-ordered) m n p q (W m φ n s) (plans m n s) fewest-first e
+    pub best-decides : (least : Bool) → Decides (extreme least) (subℕ (greatest (weights (order least)) m n s f) c) (best-plan (weights (order least)) m n s f)
+    unfolding shown leads meets related
+    best-decides false =
+        let t : Plan n → ℤ = λ π. total integers m n s π g in
+        let e = best-lowered false in
+        record {
+          weighs = e;
+          met = λ h. best-found integers integers-ordered m n p q t (plans m n s) most-first (ap (meets integers m n greater p q) e ∙ h);
+          missed = λ h. best-missed integers integers-ordered m n p q t (plans m n s) most-first (ap (meets integers m n greater p q) e ∙ h);
+        }
+    best-decides true =
+        let t : Plan n → ℤ = λ π. total integers m n s π g in
+        let O = reversed-ordered integers integers-ordered in
+        let e = best-lowered true in
+        record {
+          weighs = e;
+          met = λ h. best-found (reversed integers) O m n p q t (plans m n s) fewest-first (ap (meets integers m n less p q) e ∙ h);
+          missed = λ h. best-missed (reversed integers) O m n p q t (plans m n s) fewest-first (ap (meets integers m n less p q) e ∙ h);
+        }
 
   -- For "equal", by the places of the list; d stands past its end.
-  module _ (p q : ℕ) (d : Plan n) where
+  module _ (d : Plan n) where
     abbrev pub met-at : ℕ → Bool
-    met-at k = meets naturals m n equal p q (W m φ n s (getD (plans m n s) k d))
+    met-at k = meets integers m n equal p q (total integers m n s (getD (plans m n s) k d) g)
 
     pub equal-shown : (k : ℕ) → k < length (plans m n s) → met-at k ≡ true → ((j : ℕ) → j < k → met-at j ≡ false)
-        → shown m s (plan-goal m s n φ equal p q) ≡ some (1 + k, getD (plans m n s) k d)
+        → shown m s (bound-goal m s (bound equal)) ≡ some (1 + k, getD (plans m n s) k d)
     unfolding shown leads
     equal-shown k h e g = find-at _ d 1 k (plans m n s) h (and-true _ ∙ e) (λ j i. and-true _ ∙ g j i)
 
-    pub equal-none : ((j : ℕ) → j < length (plans m n s) → met-at j ≡ false) → shown m s (plan-goal m s n φ equal p q) ≡ none
+    pub equal-none : ((j : ℕ) → j < length (plans m n s) → met-at j ≡ false) → shown m s (bound-goal m s (bound equal)) ≡ none
     unfolding shown leads
     equal-none g = find-nowhere _ d 1 (plans m n s) (λ j i. and-true _ ∙ g j i)

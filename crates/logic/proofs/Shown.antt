@@ -7,17 +7,20 @@ use mathlib.Core.Bool.{Bool, true, false, cond, _&&_, false≢true}
 use mathlib.Core.Option.{none, some}
 use mathlib.Core.List.{List, [], _∷_, List·Memᴰ, List·Memᴰ·not-nil}
 use lib.Dec.{not-T, T-not}
-use Rattle.logic.specs.Lists.{all, find}
+use Rattle.logic.specs.Lists.{all, any, find}
 use Rattle.logic.specs.Model.{Model, Step}
 use Rattle.logic.specs.Plan.{Plan, plans}
-use Rattle.logic.specs.Quantity.{Quantity, naturals, Relation, less, equal, greater, related}
+use lib.IntN.{ℤ}
+use Rattle.logic.specs.Quantity.{Quantity, integers, Relation, less, equal, greater, related}
 use Rattle.logic.specs.promises.Orders.{reversed}
-use Rattle.logic.specs.Checked.{ok}
-use Rattle.logic.specs.Formula.{meets, W, sat, Formula, plan}
-use Rattle.logic.specs.Verdict.{leads, Goal, plan-goal, goal, shown}
+use Rattle.logic.specs.Checked.{ok, _>>=_}
+use Rattle.logic.specs.Bound.{Bound, meets, chance, expected, total-of, met-by}
+use Rattle.logic.specs.Formula.{sat, Formula, plan, earns}
+use Rattle.logic.specs.Verdict.{leads, Goal, bound-goal, bound-of, goal, shown}
 use Rattle.logic.specs.promises.Recursion.{first-best}
 use Rattle.logic.proofs.Tests.{T→true, true→T, and-left, and-right, not-true, all-true, all-at, find-sound, find-there, find-none, any-some, any-there}
-use Rattle.logic.proofs.Best.{Ordered, naturals-ordered, reversed-ordered, Le, Lt, Best, here, later, first-best-is, best-le, best-member}
+use Rattle.logic.proofs.Best.{Ordered, reversed-ordered, Le, Lt, Best, here, later, first-best-is, best-le, best-member}
+use Rattle.logic.proofs.Integers.{integers-ordered}
 use Rattle.logic.proofs.Checked.{not-ok, ok-same}
 use Rattle.logic.proofs.OnPlan.{by-plan}
 
@@ -81,12 +84,20 @@ pub record Led (m : Model) (s : ℕ) (g : Goal) : Type 0 where
   pub leader-of : (π : Plan (g .steps)) → List·Memᴰ π (plans m (g .steps) s) → g .met π ≡ true
       → (ρ : Plan (g .steps)) × List·Memᴰ ρ (plans m (g .steps) s) × (g .lead ρ ≡ true) × (g .met ρ ≡ true)
 
--- Every goal is such.
+-- The goal of every bound is such.
+pub bound-led : (m : Model) (s : ℕ) (b : Bound) → Led m s (bound-goal m s b)
+bound-led m s b =
+    record { leader-of = λ π i h. leader integers integers-ordered m (b .steps) (b .p) (b .q) (total-of m s b) (b .relation) (plans m (b .steps) s) i h }
+
+-- Every goal is that of a bound.
+pub goal-bound : (m : Model) (s : ℕ) (φ : Formula) (g : Goal) → goal m s φ ≡ ok g → (b : Bound) × (bound-of m s φ ≡ ok b) × (bound-goal m s b ≡ g)
+unfolding goal bound-of
+goal-bound m s φ g =
+    by-plan (λ _ c. (c >>= λ b. ok (bound-goal m s b)) ≡ ok g → (b : Bound) × (c ≡ ok b) × (bound-goal m s b ≡ g)) (λ _ e. absurd (not-ok e))
+    (λ n ψ r p q e. (chance n (sat m ψ s) r p q, refl, ok-same e)) (λ n l u r p q e. (expected n l u r p q, refl, ok-same e)) φ
+
 pub goal-led : (m : Model) (s : ℕ) (φ : Formula) (g : Goal) → goal m s φ ≡ ok g → Led m s g
-unfolding goal
-goal-led m s φ g =
-    by-plan (λ _ c. c ≡ ok g → Led m s g) (λ _ e. absurd (not-ok e))
-    (λ n ψ r p q e. subst (Led m s) (ok-same e) (record { leader-of = λ π i h. leader naturals naturals-ordered m n p q (W m ψ n s) r (plans m n s) i h })) φ
+goal-led m s φ g e = let w = goal-bound m s φ g e in subst (Led m s) (w .2) (bound-led m s (w .0))
 
 module _ (m : Model) (s : ℕ) (g : Goal) where
   -- There is a shown plan where some plan meets the bound, and the shown plan meets it.
@@ -98,11 +109,37 @@ module _ (m : Model) (s : ℕ) (g : Goal) where
   unfolding shown
   shown-meets x e = let w = find-sound _ 1 (plans m (g .steps) s) e in (w .0, and-left _ (g .lead (x .1)) (w .1))
 
--- A "plan" formula is true in a state exactly when there is a shown plan: the verdict agrees with the meaning.
-pub sat-shown : (m : Model) (s n : ℕ) (φ : Formula) (r : Relation) (p q : ℕ) (ρ : List Step)
-    → (sat m (plan n φ r p q) s ρ ≡ true) ↔ ((x : ℕ × Plan n) × (shown m s (plan-goal m s n φ r p q) ≡ some x))
-unfolding sat goal W
-sat-shown m s n φ r p q ρ = (
-  λ h. let w = any-some _ (plans m n s) h in shown-there m s (plan-goal m s n φ r p q) (goal-led m s (plan n φ r p q) _ refl) (w .0) (w .1) (w .2),
-  λ x. let w = shown-meets m s (plan-goal m s n φ r p q) (x .0) (x .1) in any-there (plan-goal m s n φ r p q .met) (w .0) (w .1),
-)
+-- A formula that sets the bound b on plans from s: it is true in s where some plan meets the bound.
+pub record Sets (m : Model) (s : ℕ) (φ : Formula) (b : Bound) : Type 0 where
+  pub truth : (ρ : List Step) → sat m φ s ρ ≡ any (met-by m s b) (plans m (b .steps) s)
+  pub asks : bound-of m s φ ≡ ok b
+
+pub sets-plan : (m : Model) (s n : ℕ) (φ : Formula) (r : Relation) (p q : ℕ) → Sets m s (plan n φ r p q) (chance n (sat m φ s) r p q)
+unfolding sat bound-of
+sets-plan m s n φ r p q = record { truth = λ ρ. refl; asks = refl }
+
+pub sets-gain : (m : Model) (s n l u : ℕ) (r : Relation) (p : ℤ) (q : ℕ) → Sets m s (earns n l u r p q) (expected n l u r p q)
+unfolding sat bound-of
+sets-gain m s n l u r p q = record { truth = λ ρ. refl; asks = refl }
+
+module _ {m : Model} {s : ℕ} {φ : Formula} {b : Bound} (x : Sets m s φ b) where
+  -- It is true exactly when there is a shown plan: the verdict agrees with the meaning.
+  pub sat-shown : (ρ : List Step) → (sat m φ s ρ ≡ true) ↔ ((y : ℕ × Plan (b .steps)) × (shown m s (bound-goal m s b) ≡ some y))
+  sat-shown ρ = (
+    λ h.
+        let w = any-some _ (plans m (b .steps) s) (sym (x .truth ρ) ∙ h) in
+        shown-there m s (bound-goal m s b) (bound-led m s b) (w .0) (w .1) (w .2),
+    λ y. let w = shown-meets m s (bound-goal m s b) (y .0) (y .1) in x .truth ρ ∙ any-there (met-by m s b) (w .0) (w .1),
+  )
+
+  pub sets-goal : goal m s φ ≡ ok (bound-goal m s b)
+  unfolding goal
+  sets-goal = ap (λ c. c >>= λ b. ok (bound-goal m s b)) (x .asks)
+
+-- Every formula that sets a bound is of one of the two kinds.
+pub sets-bound : (m : Model) (s : ℕ) (φ : Formula) (b : Bound) → bound-of m s φ ≡ ok b → Sets m s φ b
+unfolding bound-of
+sets-bound m s φ b =
+    by-plan (λ φ c. c ≡ ok b → Sets m s φ b) (λ _ e. absurd (not-ok e))
+    (λ n ψ r p q e. subst (Sets m s (plan n ψ r p q)) (ok-same e) (sets-plan m s n ψ r p q))
+    (λ n l u r p q e. subst (Sets m s (earns n l u r p q)) (ok-same e) (sets-gain m s n l u r p q)) φ

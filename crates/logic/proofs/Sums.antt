@@ -9,7 +9,7 @@ use Rattle.logic.specs.Model.{Model, Step, outcomes}
 use Rattle.logic.specs.Plan.{Plan, paths, weight}
 use Rattle.logic.specs.Quantity.{Quantity, naturals, sum}
 use Rattle.logic.specs.promises.Orders.{reversed}
-use Rattle.logic.specs.promises.Total.{total}
+use Rattle.logic.specs.Bound.{total}
 
 -- What a quantity must obey for totals to split by the first step.
 pub record Additive (Q : Quantity) : Type 0 where

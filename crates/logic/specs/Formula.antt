@@ -1,5 +1,6 @@
--- Formulas and their meaning. Document 01, "Formulas"; Definitions 3 and 4 of the PLBP paper; Definition 12 of the r-PLBP thesis for "gain".
-use Prim.Native.Nat.{ℕ, zero, suc, _^_, max}
+-- Formulas and their meaning. Document 01, "Formulas"; Definitions 3 and 4 of the PLBP paper; Definitions 12 and 13 of the r-PLBP thesis for
+-- "gain" and for operator 9, `earns`.
+use Prim.Native.Nat.{ℕ, zero, suc, _/_, _%_, max}
 use mathlib.Core.Bool.{Bool, true, false, not, _&&_, _||_}
 use mathlib.Core.List.{List, [], _∷_, _++_}
 use lib.ListN.{getD, take}
@@ -7,8 +8,9 @@ use lib.IntN.{ℤ, pos, negsuc}
 use lib.Dec.{eqb, leb}
 use Rattle.logic.specs.Lists.{any, keep}
 use Rattle.logic.specs.Model.{Model, Step, prop-in}
-use Rattle.logic.specs.Quantity.{Quantity, naturals, integers, sum, Relation, less, equal, greater, related}
+use Rattle.logic.specs.Quantity.{naturals, integers, sum, Relation, less, equal, greater, related}
 use Rattle.logic.specs.Plan.{Plan, plans, paths, weight}
+use Rattle.logic.specs.Bound.{chance, expected, met-by}
 
 pub data Formula : Type 0 where
   never : Formula
@@ -19,21 +21,24 @@ pub data Formula : Type 0 where
   next : Formula → Formula
   gain : (n : ℕ) → Relation → (p : ℤ) → Formula
   plan : (n : ℕ) → Formula → Relation → (p q : ℕ) → Formula
+  earns : (n l u : ℕ) → Relation → (p : ℤ) → (q : ℕ) → Formula
 
--- What is said of a "plan" by its steps, condition, relation, p and q; of every other formula, `other`.
-abbrev pub on-plan : {A : Type 0} → (other : A) → (ℕ → Formula → Relation → ℕ → ℕ → A) → Formula → A
-on-plan other f never = other
-on-plan other f (prop i) = other
-on-plan other f (neg φ) = other
-on-plan other f (both φ ψ) = other
-on-plan other f (does a) = other
-on-plan other f (next φ) = other
-on-plan other f (gain n b p) = other
-on-plan other f (plan n φ r p q) = f n φ r p q
+-- What is said of a formula that sets a bound on plans: of a "plan" by its steps, condition, relation, p and q; of operator 9 by its steps, l
+-- and u, relation, p and q. Of every other formula, `other`.
+abbrev pub on-plan : {A : Type 0} → (other : A) → (ℕ → Formula → Relation → ℕ → ℕ → A) → (ℕ → ℕ → ℕ → Relation → ℤ → ℕ → A) → Formula → A
+on-plan other f g never = other
+on-plan other f g (prop i) = other
+on-plan other f g (neg φ) = other
+on-plan other f g (both φ ψ) = other
+on-plan other f g (does a) = other
+on-plan other f g (next φ) = other
+on-plan other f g (gain n b p) = other
+on-plan other f g (plan n φ r p q) = f n φ r p q
+on-plan other f g (earns n l u r p q) = g n l u r p q
 
--- The bound: a total w of an n-step plan, times q, stands in the relation to p times D to the n.
-unfoldable pub meets : (Q : Quantity) → Model → ℕ → Relation → Q .Value → ℕ → Q .Value → Bool
-meets Q m n r p q w = related Q r (Q .times q w) (Q .times (m .denominator ^ n) p)
+-- What is said of such a formula by its steps and its relation.
+abbrev pub on-bound : {A : Type 0} → (other : A) → (ℕ → Relation → A) → Formula → A
+on-bound other f φ = on-plan other (λ n ψ r p q. f n r) (λ n l u r p q. f n r) φ
 
 -- The formula is true at the state s of a path, of which the steps r are left: Definition 4. A state formula is read in s and does not
 -- look at r. "do" and "next" with no step left are false, "gain" with fewer than n steps left sums those; depth keeps that from
@@ -46,9 +51,10 @@ sat m (both φ ψ) s r = sat m φ s r && sat m ψ s r
 sat m (does a) s r = elim r [ [] ↦ false | o ∷ r′ ↦ eqb (o .choice) a ]
 sat m (next φ) s r = elim r [ [] ↦ false | o ∷ r′ ↦ sat m φ (o .target) r′ ]
 sat m (gain n b p) s r = related integers b (sum integers (λ o. o .reward) (take n r)) p
-sat m (plan n φ b p q) s r = any (λ π. meets naturals m n b p q (sum naturals weight (keep (λ ρ. sat m φ s ρ) (paths m n s π)))) (plans m n s)
+sat m (plan n φ b p q) s r = any (met-by m s (chance n (λ ρ. sat m φ s ρ) b p q)) (plans m n s)
+sat m (earns n l u b p q) s r = any (met-by m s (expected n l u b p q)) (plans m n s)
 
--- W: the summed weights of the paths that a plan allows from s and on which the condition is true.
+-- Document 01's W: the summed weights of the paths that a plan allows from s and on which the condition is true.
 unfoldable pub W : Model → Formula → (n : ℕ) → ℕ → Plan n → ℕ
 W m φ n s π = sum naturals weight (keep (sat m φ s) (paths m n s π))
 
@@ -62,6 +68,7 @@ depth (does a) = 1
 depth (next φ) = suc (depth φ)
 depth (gain n b p) = n
 depth (plan n φ b p q) = 0
+depth (earns n l u b p q) = 0
 
 -- "do", "next", "gain", and "not" or "and" over one, are path formulas; the others are state formulas.
 unfoldable pub is-path : Formula → Bool
@@ -73,10 +80,11 @@ is-path (does a) = true
 is-path (next φ) = true
 is-path (gain n b p) = true
 is-path (plan n φ b p q) = false
+is-path (earns n l u b p q) = false
 
 -- The child of "plan" has depth at most its n.
 unfoldable pub shallow : Formula → Bool
-shallow φ = on-plan true (λ n ψ r p q. leb (depth ψ) n) φ
+shallow φ = on-plan true (λ n ψ r p q. leb (depth ψ) n) (λ n l u r p q. true) φ
 
 -- A node of a question as it is stored.
 pub record Node : Type 0 where
@@ -114,6 +122,7 @@ formula-of fs x =
     ∷ next left
     ∷ gain (x .n) (relation (x .right)) (x .p)
     ∷ plan (x .n) left (relation (x .right)) (nonnegative (x .p)) (x .q)
+    ∷ earns (x .n) (x .left % 8) (x .left / 8) (relation (x .right)) (x .p) (x .q)
     ∷ [])
     (x .operator)
     never

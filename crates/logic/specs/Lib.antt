@@ -4,6 +4,7 @@ pub mod Grounds
 pub mod Model
 pub mod Quantity
 pub mod Plan
+pub mod Bound
 pub mod Policy
 pub mod Order
 pub mod Formula

@@ -10,7 +10,7 @@ use Rattle.logic.specs.Checked.{Checked}
 use Rattle.logic.specs.Grounds.{Ground, _unless_, decided}
 use Rattle.logic.specs.Model.{Model, enabled, outcomes}
 use Rattle.logic.specs.Quantity.{naturals, sum, Relation}
-use Rattle.logic.specs.Formula.{Formula, on-plan}
+use Rattle.logic.specs.Formula.{Formula, on-bound}
 use Rattle.logic.specs.Verdict.{is-equal}
 
 -- The number of n-step paths under all enabled choices.
@@ -27,9 +27,9 @@ unfoldable pub plan-total : Model → ℕ → ℕ → ℕ
 plan-total m zero s = 1
 plan-total m (suc n) s = sum naturals (λ a. multiply (λ o. plan-total m n (o .target)) (outcomes m s a)) (enabled m s)
 
--- f is true of the steps and the relation of each "plan" node, in every state of the model.
+-- f is true of the steps and the relation of each node that sets a bound on plans, in every state of the model.
 unfoldable pub every-plan : (ℕ → Relation → ℕ → Bool) → Model → List Formula → Bool
-every-plan f m fs = all (on-plan true (λ n φ r p q. every (length (m .states)) (f n r))) fs
+every-plan f m fs = all (on-bound true (λ n r. every (length (m .states)) (f n r))) fs
 
 -- 24: over 1,000,000 paths; 25: over 65,536 plans of an "equal" node.
 abbrev pub limit-grounds : Model → List Formula → List Ground

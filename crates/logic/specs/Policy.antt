@@ -1,11 +1,13 @@
--- Bounded policies as published: Definition 2 of the PLBP paper (Definitions 9 to 11 of the r-PLBP thesis); docs/PAPERS.md says which these are.
+-- Bounded policies as published: Definition 2 of the PLBP paper (Definitions 9 to 11 and 13 of the r-PLBP thesis); docs/PAPERS.md says which these are.
 use Prim.Native.Nat.{ℕ, zero, suc, _<_}
 use mathlib.Core.List.{List, [], _∷_, _++_, map, flatMap, List·Memᴰ}
 use lib.ListN.{length}
+use lib.IntN.{ℤ}
 use Rattle.logic.specs.Lists.{keep}
 use Rattle.logic.specs.Model.{Model, Step, enabled, outcomes}
-use Rattle.logic.specs.Quantity.{naturals, sum}
+use Rattle.logic.specs.Quantity.{naturals, integers, sum}
 use Rattle.logic.specs.Plan.{weight}
+use Rattle.logic.specs.Bound.{gain-between}
 use Rattle.logic.specs.Formula.{Formula, sat}
 
 -- The last state of the history s h.
@@ -28,3 +30,7 @@ policy-paths m act (suc n) h s = flatMap (λ o. map (λ r. o ∷ r) (policy-path
 -- The measure of the paths on which the condition is true, times the denominator to the n.
 unfoldable pub policy-weight : (m : Model) → Formula → (n s : ℕ) → Policy m n s → ℕ
 policy-weight m φ n s π = sum naturals weight (keep (sat m φ s) (policy-paths m (π .act) n (s ∷ []) s))
+
+-- Over the paths of a policy: weight times the gain of steps l to u, summed. Definition 13's expected reward, times the denominator to the n.
+unfoldable pub policy-gain : (m : Model) → (l u n s : ℕ) → Policy m n s → ℤ
+policy-gain m l u n s π = sum integers (λ r. integers .times (weight r) (gain-between l u r)) (policy-paths m (π .act) n (s ∷ []) s)

@@ -7,8 +7,9 @@ use Rattle.logic.specs.Lists.{is-empty, all, any, find, keep, product, j
 use Rattle.logic.specs.Model.{Model, Step, Literals, Action, no-action, true-of, mask, prop-in, enabled-actions, deadlocked, enabled, stored, outcomes}
 use Rattle.logic.specs.Quantity.{sum, Relation, less, equal, greater, related}
 use Rattle.logic.specs.Plan.{plans, choices, paths, weight}
-use Rattle.logic.specs.Formula.{Formula, prop, neg, both, does, next, gain, plan, sat, W, meets}
-use Rattle.logic.specs.Verdict.{Verdict, no, yes-plan, leads, is-equal, goal, shown, verdict}
+use Rattle.logic.specs.Bound.{total, meets, one-if, gain-between}
+use Rattle.logic.specs.Formula.{Formula, prop, neg, both, does, next, gain, plan, earns, sat}
+use Rattle.logic.specs.Verdict.{Verdict, no, yes-plan, leads, is-equal, bound-of, goal, shown, verdict}
 
 -- How the actions, literals and outcomes of an example are written: a precondition's two masks with postconditions; two masks; the action, the
 -- target, the weight and the reward.
@@ -42,19 +43,18 @@ two-shelf =
     }
 
 pub record Row : Type 0 where
-  pub steps : ℕ
-  pub condition : Formula
-  pub rel : Relation
-  pub p : ℕ
-  pub q : ℕ
+  pub root : Formula
   pub answer : Verdict
 
--- A row of a table of examples, and the two answers in it.
+-- A row of a table of examples, with a root of operator 8 or 9, and the two answers in it.
 unfoldable pub row : ℕ → Formula → Relation → ℕ → ℕ → Verdict → Row
-row n φ r p q v = record { steps = n; condition = φ; rel = r; p = p; q = q; answer = v }
+row n φ r p q v = record { root = plan n φ r p q; answer = v }
 
-unfoldable pub shows : ℕ → ℕ → ℕ → List ℕ → Verdict
-shows w n k cs = yes-plan (record { total = pos w; steps = n; count = k; choices = cs })
+unfoldable pub gains : (n l u : ℕ) → Relation → ℤ → ℕ → Verdict → Row
+gains n l u r p q v = record { root = earns n l u r p q; answer = v }
+
+unfoldable pub shows : ℤ → ℕ → ℕ → List ℕ → Verdict
+shows w n k cs = yes-plan (record { total = w; steps = n; count = k; choices = cs })
 
 unfoldable pub denies : ℕ → Verdict
 denies k = no (record { count = k })
@@ -68,20 +68,36 @@ done = prop 1
 unfoldable pub table : List Row
 unfolding row shows denies held done
 table =
-    row 1 (next held) greater 7 10 (shows 8 1 0 (0 ∷ []))
+    row 1 (next held) greater 7 10 (shows (pos 8) 1 0 (0 ∷ []))
     ∷ row 1 (next held) greater 8 10 (denies 0)
-    ∷ row 1 (next held) equal 5 10 (shows 5 1 2 (1 ∷ []))
-    ∷ row 2 (next (next done)) equal 72 100 (shows 72 2 1 (0 ∷ 2 ∷ 0 ∷ []))
-    ∷ row 2 (next (next done)) equal 45 100 (shows 45 2 3 (1 ∷ 2 ∷ 0 ∷ []))
+    ∷ row 1 (next held) equal 5 10 (shows (pos 5) 1 2 (1 ∷ []))
+    ∷ row 2 (next (next done)) equal 72 100 (shows (pos 72) 2 1 (0 ∷ 2 ∷ 0 ∷ []))
+    ∷ row 2 (next (next done)) equal 45 100 (shows (pos 45) 2 3 (1 ∷ 2 ∷ 0 ∷ []))
     ∷ row 2 (next (next done)) equal 50 100 (denies 4)
-    ∷ row 2 (next (next held)) greater 0 1 (shows 45 2 0 (1 ∷ 2 ∷ 0 ∷ []))
-    ∷ row 2 (next (next held)) less 1 1 (shows 18 2 0 (0 ∷ 2 ∷ 1 ∷ []))
-    ∷ row 2 (gain 2 equal (pos 8)) greater 0 1 (shows 72 2 0 (0 ∷ 2 ∷ 0 ∷ []))
-    ∷ row 2 (both (does 1) (neg (next (does 1)))) greater 9 10 (shows 100 2 0 (1 ∷ 2 ∷ 0 ∷ []))
-    ∷ row 1 (next done) equal 0 1 (shows 0 1 1 (0 ∷ []))
+    ∷ row 2 (next (next held)) greater 0 1 (shows (pos 45) 2 0 (1 ∷ 2 ∷ 0 ∷ []))
+    ∷ row 2 (next (next held)) less 1 1 (shows (pos 18) 2 0 (0 ∷ 2 ∷ 1 ∷ []))
+    ∷ row 2 (gain 2 equal (pos 8)) greater 0 1 (shows (pos 72) 2 0 (0 ∷ 2 ∷ 0 ∷ []))
+    ∷ row 2 (both (does 1) (neg (next (does 1)))) greater 9 10 (shows (pos 100) 2 0 (1 ∷ 2 ∷ 0 ∷ []))
+    ∷ row 1 (next done) equal 0 1 (shows (pos 0) 1 1 (0 ∷ []))
     ∷ row 1 (next done) less 0 1 (denies 0)
     ∷ []
 
-pub two-shelf-verdicts : map (λ r. verdict two-shelf 0 (plan (r .steps) (r .condition) (r .rel) (r .p) (r .q))) table ≡ map (λ r. r .answer) table
-unfolding two-shelf table is-empty all any find keep product join count-from flatMap no-action true-of mask prop-in enabled-actions deadlocked enabled stored outcomes plans choices paths weight sum sat W meets related leads is-equal goal shown verdict
+-- Operator 9, document 02, A.3: its example, and rows worked out by hand. From state 0 a grip costs 2 and succeeds with 8 in 10, a pull costs 1
+-- and succeeds with 5 in 10; from state 1 a drop earns 10 with 9 in 10 and nothing with 1.
+-- Second steps, over two: after grip 80 * 9 = 720 (of the 10 in 100 the drop earns 10 * 9 = 90 in 10) ..
+unfoldable pub gain-table : List Row
+unfolding gains shows denies
+gain-table =
+    gains 2 2 2 greater (pos 6) 1 (shows (pos 700) 2 0 (0 ∷ 2 ∷ 1 ∷ []))
+    ∷ []
+
+abbrev pub verdicts-of : Model → List Row → List Verdict
+verdicts-of m rows = map (λ r. verdict m 0 (r .root)) rows
+
+pub two-shelf-verdicts : verdicts-of two-shelf table ≡ map (λ r. r .answer) table
+unfolding two-shelf table is-empty all any find keep product join count-from flatMap no-action true-of mask prop-in enabled-actions deadlocked enabled stored outcomes plans choices paths weight sum total one-if sat meets related leads is-equal bound-of goal shown verdict
 two-shelf-verdicts = refl
+
+pub two-shelf-gains : verdicts-of two-shelf gain-table ≡ map (λ r. r .answer) gain-table
+unfolding two-shelf gain-table is-empty all any find keep product join count-from flatMap no-action true-of mask prop-in enabled-actions deadlocked enabled stored outcomes plans choices paths weight sum total gain-between sat meets related leads is-equal bound-of goal shown verdict
+two-shelf-gains = refl

@@ -4,13 +4,14 @@ use mathlib.Core.Bool.{Bool, true, false, cond, _&&_}
 use mathlib.Core.List.{List, []}
 use mathlib.Core.Option.{Option, none, some}
 use lib.ListN.{length}
-use lib.IntN.{ℤ, pos}
+use lib.IntN.{ℤ}
 use Rattle.logic.specs.Lists.{all, find}
-use Rattle.logic.specs.Checked.{Checked, ok, refused}
+use Rattle.logic.specs.Checked.{Checked, ok, refused, _>>=_}
 use Rattle.logic.specs.Model.{Model}
-use Rattle.logic.specs.Quantity.{Quantity, naturals, Relation, less, equal, greater}
+use Rattle.logic.specs.Quantity.{Quantity, integers, Relation, less, equal, greater}
 use Rattle.logic.specs.Plan.{Plan, plans, choices}
-use Rattle.logic.specs.Formula.{Formula, on-plan, sat, W, meets}
+use Rattle.logic.specs.Bound.{Bound, chance, expected, total-of, met-by}
+use Rattle.logic.specs.Formula.{Formula, on-plan, sat}
 
 -- For "greater" no plan has a greater total, for "less" none has a smaller one.
 unfoldable pub leads : (Q : Quantity) {A : Type 0} → (A → Q .Value) → Relation → List A → A → Bool
@@ -23,8 +24,7 @@ is-equal less = false
 is-equal equal = true
 is-equal greater = false
 
--- What a "plan" root asks of plans: their steps, a plan's total, whether it meets the bound, whether it leads, and whether plans are
--- counted. Totals are integers, so that requests with signed totals come as further goals.
+-- What a root asks of plans: their steps, a plan's total, whether it meets the bound, whether it leads, and whether plans are counted.
 pub record Goal : Type 0 where
   pub steps : ℕ
   pub total : Plan steps → ℤ
@@ -32,20 +32,25 @@ pub record Goal : Type 0 where
   pub lead : Plan steps → Bool
   pub counts : Bool
 
--- The goal of operator 8, from a start state.
-abbrev pub plan-goal : Model → ℕ → ℕ → Formula → Relation → ℕ → ℕ → Goal
-plan-goal m s n φ r p q =
+-- The goal of a bound, from a start state.
+abbrev pub bound-goal : Model → ℕ → Bound → Goal
+bound-goal m s b =
     record {
-      steps = n;
-      total = λ π. pos (W m φ n s π);
-      met = λ π. meets naturals m n r p q (W m φ n s π);
-      lead = leads naturals (W m φ n s) r (plans m n s);
-      counts = is-equal r;
+      steps = b .steps;
+      total = total-of m s b;
+      met = met-by m s b;
+      lead = leads integers (total-of m s b) (b .relation) (plans m (b .steps) s);
+      counts = is-equal (b .relation);
     }
 
--- The goal of a root, or refusal 22: root not "plan".
+-- The bound that a root sets on plans, by the paths from a start state, or refusal 22: root not "plan". (Document 02, A.3: operator 9 is
+-- treated as 8 is.)
+unfoldable pub bound-of : Model → ℕ → Formula → Checked Bound
+bound-of m s φ = on-plan (refused 22) (λ n ψ r p q. ok (chance n (sat m ψ s) r p q)) (λ n l u r p q. ok (expected n l u r p q)) φ
+
+-- The goal of a root, or refusal 22.
 unfoldable pub goal : Model → ℕ → Formula → Checked Goal
-goal m s φ = on-plan (refused 22) (λ n ψ r p q. ok (plan-goal m s n ψ r p q)) φ
+goal m s φ = bound-of m s φ >>= λ b. ok (bound-goal m s b)
 
 -- The shown plan with its place, from 1: the first in dictionary order that meets the bound and leads.
 unfoldable pub shown : Model → ℕ → (g : Goal) → Option (ℕ × Plan (g .steps))

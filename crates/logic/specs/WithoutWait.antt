@@ -7,9 +7,10 @@ use Rattle.logic.specs.Lists.{is-empty, all, any, find, keep, product, j
 use Rattle.logic.specs.Model.{Model, no-action, true-of, mask, prop-in, enabled-actions, deadlocked, enabled, stored, outcomes}
 use Rattle.logic.specs.Quantity.{sum, equal, greater, related}
 use Rattle.logic.specs.Plan.{plans, choices, paths, weight}
-use Rattle.logic.specs.Formula.{Formula, neg, both, does, next, gain, plan, sat, W, meets}
-use Rattle.logic.specs.Verdict.{leads, is-equal, goal, shown, verdict}
-use Rattle.logic.specs.TwoShelf.{needs, lit, to, Row, row, shows, denies, done}
+use Rattle.logic.specs.Bound.{total, meets, one-if}
+use Rattle.logic.specs.Formula.{Formula, neg, both, does, next, gain, sat}
+use Rattle.logic.specs.Verdict.{leads, is-equal, bound-of, goal, shown, verdict}
+use Rattle.logic.specs.TwoShelf.{needs, lit, to, Row, row, shows, denies, done, verdicts-of}
 
 unfoldable pub without-wait : Model
 unfolding needs lit to
@@ -41,14 +42,14 @@ idle = both (neg (does 0)) (both (neg (does 1)) (neg (does 2)))
 unfoldable pub table : List Row
 unfolding row shows denies done then idle
 table =
-    row 3 (then (next done)) greater 9 10 (shows 936 3 0 (0 ∷ 2 ∷ 255 ∷ 2 ∷ 0 ∷ 2 ∷ 0 ∷ []))
-    ∷ row 3 (then (next done)) equal 720 1000 (shows 720 3 7 (1 ∷ 2 ∷ 255 ∷ 2 ∷ 1 ∷ 2 ∷ 0 ∷ []))
+    row 3 (then (next done)) greater 9 10 (shows (pos 936) 3 0 (0 ∷ 2 ∷ 255 ∷ 2 ∷ 0 ∷ 2 ∷ 0 ∷ []))
+    ∷ row 3 (then (next done)) equal 720 1000 (shows (pos 720) 3 7 (1 ∷ 2 ∷ 255 ∷ 2 ∷ 1 ∷ 2 ∷ 0 ∷ []))
     ∷ row 3 (then (next done)) equal 9 10 (denies 8)
-    ∷ row 3 (then (does 2)) greater 0 1 (shows 450 3 0 (1 ∷ 2 ∷ 255 ∷ 2 ∷ 0 ∷ 2 ∷ 0 ∷ []))
-    ∷ row 3 (then idle) greater 7 10 (shows 720 3 0 (0 ∷ 2 ∷ 255 ∷ 2 ∷ 0 ∷ 2 ∷ 0 ∷ []))
-    ∷ row 3 (gain 3 equal (pos 8)) greater 7 10 (shows 792 3 0 (0 ∷ 2 ∷ 255 ∷ 2 ∷ 0 ∷ 2 ∷ 0 ∷ []))
+    ∷ row 3 (then (does 2)) greater 0 1 (shows (pos 450) 3 0 (1 ∷ 2 ∷ 255 ∷ 2 ∷ 0 ∷ 2 ∷ 0 ∷ []))
+    ∷ row 3 (then idle) greater 7 10 (shows (pos 720) 3 0 (0 ∷ 2 ∷ 255 ∷ 2 ∷ 0 ∷ 2 ∷ 0 ∷ []))
+    ∷ row 3 (gain 3 equal (pos 8)) greater 7 10 (shows (pos 792) 3 0 (0 ∷ 2 ∷ 255 ∷ 2 ∷ 0 ∷ 2 ∷ 0 ∷ []))
     ∷ []
 
-pub without-wait-verdicts : map (λ r. verdict without-wait 0 (plan (r .steps) (r .condition) (r .rel) (r .p) (r .q))) table ≡ map (λ r. r .answer) table
-unfolding without-wait table is-empty all any find keep product join count-from flatMap no-action true-of mask prop-in enabled-actions deadlocked enabled stored outcomes plans choices paths weight sum sat W meets related leads is-equal goal shown verdict
+pub without-wait-verdicts : verdicts-of without-wait table ≡ map (λ r. r .answer) table
+unfolding without-wait table is-empty all any find keep product join count-from flatMap no-action true-of mask prop-in enabled-actions deadlocked enabled stored outcomes plans choices paths weight sum total one-if sat meets related leads is-equal bound-of goal shown verdict
 without-wait-verdicts = refl

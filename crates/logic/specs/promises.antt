@@ -2,6 +2,7 @@
 pub mod Extension
 pub mod Recursion
 pub mod Total
+pub mod Raised
 pub mod Orders
 pub mod Paths
 pub mod Follows

@@ -16,7 +16,8 @@ use Rattle.logic.specs.Quantity.{naturals}
 use Rattle.logic.specs.Plan.{Plan, plans, paths, weight}
 use Rattle.logic.specs.Choices.{read-each, read-plan, plan-of}
 use Rattle.logic.specs.Formula.{Formula, W}
-use Rattle.logic.specs.promises.Total.{total, value-of}
+use Rattle.logic.specs.Bound.{total}
+use Rattle.logic.specs.promises.Total.{value-of}
 use Rattle.logic.specs.Accepted.{Accepted}
 use Rattle.logic.proofs.Checked.{not-ok, ok-same, bind-ok, guard-ok}
 use Rattle.logic.proofs.Sums.{naturals-additive, sum-pairs, total-zero, total-step}

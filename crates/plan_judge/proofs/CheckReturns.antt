@@ -14,7 +14,8 @@ use Rattle.logic.specs.promises.Refusal.{refusal}
 use Rattle.logic.specs.Model.{Model}
 use Rattle.logic.specs.Plan.{Plan}
 use Rattle.logic.specs.Quantity.{naturals}
-use Rattle.logic.specs.Formula.{W, meets, relation, nonnegative}
+use Rattle.logic.specs.Bound.{meets}
+use Rattle.logic.specs.Formula.{W, relation, nonnegative}
 use Rattle.logic.specs.Verdict.{Goal, plan-goal}
 use Rattle.logic.proofs.Checked.{ok-same}
 use Rattle.logic.specs.Limits.{limits}

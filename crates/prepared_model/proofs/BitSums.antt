@@ -7,7 +7,7 @@ use mathlib.Core.Logic.{_⊎_, inl, inr, ⊎-elim}
 use lib.Bits.{bitXor, xor-shr, xor-mod}
 use lib.Dec.{eqb}
 use lib.Pow.{pow-pos, shr-shr}
-use Rattle.logic.specs.promises.Total.{one-if}
+use Rattle.logic.specs.Bound.{one-if}
 use Rattle.blocks.specs.Block.{sum-below}
 use Rattle.prepared_model.specs.promises.Rows.{lane}
 

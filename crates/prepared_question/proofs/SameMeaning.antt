@@ -13,7 +13,8 @@ use Rattle.logic.specs.Lists.{any, keep}
 use Rattle.logic.specs.Model.{Model, Step}
 use Rattle.logic.specs.Quantity.{Relation, naturals, sum}
 use Rattle.logic.specs.Plan.{plans, paths, weight}
-use Rattle.logic.specs.Formula.{Formula, never, prop, neg, both, does, next, plan, sat, depth, is-path, shallow, meets, Node, formula-of}
+use Rattle.logic.specs.Bound.{meets}
+use Rattle.logic.specs.Formula.{Formula, never, prop, neg, both, does, next, plan, sat, depth, is-path, shallow, Node, formula-of}
 use Rattle.prepared_question.specs.promises.Nodes.{has-left}
 use Rattle.prepared_question.specs.promises.Shared.{Same, asked, Alike}
 

@@ -14,7 +14,8 @@ use Rattle.logic.specs.Grounds.{_unless_, decided}
 use Rattle.logic.specs.Model.{Model}
 use Rattle.logic.specs.Quantity.{Relation, naturals, sum}
 use Rattle.logic.specs.Plan.{Plan, plans, paths, weight}
-use Rattle.logic.specs.Formula.{Formula, never, on-plan, W, meets}
+use Rattle.logic.specs.Bound.{meets}
+use Rattle.logic.specs.Formula.{Formula, never, on-plan, W}
 use Rattle.logic.specs.Verdict.{Goal, goal, leads, is-equal, verdict, verdict-by}
 use Rattle.logic.specs.Limits.{every-plan, path-total, plan-total, limits}
 use Rattle.blocks.specs.Bytes.{Bytes}

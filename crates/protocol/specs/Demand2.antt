@@ -17,7 +17,8 @@ use Rattle.logic.specs.Quantity.{Relation, naturals}
 use Rattle.logic.specs.Plan.{Plan, plans, choices}
 use Rattle.logic.specs.Accepted.{Accepted}
 use Rattle.logic.specs.Order.{Before, Rising, Is-plan}
-use Rattle.logic.specs.Formula.{Formula, plan, sat, meets}
+use Rattle.logic.specs.Bound.{meets}
+use Rattle.logic.specs.Formula.{Formula, plan, sat}
 use Rattle.logic.specs.Policy.{Policy, policy-weight}
 use Rattle.logic.specs.Verdict.{Goal, goal, Denial, Shown-plan, Verdict, no, yes, yes-plan}
 use Rattle.logic.specs.Limits.{limit-grounds}

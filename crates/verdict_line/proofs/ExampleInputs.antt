@@ -8,7 +8,8 @@ use Rattle.logic.specs.Lists.{is-empty, all, any, every, find, keep, product, j
 use Rattle.logic.specs.Model.{no-action, true-of, contradict, mask, prop-in, enabled-actions, deadlocked, enabled, stored, outcomes}
 use Rattle.logic.specs.Quantity.{sum, related}
 use Rattle.logic.specs.Plan.{plans, choices, paths, weight}
-use Rattle.logic.specs.Formula.{nonnegative, relation, formula-of, formulas, depth, is-path, shallow, sat, W, meets}
+use Rattle.logic.specs.Bound.{meets}
+use Rattle.logic.specs.Formula.{nonnegative, relation, formula-of, formulas, depth, is-path, shallow, sat, W}
 use Rattle.logic.specs.Verdict.{leads, is-equal, goal, shown, verdict}
 use Rattle.logic.specs.Limits.{path-total, multiply, plan-total, every-plan, limits}
 use Rattle.blocks.specs.Bytes.{Bytes, u16, u32, signed, i16, i32, little-endian, zeros, within}

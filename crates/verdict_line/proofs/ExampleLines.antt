@@ -7,7 +7,8 @@ use Rattle.logic.specs.Lists.{is-empty, all, any, find, keep, product, join, co
 use Rattle.logic.specs.Model.{no-action, true-of, mask, prop-in, enabled-actions, deadlocked, enabled, stored, outcomes}
 use Rattle.logic.specs.Quantity.{sum, less, equal, related}
 use Rattle.logic.specs.Plan.{plans, choices, paths, weight}
-use Rattle.logic.specs.Formula.{Formula, never, prop, neg, next, plan, nonnegative, sat, W, meets}
+use Rattle.logic.specs.Bound.{meets}
+use Rattle.logic.specs.Formula.{Formula, never, prop, neg, next, plan, nonnegative, sat, W}
 use Rattle.logic.specs.Verdict.{leads, is-equal, goal, shown, verdict}
 use Rattle.logic.specs.TwoShelf.{two-shelf}
 use Rattle.verdict_line.specs.Text.{text, decimal, decimal-in}

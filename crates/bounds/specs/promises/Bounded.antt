@@ -4,7 +4,8 @@ use mathlib.Core.Path.{_≡_}
 use mathlib.Core.Bool.{Bool, true, false}
 use lib.Dec.{eqb}
 use Rattle.logic.specs.Quantity.{naturals, Relation, equal}
-use Rattle.logic.specs.Formula.{meets, relation, nonnegative}
+use Rattle.logic.specs.Bound.{meets}
+use Rattle.logic.specs.Formula.{relation, nonnegative}
 use Rattle.blocks.specs.Bytes.{Bytes}
 use Rattle.models.specs.Layout.{state-count, action-count, prop-count}
 use Rattle.prepared_model.specs.promises.Rows.{model-in, Prepared}

@@ -1,5 +1,5 @@
 use borrow.Author.Needs.{needs}
-use Rattle.logic.specs.promises.Total.{one-if}
+use Rattle.logic.specs.Bound.{one-if}
 use Rattle.evaluation.proofs.bit.Statement.{statement}
 use Rattle.evaluation.proofs.bit.Tie as tie
 

@@ -3,7 +3,7 @@ use Prim.Native.Nat.{ℕ, _+_, _/_}
 use lib.Bits.{bitAnd}
 use lib.Dec.{eqb}
 use lib.ListN.{getD}
-use Rattle.logic.specs.promises.Total.{one-if}
+use Rattle.logic.specs.Bound.{one-if}
 use Rattle.questions.specs.Layout.{node-of}
 use Rattle.evaluation.specs.promises.Learnt.{value-by, known}
 use Rattle.evaluation.proofs.LearntInOrder.{other-value}

@@ -6,7 +6,7 @@ use lib.ListN.{take, drop}
 use Rattle.logic.specs.Model.{Model, Step}
 use Rattle.logic.specs.Quantity.{naturals}
 use Rattle.logic.specs.Plan.{plans}
-use Rattle.logic.specs.promises.Total.{total}
+use Rattle.logic.specs.Bound.{total}
 
 -- f is the value of the steps still to come; those taken stand in it.
 unfoldable pub totals : Model → (n s : ℕ) → (List Step → ℕ) → List ℕ

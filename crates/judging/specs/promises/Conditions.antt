@@ -9,7 +9,8 @@ use Rattle.logic.specs.Model.{Step}
 use Rattle.logic.specs.promises.Orders.{weights, order}
 use Rattle.logic.specs.Plan.{choices}
 use Rattle.logic.specs.Formula.{depth}
-use Rattle.logic.specs.promises.Total.{one-if, value-of}
+use Rattle.logic.specs.Bound.{one-if}
+use Rattle.logic.specs.promises.Total.{value-of}
 use Rattle.logic.specs.promises.Recursion.{greatest}
 use Rattle.blocks.specs.Bytes.{Bytes}
 use Rattle.models.specs.Layout.{state-count, action-count, prop-count}

@@ -7,7 +7,8 @@ use lib.Dec.{eqb}
 use lib.IntN.{ℤ}
 use lib.ListN.{getD, length, take, drop}
 use Rattle.logic.specs.Formula.{depth}
-use Rattle.logic.specs.promises.Total.{one-if, value-of}
+use Rattle.logic.specs.Bound.{one-if}
+use Rattle.logic.specs.promises.Total.{value-of}
 use Rattle.blocks.specs.Bytes.{Bytes}
 use Rattle.prepared_model.specs.promises.Rows.{step-in, Offers, lane, model-in}
 use Rattle.prepared_question.specs.promises.Nodes.{formula, depth-in}

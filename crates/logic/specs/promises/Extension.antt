@@ -10,6 +10,11 @@ use Rattle.logic.specs.Plan.{Plan}
 unfoldable pub first-choice : Model → ℕ → ℕ
 first-choice m s = getD (enabled m s) 0 0
 
+-- The plan whose choice in a state is given by the steps left and the state.
+unfoldable pub chosen-plan : Model → (ℕ → ℕ → ℕ) → (n : ℕ) → ℕ → Plan n
+chosen-plan m τ zero s = tt
+chosen-plan m τ (suc n) s = (τ (suc n) s, map (λ o. chosen-plan m τ n (o .target)) (outcomes m s (τ (suc n) s)))
+
 unfoldable pub first-plan : Model → (n : ℕ) → ℕ → Plan n
 first-plan m zero s = tt
 first-plan m (suc n) s = (first-choice m s, map (λ o. first-plan m n (o .target)) (outcomes m s (first-choice m s)))

@@ -5,7 +5,7 @@ use lib.Bits.{bitAnd}
 use lib.Dec.{eqb}
 use lib.ListN.{getD}
 use Rattle.logic.specs.Model.{prop-in}
-use Rattle.logic.specs.promises.Total.{one-if}
+use Rattle.logic.specs.Bound.{one-if}
 use Rattle.prepared_model.specs.promises.Rows.{model-in}
 use Rattle.judging.proofs.TruthByOperator.{truth-prop, truth-not, truth-and, truth-none}
 use borrow.Author.Needs.{needs}

@@ -1,5 +1,5 @@
 use mathlib.Core.Path.{sym, ap, _∙_}
-use Rattle.logic.specs.promises.Total.{one-if}
+use Rattle.logic.specs.Bound.{one-if}
 use borrow.Author.Needs.{needs}
 use Rattle.judging.proofs.truth.truth_at.Statement.{statement}
 use Rattle.judging.proofs.truth.truth_at.Tie as tie

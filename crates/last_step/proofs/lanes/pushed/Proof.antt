@@ -1,7 +1,7 @@
 use native.Mathlib.Omega.{arith}
 use mathlib.Core.Path.{refl}
 use borrow.Author.Needs.{needs}
-use Rattle.logic.specs.promises.Total.{one-if}
+use Rattle.logic.specs.Bound.{one-if}
 use Rattle.last_step.proofs.lanes.pushed.Statement.{statement}
 use Rattle.last_step.proofs.lanes.pushed.Tie as tie
 

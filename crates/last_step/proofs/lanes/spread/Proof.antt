@@ -1,5 +1,5 @@
 use borrow.Author.Tests.{ne-eqb}
-use Rattle.logic.specs.promises.Total.{one-if}
+use Rattle.logic.specs.Bound.{one-if}
 use Rattle.prepared_model.proofs.BitSums.{lane-none, lane-ones}
 use Rattle.last_step.proofs.lanes.spread.Statement.{statement}
 use Rattle.last_step.proofs.lanes.spread.Tie as tie

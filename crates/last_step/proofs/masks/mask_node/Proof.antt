@@ -10,7 +10,7 @@ use mir.Syntax.{w32}
 use mir.Val.{toZ, ofZ}
 use Rattle.logic.specs.Formula.{Node, relation}
 use Rattle.logic.specs.Quantity.{integers, related}
-use Rattle.logic.specs.promises.Total.{one-if}
+use Rattle.logic.specs.Bound.{one-if}
 use Rattle.prepared_model.specs.promises.Rows.{choice-in, step-in, lane}
 use Rattle.questions.specs.Layout.{node-of}
 use Rattle.prepared_question.specs.promises.Nodes.{reads-left}

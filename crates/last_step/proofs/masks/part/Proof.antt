@@ -1,7 +1,7 @@
 use mathlib.Core.Path.{subst, _∙_}
 use mathlib.Core.Bool.{not}
 use lib.Dec.{eqb}
-use Rattle.logic.specs.promises.Total.{one-if}
+use Rattle.logic.specs.Bound.{one-if}
 use Rattle.last_step.specs.promises.Lanes.{Lanes}
 use borrow.Author.Needs.{needs}
 use Rattle.last_step.proofs.masks.part.Statement.{statement}

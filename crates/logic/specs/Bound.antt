@@ -1,0 +1,50 @@
+-- Bounds on plans: what operators 8 and 9 ask of a plan. Document 01, "Formulas", for operator 8; document 02, A.3, for operator 9, which is
+-- Definition 13 of the r-PLBP thesis. A path is worth something; a plan's total is what its paths are worth, weighed and summed; and the
+-- total must stand in a relation to p / q of what all paths weigh together.
+use Prim.Native.Nat.{ℕ, _-_, _^_}
+use mathlib.Core.Bool.{Bool, true, false}
+use mathlib.Core.List.{List}
+use lib.ListN.{take, drop}
+use lib.IntN.{ℤ, pos}
+use Rattle.logic.specs.Model.{Model, Step}
+use Rattle.logic.specs.Quantity.{Quantity, integers, sum, Relation, related}
+use Rattle.logic.specs.Plan.{Plan, paths, weight}
+
+-- Over the paths that a plan allows from a state: weight times value, summed.
+unfoldable pub total : (Q : Quantity) → Model → (n : ℕ) → ℕ → Plan n → (List Step → Q .Value) → Q .Value
+total Q m n s π f = sum Q (λ r. Q .times (weight r) (f r)) (paths m n s π)
+
+-- A total w of an n-step plan, times q, stands in the relation to p times D to the n.
+unfoldable pub meets : (Q : Quantity) → Model → ℕ → Relation → Q .Value → ℕ → Q .Value → Bool
+meets Q m n r p q w = related Q r (Q .times q w) (Q .times (m .denominator ^ n) p)
+
+pub record Bound : Type 0 where
+  pub steps : ℕ
+  pub worth : List Step → ℤ
+  pub relation : Relation
+  pub p : ℤ
+  pub q : ℕ
+
+unfoldable pub one-if : Bool → ℕ
+one-if true = 1
+one-if false = 0
+
+-- Operator 8: a path is worth 1 where the condition is true, else 0. So the total is document 01's W, the summed weights of the paths on
+-- which the condition is true (proved: `W-total`).
+abbrev pub chance : ℕ → (List Step → Bool) → Relation → (p q : ℕ) → Bound
+chance n holds r p q = record { steps = n; worth = λ ρ. pos (one-if (holds ρ)); relation = r; p = pos p; q = q }
+
+-- The rewards of steps l to u of a path, counted from 1, summed: Definition 12.
+unfoldable pub gain-between : (l u : ℕ) → List Step → ℤ
+gain-between l u ρ = sum integers (λ o. o .reward) (drop (l - 1) (take u ρ))
+
+-- Operator 9: a path is worth its gain of steps l to u. So the total is the expected gain of Definition 13, times D to the n.
+abbrev pub expected : (n l u : ℕ) → Relation → ℤ → ℕ → Bound
+expected n l u r p q = record { steps = n; worth = gain-between l u; relation = r; p = p; q = q }
+
+-- A plan's total from a state, and whether it meets the bound.
+abbrev pub total-of : Model → ℕ → (b : Bound) → Plan (b .steps) → ℤ
+total-of m s b π = total integers m (b .steps) s π (b .worth)
+
+abbrev pub met-by : Model → ℕ → (b : Bound) → Plan (b .steps) → Bool
+met-by m s b π = meets integers m (b .steps) (b .relation) (b .p) (b .q) (total-of m s b π)
