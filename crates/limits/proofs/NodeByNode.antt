@@ -1,14 +1,16 @@
--- The test of all "plan" nodes by the nodes' numbers: node by node, the formula of a node is a "plan" just where its operator is 8.
+-- The test of all nodes that set a bound on plans by the nodes' numbers: node by node, the formula of a node sets one just where its operator is 8
+-- or 9.
 use Prim.Native.Nat.{ℕ, zero, suc, _+_, _*_, _≤_, min}
 use native.Mathlib.Omega.{arith}
-use native.Mathlib.Decide.{decLe, ℕ-discrete}
+use native.Mathlib.Decide.{decLe}
 use native.Mathlib.Nat.{min-eq-left, min-eq-right}
 use mathlib.Core.Path.{_≡_, refl, sym, ap, ap₂, _∙_}
+use mathlib.Core.Logic.{⊎-elim}
 use mathlib.Core.Bool.{Bool, true, false, not, _||_, false≢true}
 use mathlib.Core.List.{List}
 use lib.Dec.{eqb, leb}
 use lib.ListN.{getD, length}
-use borrow.Author.Tests.{le-leb, leb-true, eq-eqb, ne-eqb}
+use borrow.Author.Tests.{le-leb, leb-true, ne-eqb}
 use Rattle.logic.specs.Lists.{every}
 use Rattle.logic.specs.Checked.{Checked, ok, guard, _>>_}
 use Rattle.logic.specs.promises.Refusal.{refusal}
@@ -20,28 +22,30 @@ use Rattle.logic.specs.Limits.{every-plan, plan-total, limits}
 use Rattle.logic.proofs.Tests.{same-test, every-intro}
 use Rattle.blocks.specs.Bytes.{Bytes}
 use Rattle.questions.specs.Layout.{node-count, node-of, formulas-of}
-use Rattle.questions.specs.promises.Formed.{Compares}
+use Rattle.questions.specs.promises.Formed.{Compares, sets-bound}
 use Rattle.questions.specs.promises.Tables.{formulas-before}
 use Rattle.questions.proofs.TableNodeByNode.{formula-here, every-same}
 use Rattle.prepared_question.proofs.SameVerdict.{plan-test, every-node}
 use Rattle.limits.specs.promises.Totals.{total, limit, cap, Totals, fits, node-fits, bounded}
-use Rattle.questions.proofs.FormulaByOperator.{row-8, other-on-plan}
+use Rattle.questions.proofs.FormulaByOperator.{row-8, row-9, other-on-plan}
+use Rattle.questions.proofs.SetsBound.{sets-which, sets-neither}
 
 -- ---- every plan, node by node
 
 module _ (f : ℕ → Relation → ℕ → Bool) (m : Model) where
   abbrev node-test : Node → Bool
-  node-test x = not (eqb (x .operator) 8) || every (length (m .states)) (f (x .n) (relation (x .right)))
+  node-test x = not (sets-bound (x .operator)) || every (length (m .states)) (f (x .n) (relation (x .right)))
 
   plan-node : (fs : List Formula) (x : Node) → plan-test f m (formula-of fs x) ≡ node-test x
-  plan-node fs x = go (ℕ-discrete (x .operator) 8)
+  plan-node fs x = go (sets-bound (x .operator)) refl
     where
-      by : {t : Bool} → eqb (x .operator) 8 ≡ t → (not t || every (length (m .states)) (f (x .n) (relation (x .right)))) ≡ node-test x
+      by : {t : Bool} → sets-bound (x .operator) ≡ t → (not t || every (length (m .states)) (f (x .n) (relation (x .right)))) ≡ node-test x
       by e = ap (λ t. not t || every (length (m .states)) (f (x .n) (relation (x .right)))) (sym e)
 
-      go : Dec (x .operator ≡ 8) → plan-test f m (formula-of fs x) ≡ node-test x
-      go (yes e) = ap (plan-test f m) (row-8 fs x e) ∙ by (eq-eqb (x .operator) 8 e)
-      go (no n) = other-on-plan fs x true _ n ∙ by (ne-eqb (x .operator) 8 n)
+      go : (t : Bool) → sets-bound (x .operator) ≡ t → plan-test f m (formula-of fs x) ≡ node-test x
+      go true e =
+          ⊎-elim (λ o. ap (plan-test f m) (row-8 fs x o) ∙ by e) (λ o. ap (plan-test f m) (row-9 fs x o) ∙ by e) (sets-which (x .operator) e)
+      go false e = let n = sets-neither (x .operator) e in other-on-plan fs x true _ _ (n .0) (n .1) ∙ by e
 
   pub nodes-all : (b : Bytes) → every-plan f m (formulas-of b) ≡ every (node-count b) (λ i. node-test (node-of b i))
   nodes-all b = every-node f m b ∙ every-same (node-count b) (λ i h. ap (plan-test f m) (formula-here b i h) ∙ test i (node-of b i))
@@ -71,47 +75,49 @@ equal-numbered (suc (suc zero)) h g = refl
 equal-numbered (suc (suc (suc k))) h g = sym (ne-eqb (suc (suc (suc k))) 2 (λ e. omega arith))
 
 module _ (plans : Bool) (x : Node) where
-  pub bounded-other : (x .operator ≡ 8 → ⊥) → false ≡ bounded plans x
+  pub bounded-other : sets-bound (x .operator) ≡ false → false ≡ bounded plans x
   unfolding bounded
-  bounded-other h = rw (ne-eqb (x .operator) 8 h) refl
+  bounded-other h = rw h refl
 
-  bounded-by : x .operator ≡ 8 → bounded plans x ≡ (not plans || eqb (x .right) 2)
+  bounded-by : sets-bound (x .operator) ≡ true → bounded plans x ≡ (not plans || eqb (x .right) 2)
   unfolding bounded
-  bounded-by e = rw (eq-eqb (x .operator) 8 e) refl
+  bounded-by e = rw e refl
 
-  pub bounded-paths : x .operator ≡ 8 → not plans ≡ true → not plans ≡ bounded plans x
+  pub bounded-paths : sets-bound (x .operator) ≡ true → not plans ≡ true → not plans ≡ bounded plans x
   bounded-paths e h = h ∙ ap (λ t. t || eqb (x .right) 2) (sym h) ∙ sym (bounded-by e)
 
-  pub bounded-plans : x .operator ≡ 8 → not plans ≡ false → eqb (x .right) 2 ≡ bounded plans x
+  pub bounded-plans : sets-bound (x .operator) ≡ true → not plans ≡ false → eqb (x .right) 2 ≡ bounded plans x
   bounded-plans e h = ap (λ t. t || eqb (x .right) 2) (sym h) ∙ sym (bounded-by e)
 
-  pub bounded-operator : bounded plans x ≡ true → x .operator ≡ 8
-  bounded-operator e = go (ℕ-discrete (x .operator) 8)
+  pub bounded-operator : bounded plans x ≡ true → sets-bound (x .operator) ≡ true
+  bounded-operator e = go (sets-bound (x .operator)) refl
     where
-      go : Dec (x .operator ≡ 8) → x .operator ≡ 8
-      go (yes h) = h
-      go (no h) = absurd (false≢true (bounded-other h ∙ e))
+      go : (t : Bool) → sets-bound (x .operator) ≡ t → sets-bound (x .operator) ≡ true
+      go true h = h
+      go false h = absurd (false≢true (bounded-other h ∙ e))
 
-module _ (m : Model) (x : Node) (w : x .operator ≡ 8 → Compares x) where
-  node-fits-plan : (plans : Bool) → x .operator ≡ 8 → every (length (m .states)) (fits plans m (x .n) (relation (x .right))) ≡ node-fits plans m x
+module _ (m : Model) (x : Node) (w : sets-bound (x .operator) ≡ true → Compares x) where
+  node-fits-plan : (plans : Bool) → sets-bound (x .operator) ≡ true
+      → every (length (m .states)) (fits plans m (x .n) (relation (x .right))) ≡ node-fits plans m x
   unfolding node-fits
-  node-fits-plan plans e = rw (eq-eqb (x .operator) 8 e) refl
+  node-fits-plan plans e = rw e refl
 
-  relation-equal : x .operator ≡ 8 → is-equal (relation (x .right)) ≡ eqb (x .right) 2
+  relation-equal : sets-bound (x .operator) ≡ true → is-equal (relation (x .right)) ≡ eqb (x .right) 2
   relation-equal e = equal-numbered (x .right) (w e .relation-from) (w e .relation-to)
 
   -- A node with no limit passes.
   pub unbounded-fits : (plans : Bool) → bounded plans x ≡ false → true ≡ node-fits plans m x
   unfolding node-fits fits
-  unbounded-fits plans h = go (ℕ-discrete (x .operator) 8)
+  unbounded-fits plans h = go (sets-bound (x .operator)) refl
     where
-      free : (t : Bool) → x .operator ≡ 8 → (not t || eqb (x .right) 2) ≡ false → every (length (m .states)) (fits t m (x .n) (relation (x .right))) ≡ true
+      free : (t : Bool) → sets-bound (x .operator) ≡ true → (not t || eqb (x .right) 2) ≡ false
+          → every (length (m .states)) (fits t m (x .n) (relation (x .right))) ≡ true
       free true e k = every-intro _ (length (m .states)) (λ s l. ap (λ u. not u || leb (plan-total m (x .n) s) 65536) (relation-equal e ∙ k))
       free false e k = absurd (false≢true (sym k))
 
-      go : Dec (x .operator ≡ 8) → true ≡ node-fits plans m x
-      go (yes e) = sym (free plans e (sym (bounded-by plans x e) ∙ h)) ∙ node-fits-plan plans e
-      go (no e) = rw (ne-eqb (x .operator) 8 e) refl
+      go : (t : Bool) → sets-bound (x .operator) ≡ t → true ≡ node-fits plans m x
+      go true e = sym (free plans e (sym (bounded-by plans x e) ∙ h)) ∙ node-fits-plan plans e
+      go false e = rw e refl
 
   -- A node with a limit passes where the table's totals are within it.
   pub bounded-fits : (plans : Bool) (table : List ℕ) → bounded plans x ≡ true → Totals plans m table
@@ -123,7 +129,8 @@ module _ (m : Model) (x : Node) (w : x .operator ≡ 8 → Compares x) where
       (λ s l. ap (λ v. leb v (limit plans)) (t .at (x .n) s (w e .few-steps) l) ∙ limit-capped plans (total plans m (x .n) s) ∙ same plans s e (sym (bounded-by plans x e) ∙ h))
       ∙ node-fits-plan plans e
     where
-      same : (t : Bool) (s : ℕ) → x .operator ≡ 8 → (not t || eqb (x .right) 2) ≡ true → leb (total t m (x .n) s) (limit t) ≡ fits t m (x .n) (relation (x .right)) s
+      same : (t : Bool) (s : ℕ) → sets-bound (x .operator) ≡ true → (not t || eqb (x .right) 2) ≡ true
+          → leb (total t m (x .n) s) (limit t) ≡ fits t m (x .n) (relation (x .right)) s
       same true s e k = ap (λ u. not u || leb (plan-total m (x .n) s) 65536) (sym (relation-equal e ∙ k))
       same false s e k = refl
 

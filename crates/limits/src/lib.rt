@@ -11,7 +11,7 @@ ghost use Rattle.logic.specs.Limits.{every-plan, limits};
 ghost use Rattle.models.specs.Layout.{state-count, action-count, prop-count};
 ghost use Rattle.prepared_model.specs.promises.Rows.{choices-in, choice-in, model-in, Prepared};
 ghost use Rattle.questions.specs.Layout.{node-of, formulas-of, question-of};
-ghost use Rattle.questions.specs.promises.Formed.{Compares};
+ghost use Rattle.questions.specs.promises.Formed.{Compares, sets-bound};
 ghost use Rattle.prepared_question.specs.promises.Nodes.{Nodes};
 ghost use Rattle.limits.specs.promises.Totals.{gather, step-total, Totals, fits, node-fits};
 ghost use Rattle.limits.specs.promises.Totals as spec;
@@ -21,7 +21,7 @@ use prepared_question::QUESTION;
 use prepared_question::asks_equal;
 use prepared_question::operator;
 use prepared_question::steps;
-use questions::PLAN;
+use questions::sets_bound;
 
 // The most plans of an "equal" that are served (ground 25).
 const MOST_PLANS: u64 = 65536;
@@ -157,15 +157,15 @@ fn row_fits(table: &[u64; COUNTS], n: usize, states: usize, plans: bool) -> bool
     right
 }
 
-// Whether a limit is set to node i: it is a "plan" node, and where plans are counted its relation is "equal".
+// Whether a limit is set to node i: it sets a bound on plans, and where plans are counted its relation is "equal".
 fn bounded(q: &[u8; QUESTION], i: u8, plans: bool) -> bool
     requires { ⌜ i < 40 ⌝ }
     ensures value { λ r. ⌜ r ≡ spec.bounded plans (node-of (now (q .entry)) i) ⌝ }
 {
-    if operator(q, i) != PLAN {
-        return false;
+    if sets_bound(operator(q, i)) {
+        return !plans || asks_equal(q, i);
     }
-    !plans || asks_equal(q, i)
+    false
 }
 
 fn node_fits(
@@ -177,7 +177,7 @@ fn node_fits(
 ) -> bool
     requires { ⌜
         Prepared (now m) × Totals plans (model-in (now m)) (now table) × (i < 40)
-        × (node-of (now q) i .operator ≡ 8 → Compares (node-of (now q) i)) ⌝ }
+        × (sets-bound (node-of (now q) i .operator) ≡ true → Compares (node-of (now q) i)) ⌝ }
     ensures value { λ r. ⌜ r ≡ node-fits plans (model-in (now (m .entry))) (node-of (now (q .entry)) i) ⌝ }
 {
     if !bounded(q, i, plans) {

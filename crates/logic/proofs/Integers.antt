@@ -110,20 +110,20 @@ lt-le-z a b p = le-trans-z a (sucℤ a) b (le-by a (sucℤ a) 1 (sym (+ℤ-one a
 
 pub integers-ordered : Ordered integers
 integers-ordered =
-    record
-    { le-self = λ a. le-by a a 0 (sym (+ℤ-idr a))
-    ; trans = le-trans-z
-    ; lt-le = lt-le-z
-    ; plus-le = plus-le
-    ; plus-lt-le = λ a b c d p q. lt-by (a +ℤ c) (b +ℤ d) (subst (λ z. T (leZ z (b +ℤ d))) (sucℤ-+ℤ a c) (plus-le (sucℤ a) b c d (step-le a b p) q))
-    ; plus-le-lt = λ a b c d p q. lt-by (a +ℤ c) (b +ℤ d) (subst (λ z. T (leZ z (b +ℤ d))) (+ℤ-sucℤ a c) (plus-le a b (sucℤ c) d p (step-le c d q)))
-    ; times-le = times-le
-    ; times-lt = times-lt
+    record {
+      le-self = λ a. le-by a a 0 (sym (+ℤ-idr a));
+      trans = le-trans-z;
+      lt-le = lt-le-z;
+      plus-le = plus-le;
+      plus-lt-le = λ a b c d p q. lt-by (a +ℤ c) (b +ℤ d) (subst (λ z. T (leZ z (b +ℤ d))) (sucℤ-+ℤ a c) (plus-le (sucℤ a) b c d (step-le a b p) q));
+      plus-le-lt = λ a b c d p q. lt-by (a +ℤ c) (b +ℤ d) (subst (λ z. T (leZ z (b +ℤ d))) (+ℤ-sucℤ a c) (plus-le a b (sucℤ c) d p (step-le c d q)));
+      times-le = times-le;
+      times-lt = times-lt;
     }
   where
     times-lt : (k : ℕ) (a b : ℤ) → 0 < k → T (not (leZ b a)) → T (not (leZ (pos k *ℤ b) (pos k *ℤ a)))
     times-lt k a b h p =
         let u = times-le k (sucℤ a) b (step-le a b p) in
         lt-by (pos k *ℤ a) (pos k *ℤ b) (le-trans-z (sucℤ (pos k *ℤ a)) (pos k *ℤ sucℤ a) (pos k *ℤ b)
-          (subst (λ z. T (leZ (sucℤ (pos k *ℤ a)) (pos k *ℤ z))) (+ℤ-one a) (subst (λ z. T (leZ (sucℤ (pos k *ℤ a)) z)) (sym (times-plus k a (pos 1))) (subst (λ z. T (leZ z (pos k *ℤ a +ℤ pos (k * 1)))) (+ℤ-one (pos k *ℤ a))
-            (plus-le (pos k *ℤ a) (pos k *ℤ a) (pos 1) (pos (k * 1)) (le-by (pos k *ℤ a) (pos k *ℤ a) 0 (sym (+ℤ-idr (pos k *ℤ a)))) (le→leb 1 (k * 1) (omega arith)))))) u)
+        (subst (λ z. T (leZ (sucℤ (pos k *ℤ a)) (pos k *ℤ z))) (+ℤ-one a) (subst (λ z. T (leZ (sucℤ (pos k *ℤ a)) z)) (sym (times-plus k a (pos 1))) (subst (λ z. T (leZ z (pos k *ℤ a +ℤ pos (k * 1)))) (+ℤ-one (pos k *ℤ a))
+        (plus-le (pos k *ℤ a) (pos k *ℤ a) (pos 1) (pos (k * 1)) (le-by (pos k *ℤ a) (pos k *ℤ a) 0 (sym (+ℤ-idr (pos k *ℤ a)))) (le→leb 1 (k * 1) (omega arith)))))) u)

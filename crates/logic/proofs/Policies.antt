@@ -160,9 +160,10 @@ module _ {m : Model} (accepted : Accepted m) where
     sat-policy φ r p q ρ = (
       λ h.
           let w = any-some _ (plans m n s) h in
-          let x = plan-policy (w .0) (w .1) in
-          (x .0,
-          ap (λ l. meets naturals m n r p q (sum naturals weight (keep (sat m φ s) l))) (sym (x .1)) ∙ sym (met-condition m s n φ r p q (w .0)) ∙ w .2),
+          let x = plan-policy (w .0) (w .1) in (
+            x .0,
+            ap (λ l. meets naturals m n r p q (sum naturals weight (keep (sat m φ s) l))) (sym (x .1)) ∙ sym (met-condition m s n φ r p q (w .0)) ∙ w .2,
+          ),
       λ x.
           let w = policy-plan accepted (x .0) k in
           any-there _ (w .1)
@@ -174,8 +175,7 @@ module _ {m : Model} (accepted : Accepted m) where
         → (sat m (earns n l u r p q) s ρ ≡ true) ↔ ((π : Policy m n s) × (meets integers m n r p q (policy-gain m l u n s π) ≡ true))
     unfolding sat total policy-gain
     gain-policy l u r p q ρ =
-        let met : List (List Step) → Bool = λ ps. meets integers m n r p q (sum integers (λ σ. integers .times (weight σ) (gain-between l u σ)) ps) in
-        (
+        let met : List (List Step) → Bool = λ ps. meets integers m n r p q (sum integers (λ σ. integers .times (weight σ) (gain-between l u σ)) ps) in (
           λ h.
               let w = any-some _ (plans m n s) h in
               let x = plan-policy (w .0) (w .1) in

@@ -105,6 +105,13 @@ met-condition m s n φ r p q π = ap (meets integers m n r (pos p) q) (condition
 
 -- ---- operator 9
 
+pub modest-reward : (z : ℤ) → leZ (negsuc 999) z ≡ true → leZ z (pos 1000) ≡ true → Modest z
+unfolding raise
+modest-reward (pos k) a b = let h = leb→le k 1000 (subst T (sym b) tt) in record { up = ap pos (omega arith); small = omega arith }
+modest-reward (negsuc k) a b =
+    let h = leb→le k 999 (subst T (sym a) tt) in
+    record { up = ap pos (omega arith) ∙ sym (subℕ-ge 1000 (suc k) (omega arith)); small = omega arith }
+
 -- A list of steps with modest rewards.
 abbrev pub All-modest : List Step → Type 0
 All-modest r = (o : Step) → List·Memᴰ o r → Modest (o .reward)
@@ -162,9 +169,10 @@ module _ (m : Model) (accepted : Accepted m) (modest : Modest-rewards m) where
       let x : Executable m s (π .0) = record { state = k; choice = u .0 } in
       let w = join-member (λ o q. map (λ r. o ∷ r) (paths m n (o .target) q)) (u .1) j in
       let v = map-member (λ r. w .0 ∷ r) (paths m n (w .0 .target) (w .1)) (w .4) in
-      let below = path-modest n (w .0 .target) (accepted .inside x (w .0) (w .2)) (w .1) (w .3) (v .0) (v .1) in
-      (ap length (v .2) ∙ ap suc (below .0),
-      λ o h. ⊎-elim (λ e. subst (λ z. Modest (z .reward)) (sym e) (modest .modest x (w .0) (w .2))) (below .1 o) (List·Memᴰ·cases-cons (subst (List·Memᴰ o) (v .2) h)))
+      let below = path-modest n (w .0 .target) (accepted .inside x (w .0) (w .2)) (w .1) (w .3) (v .0) (v .1) in (
+        ap length (v .2) ∙ ap suc (below .0),
+        λ o h. ⊎-elim (λ e. subst (λ z. Modest (z .reward)) (sym e) (modest .modest x (w .0) (w .2))) (below .1 o) (List·Memᴰ·cases-cons (subst (List·Memᴰ o) (v .2) h)),
+      )
 
   -- The totals of operator 9 over n steps, raised.
   pub raises-gain : (n s a u : ℕ) → s < length (m .states) → u ≤ n

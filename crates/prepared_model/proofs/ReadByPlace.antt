@@ -6,9 +6,10 @@ use mathlib.Core.List.{List, [], List·Memᴰ}
 use lib.Dec.{eqb}
 use lib.ListN.{length}
 use Rattle.logic.specs.Lists.{tabulate}
-use Rattle.logic.specs.Model.{mask, prop-in, enabled, outcomes}
+use Rattle.logic.specs.Model.{Step, mask, prop-in, enabled, outcomes}
 use Rattle.logic.specs.Accepted.{Executable}
 use Rattle.logic.specs.Quantity.{naturals, sum}
+use Rattle.logic.specs.promises.Raised.{Modest, Modest-rewards}
 use Rattle.logic.proofs.Tests.{length-tabulate, counted-in}
 use Rattle.logic.proofs.Members.{in-map}
 use Rattle.blocks.specs.Block.{sum-below}
@@ -72,3 +73,15 @@ module _ {m : List ℕ} (w : Prepared m) (s : ℕ) (h : s < state-count m) where
   none-else a f =
       w .accepted .defined s a (rw (states-are m) h)
       (λ e. let x = tabulate-member (choice-in m s) (choices-in m s) (subst (List·Memᴰ a) (w .choices s h) e) in f (x .0) (x .1) (sym (x .2)))
+
+-- All rewards of a prepared model are from -1000 to 1000.
+pub modest-rewards : {m : List ℕ} → Prepared m → Modest-rewards (model-in m)
+modest-rewards {m} w =
+    record {
+      modest = λ {s} {a} x o i.
+          let h : s < state-count m = subst (λ k. s < k) (states-are m) (x .state) in
+          let c = tabulate-member (choice-in m s) (choices-in m s) (subst (List·Memᴰ a) (w .choices s h) (x .choice)) in
+          let e : outcomes (model-in m) s a ≡ tabulate (outcomes-in m s (c .0)) (step-in m s (c .0)) = ap (outcomes (model-in m) s) (c .2) ∙ w .rows s (c .0) h (c .1) in
+          let y = tabulate-member (step-in m s (c .0)) (outcomes-in m s (c .0)) (subst (List·Memᴰ o) e i) in
+          subst (λ (z : Step). Modest (z .reward)) (sym (y .2)) (w .raisable s (c .0) (y .0) h (c .1, y .1));
+    }

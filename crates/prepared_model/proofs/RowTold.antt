@@ -3,16 +3,19 @@
 use Prim.Native.Nat.{ℕ, _+_, _*_, _≤_, _<_}
 use native.Mathlib.Omega.{arith}
 use native.Mathlib.Nat.{zero-add}
-use mathlib.Core.Path.{_≡_, sym, ap, ap₂, subst, _∙_}
+use mathlib.Core.Path.{_≡_, refl, sym, ap, ap₂, subst, _∙_}
 use mathlib.Core.Bool.{true}
 use mathlib.Core.List.{List, [], _∷_}
 use lib.ListN.{getD, drop}
 use lib.Seq.{getD-take, getD-drop}
+use lib.IntN.{pos}
 use lib.Signed.{mag}
 use Rattle.logic.specs.promises.Refusal.{refusal}
 use Rattle.logic.specs.Lists.{count-from, tabulate}
 use Rattle.logic.specs.Model.{Step, silent-step, deadlocked, enabled, outcomes}
+use Rattle.logic.specs.promises.Raised.{Modest}
 use Rattle.logic.proofs.Tests.{length-empty}
+use Rattle.logic.proofs.WholeTotals.{modest-reward}
 use Rattle.logic.proofs.SilentMove.{silent-alone, silent-outcomes}
 use Rattle.blocks.specs.Bytes.{Bytes, signed}
 use Rattle.blocks.specs.Block.{sum-below}
@@ -30,6 +33,7 @@ pub record Fair (b : Bytes) (o : Step) : Type 0 where
   pub reaches : o .target < state-count b
   pub light : o .weight ≤ 100
   pub modest : mag (o .reward) ≤ 1000
+  pub raisable : Modest (o .reward)
 
 pub record Told (b m : List ℕ) (s : ℕ) : Type 0 where
   pub choices : enabled (model-of b) s ≡ tabulate (choices-in m s) (choice-in m s)
@@ -73,7 +77,7 @@ module _ (b : Bytes) (e : refusal (read-model b) ≡ 0) (m : List ℕ) (s : ℕ)
   fair-step : Fair b (step-in m s 0 0)
   fair-step =
       subst (Fair b) (sym the-step)
-      (record { reaches = h; light = omega (arith, denominator-held b, sizes b (passed-all b e .sizes) .parts); modest = omega arith })
+      (record { reaches = h; light = omega (arith, denominator-held b, sizes b (passed-all b e .sizes) .parts); modest = omega arith; raisable = modest-reward (pos 0) refl refl })
 
   the-sum : (y : ℕ) → y < 16 → sum-in m s 0 y ≡ weighed m s 0 y
   unfolding sum-below

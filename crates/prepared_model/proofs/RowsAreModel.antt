@@ -23,6 +23,7 @@ use Rattle.models.proofs.GroundsPassed.{Passed, passed-all, passed-sized, some-
 use Rattle.models.proofs.OutcomesOfCell.{stored-are}
 use Rattle.models.proofs.ModelOfBytes.{enabled-entries, deadlocked-entries, accepted}
 use Rattle.logic.proofs.SilentMove.{choices-are-actions, outcomes-stored}
+use Rattle.logic.proofs.WholeTotals.{modest-reward}
 use Rattle.prepared_model.specs.promises.Rows.{choices-in, choice-in, outcomes-in, step-in, row-in, sum-in, weighed, lane, enabled-in, place-of, model-in, Prepared, Prepares}
 use Rattle.prepared_model.specs.promises.Filled.{listed, source, Acting, Row, acting, silent}
 use Rattle.blocks.proofs.Sums.{sum-same}
@@ -47,9 +48,9 @@ model-alike {p} {p′} {d} {d′} {s} {s′} {a} {a′} {r} {r′} e1 e2 e3 e4 e
     let make : ℕ → ℕ → List ℕ → List Action → List (List (List Step)) → Model = λ p d s a r. record { propositions = p; denominator = d; states = s; actions = a; rows = r } in
     ap₂ (λ x y. make x y s a r) e1 e2 ∙ ap₂ (λ x y. make p′ d′ x y r) e3 e4 ∙ ap (make p′ d′ s′ a′) e5
 
-modest-reward : (z : ℤ) → leZ (negsuc 999) z ≡ true → leZ z (pos 1000) ≡ true → mag z ≤ 1000
-modest-reward (pos k) a b = leb-true k 1000 b
-modest-reward (negsuc k) a b = omega (arith, leb-true k 999 a)
+small-reward : (z : ℤ) → leZ (negsuc 999) z ≡ true → leZ z (pos 1000) ≡ true → mag z ≤ 1000
+small-reward (pos k) a b = leb-true k 1000 b
+small-reward (negsuc k) a b = omega (arith, leb-true k 999 a)
 
 -- What ground 5 found of an outcome.
 fair-range : (b : Bytes) (o : Step) → outcome-in-range b o ≡ true → Fair b o
@@ -63,7 +64,8 @@ fair-range b o e =
     record {
       reaches = ltb-true (o .target) (state-count b) (z .0);
       light = leb-true (o .weight) 100 (and-both (leb 1 (o .weight)) _ (z .1) .1);
-      modest = modest-reward (o .reward) (y .1) (x .1);
+      modest = small-reward (o .reward) (y .1) (x .1);
+      raisable = modest-reward (o .reward) (y .1) (x .1);
     }
 
 module _ (b : Bytes) (e : refusal (read-model b) ≡ 0) (m : List ℕ) (small : (k : ℕ) → k < 512 → getD m k 0 < 256) (head : (k : ℕ) → k < 512 → getD m k 0 ≡ getD b k 0)
@@ -274,6 +276,7 @@ module _ (b : Bytes) (e : refusal (read-model b) ≡ 0) (m : List ℕ) (small : 
         inside = λ s i o h g. rw counts (told s (omega arith) .fair i o g .reaches);
         light = λ s i o h g. told s (omega arith) .fair i o g .light;
         modest = λ s i o h g. told s (omega arith) .fair i o g .modest;
+        raisable = λ s i o h g. told s (omega arith) .fair i o g .raisable;
         sums = λ s i y h. told s (omega arith) .sums i y;
       }
 

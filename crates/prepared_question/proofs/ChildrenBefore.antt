@@ -12,7 +12,7 @@ use Rattle.questions.specs.Layout.{node-count, node-of}
 use Rattle.questions.specs.Grounds.{read-question}
 use Rattle.questions.specs.promises.Formed.{Formed}
 use Rattle.questions.proofs.TableNodeByNode.{by-operator}
-use Rattle.questions.proofs.AcceptedFacts.{accepted, at-never, at-prop, at-neg, at-both, at-does, at-next, at-gain, at-plan}
+use Rattle.questions.proofs.AcceptedFacts.{accepted, at-never, at-prop, at-neg, at-both, at-does, at-next, at-gain, at-plan, at-earns}
 use Rattle.prepared_question.specs.promises.Nodes.{formula, has-left}
 use Rattle.prepared_question.specs.promises.Replaced.{Children-before}
 
@@ -25,7 +25,7 @@ unfolding has-left
 left-before i l =
     by-operator
     (λ n. (n ≡ 3 → l < i) → (n ≡ 4 → l < i) → (n ≡ 6 → l < i) → (n ≡ 8 → l < i) → has-left n ≡ true → l < i)
-    none none none (λ h _ _ _ e. h refl) (λ _ h _ _ e. h refl) none (λ _ _ h _ e. h refl) none (λ _ _ _ h e. h refl) (λ k. none)
+    none none none (λ h _ _ _ e. h refl) (λ _ h _ _ e. h refl) none (λ _ _ h _ e. h refl) none (λ _ _ _ h e. h refl) none (λ k. none)
   where
     none : {A B C D : Type 0} → A → B → C → D → false ≡ true → l < i
     none _ _ _ _ e = absurd (false≢true e)
@@ -55,6 +55,7 @@ module _ {S A N : ℕ} {q : Bytes} (f : Formed S A N q) where
         (λ o. rw (at-next S A N q f i h o) (omega (arith, d _ (r .of-next o), r .of-next o)))
         (λ o. rw (at-gain S A N q f i h o) (omega (arith, r .of-gain o .compares .few-steps)))
         (λ o. rw (at-plan S A N q f i h o) (omega arith))
+        (λ o. rw (at-earns S A N q f i h o) (omega arith))
         (λ k o. absurd (omega (arith, r .operator-to, o)))
         (node-of q i .operator)
         refl

@@ -22,10 +22,10 @@ use Rattle.prepared_question.proofs.ChildrenBefore.{one-more}
 pub has-left-is : (op : ℕ) → (eqb op 3 || eqb op 4 || eqb op 6 || eqb op 8) ≡ has-left op
 unfolding has-left
 has-left-is =
-    by-operator (λ n. (eqb n 3 || eqb n 4 || eqb n 6 || eqb n 8) ≡ has-left n) refl refl refl refl refl refl refl refl refl
+    by-operator (λ n. (eqb n 3 || eqb n 4 || eqb n 6 || eqb n 8) ≡ has-left n) refl refl refl refl refl refl refl refl refl refl
     (λ k. rw (above k 3 (omega arith), above k 4 (omega arith), above k 6 (omega arith), above k 8 (omega arith)) refl)
   where
-    above : (k m : ℕ) → m ≤ 8 → eqb (suc (suc (suc (suc (suc (suc (suc (suc (suc k))))))))) m ≡ false
+    above : (k m : ℕ) → m ≤ 8 → eqb (suc (suc (suc (suc (suc (suc (suc (suc (suc (suc k)))))))))) m ≡ false
     above k m h = ne-eqb _ m (λ e. omega arith)
 
 -- The node that c comes down to, by the three cells that are read.

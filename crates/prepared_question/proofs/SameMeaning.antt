@@ -5,18 +5,19 @@ use native.Mathlib.Omega.{arith}
 use mathlib.Core.Path.{_≡_, refl, ap, ap₂, _∙_, fun-ext}
 use mathlib.Core.Bool.{Bool, true, false, not, cond, _&&_, _||_}
 use mathlib.Core.List.{List, [], _∷_}
-use mathlib.Core.Option.{some}
 use lib.Dec.{eqb, leb}
 use lib.IntN.{ℤ}
 use lib.ListN.{getD}
-use Rattle.logic.specs.Lists.{any, keep}
+use Rattle.logic.specs.Lists.{any}
 use Rattle.logic.specs.Model.{Model, Step}
-use Rattle.logic.specs.Quantity.{Relation, naturals, sum}
-use Rattle.logic.specs.Plan.{plans, paths, weight}
-use Rattle.logic.specs.Bound.{meets}
+use Rattle.logic.specs.Checked.{ok}
+use Rattle.logic.specs.Quantity.{Relation}
+use Rattle.logic.specs.Plan.{plans}
+use Rattle.logic.specs.Bound.{chance, met-by}
+use Rattle.logic.specs.Verdict.{bound-of}
 use Rattle.logic.specs.Formula.{Formula, never, prop, neg, both, does, next, plan, sat, depth, is-path, shallow, Node, formula-of}
 use Rattle.prepared_question.specs.promises.Nodes.{has-left}
-use Rattle.prepared_question.specs.promises.Shared.{Same, asked, Alike}
+use Rattle.prepared_question.specs.promises.Shared.{Same, Alike}
 
 -- ---- one meaning
 
@@ -48,20 +49,20 @@ same-both {φ} {ψ} {χ} e f =
 -- ---- the same for whoever judges
 
 alike-refl : (φ : Formula) → Alike φ φ
-alike-refl φ = record { same = same-refl φ; ground-9 = refl; asks = refl }
+alike-refl φ = record { same = same-refl φ; ground-9 = refl; bounds = λ M s. refl }
 
 module _ {φ ψ : Formula} (e : Same φ ψ) where
   alike-neg : Alike (neg φ) (neg ψ)
-  unfolding depth is-path sat shallow asked
+  unfolding depth is-path sat shallow bound-of
   alike-neg =
       record {
         same = record { depths = e .depths; paths = e .paths; truths = λ M s r. ap not (e .truths M s r) };
         ground-9 = refl;
-        asks = refl;
+        bounds = λ M s. refl;
       }
 
   alike-both : {φ′ ψ′ : Formula} → Same φ′ ψ′ → Alike (both φ φ′) (both ψ ψ′)
-  unfolding depth is-path sat shallow asked
+  unfolding depth is-path sat shallow bound-of
   alike-both f =
       record {
         same =
@@ -71,7 +72,7 @@ module _ {φ ψ : Formula} (e : Same φ ψ) where
               truths = λ M s r. ap₂ _&&_ (e .truths M s r) (f .truths M s r);
             };
         ground-9 = refl;
-        asks = refl;
+        bounds = λ M s. refl;
       }
 
   next-truth : (M : Model) (s : ℕ) (r : List Step) → sat M (next φ) s r ≡ sat M (next ψ) s r
@@ -80,22 +81,22 @@ module _ {φ ψ : Formula} (e : Same φ ψ) where
   next-truth M s (o ∷ r) = e .truths M (o .target) r
 
   alike-next : Alike (next φ) (next ψ)
-  unfolding depth is-path shallow asked
-  alike-next = record { same = record { depths = ap suc (e .depths); paths = refl; truths = next-truth }; ground-9 = refl; asks = refl }
+  unfolding depth is-path shallow bound-of
+  alike-next = record { same = record { depths = ap suc (e .depths); paths = refl; truths = next-truth }; ground-9 = refl; bounds = λ M s. refl }
 
   plan-truth : (n : ℕ) (b : Relation) (p q : ℕ) (M : Model) (s : ℕ) (r : List Step) → sat M (plan n φ b p q) s r ≡ sat M (plan n ψ b p q) s r
   unfolding sat
   plan-truth n b p q M s r =
-      ap (λ (f : ℕ → List Step → Bool). any (λ π. meets naturals M n b p q (sum naturals weight (keep (f s) (paths M n s π)))) (plans M n s))
+      ap (λ (f : ℕ → List Step → Bool). any (met-by M s (chance n (f s) b p q)) (plans M n s))
       (truth e M)
 
   alike-plan : (n : ℕ) (b : Relation) (p q : ℕ) → Alike (plan n φ b p q) (plan n ψ b p q)
-  unfolding depth is-path shallow asked
+  unfolding depth is-path shallow bound-of
   alike-plan n b p q =
       record {
         same = record { depths = refl; paths = refl; truths = plan-truth n b p q };
         ground-9 = ap (λ d. leb d n) (e .depths);
-        asks = ap (λ (f : Model → ℕ → List Step → Bool). some (record { steps = n; condition = f; relation = b; p = p; q = q })) (fun-ext (truth e));
+        bounds = λ M s. ap (λ (f : ℕ → List Step → Bool). ok (chance n (f s) b p q)) (truth e M);
       }
 
 -- ---- by the operator
@@ -117,4 +118,5 @@ module _ (fs gs : List Formula) (n l r L R : ℕ) (p : ℤ) (q : ℕ) where
   alike-node (suc (suc (suc (suc (suc (suc zero)))))) e f = alike-next (e refl)
   alike-node (suc (suc (suc (suc (suc (suc (suc zero))))))) e f = alike-refl _
   alike-node (suc (suc (suc (suc (suc (suc (suc (suc zero)))))))) e f = alike-plan (e refl) n _ _ q
-  alike-node (suc (suc (suc (suc (suc (suc (suc (suc (suc k))))))))) e f = alike-refl never
+  alike-node (suc (suc (suc (suc (suc (suc (suc (suc (suc zero))))))))) e f = alike-refl _
+  alike-node (suc (suc (suc (suc (suc (suc (suc (suc (suc (suc k)))))))))) e f = alike-refl never

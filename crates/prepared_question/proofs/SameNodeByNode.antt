@@ -62,6 +62,16 @@ module _ (A N i : ℕ) (x : Node) (L R : ℕ) (down : x .left < i → L ≤ x .l
               whole = g .whole;
               bound = g .bound;
             };
+        of-earns = λ o. let g = e .of-earns o in
+            record {
+              compares = compares-node (λ f. omega arith) (g .compares);
+              from-one = rw o (g .from-one);
+              rising = rw o (g .rising);
+              within = rw o (g .within);
+              some-part = g .some-part;
+              few-parts = g .few-parts;
+              bound = g .bound;
+            };
       }
 
 -- ---- node by node

@@ -1,10 +1,10 @@
 -- What is known of a question that is not refused: its bytes are read as a question, and each of the grounds 1 to 6 and 9 says in plain
 -- facts what it ruled out. The formula at a node is, by its operator, made of the formulas at its children.
-use Prim.Native.Nat.{ℕ, _≤_, _<_}
+use Prim.Native.Nat.{ℕ, _/_, _%_, _≤_, _<_}
 use native.Mathlib.Omega.{arith}
 use mathlib.Core.Path.{_≡_, refl, sym, ap, ap₂, _∙_}
 use mathlib.Core.Bool.{true, not, _&&_, false≢true}
-use lib.Dec.{eqb, ltb}
+use lib.Dec.{eqb, ltb, leb}
 use lib.IntN.{ℤ, pos, negsuc}
 use lib.ListN.{length, getD}
 use lib.Signed.{mag, leZ}
@@ -12,17 +12,17 @@ use borrow.Author.Tests.{ltb-true, leb-true, eqb-true, not-true}
 use Rattle.logic.specs.Lists.{all, every}
 use Rattle.logic.specs.Checked.{ok}
 use Rattle.logic.specs.promises.Refusal.{refusal}
-use Rattle.logic.specs.Formula.{never, prop, neg, both, does, next, gain, plan, Node, depth, is-path, shallow, relation, nonnegative}
+use Rattle.logic.specs.Formula.{never, prop, neg, both, does, next, gain, plan, earns, Node, depth, is-path, shallow, relation, nonnegative}
 use Rattle.logic.proofs.Checked.{guard-passed}
 use Rattle.logic.proofs.Tests.{and-left, and-right, every-at}
 use Rattle.blocks.specs.Bytes.{Bytes, within}
 use Rattle.blocks.specs.Block.{whole-blocks, sums-right, headed}
 use Rattle.questions.specs.Layout.{start-of, node-count, node-of, formulas-of, question-of}
-use Rattle.questions.specs.Grounds.{compares, gain-bound, plan-bound, plan-in-range, node-in-range, spare-zero, formed, read-question}
-use Rattle.questions.specs.promises.Formed.{Compares, GainRange, PlanRange, InRange, Formed}
+use Rattle.questions.specs.Grounds.{compares, gain-bound, plan-bound, plan-in-range, span, expected-bound, earns-in-range, node-in-range, spare-zero, formed, read-question}
+use Rattle.questions.specs.promises.Formed.{Compares, GainRange, PlanRange, EarnsRange, InRange, Formed}
 use Rattle.questions.specs.promises.Tables.{formulas-before}
 use Rattle.questions.proofs.TableNodeByNode.{one-block, by-operator, before-at, formula-here}
-use Rattle.questions.proofs.FormulaByOperator.{row-1, row-2, row-3, row-4, row-5, row-6, row-7, row-8, all-shallow}
+use Rattle.questions.proofs.FormulaByOperator.{row-1, row-2, row-3, row-4, row-5, row-6, row-7, row-8, row-9, all-shallow}
 use Rattle.blocks.proofs.RangeTests.{at-least, at-most}
 
 -- ---- a node's fields
@@ -76,12 +76,39 @@ plan-facts i x e =
       bound = p .1;
     }
 
-operator-facts : (A N i n : ℕ) (x : Node) → x .operator ≡ n → node-in-range A N i x ≡ true → (1 ≤ n) × (n ≤ 8)
+mag-earned : (p : ℤ) → leZ (negsuc 5999999) p ≡ true → leZ p (pos 6000000) ≡ true → mag p ≤ 6000000
+mag-earned (pos k) a b = leb-true k 6000000 b
+mag-earned (negsuc k) a b = omega (arith, leb-true k 5999999 a)
+
+earns-facts : (x : Node) → earns-in-range x ≡ true → EarnsRange x
+unfolding earns-in-range span expected-bound
+earns-facts x e =
+    let l : ℕ = x .left % 8 in
+    let u : ℕ = x .left / 8 in
+    let c = and-left (compares x && span (x .left) (x .n)) (expected-bound (x .p) (x .q)) e in
+    let w = and-right (compares x && span (x .left) (x .n)) (expected-bound (x .p) (x .q)) e in
+    let s = and-right (compares x) (span (x .left) (x .n)) c in
+    let f = and-left (ltb 0 l && leb l u) (leb u (x .n)) s in
+    let g = and-left (within 1 1000 (x .q) && leZ (negsuc 5999999) (x .p)) (leZ (x .p) (pos 6000000)) w in
+    let q = and-left (within 1 1000 (x .q)) (leZ (negsuc 5999999) (x .p)) g in
+    record {
+      compares = compares-facts x (and-left (compares x) (span (x .left) (x .n)) c);
+      from-one = ltb-true 0 l (and-left (ltb 0 l) (leb l u) f);
+      rising = leb-true l u (and-right (ltb 0 l) (leb l u) f);
+      within = leb-true u (x .n) (and-right (ltb 0 l && leb l u) (leb u (x .n)) s);
+      some-part = at-least 1 1000 (x .q) q;
+      few-parts = at-most 1 1000 (x .q) q;
+      bound = mag-earned (x .p) (and-right (within 1 1000 (x .q)) (leZ (negsuc 5999999) (x .p)) g)
+          (and-right (within 1 1000 (x .q) && leZ (negsuc 5999999) (x .p)) (leZ (x .p) (pos 6000000)) w);
+    }
+
+operator-facts : (A N i n : ℕ) (x : Node) → x .operator ≡ n → node-in-range A N i x ≡ true → (1 ≤ n) × (n ≤ 9)
 unfolding node-in-range
 operator-facts A N i n x =
     by-operator
-    (λ n. x .operator ≡ n → node-in-range A N i x ≡ true → (1 ≤ n) × (n ≤ 8))
+    (λ n. x .operator ≡ n → node-in-range A N i x ≡ true → (1 ≤ n) × (n ≤ 9))
     (λ o e. absurd (false≢true (rw o at e)))
+    (λ o e. omega arith)
     (λ o e. omega arith)
     (λ o e. omega arith)
     (λ o e. omega arith)
@@ -108,6 +135,7 @@ in-range-facts A N i x e =
       of-next = λ o. ltb-true (x .left) i (rw o at e);
       of-gain = λ o. gain-facts x (sym (gain-row o) ∙ e);
       of-plan = λ o. plan-facts i x (sym (plan-row o) ∙ e);
+      of-earns = λ o. earns-facts x (sym (earns-row o) ∙ e);
     }
   where
     gain-row : x .operator ≡ 7 → node-in-range A N i x ≡ (compares x && gain-bound (x .p) (x .q))
@@ -115,6 +143,9 @@ in-range-facts A N i x e =
 
     plan-row : x .operator ≡ 8 → node-in-range A N i x ≡ plan-in-range i x
     plan-row o = rw o refl
+
+    earns-row : x .operator ≡ 9 → node-in-range A N i x ≡ earns-in-range x
+    earns-row o = rw o refl
 
 -- ---- the question
 
@@ -188,6 +219,10 @@ module _ (S A N : ℕ) (b : Bytes) (a : Formed S A N b) (i : ℕ) (h : i < node-
   at-plan o =
       formula-here b i h ∙ row-8 (formulas-before b i) (node-of b i) o
       ∙ ap (λ φ. plan (node-of b i .n) φ (relation (node-of b i .right)) (nonnegative (node-of b i .p)) (node-of b i .q)) (child-same b i (node-of b i .left) h (a .in-range i h .of-plan o .child))
+
+  pub at-earns : node-of b i .operator ≡ 9
+      → getD (formulas-of b) i never ≡ earns (node-of b i .n) (node-of b i .left % 8) (node-of b i .left / 8) (relation (node-of b i .right)) (node-of b i .p) (node-of b i .q)
+  at-earns o = formula-here b i h ∙ row-9 (formulas-before b i) (node-of b i) o
 
   -- The child of "plan" is no deeper than its steps.
   pub plan-depth : node-of b i .operator ≡ 8 → depth (getD (formulas-of b) (node-of b i .left) never) ≤ node-of b i .n

@@ -1,5 +1,6 @@
 -- The formula of a node by its operator, and what depth, path formulas and ground 9 make of it: a row of document 01's table each.
-use Prim.Native.Nat.{ℕ, suc, _≤_, _<_}
+use Prim.Native.Nat.{ℕ, suc, _/_, _%_, _≤_, _<_}
+use native.Mathlib.Decide.{ℕ-discrete}
 use native.Mathlib.Omega.{arith}
 use mathlib.Core.Path.{_≡_, refl, sym, ap, _∙_}
 use mathlib.Core.Bool.{true}
@@ -7,7 +8,9 @@ use mathlib.Core.List.{List}
 use lib.ListN.{length, getD}
 use Rattle.logic.specs.Lists.{all, every}
 use Rattle.logic.specs.Quantity.{Relation}
-use Rattle.logic.specs.Formula.{Formula, never, prop, neg, both, does, next, gain, plan, Node, depth, shallow, relation, nonnegative, formula-of, on-plan}
+use Rattle.logic.specs.Formula.{Formula, never, prop, neg, both, does, next, gain, plan, earns, Node, depth, shallow, relation, nonnegative, formula-of, on-plan}
+use lib.IntN.{ℤ}
+use Rattle.logic.proofs.OnPlan.{By-plan, By-gain}
 use Rattle.blocks.specs.Bytes.{Bytes}
 use Rattle.questions.specs.Layout.{node-count, formulas-of, node-of}
 use Rattle.questions.proofs.TableNodeByNode.{by-operator, all-every, all-before, before-length, formula-here}
@@ -47,11 +50,16 @@ module _ (fs : List Formula) (x : Node) where
   unfolding formula-of
   row-8 o = rw o refl
 
-  -- What is said alike of false, propositions and "plan" holds where the operator is none of 3 to 7.
-  pub other-row : {A : Type 0} (f : Formula → A) {v : A} → v ≡ f never → ((k : ℕ) → v ≡ f (prop k)) → ((n : ℕ) (φ : Formula) (r : Relation) (p q : ℕ) → v ≡ f (plan n φ r p q)) → (n : ℕ) → x .operator ≡ n
+  pub row-9 : x .operator ≡ 9 → formula-of fs x ≡ earns (x .n) (x .left % 8) (x .left / 8) (relation (x .right)) (x .p) (x .q)
+  unfolding formula-of
+  row-9 o = rw o refl
+
+  -- What is said alike of false, propositions, "plan" and operator 9 holds where the operator is none of 3 to 7.
+  pub other-row : {A : Type 0} (f : Formula → A) {v : A} → v ≡ f never → ((k : ℕ) → v ≡ f (prop k)) → ((n : ℕ) (φ : Formula) (r : Relation) (p q : ℕ) → v ≡ f (plan n φ r p q))
+      → ((n l u : ℕ) (r : Relation) (p : ℤ) (q : ℕ) → v ≡ f (earns n l u r p q)) → (n : ℕ) → x .operator ≡ n
       → (n ≡ 3 → ⊥) → (n ≡ 4 → ⊥) → (n ≡ 5 → ⊥) → (n ≡ 6 → ⊥) → (n ≡ 7 → ⊥) → v ≡ f (formula-of fs x)
   unfolding formula-of
-  other-row f {v} a b c =
+  other-row f {v} a b c d =
       by-operator
       (λ n. x .operator ≡ n → (n ≡ 3 → ⊥) → (n ≡ 4 → ⊥) → (n ≡ 5 → ⊥) → (n ≡ 6 → ⊥) → (n ≡ 7 → ⊥) → v ≡ f (formula-of fs x))
       (λ o _ _ _ _ _. rw o a)
@@ -63,14 +71,16 @@ module _ (fs : List Formula) (x : Node) where
       (λ o _ _ _ h _. absurd (h refl))
       (λ o _ _ _ _ h. absurd (h refl))
       (λ o _ _ _ _ _. rw o (c _ _ _ _ _))
+      (λ o _ _ _ _ _. rw o (d _ _ _ _ _ _))
       (λ k o _ _ _ _ _. rw o a)
 
-  -- A node that is no "plan" makes no "plan".
-  pub other-on-plan : {A : Type 0} (other : A) (f : ℕ → Formula → Relation → ℕ → ℕ → A) → (x .operator ≡ 8 → ⊥) → on-plan other f (formula-of fs x) ≡ other
+  -- A node that sets no bound on plans makes a formula that sets none.
+  pub other-on-plan : {A : Type 0} (other : A) (f : By-plan A) (g : By-gain A) → (x .operator ≡ 8 → ⊥) → (x .operator ≡ 9 → ⊥)
+      → on-plan other f g (formula-of fs x) ≡ other
   unfolding formula-of
-  other-on-plan other f h =
+  other-on-plan other f g h k =
       by-operator
-      (λ n. x .operator ≡ n → on-plan other f (formula-of fs x) ≡ other)
+      (λ n. x .operator ≡ n → on-plan other f g (formula-of fs x) ≡ other)
       (λ o. rw o refl)
       (λ o. rw o refl)
       (λ o. rw o refl)
@@ -80,13 +90,18 @@ module _ (fs : List Formula) (x : Node) where
       (λ o. rw o refl)
       (λ o. rw o refl)
       (λ o. absurd (h o))
+      (λ o. absurd (k o))
       (λ k o. rw o refl)
       (x .operator) refl
 
   -- Ground 9 asks something of "plan" alone.
   pub other-shallow : (n : ℕ) → x .operator ≡ n → (n ≡ 8 → ⊥) → true ≡ shallow (formula-of fs x)
   unfolding shallow
-  other-shallow n o h = sym (other-on-plan true (λ n ψ r p q. leb (depth ψ) n) (λ e. h (sym o ∙ e)))
+  other-shallow n o h = go (ℕ-discrete (x .operator) 9)
+    where
+      go : Dec (x .operator ≡ 9) → true ≡ shallow (formula-of fs x)
+      go (yes e) = sym (ap shallow (row-9 e))
+      go (no e) = sym (other-on-plan true (λ n ψ r p q. leb (depth ψ) n) (λ n l u r p q. true) (λ e. h (sym o ∙ e)) e)
 
   -- A node is at most one step deeper than the bound of those before it and of its steps.
   pub depth-row : (m : ℕ) → 1 ≤ m → x .n ≤ m → ((j : ℕ) → depth (getD fs j never) ≤ m) → depth (formula-of fs x) ≤ suc m
@@ -103,6 +118,7 @@ module _ (fs : List Formula) (x : Node) where
       (λ o. rw o (omega (arith, c (x .left))))
       (λ o. rw o (omega arith))
       (λ o. rw o (omega arith))
+      (λ o. rw o (omega arith))
       (λ k o. rw o (omega arith))
       (x .operator)
       refl
@@ -111,7 +127,7 @@ module _ (fs : List Formula) (x : Node) where
 pub all-shallow : (b : Bytes) → all shallow (formulas-of b) ≡ every (node-count b) (λ i. shallow (getD (formulas-of b) i never))
 all-shallow b = all-every shallow never (formulas-of b) ∙ ap (λ k. every k (λ i. shallow (getD (formulas-of b) i never))) (ap length (sym (all-before b)) ∙ before-length b (node-count b))
 
--- Node i of a question, if it is no "plan", holds none.
-pub no-plan-at : (b : Bytes) (i : ℕ) → i < node-count b → (node-of b i .operator ≡ 8 → ⊥) → {A : Type 0} (other : A) (f : ℕ → Formula → Relation → ℕ → ℕ → A)
-    → on-plan other f (getD (formulas-of b) i never) ≡ other
-no-plan-at b i h n other f = ap (on-plan other f) (formula-here b i h) ∙ other-on-plan (formulas-before b i) (node-of b i) other f n
+-- Node i of a question, if it sets no bound on plans, holds no formula that sets one.
+pub no-plan-at : (b : Bytes) (i : ℕ) → i < node-count b → (node-of b i .operator ≡ 8 → ⊥) → (node-of b i .operator ≡ 9 → ⊥)
+    → {A : Type 0} (other : A) (f : By-plan A) (g : By-gain A) → on-plan other f g (getD (formulas-of b) i never) ≡ other
+no-plan-at b i h n k other f g = ap (on-plan other f g) (formula-here b i h) ∙ other-on-plan (formulas-before b i) (node-of b i) other f g n k

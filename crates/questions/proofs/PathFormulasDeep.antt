@@ -47,6 +47,7 @@ deep-row fs x h c =
     (λ o. rw o (sym (lt-ltb 0 (suc (depth (getD fs (x .left) never))) (omega arith))))
     (λ o. let g = h o in rw o (sym (lt-ltb 0 (x .n) g)))
     (λ o. rw o refl)
+    (λ o. rw o refl)
     (λ k o. rw o refl)
     (x .operator)
     refl

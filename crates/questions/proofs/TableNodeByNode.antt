@@ -71,38 +71,41 @@ one-block b e =
 -- ---- by an operator's number
 
 -- A claim of every number, from the rows of the table of operators and the numbers above them.
-pub by-operator : (P : ℕ → Type 0) → P 0 → P 1 → P 2 → P 3 → P 4 → P 5 → P 6 → P 7 → P 8 → ((k : ℕ) → P (suc (suc (suc (suc (suc (suc (suc (suc (suc k)))))))))) → (n : ℕ) → P n
-by-operator P p0 p1 p2 p3 p4 p5 p6 p7 p8 p9 zero = p0
-by-operator P p0 p1 p2 p3 p4 p5 p6 p7 p8 p9 (suc zero) = p1
-by-operator P p0 p1 p2 p3 p4 p5 p6 p7 p8 p9 (suc (suc zero)) = p2
-by-operator P p0 p1 p2 p3 p4 p5 p6 p7 p8 p9 (suc (suc (suc zero))) = p3
-by-operator P p0 p1 p2 p3 p4 p5 p6 p7 p8 p9 (suc (suc (suc (suc zero)))) = p4
-by-operator P p0 p1 p2 p3 p4 p5 p6 p7 p8 p9 (suc (suc (suc (suc (suc zero))))) = p5
-by-operator P p0 p1 p2 p3 p4 p5 p6 p7 p8 p9 (suc (suc (suc (suc (suc (suc zero)))))) = p6
-by-operator P p0 p1 p2 p3 p4 p5 p6 p7 p8 p9 (suc (suc (suc (suc (suc (suc (suc zero))))))) = p7
-by-operator P p0 p1 p2 p3 p4 p5 p6 p7 p8 p9 (suc (suc (suc (suc (suc (suc (suc (suc zero)))))))) = p8
-by-operator P p0 p1 p2 p3 p4 p5 p6 p7 p8 p9 (suc (suc (suc (suc (suc (suc (suc (suc (suc k))))))))) = p9 k
+pub by-operator : (P : ℕ → Type 0) → P 0 → P 1 → P 2 → P 3 → P 4 → P 5 → P 6 → P 7 → P 8 → P 9
+    → ((k : ℕ) → P (suc (suc (suc (suc (suc (suc (suc (suc (suc (suc k))))))))))) → (n : ℕ) → P n
+by-operator P p0 p1 p2 p3 p4 p5 p6 p7 p8 p9 p10 zero = p0
+by-operator P p0 p1 p2 p3 p4 p5 p6 p7 p8 p9 p10 (suc zero) = p1
+by-operator P p0 p1 p2 p3 p4 p5 p6 p7 p8 p9 p10 (suc (suc zero)) = p2
+by-operator P p0 p1 p2 p3 p4 p5 p6 p7 p8 p9 p10 (suc (suc (suc zero))) = p3
+by-operator P p0 p1 p2 p3 p4 p5 p6 p7 p8 p9 p10 (suc (suc (suc (suc zero)))) = p4
+by-operator P p0 p1 p2 p3 p4 p5 p6 p7 p8 p9 p10 (suc (suc (suc (suc (suc zero))))) = p5
+by-operator P p0 p1 p2 p3 p4 p5 p6 p7 p8 p9 p10 (suc (suc (suc (suc (suc (suc zero)))))) = p6
+by-operator P p0 p1 p2 p3 p4 p5 p6 p7 p8 p9 p10 (suc (suc (suc (suc (suc (suc (suc zero))))))) = p7
+by-operator P p0 p1 p2 p3 p4 p5 p6 p7 p8 p9 p10 (suc (suc (suc (suc (suc (suc (suc (suc zero)))))))) = p8
+by-operator P p0 p1 p2 p3 p4 p5 p6 p7 p8 p9 p10 (suc (suc (suc (suc (suc (suc (suc (suc (suc zero))))))))) = p9
+by-operator P p0 p1 p2 p3 p4 p5 p6 p7 p8 p9 p10 (suc (suc (suc (suc (suc (suc (suc (suc (suc (suc k)))))))))) = p10 k
 
 -- The numbers that are no operator are out of range.
 pub other-in-range : (A N i n : ℕ) (x : Node) → x .operator ≡ n → (n ≡ 1 → ⊥) → (n ≡ 2 → ⊥) → ((n ≡ 3) ⊎ (n ≡ 6) → ⊥) → (n ≡ 4 → ⊥) → (n ≡ 5 → ⊥) → (n ≡ 7 → ⊥) → (n ≡ 8 → ⊥)
-    → false ≡ node-in-range A N i x
+    → (n ≡ 9 → ⊥) → false ≡ node-in-range A N i x
 unfolding node-in-range
 other-in-range A N i n x =
     by-operator
-    (λ n. x .operator ≡ n → (n ≡ 1 → ⊥) → (n ≡ 2 → ⊥) → ((n ≡ 3) ⊎ (n ≡ 6) → ⊥) → (n ≡ 4 → ⊥) → (n ≡ 5 → ⊥) → (n ≡ 7 → ⊥) → (n ≡ 8 → ⊥) → false ≡ node-in-range A N i x)
-    (λ o _ _ _ _ _ _ _. rw o refl)
-    (λ o h _ _ _ _ _ _. absurd (h refl))
-    (λ o _ h _ _ _ _ _. absurd (h refl))
-    (λ o _ _ h _ _ _ _. absurd (h (inl refl)))
-    (λ o _ _ _ h _ _ _. absurd (h refl))
-    (λ o _ _ _ _ h _ _. absurd (h refl))
-    (λ o _ _ h _ _ _ _. absurd (h (inr refl)))
-    (λ o _ _ _ _ _ h _. absurd (h refl))
-    (λ o _ _ _ _ _ _ h. absurd (h refl))
-    (λ k o _ _ _ _ _ _ _. rw o refl)
+    (λ n. x .operator ≡ n → (n ≡ 1 → ⊥) → (n ≡ 2 → ⊥) → ((n ≡ 3) ⊎ (n ≡ 6) → ⊥) → (n ≡ 4 → ⊥) → (n ≡ 5 → ⊥) → (n ≡ 7 → ⊥) → (n ≡ 8 → ⊥) → (n ≡ 9 → ⊥) → false ≡ node-in-range A N i x)
+    (λ o _ _ _ _ _ _ _ _. rw o refl)
+    (λ o h _ _ _ _ _ _ _. absurd (h refl))
+    (λ o _ h _ _ _ _ _ _. absurd (h refl))
+    (λ o _ _ h _ _ _ _ _. absurd (h (inl refl)))
+    (λ o _ _ _ h _ _ _ _. absurd (h refl))
+    (λ o _ _ _ _ h _ _ _. absurd (h refl))
+    (λ o _ _ h _ _ _ _ _. absurd (h (inr refl)))
+    (λ o _ _ _ _ _ h _ _. absurd (h refl))
+    (λ o _ _ _ _ _ _ h _. absurd (h refl))
+    (λ o _ _ _ _ _ _ _ h. absurd (h refl))
+    (λ k o _ _ _ _ _ _ _ _. rw o refl)
     n
 
--- They have no spare cell, nor has "plan".
+-- They have no spare cell, nor have "plan" and operator 9.
 pub other-spare : (b : Bytes) (i n : ℕ) → byte b (node-at i) ≡ n → (n ≡ 1 → ⊥) → ((n ≡ 2) ⊎ (n ≡ 5) → ⊥) → ((n ≡ 3) ⊎ (n ≡ 6) → ⊥) → (n ≡ 4 → ⊥) → (n ≡ 7 → ⊥) → true ≡ node-spare b i
 unfolding node-spare
 other-spare b i n =
@@ -116,6 +119,7 @@ other-spare b i n =
     (λ o _ h _ _ _. absurd (h (inr refl)))
     (λ o _ _ h _ _. absurd (h (inr refl)))
     (λ o _ _ _ _ h. absurd (h refl))
+    (λ o _ _ _ _ _. rw o refl)
     (λ o _ _ _ _ _. rw o refl)
     (λ k o _ _ _ _ _. rw o refl)
     n

@@ -1,9 +1,9 @@
 -- The grounds on which a question is refused, 1 to 6 and 9, each a test on the whole input, for a model with S states, A actions and N
--- propositions. Document 01, "Refused because of the input" and the table of "Formulas".
-use Prim.Native.Nat.{ℕ, _+_, _-_}
+-- propositions. Document 01, "Refused because of the input" and the table of "Formulas"; document 02, A.3, for operator 9.
+use Prim.Native.Nat.{ℕ, _+_, _-_, _/_, _%_}
 use mathlib.Core.Bool.{Bool, true, false, not, _&&_}
 use mathlib.Core.List.{List, [], _∷_}
-use lib.Dec.{eqb, ltb}
+use lib.Dec.{eqb, ltb, leb}
 use lib.IntN.{ℤ, pos, negsuc}
 use lib.ListN.{getD}
 use lib.Signed.{leZ}
@@ -15,7 +15,7 @@ use Rattle.blocks.specs.Bytes.{Bytes, byte, zeros, within}
 use Rattle.blocks.specs.Block.{whole-blocks, sums-right, headed}
 use Rattle.questions.specs.Layout.{Question, start-of, node-count, node-at, node-of, question-of}
 
--- 5, "gain" and "plan": the steps and the relation.
+-- 5, "gain", "plan" and operator 9: the steps and the relation.
 unfoldable pub compares : Node → Bool
 compares x = within 1 6 (x .n) && within 1 3 (x .right)
 
@@ -31,6 +31,18 @@ plan-bound p q = within 1 1000000 q && leZ (pos 0) p && leZ p (pos q)
 unfoldable pub plan-in-range : ℕ → Node → Bool
 plan-in-range i x = compares x && ltb (x .left) i && plan-bound (x .p) (x .q)
 
+-- 5, operator 9: the steps that earn, l to u, with the left byte l + 8 u: l from 1 to u, u at most n.
+unfoldable pub span : (left n : ℕ) → Bool
+span left n = ltb 0 (left % 8) && leb (left % 8) (left / 8) && leb (left / 8) n
+
+-- 5, operator 9: p from -6,000,000 to 6,000,000, q from 1 to 1000.
+unfoldable pub expected-bound : ℤ → ℕ → Bool
+expected-bound p q = within 1 1000 q && leZ (negsuc 5999999) p && leZ p (pos 6000000)
+
+-- 5, operator 9: all of its cells. It has no child.
+unfoldable pub earns-in-range : Node → Bool
+earns-in-range x = compares x && span (x .left) (x .n) && expected-bound (x .p) (x .q)
+
 -- 5: the used fields of node i, a row for each operator. A node's children have smaller numbers than its own.
 unfoldable pub node-in-range : (A N : ℕ) → ℕ → Node → Bool
 node-in-range A N i x =
@@ -44,6 +56,7 @@ node-in-range A N i x =
     ∷ ltb (x .left) i
     ∷ (compares x && gain-bound (x .p) (x .q))
     ∷ plan-in-range i x
+    ∷ earns-in-range x
     ∷ [])
     (x .operator)
     false
@@ -60,6 +73,7 @@ spare-by n left right pq operator =
     ∷ (n && right && pq)
     ∷ (n && right && pq)
     ∷ left
+    ∷ true
     ∷ true
     ∷ [])
     operator

@@ -2,15 +2,16 @@
 ghost use mathlib.Core.Path.{_≡_};
 ghost use mathlib.Core.Bool.{true, _&&_};
 ghost use Prim.Native.Nat.{_+_, _-_, _≤_, _<_, max, min};
-ghost use lib.Dec.{eqb, ltb};
+ghost use lib.Dec.{ltb};
 ghost use lib.ListN.{length, getD, take};
 ghost use Rattle.logic.specs.Lists.{every};
 ghost use Rattle.logic.specs.promises.Refusal.{refusal};
 ghost use Rattle.logic.specs.Formula.{depth, shallow, never, formula-of};
 ghost use Rattle.blocks.specs.Bytes.{byte, zeros, within};
 ghost use Rattle.questions.specs.Layout.{start-of, node-count, node-at, node-of, formulas-of, question-of};
-ghost use Rattle.questions.specs.Grounds.{gain-bound, plan-bound, plan-in-range, node-in-range, node-spare, spare-zero, read-question};
+ghost use Rattle.questions.specs.Grounds.{gain-bound, plan-bound, plan-in-range, expected-bound, earns-in-range, node-in-range, node-spare, spare-zero, read-question};
 ghost use Rattle.questions.specs.Grounds as spec;
+ghost use Rattle.questions.specs.promises.Formed.{sets-bound};
 ghost use Rattle.questions.specs.promises.Tables.{formulas-before, table};
 ghost use Rattle.questions.specs.promises.Passes.{passes, Nodes};
 
@@ -31,7 +32,10 @@ pub const GAIN: u8 = 7;
 
 pub const PLAN: u8 = 8;
 
-// The relations of "gain" and "plan".
+// Operator 9 of document 02: some plan earns so much on average.
+pub const EARNS: u8 = 9;
+
+// The relations of "gain", "plan" and operator 9.
 pub const LESS: u8 = 1;
 
 pub const EQUAL: u8 = 2;
@@ -79,6 +83,15 @@ const LEAST_GAIN: i32 = -6000;
 const MOST_GAIN: i32 = 6000;
 
 const MOST_Q: usize = 1000000;
+
+// The ends of the ranges of p and q of operator 9, and the base of its left byte: l + 8 u for the steps l to u.
+const LEAST_EARNED: i32 = -6000000;
+
+const MOST_EARNED: i32 = 6000000;
+
+const MOST_EARNED_Q: usize = 1000;
+
+pub const SPAN_BASE: u8 = 8;
 
 // The start state.
 pub fn start(b: &[u8]) -> u8
@@ -157,14 +170,21 @@ pub fn root(q: &[u8]) -> u8
     count - 1
 }
 
-// Whether it is a "plan".
-pub fn root_is_plan(q: &[u8]) -> bool
-    ensures value { λ r. ⌜ r ≡ eqb (node-of (now (q .entry)) (node-count (now (q .entry)) - 1) .operator) 8 ⌝ }
+// Whether an operator sets a bound on plans: "plan", or 9.
+pub fn sets_bound(operator: u8) -> bool
+    ensures value { λ r. ⌜ r ≡ sets-bound operator ⌝ }
 {
-    operator(q, root(q)) == PLAN
+    (operator == PLAN) | (operator == EARNS)
 }
 
-// The steps of a "plan" root.
+// Whether the root's does.
+pub fn root_is_plan(q: &[u8]) -> bool
+    ensures value { λ r. ⌜ r ≡ sets-bound (node-of (now (q .entry)) (node-count (now (q .entry)) - 1) .operator) ⌝ }
+{
+    sets_bound(operator(q, root(q)))
+}
+
+// The steps of a root that sets a bound on plans.
 pub fn root_steps(q: &[u8]) -> u8
     ensures value { λ r. ⌜ r ≡ node-of (now (q .entry)) (node-count (now (q .entry)) - 1) .n ⌝ }
 {
@@ -209,6 +229,27 @@ fn plan_in_range(b: &[u8], i: u8) -> bool
     compares(b, i) & (left(b, i) < i) & plan_bound(p(b, i), q(b, i))
 }
 
+// Whether the steps that earn are l to u, of n, by a left byte.
+fn span(left: u8, n: u8) -> bool
+    ensures value { λ r. ⌜ r ≡ spec.span left n ⌝ }
+{
+    let l = left % SPAN_BASE;
+    let u = left / SPAN_BASE;
+    (0 < l) & (l <= u) & (u <= n)
+}
+
+fn expected_bound(p: i32, q: u32) -> bool
+    ensures value { λ r. ⌜ r ≡ expected-bound p q ⌝ }
+{
+    blocks::within(1, MOST_EARNED_Q, q as usize) & (LEAST_EARNED <= p) & (p <= MOST_EARNED)
+}
+
+fn earns_in_range(b: &[u8], i: u8) -> bool
+    ensures value { λ r. ⌜ r ≡ earns-in-range (node-of (now (b .entry)) i) ⌝ }
+{
+    compares(b, i) & span(left(b, i), steps(b, i)) & expected_bound(p(b, i), q(b, i))
+}
+
 // Ground 5 of node i.
 fn node_in_range(b: &[u8], i: u8, actions: usize, props: usize) -> bool
     ensures value { λ r. ⌜ r ≡ node-in-range actions props i (node-of (now (b .entry)) i) ⌝ }
@@ -222,6 +263,7 @@ fn node_in_range(b: &[u8], i: u8, actions: usize, props: usize) -> bool
         DO => (left(b, i) as usize) < actions,
         GAIN => compares(b, i) & gain_bound(p(b, i), q(b, i)),
         PLAN => plan_in_range(b, i),
+        EARNS => earns_in_range(b, i),
         _ => false,
     }
 }

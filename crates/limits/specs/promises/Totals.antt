@@ -12,6 +12,7 @@ use Rattle.logic.specs.Quantity.{naturals, sum, Relation}
 use Rattle.logic.specs.Formula.{Node, relation}
 use Rattle.logic.specs.Verdict.{is-equal}
 use Rattle.logic.specs.Limits.{path-total, plan-total}
+use Rattle.questions.specs.promises.Formed.{sets-bound}
 
 unfoldable pub total : Bool → Model → ℕ → ℕ → ℕ
 total true m n s = plan-total m n s
@@ -45,14 +46,14 @@ cap plans = limit plans + 1
 pub record Totals (plans : Bool) (m : Model) (table : List ℕ) : Type 0 where
   pub at : (n s : ℕ) → n ≤ 6 → s < length (m .states) → getD table (32 * n + s) 0 ≡ min (cap plans) (total plans m n s)
 
--- What grounds 24 and 25 ask of each "plan" node and each state: for plans, of "equal" nodes only.
+-- What grounds 24 and 25 ask of each node that sets a bound on plans and each state: for plans, of "equal" nodes only.
 unfoldable pub fits : Bool → Model → ℕ → Relation → ℕ → Bool
 fits true m n r s = not (is-equal r) || leb (plan-total m n s) 65536
 fits false m n r s = leb (path-total m n s) 1000000
 
 unfoldable pub node-fits : Bool → Model → Node → Bool
-node-fits plans m x = not (eqb (x .operator) 8) || every (length (m .states)) (fits plans m (x .n) (relation (x .right)))
+node-fits plans m x = not (sets-bound (x .operator)) || every (length (m .states)) (fits plans m (x .n) (relation (x .right)))
 
 -- Whether a limit is set to a node, by its numbers.
 unfoldable pub bounded : Bool → Node → Bool
-bounded plans x = eqb (x .operator) 8 && (not plans || eqb (x .right) 2)
+bounded plans x = sets-bound (x .operator) && (not plans || eqb (x .right) 2)

@@ -11,6 +11,7 @@ use lib.Signed.{mag}
 use Rattle.logic.specs.Lists.{keep, count-from, tabulate}
 use Rattle.logic.specs.Model.{Model, Step, true-of, enabled, outcomes}
 use Rattle.logic.specs.Accepted.{Accepted}
+use Rattle.logic.specs.promises.Raised.{Modest}
 use Rattle.blocks.specs.Bytes.{signed}
 use Rattle.blocks.specs.Block.{sum-below}
 use Rattle.models.specs.Layout.{state-count, action-count, prop-count, denominator-of, pre-of, state-mask, model-of}
@@ -91,6 +92,7 @@ pub record Prepared (m : List ℕ) : Type 0 where
   pub inside : (s i o : ℕ) → s < state-count m → Offers m s i o → (step-in m s i o) .target < state-count m
   pub light : (s i o : ℕ) → s < state-count m → Offers m s i o → (step-in m s i o) .weight ≤ 100
   pub modest : (s i o : ℕ) → s < state-count m → Offers m s i o → mag ((step-in m s i o) .reward) ≤ 1000
+  pub raisable : (s i o : ℕ) → s < state-count m → Offers m s i o → Modest ((step-in m s i o) .reward)
   pub sums : (s i y : ℕ) → s < state-count m → i < choices-in m s → y < 16 → sum-in m s i y ≡ weighed m s i y
 
 -- An array made from a model's blocks: it is prepared, its model is theirs, and so is its head.

@@ -2,12 +2,11 @@
 -- the same. So the verdict and the limits are the same (`SameVerdict`).
 use Prim.Native.Nat.{ℕ, _<_}
 use mathlib.Core.Path.{_≡_}
-use mathlib.Core.Bool.{Bool, true}
+use mathlib.Core.Bool.{true}
 use mathlib.Core.List.{List}
-use mathlib.Core.Option.{Option, none, some}
 use Rattle.logic.specs.Model.{Model, Step}
-use Rattle.logic.specs.Quantity.{Relation}
-use Rattle.logic.specs.Formula.{Formula, on-plan, sat, depth, is-path, shallow}
+use Rattle.logic.specs.Formula.{Formula, sat, depth, is-path, shallow}
+use Rattle.logic.specs.Verdict.{bound-of}
 use Rattle.blocks.specs.Bytes.{Bytes}
 use Rattle.questions.specs.Layout.{start-of, node-count, node-of}
 use Rattle.prepared_question.specs.promises.Nodes.{formula, Nodes, has-left}
@@ -18,23 +17,11 @@ pub record Same (φ ψ : Formula) : Type 0 where
   pub paths : is-path φ ≡ is-path ψ
   pub truths : (M : Model) (s : ℕ) (r : List Step) → sat M φ s r ≡ sat M ψ s r
 
--- What a "plan" asks of plans, with its child by where that is true.
-pub record Asked : Type 0 where
-  pub steps : ℕ
-  pub condition : Model → ℕ → List Step → Bool
-  pub relation : Relation
-  pub p : ℕ
-  pub q : ℕ
-
--- The other formulas ask nothing of plans.
-unfoldable pub asked : Formula → Option Asked
-asked φ = on-plan none (λ n ψ r p q. some (record { steps = n; condition = λ m s t. sat m ψ s t; relation = r; p = p; q = q })) φ
-
--- The same for whoever judges: in meaning, to ground 9, and in what is asked of plans.
+-- The same for whoever judges: in meaning, to ground 9, and in the bound that is set on plans.
 pub record Alike (φ ψ : Formula) : Type 0 where
   pub same : Same φ ψ
   pub ground-9 : shallow φ ≡ shallow ψ
-  pub asks : asked φ ≡ asked ψ
+  pub bounds : (m : Model) (s : ℕ) → bound-of m s φ ≡ bound-of m s ψ
 
 -- Node j is an "and" of one node with itself.
 abbrev pub Doubled : Bytes → ℕ → Type 0

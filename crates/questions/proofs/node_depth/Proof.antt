@@ -110,7 +110,7 @@ returns-6 : tie.Need-returns-6
 unfolding depth
 returns-6 c = let S = c .before .before .before in
     let r = c .match .rest in
-    other-row (formulas-before (S .args .b .now) (S .args .i)) (node-of (S .args .b .now) (S .args .i)) depth refl (λ k. refl) (λ n φ r p q. refl)
+    other-row (formulas-before (S .args .b .now) (S .args .i)) (node-of (S .args .b .now) (S .args .i)) depth refl (λ k. refl) (λ n φ r p q. refl) (λ n l u r p q. refl)
     (c .before .operator .result) (sym (c .before .operator .ensures)) (r .0 .0 .0 .0 .1) (r .0 .0 .0 .1) (r .0 .0 .1) (r .0 .1) (r .1)
 
 pub node-depth-spec : {M : Type 1} → statement M

@@ -51,6 +51,9 @@ gain-bound-requires c κs = search needs
 plan-in-range-requires : tie.Need-plan-in-range-requires
 plan-in-range-requires c κs = search needs
 
+earns-in-range-requires : tie.Need-earns-in-range-requires
+earns-in-range-requires c κs = search needs
+
 returns : tie.Need-returns
 unfolding node-in-range
 returns c = rw (sym (c .before .operator .ensures) ∙ c .match .keys1) refl
@@ -86,10 +89,14 @@ unfolding node-in-range node-of
 returns-7 c = rw (sym (c .before .before .operator .ensures) ∙ c .before .match .keys7) (c .plan-in-range .ensures)
 
 returns-8 : tie.Need-returns-8
-returns-8 c = let S = c .before .before .before .args in
+unfolding node-in-range node-of
+returns-8 c = rw (sym (c .before .before .operator .ensures) ∙ c .before .match .keys8) (c .earns-in-range .ensures)
+
+returns-9 : tie.Need-returns-9
+returns-9 c = let S = c .before .before .before .args in
     let r = c .match .rest in
     other-in-range (S .actions) (S .props) (S .i) (c .before .operator .result) (node-of (S .b .now) (S .i)) (sym (c .before .operator .ensures))
-    (r .0 .0 .0 .0 .0 .0 .1) (r .0 .0 .0 .0 .0 .1) (r .0 .0 .0 .0 .1) (r .0 .0 .0 .1) (r .0 .0 .1) (r .0 .1) (r .1)
+    (r .0 .0 .0 .0 .0 .0 .0 .1) (r .0 .0 .0 .0 .0 .0 .1) (r .0 .0 .0 .0 .0 .1) (r .0 .0 .0 .0 .1) (r .0 .0 .0 .1) (r .0 .0 .1) (r .0 .1) (r .1)
 
 pub node-in-range-spec : {M : Type 1} → statement M
 node-in-range-spec =
@@ -108,6 +115,7 @@ node-in-range-spec =
     q-requires
     gain-bound-requires
     plan-in-range-requires
+    earns-in-range-requires
     returns
     returns-2
     returns-3
@@ -115,4 +123,5 @@ node-in-range-spec =
     returns-5
     returns-6
     returns-7
-    returns-8)
+    returns-8
+    returns-9)

@@ -1,8 +1,9 @@
 -- What judging asks of a question, whoever made it: a block that put accepts has it, and so has what judging makes of one for itself. It is
 -- what grounds 4, 5 and 9 rule out, as plain facts. (Grounds 1 to 3 and 6 concern the block and not the question in it.)
-use Prim.Native.Nat.{ℕ, _≤_, _<_}
+use Prim.Native.Nat.{ℕ, _/_, _%_, _≤_, _<_}
 use mathlib.Core.Path.{_≡_}
-use mathlib.Core.Bool.{true, false}
+use mathlib.Core.Bool.{Bool, true, false, _||_}
+use lib.Dec.{eqb}
 use lib.IntN.{pos}
 use lib.ListN.{getD}
 use lib.Signed.{mag}
@@ -12,7 +13,7 @@ use Rattle.questions.specs.Layout.{start-of, node-count, node-of, formul
 
 -- ---- a node's fields
 
--- The steps and the relation of a "gain" or a "plan".
+-- The steps and the relation of a "gain", a "plan" or operator 9.
 pub record Compares (x : Node) : Type 0 where
   pub some-step : 1 ≤ x .n
   pub few-steps : x .n ≤ 6
@@ -32,9 +33,19 @@ pub record PlanRange (i : ℕ) (x : Node) : Type 0 where
   pub whole : x .p ≡ pos (nonnegative (x .p))
   pub bound : nonnegative (x .p) ≤ x .q
 
+-- Operator 9: the steps l to u that earn, p and q.
+pub record EarnsRange (x : Node) : Type 0 where
+  pub compares : Compares x
+  pub from-one : 1 ≤ x .left % 8
+  pub rising : x .left % 8 ≤ x .left / 8
+  pub within : x .left / 8 ≤ x .n
+  pub some-part : 1 ≤ x .q
+  pub few-parts : x .q ≤ 1000
+  pub bound : mag (x .p) ≤ 6000000
+
 pub record InRange (A N i : ℕ) (x : Node) : Type 0 where
   pub operator-from : 1 ≤ x .operator
-  pub operator-to : x .operator ≤ 8
+  pub operator-to : x .operator ≤ 9
   pub of-prop : x .operator ≡ 2 → x .left < N
   pub of-neg : x .operator ≡ 3 → x .left < i
   pub of-both : x .operator ≡ 4 → (x .left < i) × (x .right < i)
@@ -42,6 +53,11 @@ pub record InRange (A N i : ℕ) (x : Node) : Type 0 where
   pub of-next : x .operator ≡ 6 → x .left < i
   pub of-gain : x .operator ≡ 7 → GainRange x
   pub of-plan : x .operator ≡ 8 → PlanRange i x
+  pub of-earns : x .operator ≡ 9 → EarnsRange x
+
+-- The operators that set a bound on plans: "plan", and 9.
+unfoldable pub sets-bound : ℕ → Bool
+sets-bound op = eqb op 8 || eqb op 9
 
 -- ---- the question
 
