@@ -1,4 +1,4 @@
-// Bounds: powers of the denominator, and a total against the bound of a "plan" node, W times q against p times D to the n.
+// Bounds: powers of the denominator, and a total against the bound of a node of operator 8 or 9, the total times q against p times D to the n.
 ghost use mathlib.Core.Path.{_≡_};
 ghost use Prim.Native.Nat.{_*_, _^_, _≤_};
 ghost use Rattle.logic.specs.Formula.{relation, nonnegative};
@@ -6,12 +6,17 @@ ghost use Rattle.logic.specs.Quantity.{naturals};
 ghost use Rattle.logic.specs.Quantity as quantity;
 ghost use Rattle.models.specs.Layout.{denominator-of};
 ghost use Rattle.questions.specs.Layout.{node-of};
-ghost use Rattle.bounds.specs.promises.Bounded.{Bounded, Exactly, meets-at};
+ghost use Rattle.bounds.specs.promises.Bounded.{Bounded, Exactly, under, lift-of, lowered, most-of, meets-at};
 use prepared_model::MODEL;
 use prepared_model::denominator;
 use prepared_question::QUESTION;
+use questions::EARNS;
 use questions::EQUAL;
 use questions::LESS;
+use questions::SPAN_BASE;
+
+// How much a reward is raised: no reward is below -1000.
+const RAISE: u64 = 1000;
 
 // The denominator to the number of steps.
 pub fn power(d: usize, k: u8) -> u64
@@ -38,42 +43,90 @@ fn related(kind: u8, a: u64, b: u64) -> bool
     }
 }
 
-// The denominator to the steps of node j, a "plan", times its p.
-fn bound(m: &[u16; MODEL], q: &[u8; QUESTION], j: u8) -> u64
-    requires { ⌜ Bounded (now m) (now q) j ⌝ }
-    ensures value { λ r.
-        let m = now (m .entry) in let q = now (q .entry) in
-        ⌜ r ≡ denominator-of m ^ (node-of q j .n) * nonnegative (node-of q j .p) ⌝ }
+// p where it is above 0, else 0.
+fn above(p: i32) -> u64
+    ensures value { λ r. ⌜ r ≡ nonnegative p ⌝ }
 {
-    power(denominator(m), prepared_question::steps(q, j)) * prepared_question::bound(q, j) as u64
+    if p < 0 {
+        return 0;
+    }
+    p as u64
 }
 
-// Whether a total meets the bound of node j, a "plan".
-pub fn meets(m: &[u16; MODEL], q: &[u8; QUESTION], j: u8, w: u64) -> bool
-    requires { ⌜ Bounded (now m) (now q) j ⌝ }
-    requires { ⌜ w ≤ denominator-of (now m) ^ (node-of (now q) j .n) ⌝ }
-    ensures value { λ r. ⌜ r ≡ meets-at (now (m .entry)) (now (q .entry)) j w ⌝ }
+// How far p is below 0.
+fn below(p: i32) -> u64
+    ensures value { λ r. ⌜ r ≡ under p ⌝ }
 {
+    if 0 <= p {
+        return 0;
+    }
+    (0 - p as i64) as u64
+}
+
+// The denominator to the steps of node j.
+fn whole(m: &[u16; MODEL], q: &[u8; QUESTION], j: u8) -> u64
+    requires { ⌜ Bounded (now m) (now q) j ⌝ }
+    ensures value { λ r. ⌜ r ≡ denominator-of (now (m .entry)) ^ (node-of (now (q .entry)) j .n) ⌝ }
+    ensures range { λ r. ⌜ r ≤ 100 ^ 6 ⌝ }
+{
+    power(denominator(m), prepared_question::steps(q, j))
+}
+
+// How much the totals of node j are raised, so that a search has natural numbers.
+pub fn lift(m: &[u16; MODEL], q: &[u8; QUESTION], j: u8) -> u64
+    requires { ⌜ Bounded (now m) (now q) j ⌝ }
+    ensures value { λ r. ⌜ r ≡ lift-of (now (m .entry)) (now (q .entry)) j ⌝ }
+    ensures range { λ r. ⌜ r ≤ 6000 * 100 ^ 6 ⌝ }
+{
+    if prepared_question::operator(q, j) != EARNS {
+        return 0;
+    }
+    let span = prepared_question::left(q, j);
+    let paid = span / SPAN_BASE - (span % SPAN_BASE - 1);
+    RAISE * paid as u64 * whole(m, q, j)
+}
+
+// Whether a raised total meets the bound of node j: q times it, and p times D to the n, each with what makes nothing negative.
+pub fn meets(m: &[u16; MODEL], q: &[u8; QUESTION], j: u8, x: u64) -> bool
+    requires { ⌜ Bounded (now m) (now q) j ⌝ }
+    requires { ⌜ x ≤ most-of (now m) (now q) j ⌝ }
+    ensures value { λ r.
+        let m = now (m .entry) in let q = now (q .entry) in
+        ⌜ r ≡ meets-at m q j (lowered m q j x) ⌝ }
+{
+    let d = whole(m, q, j);
+    let parts = prepared_question::parts(q, j) as u64;
+    let p = prepared_question::bound(q, j);
     related(
         prepared_question::right(q, j),
-        prepared_question::parts(q, j) as u64 * w,
-        bound(m, q, j),
+        parts * x + d * below(p),
+        d * above(p) + parts * lift(m, q, j),
     )
 }
 
-// The one total that meets "equal", if it is whole.
+// The one raised total that meets "equal", if there is one.
 pub struct Exact {
     pub whole: bool,
     pub total: u64,
 }
 
-// What a total of node j, a "plan", would have to be to be equal to the bound.
+// What a raised total of node j would have to be for the total to be equal to the bound.
 pub fn exact_total(m: &[u16; MODEL], q: &[u8; QUESTION], j: u8) -> Exact
     requires { ⌜ Bounded (now m) (now q) j ⌝ }
     ensures value { λ r. ⌜ Exactly (now (m .entry)) (now (q .entry)) j (r .whole) (r .total) ⌝ }
 {
-    let all = bound(m, q, j);
+    let d = whole(m, q, j);
     let parts = prepared_question::parts(q, j) as u64;
+    let p = prepared_question::bound(q, j);
+    let up = d * above(p) + parts * lift(m, q, j);
+    let down = d * below(p);
+    if up < down {
+        return Exact {
+            whole: false,
+            total: 0,
+        };
+    }
+    let all = up - down;
     Exact {
         whole: all % parts == 0,
         total: all / parts,

@@ -1,74 +1,30 @@
 -- What a search finds is the shown plan. It searches natural numbers: the totals of a bound, all raised by one number, which changes no order.
 -- For "greater" the shown plan is that of first-best choices, for "less" the same in the reversed order, and where its total does not meet
 -- the bound there is none. For "equal" it is the plan at the first place of the list that meets the bound.
-use Prim.Native.Nat.{ℕ, suc, _+_, _-_, _<_, _≤_}
-use native.Mathlib.Omega.{arith}
-use mathlib.Core.Path.{_≡_, refl, sym, ap, ap₂, subst, _∙_, fun-ext}
+use Prim.Native.Nat.{ℕ, _+_, _<_}
+use mathlib.Core.Path.{_≡_, refl, sym, ap, ap₂, subst, _∙_}
 use mathlib.Core.Bool.{Bool, true, false, not, and-true}
 use mathlib.Core.List.{List, _∷_, List·Memᴰ, List·Memᴰ·head, List·Memᴰ·tail}
 use mathlib.Core.Option.{none, some}
-use lib.Dec.{T, leb, ltb, leb→le, le→leb, nltb→le, ltb→lt, not-T}
-use lib.IntN.{ℤ, pos, subℕ}
+use lib.Dec.{T, leb}
+use lib.IntN.{ℤ, subℕ}
 use lib.ListN.{length, getD}
 use lib.Signed.{leZ}
 use Rattle.logic.specs.Model.{Model, Step}
 use Rattle.logic.specs.Plan.{Plan, plans, paths}
 use Rattle.logic.specs.Quantity.{Quantity, naturals, integers, Relation, less, equal, greater, related}
-use Rattle.logic.specs.Bound.{Bound, total, meets, total-of}
+use Rattle.logic.specs.Bound.{Bound, total, meets}
 use Rattle.logic.specs.promises.Orders.{reversed, weights, order}
 use Rattle.logic.specs.promises.Recursion.{greatest, best-plan}
 use Rattle.logic.specs.Verdict.{leads, bound-goal, shown}
 use Rattle.logic.specs.Accepted.{Accepted}
-use Rattle.logic.proofs.Tests.{T→true, true→T, not-true, find-at, find-nowhere}
+use Rattle.logic.proofs.Tests.{find-at, find-nowhere}
 use Rattle.logic.proofs.Sums.{naturals-additive, reversed-additive, sum-reversed}
 use Rattle.logic.proofs.Best.{Best, here, later, naturals-ordered, reversed-ordered, best-member}
-use Rattle.logic.proofs.Integers.{integers-ordered, subℕ-ge, subℕ-lt}
+use Rattle.logic.proofs.Integers.{integers-ordered}
+use Rattle.logic.proofs.Lowered.{lowered-order}
 use Rattle.logic.proofs.Recursion.{best-plan-first, best-plan-total}
 use Rattle.logic.proofs.Shown.{best-found, best-missed}
-
--- ---- lowering by one number
-
--- Lowered by c, numbers keep their order.
-lowered-le : (a b c : ℕ) → a ≤ b → T (leZ (subℕ a c) (subℕ b c))
-lowered-le a b c h = pick (ltb a c) (ltb b c) refl refl
-  where
-    pick : (t u : Bool) → ltb a c ≡ t → ltb b c ≡ u → T (leZ (subℕ a c) (subℕ b c))
-    pick true true e f =
-        let x = ltb→lt a c (true→T e) in
-        let y = ltb→lt b c (true→T f) in
-        rw (subℕ-lt a c x, subℕ-lt b c y) (le→leb (c - suc b) (c - suc a) (omega arith))
-    pick true false e f =
-        let x = ltb→lt a c (true→T e) in
-        let y = nltb→le b c (subst (λ t. T (not t)) (sym f) tt) in
-        rw (subℕ-lt a c x, subℕ-ge b c y) tt
-    pick false u e f =
-        let x = nltb→le a c (subst (λ t. T (not t)) (sym e) tt) in
-        rw (subℕ-ge a c x, subℕ-ge b c (omega arith)) (le→leb (a - c) (b - c) (omega arith))
-
-lowered-lt : (a b c : ℕ) → b < a → T (leZ (subℕ a c) (subℕ b c)) → ⊥
-lowered-lt a b c h = pick (ltb a c) (ltb b c) refl refl
-  where
-    pick : (t u : Bool) → ltb a c ≡ t → ltb b c ≡ u → T (leZ (subℕ a c) (subℕ b c)) → ⊥
-    pick true u e f p =
-        let x = ltb→lt a c (true→T e) in
-        let q = leb→le (c - suc b) (c - suc a) (rw (subℕ-lt a c x, subℕ-lt b c (omega arith)) at p) in
-        omega arith
-    pick false true e f p =
-        let x = nltb→le a c (subst (λ t. T (not t)) (sym e) tt) in
-        let y = ltb→lt b c (true→T f) in
-        rw (subℕ-ge a c x, subℕ-lt b c y) at p
-    pick false false e f p =
-        let x = nltb→le a c (subst (λ t. T (not t)) (sym e) tt) in
-        let y = nltb→le b c (subst (λ t. T (not t)) (sym f) tt) in
-        let q = leb→le (a - c) (b - c) (rw (subℕ-ge a c x, subℕ-ge b c y) at p) in
-        omega arith
-
-pub lowered-order : (a b c : ℕ) → leZ (subℕ a c) (subℕ b c) ≡ leb a b
-lowered-order a b c = pick (leb a b) refl
-  where
-    pick : (t : Bool) → leb a b ≡ t → leZ (subℕ a c) (subℕ b c) ≡ t
-    pick true e = T→true _ (lowered-le a b c (leb→le a b (true→T e)))
-    pick false e = not-true _ (λ p. lowered-lt a b c (lib.Dec.nleb→lt a b (subst (λ t. T (not t)) (sym e) tt)) (true→T p))
 
 -- The best by one value is the best by another that has the same order.
 best-as : (Q R : Quantity) {A : Type 0} (v : A → Q .Value) (u : A → R .Value) {l : List A} {x : A}

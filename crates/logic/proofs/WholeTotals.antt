@@ -8,7 +8,7 @@ use mathlib.Core.Path.{_≡_, refl, sym, ap, ap₂, subst, _∙_}
 use mathlib.Core.Bool.{Bool, true, false, not, cond, _&&_}
 use mathlib.Core.Logic.{⊎-elim}
 use mathlib.Core.List.{List, [], _∷_, map, List·Memᴰ, List·Memᴰ·head, List·Memᴰ·tail, List·Memᴰ·not-nil, List·Memᴰ·eq-of-singleton, List·Memᴰ·cases-cons, List·Memᴰ·append-cases}
-use lib.Dec.{T, leb, ltb, leb→le, ltb→lt, nltb→le}
+use lib.Dec.{T, leb, leb→le}
 use lib.IntN.{ℤ, pos, negsuc, subℕ, _+ℤ_, _*ℤ_, +ℤ-idr, +ℤ-idl, +ℤ-assoc, +ℤ-comm, pos-+ℤ-pos, pos-*ℤ-pos}
 use lib.ListN.{length, take, drop}
 use lib.Seq.{length-take-le}
@@ -23,8 +23,9 @@ use Rattle.logic.specs.Accepted.{Accepted, Executable}
 use Rattle.logic.specs.promises.Total.{value-of}
 use Rattle.logic.specs.promises.Raised.{raise, raised, Modest, Modest-rewards}
 use Rattle.logic.proofs.Members.{map-member, plan-member}
-use Rattle.logic.proofs.Integers.{swap, times-plus, subℕ-ge, subℕ-lt}
+use Rattle.logic.proofs.Integers.{swap, times-plus, subℕ-ge}
 use Rattle.logic.proofs.PathWeights.{path-weights, W-total}
+use Rattle.logic.proofs.Lowered.{lowered-by}
 use Rattle.logic.proofs.Search.{Raises}
 
 -- ---- one number added to every value
@@ -46,23 +47,6 @@ module _ {A : Type 0} (w : A → ℕ) (g : A → ℤ) (f : A → ℕ) (c : ℕ) 
       ∙ pos-*ℤ-pos (w x) (f x))
       (sum-raised l (λ a i. h a (List·Memᴰ·tail i)))
       ∙ pos-+ℤ-pos (w x * f x) (sum naturals (λ a. w a * f a) l)
-
--- What is y when raised by c is y lowered by c.
-pub lowered-by : (x : ℤ) (y c : ℕ) → x +ℤ pos c ≡ pos y → x ≡ subℕ y c
-lowered-by (pos a) y c e = ap pos (omega (arith, pos-same e)) ∙ sym (subℕ-ge y c (omega (arith, pos-same e)))
-  where
-    pos-same : {a b : ℕ} → pos a ≡ pos b → a ≡ b
-    pos-same e = ap (λ z. lib.Signed.mag z) e
-lowered-by (negsuc a) y c e = pick (ltb c (suc a)) refl
-  where
-    pick : (t : Bool) → ltb c (suc a) ≡ t → negsuc a ≡ subℕ y c
-    pick true f =
-        let h = ltb→lt c (suc a) (subst T (sym f) tt) in
-        absurd (lib.IntN.pos-ne-negsuc y (suc a - suc c) (sym (sym (subℕ-lt c (suc a) h) ∙ e)))
-    pick false f =
-        let h = nltb→le c (suc a) (subst (λ t. T (not t)) (sym f) tt) in
-        let k : c - suc a ≡ y = ap (λ z. lib.Signed.mag z) (sym (subℕ-ge c (suc a) h) ∙ e) in
-        ap negsuc (omega arith) ∙ sym (subℕ-lt y c (omega arith))
 
 module _ (m : Model) (accepted : Accepted m) (n s : ℕ) (k : s < length (m .states)) where
   pub raises-by : (g : List Step → ℤ) (f : List Step → ℕ) (c : ℕ)
