@@ -54,7 +54,7 @@ pub fn compare(seed: u64, count: usize) -> Result<usize, Box<Difference>> {
     Ok(compared)
 }
 
-/// The verdicts, and the weights of the first and the shown plan.
+/// The verdicts, and the totals of the first and the shown plan.
 fn compare_one(model: &Model, question: &Question, totals: &Totals) -> Result<(), Difference> {
     let quick = fast::judge(model, question, totals);
     same(&quick, &plain::judge(model, question))?;
@@ -64,8 +64,8 @@ fn compare_one(model: &Model, question: &Question, totals: &Totals) -> Result<()
     let first = Plan::first(model, question.start, root.steps());
     let shown = Plan::from_choices(model, question.start, root.steps(), &quick.choices);
     for plan in std::iter::once(first).chain(shown) {
-        let quick = fast::weight_of(model, question, &root, &plan, totals);
-        same(&quick, &plain::weight_of(model, question, &root, &plan))?;
+        let quick = fast::total_of(model, question, &root, &plan, totals);
+        same(&quick, &plain::total_of(model, question, &root, &plan))?;
     }
     Ok(())
 }

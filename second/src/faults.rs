@@ -7,7 +7,7 @@ use crate::blocks::{QuestionImage, Sheet, BLOCK};
 use crate::desk::{replay, Answer, Call, Desk};
 use crate::ground::Ground;
 use crate::logic::{check_limits, fast, Judged, Model, Move, Node, Plan, PlanNode};
-use crate::logic::{Question, Totals, SILENT};
+use crate::logic::{Question, Summed, Totals, SILENT};
 use std::collections::BTreeMap;
 
 #[derive(Clone, Copy, Debug, PartialEq, Eq, PartialOrd, Ord)]
@@ -263,7 +263,7 @@ fn wrong_check(
             let mut sheet = Sheet::unpack(bytes);
             let wrong = wrong_model(fault, model);
             match renamed(model, &wrong, question, &sheet.choices) {
-                Some(choices) if right.is_ok() || right == Err(Ground::Weight) => {
+                Some(choices) if right.is_ok() || right == Err(Ground::Total) => {
                     sheet.choices = choices;
                     asked(&sheet.pack())
                 }
@@ -323,7 +323,12 @@ fn moved(node: Node, places: &[u8]) -> Node {
         Node::And(left, right) => Node::And(to(left), to(right)),
         Node::Next(child) => Node::Next(to(child)),
         Node::Plan(plan) => Node::Plan(PlanNode {
-            condition: to(plan.condition),
+            summed: match plan.summed {
+                Summed::Weights { condition } => Summed::Weights {
+                    condition: to(condition),
+                },
+                gains => gains,
+            },
             ..plan
         }),
         other => other,

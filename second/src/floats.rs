@@ -11,7 +11,7 @@ use crate::logic::{Relation, Totals, Verdict};
 use std::collections::BTreeMap;
 use std::ops::Div;
 
-/// How a total W over D to the n is compared with p/q; doubles have 53 bits,
+/// How a total over D to the n is compared with p/q; doubles have 53 bits,
 /// singles 24.
 #[derive(Clone, Copy, Debug, PartialEq, Eq, PartialOrd, Ord)]
 pub enum Arithmetic {
@@ -21,10 +21,11 @@ pub enum Arithmetic {
     RoundedSingles,
     /// Two quotients of singles.
     DividedSingles,
-    /// Two products, W times q and p times D to the n.
+    /// Two products, the total times q and p times D to the n.
     MultipliedDoubles,
     MultipliedSingles,
-    /// Products of chances added up, as the judge before ours did it.
+    /// Products of chances (for gains, times the gain) added up, as the judge
+    /// before ours did it.
     AddedDoubles,
     AddedSingles,
     /// The same as its release build did it: each multiply and add fused.
@@ -63,7 +64,7 @@ impl Meaning for FloatJudge<'_> {
     }
 
     fn met(&self, node: &PlanNode, plan: &Plan, state: u8) -> bool {
-        let (p, q) = (u64::from(node.bound.p), u64::from(node.bound.q));
+        let (p, q) = (i128::from(node.bound.p), i128::from(node.bound.q));
         let (left, right) = self.sides(node, plan, state, (p, q));
         node.relation.relates(left, right)
     }
@@ -75,33 +76,29 @@ impl FloatJudge<'_> {
         self.holds(self.question.root(), &place, 0)
     }
 
-    /// Whether a claimed weight passes for the plan's.
-    fn claim_right(&self, node: &PlanNode, plan: &Plan, claimed: u64) -> bool {
-        let whole = self.model.whole(node.steps());
+    /// Whether a claimed total passes for the plan's.
+    fn claim_right(&self, node: &PlanNode, plan: &Plan, claimed: i128) -> bool {
+        let whole = i128::from(self.model.whole(node.steps()));
         let (left, right) = self.sides(node, plan, self.question.start, (claimed, whole));
         left == right
     }
 
     /// The two numbers that are compared. Singles are exact as doubles.
-    fn sides(&self, node: &PlanNode, plan: &Plan, start: u8, (p, q): (u64, u64)) -> (f64, f64) {
-        let whole = self.model.whole(node.steps());
-        let weight = || self.weight(node, plan);
-        let double = |p: u64, q: u64| p as f64 / q as f64;
-        let rounded = |p: u64, q: u64| f64::from(double(p, q) as f32);
-        let single = |p: u64, q: u64| f64::from(p as f32 / q as f32);
-        let double_product = |a: u64, b: u64| a as f64 * b as f64;
-        let single_product = |a: u64, b: u64| f64::from(a as f32 * b as f32);
+    fn sides(&self, node: &PlanNode, plan: &Plan, start: u8, (p, q): (i128, i128)) -> (f64, f64) {
+        let whole = i128::from(self.model.whole(node.steps()));
+        let total = || self.total(node, plan);
+        let double = |p: i128, q: i128| p as f64 / q as f64;
+        let rounded = |p: i128, q: i128| f64::from(double(p, q) as f32);
+        let single = |p: i128, q: i128| f64::from(p as f32 / q as f32);
+        let double_product = |a: i128, b: i128| a as f64 * b as f64;
+        let single_product = |a: i128, b: i128| f64::from(a as f32 * b as f32);
         let begun = Path::standing(start);
         match self.arithmetic {
-            Arithmetic::DividedDoubles => (double(weight(), whole), double(p, q)),
-            Arithmetic::RoundedSingles => (rounded(weight(), whole), rounded(p, q)),
-            Arithmetic::DividedSingles => (single(weight(), whole), single(p, q)),
-            Arithmetic::MultipliedDoubles => {
-                (double_product(weight(), q), double_product(p, whole))
-            }
-            Arithmetic::MultipliedSingles => {
-                (single_product(weight(), q), single_product(p, whole))
-            }
+            Arithmetic::DividedDoubles => (double(total(), whole), double(p, q)),
+            Arithmetic::RoundedSingles => (rounded(total(), whole), rounded(p, q)),
+            Arithmetic::DividedSingles => (single(total(), whole), single(p, q)),
+            Arithmetic::MultipliedDoubles => (double_product(total(), q), double_product(p, whole)),
+            Arithmetic::MultipliedSingles => (single_product(total(), q), single_product(p, whole)),
             Arithmetic::AddedDoubles => {
                 let total = self.added(node, plan, &begun, &|t: f64, a, b| t + a * b);
                 (total, double(p, q))
@@ -117,11 +114,12 @@ impl FloatJudge<'_> {
         }
     }
 
-    /// The chance of a plan's condition: over the outcomes of its first
-    /// action, the chance of each times that from there on, added up.
+    /// The chance of a plan's condition, or its expected gain: over the outcomes
+    /// of its first action, the chance of each times what comes from there on,
+    /// added up.
     fn added<F>(&self, node: &PlanNode, plan: &Plan, so_far: &Path, join: &Join<F>) -> F
     where
-        F: From<u8> + Div<Output = F>,
+        F: From<i16> + Div<Output = F>,
     {
         let mut total = F::from(0);
         let chosen = plan.chosen(self.model).into_iter();
@@ -130,9 +128,11 @@ impl FloatJudge<'_> {
             let path = so_far.extended(action, outcome);
             let further = match plan.below().get(place) {
                 Some(below) => self.added(node, below, &path, join),
-                None => u8::from(self.holds(usize::from(node.condition), &path, 0)).into(),
+                // Six rewards of up to 1,000 points fit.
+                None => F::from(self.factor(node, &path) as i16),
             };
-            let chance = F::from(outcome.weight) / F::from(self.model.denominator);
+            let (weight, whole) = (outcome.weight.into(), self.model.denominator.into());
+            let chance = F::from(weight) / F::from(whole);
             total = join(total, chance, further);
         }
         total
@@ -144,7 +144,7 @@ type Join<F> = dyn Fn(F, F, F) -> F;
 
 /// What a call asked: a verdict on a question whose root is its one "plan"
 /// node, or on another one; whether a sheet meets the bound, and whether its
-/// claimed weight is its plan's.
+/// claimed total is its plan's.
 #[derive(Clone, Copy, Debug, PartialEq, Eq, PartialOrd, Ord)]
 pub enum Asked {
     Root,
@@ -153,9 +153,9 @@ pub enum Asked {
     Claim,
 }
 
-/// How often an arithmetic answers otherwise, for each relation (that of the
-/// first "plan" node) and each right answer.
-pub type Differences = BTreeMap<(Arithmetic, Asked, Relation, bool), usize>;
+/// How often an arithmetic answers otherwise, for each operator and relation
+/// (those of the first plan node) and each right answer.
+pub type Differences = BTreeMap<(Arithmetic, Asked, u8, Relation, bool), usize>;
 
 /// Replays a stream from the empty desk beside a judge of each arithmetic.
 pub fn differences(stream: &[u8]) -> Differences {
@@ -175,7 +175,8 @@ pub fn differences(stream: &[u8]) -> Differences {
             };
             for (asked, right, given) in answers(&judge, call, answer) {
                 if right != given {
-                    let key = (arithmetic, asked, first.relation, right);
+                    let operator = first.summed.operator();
+                    let key = (arithmetic, asked, operator, first.relation, right);
                     *counts.entry(key).or_default() += 1;
                 }
             }
@@ -205,7 +206,7 @@ fn answers(judge: &FloatJudge, call: &Call, answer: &Answer) -> Vec<(Asked, bool
     }
 }
 
-/// The same for a sheet that is accepted, or refused for its weight alone; a
+/// The same for a sheet that is accepted, or refused for its total alone; a
 /// condition with plans in it can take long to read on every path.
 fn sheet_answers(
     judge: &FloatJudge,
@@ -213,18 +214,19 @@ fn sheet_answers(
     checked: Result<bool, Ground>,
 ) -> Vec<(Asked, bool, bool)> {
     let (start, root) = (judge.question.start, judge.question.root_plan());
-    let (Some(root), Ok(_) | Err(Ground::Weight)) = (root, checked) else {
+    let (Some(root), Ok(_) | Err(Ground::Total)) = (root, checked) else {
         return Vec::new();
     };
     let totals = Totals::of(judge.model);
-    if plain::weight_cost(judge.model, judge.question, &root, &totals) > AFFORDABLE {
+    if plain::total_cost(judge.model, judge.question, &root, &totals) > AFFORDABLE {
         return Vec::new();
     }
     let sheet = Sheet::unpack(bytes);
     let Some(plan) = Plan::from_choices(judge.model, start, root.steps(), &sheet.choices) else {
         return Vec::new();
     };
-    let claim = judge.claim_right(&root, &plan, sheet.weight);
+    let claimed = root.summed.claimed(sheet.total);
+    let claim = judge.claim_right(&root, &plan, claimed);
     let mut found = vec![(Asked::Claim, checked.is_ok(), claim)];
     if let Ok(met) = checked {
         found.push((Asked::Met, met, judge.met(&root, &plan, start)));

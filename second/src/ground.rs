@@ -14,7 +14,8 @@ pub enum Ground {
     Outcomes = 7,
     Formula = 9,
     Choices = 10,
-    Weight = 11,
+    /// The sheet's weight, or its total of gains, is not its plan's.
+    Total = 11,
     ShortBuffer = 12,
     NoModel = 20,
     NoQuestion = 21,

@@ -1,7 +1,7 @@
 //! Lists of calls: what each changes, and demand 3 on the desks they give.
 
 use second::blocks::{Sheet, BLOCK};
-use second::desk::{next_call, Answer, Call, Desk};
+use second::desk::{next_call, stored, Answer, Call, Desk};
 use second::generate::stream;
 use second::ground::Ground;
 use second::logic::{check_limits, plain, Model, Plan, Question, Totals, Verdict};
@@ -140,24 +140,35 @@ fn demand_three_holds(desk: &Desk, verdict: &Verdict) -> bool {
     true
 }
 
-/// The plan's sheet is accepted with its weight and with no other; tells
+/// The plan's sheet is accepted with its total and with no other; tells
 /// whether it meets the bound.
 fn accepted_exactly(desk: &Desk, model: &Model, question: &Question, plan: &Plan) -> bool {
     let root = question.root_plan().expect("a plan root");
-    let weight = plain::weight_of(model, question, &root, plan);
+    let total = plain::total_of(model, question, &root, plan);
     let mut sheet = Sheet {
         steps: root.steps,
         start: question.start,
-        weight,
+        total: stored(total),
         choices: plan.choices(model),
     };
-    let met = root.met_by(weight, model.whole(root.steps()));
+    let met = root.met_by(total, model.whole(root.steps()));
     assert_eq!(desk.check(&sheet.pack()), Ok(met));
-    for wrong in [weight.wrapping_sub(1), weight + 1, u64::MAX] {
-        sheet.weight = wrong;
-        assert_eq!(desk.check(&sheet.pack()), Err(Ground::Weight));
+    let right = sheet.total;
+    for wrong in wrong_totals(total).filter(|wrong| *wrong != right) {
+        sheet.total = wrong;
+        assert_eq!(desk.check(&sheet.pack()), Err(Ground::Total));
     }
     met
+}
+
+/// Eight bytes that are not a total's, or are so by chance: one off, the sign
+/// lost or turned, cut to 32 bits, the top bit turned, all bits set.
+fn wrong_totals(total: i128) -> impl Iterator<Item = u64> {
+    let right = stored(total);
+    let cut = [right & 0xFFFF_FFFF, right as i32 as u64];
+    let numbers = [total - 1, total + 1, total.abs(), -total].map(stored);
+    let bits = [right ^ 1 << 63, u64::MAX];
+    numbers.into_iter().chain(cut).chain(bits)
 }
 
 /// Each stream reaches the grounds that it is made for.

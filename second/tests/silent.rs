@@ -54,7 +54,7 @@ fn choice_bytes() {
                 let sheet = Sheet {
                     steps: 1,
                     start,
-                    weight: 10,
+                    total: 10,
                     choices: vec![choice],
                 };
                 let wanted = match accepted.contains(&choice) {

@@ -101,9 +101,10 @@ fn print_tally(stream: &[u8]) -> io::Result<()> {
 }
 
 fn print_floats(stream: &[u8]) -> io::Result<()> {
-    for ((arithmetic, asked, relation, right), count) in floats::differences(stream) {
+    for ((arithmetic, asked, operator, relation, right), count) in floats::differences(stream) {
         let right = if right { "yes" } else { "no" };
-        let words = format!("{arithmetic:?} wrong on {asked:?} {relation:?}, rightly {right}");
+        let asked = format!("{asked:?}, operator {operator} {relation:?}, rightly {right}");
+        let words = format!("{arithmetic:?} wrong on {asked}");
         print_line(&format!("{count:8} {words}"))?;
     }
     Ok(())

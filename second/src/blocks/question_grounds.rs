@@ -3,7 +3,7 @@
 use super::frame::check_frame;
 use super::question_image::{NodeImage, QuestionImage};
 use crate::ground::{demand, Ground};
-use crate::logic::{Bound, Model, Node, PlanNode, Question, Relation};
+use crate::logic::{Bound, Model, Node, PlanNode, Question, Relation, Summed};
 
 /// The accepted question in these bytes, or the first ground against it.
 pub fn read_question(bytes: &[u8], model: &Model) -> Result<Question, Ground> {
@@ -30,7 +30,14 @@ pub fn read_question(bytes: &[u8], model: &Model) -> Result<Question, Ground> {
 /// The node with its used fields, if each is in its range (ground 5).
 fn read_node(own: usize, image: &NodeImage, model: &Model) -> Option<Node> {
     let child = |number: u8| (usize::from(number) < own).then_some(number);
-    let steps = (1..=6).contains(&image.steps).then_some(image.steps);
+    let plan = |summed, bound| {
+        Some(Node::Plan(PlanNode {
+            steps: steps(image)?,
+            summed,
+            relation: Relation::from_number(image.right)?,
+            bound,
+        }))
+    };
     Some(match image.operator {
         1 => Node::False,
         2 if image.left < model.propositions => Node::Proposition(image.left),
@@ -39,18 +46,21 @@ fn read_node(own: usize, image: &NodeImage, model: &Model) -> Option<Node> {
         5 if usize::from(image.left) < model.actions.len() => Node::Do(image.left),
         6 => Node::Next(child(image.left)?),
         7 => Node::Gain {
-            steps: steps?,
+            steps: steps(image)?,
             relation: Relation::from_number(image.right)?,
             bound: gain_bound(image)?,
         },
-        8 => Node::Plan(PlanNode {
-            steps: steps?,
-            condition: child(image.left)?,
-            relation: Relation::from_number(image.right)?,
-            bound: plan_bound(image)?,
-        }),
+        8 => {
+            let condition = child(image.left)?;
+            plan(Summed::Weights { condition }, chance_bound(image)?)?
+        }
+        9 => plan(window(image)?, expected_bound(image)?)?,
         _ => return None,
     })
+}
+
+fn steps(image: &NodeImage) -> Option<u8> {
+    (1..=6).contains(&image.steps).then_some(image.steps)
 }
 
 fn gain_bound(image: &NodeImage) -> Option<i32> {
@@ -58,10 +68,23 @@ fn gain_bound(image: &NodeImage) -> Option<i32> {
     right.then_some(image.p)
 }
 
-fn plan_bound(image: &NodeImage) -> Option<Bound> {
-    let p = u32::try_from(image.p).ok()?;
-    let right = (1..=1_000_000).contains(&image.q) && p <= image.q;
-    right.then_some(Bound { p, q: image.q })
+fn chance_bound(image: &NodeImage) -> Option<Bound> {
+    let NodeImage { p, q, .. } = *image;
+    let right = (1..=1_000_000).contains(&q) && p >= 0 && i64::from(p) <= i64::from(q);
+    right.then_some(Bound { p, q })
+}
+
+/// The left byte of operator 9 is l plus 8 times u, with 1 <= l <= u <= n.
+fn window(image: &NodeImage) -> Option<Summed> {
+    let (first, last) = (image.left % 8, image.left / 8);
+    let right = 1 <= first && first <= last && last <= image.steps;
+    right.then_some(Summed::Gains { first, last })
+}
+
+fn expected_bound(image: &NodeImage) -> Option<Bound> {
+    let NodeImage { p, q, .. } = *image;
+    let right = (-6_000_000..=6_000_000).contains(&p) && (1..=1000).contains(&q);
+    right.then_some(Bound { p, q })
 }
 
 /// The image of these nodes and nothing else: what ground 6 compares with.
@@ -105,11 +128,23 @@ impl From<Node> for NodeImage {
             },
             Node::Plan(plan) => NodeImage {
                 steps: plan.steps,
-                p: i32::try_from(plan.bound.p).unwrap_or(i32::MAX),
+                p: plan.bound.p,
                 q: plan.bound.q,
-                ..image(8, plan.condition, plan.relation.number())
+                ..image(
+                    plan.summed.operator(),
+                    left_byte(plan.summed),
+                    plan.relation.number(),
+                )
             },
         }
+    }
+}
+
+/// What stands in the left byte of a plan node.
+fn left_byte(summed: Summed) -> u8 {
+    match summed {
+        Summed::Weights { condition } => condition,
+        Summed::Gains { first, last } => first + 8 * last,
     }
 }
 

@@ -1,4 +1,4 @@
-//! Sheets: a plan with its claimed weight in one to three blocks.
+//! Sheets: a plan with its claimed total in one to three blocks.
 
 use super::frame::{check_frame, fix_word_sums, BLOCK};
 use crate::bytes::{put, u16_at, u64_at, u8_at};
@@ -7,17 +7,19 @@ use crate::ground::{demand, Ground};
 /// How many choices every block but the last holds.
 pub const SHEET_CHOICES: usize = 490;
 
-const WEIGHT_AT: usize = 8;
+const TOTAL_AT: usize = 8;
 const COUNT_AT: usize = 16;
 const CHOICES_AT: usize = 18;
 
-/// "Sheet" is document 01's word for a stored plan with its claimed weight:
+/// "Sheet" is document 01's word for a stored plan with its claimed total:
 /// what the field calls a certificate.
 #[derive(Clone, Debug, Default, PartialEq, Eq)]
 pub struct Sheet {
     pub steps: u8,
     pub start: u8,
-    pub weight: u64,
+    /// The eight bytes of the total as they stand: a weight, or a total of gains
+    /// in two's complement. Which of them it is, the question tells.
+    pub total: u64,
     /// One choice for each history, depth first: an action, or 255 for the
     /// silent move.
     pub choices: Vec<u8>,
@@ -38,7 +40,7 @@ impl Sheet {
             let part = parts.next().unwrap_or(&[]);
             let count = u16::try_from(part.len()).unwrap_or(u16::MAX);
             put(block, 0, &[4, number, self.steps, self.start]);
-            put(block, WEIGHT_AT, &self.weight.to_le_bytes());
+            put(block, TOTAL_AT, &self.total.to_le_bytes());
             put(block, COUNT_AT, &count.to_le_bytes());
             put(block, CHOICES_AT, part);
         }
@@ -46,7 +48,7 @@ impl Sheet {
         bytes
     }
 
-    /// Reads the fields of whole blocks, taking the weight of the first.
+    /// Reads the fields of whole blocks, taking the total of the first.
     pub fn unpack(bytes: &[u8]) -> Self {
         let mut choices = Vec::new();
         for block in bytes.chunks(BLOCK) {
@@ -56,7 +58,7 @@ impl Sheet {
         Sheet {
             steps: u8_at(bytes, 2),
             start: u8_at(bytes, 3),
-            weight: u64_at(bytes, WEIGHT_AT),
+            total: u64_at(bytes, TOTAL_AT),
             choices,
         }
     }
@@ -71,9 +73,9 @@ pub fn read_sheet(bytes: &[u8], steps: u8, start: u8) -> Result<Sheet, Ground> {
     let blocks = || bytes.chunks(BLOCK);
     let heads_right = blocks().all(|b| u8_at(b, 2) == steps && u8_at(b, 3) == start);
     demand(heads_right, Ground::Counts)?;
-    let weight = u64_at(bytes, WEIGHT_AT);
-    let weights_agree = blocks().all(|b| u64_at(b, WEIGHT_AT) == weight);
-    demand(weights_agree && counts_right(bytes), Ground::Range)?;
+    let total = u64_at(bytes, TOTAL_AT);
+    let totals_agree = blocks().all(|b| u64_at(b, TOTAL_AT) == total);
+    demand(totals_agree && counts_right(bytes), Ground::Range)?;
     let sheet = Sheet::unpack(bytes);
     demand(sheet.pack() == bytes, Ground::Spare)?;
     Ok(sheet)

@@ -3,7 +3,7 @@
 use crate::blocks::{read_model, read_question, read_sheet, Sheet};
 use crate::ground::{demand, Ground};
 use crate::logic::{check_limits, fast, plain, Judged, Model, Plan, PlanNode};
-use crate::logic::{Question, Totals, Verdict};
+use crate::logic::{PlanRecord, Question, Totals, Verdict};
 
 /// Which of the two judges a desk uses.
 #[derive(Clone, Copy, Debug, Default, PartialEq, Eq)]
@@ -54,7 +54,7 @@ impl Desk {
         self.question.as_ref().ok_or(Ground::NoQuestion)
     }
 
-    /// The question's root, which must be a plan node.
+    /// The question's root, which must be a plan node of either kind.
     fn root_plan(&self) -> Result<PlanNode, Ground> {
         self.question()?.root_plan().ok_or(Ground::RootNotPlan)
     }
@@ -94,11 +94,11 @@ impl Desk {
     /// gives the number of bytes written.
     pub fn write(&self, buffer: &mut [u8]) -> Result<usize, Ground> {
         self.root_plan()?;
-        let (weight, steps, choices) = self.shown().ok_or(Ground::NoShownPlan)?;
+        let (record, choices) = self.shown().ok_or(Ground::NoShownPlan)?;
         let sheet = Sheet {
-            steps,
+            steps: record.steps,
             start: self.question()?.start,
-            weight,
+            total: stored(record.total),
             choices: choices.to_vec(),
         };
         let packed = sheet.pack();
@@ -107,16 +107,16 @@ impl Desk {
         Ok(packed.len())
     }
 
-    /// The weight, steps and choices of the plan that a yes shows.
-    fn shown(&self) -> Option<(u64, u8, &[u8])> {
+    /// The figures and choices of the plan that a yes shows.
+    fn shown(&self) -> Option<(PlanRecord, &[u8])> {
         let judged = self.judged.as_ref()?;
         match judged.verdict {
-            Verdict::YesPlan(record) => Some((record.weight, record.steps, &judged.choices)),
+            Verdict::YesPlan(record) => Some((record, &judged.choices)),
             _ => None,
         }
     }
 
-    /// Checks a sheet; on accepting it, tells whether its weight meets the
+    /// Checks a sheet; on accepting it, tells whether its total meets the
     /// bound.
     pub fn check(&self, bytes: &[u8]) -> Result<bool, Ground> {
         let root = self.root_plan()?;
@@ -126,11 +126,17 @@ impl Desk {
         let sheet = read_sheet(bytes, root.steps, question.start)?;
         let plan = Plan::from_choices(model, question.start, root.steps(), &sheet.choices)
             .ok_or(Ground::Choices)?;
-        let weight = match self.kind {
-            JudgeKind::Fast => fast::weight_of(model, question, &root, &plan, &totals),
-            JudgeKind::Plain => plain::weight_of(model, question, &root, &plan),
+        let total = match self.kind {
+            JudgeKind::Fast => fast::total_of(model, question, &root, &plan, &totals),
+            JudgeKind::Plain => plain::total_of(model, question, &root, &plan),
         };
-        demand(weight == sheet.weight, Ground::Weight)?;
-        Ok(root.met_by(weight, model.whole(root.steps())))
+        demand(total == root.summed.claimed(sheet.total), Ground::Total)?;
+        Ok(root.met_by(total, model.whole(root.steps())))
     }
+}
+
+/// A total in a sheet's eight bytes, in two's complement. The largest, of six
+/// steps with 6,000 points for 10^12, needs 54 bits.
+pub fn stored(total: i128) -> u64 {
+    total as u64
 }

@@ -37,9 +37,9 @@ fn answer_line(desk: &Desk, judged: &Judged) -> Result<String, Ground> {
         Verdict::Yes => "yes".to_string(),
         Verdict::YesPlan(record) => {
             let whole = desk.model()?.whole(usize::from(record.steps));
-            let (weight, count) = (record.weight, record.count);
+            let (total, count) = (record.total, record.count);
             let choices = list_choices(&judged.choices);
-            format!("yes {weight}/{whole} plans {count} choices{choices}")
+            format!("yes {total}/{whole} plans {count} choices{choices}")
         }
     })
 }

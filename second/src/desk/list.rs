@@ -136,9 +136,9 @@ fn verdict_words(judged: &Judged) -> String {
         Verdict::No { count } => format!("no {count}"),
         Verdict::Yes => "yes".to_string(),
         Verdict::YesPlan(record) => {
-            let (weight, steps, count) = (record.weight, record.steps, record.count);
+            let (total, steps, count) = (record.total, record.steps, record.count);
             let choices = list_choices(&judged.choices);
-            format!("yes {weight} {steps} {count} choices{choices}")
+            format!("yes {total} {steps} {count} choices{choices}")
         }
     }
 }

@@ -6,6 +6,6 @@ mod line;
 mod list;
 
 pub use c_call::c_calls;
-pub use calls::{Desk, JudgeKind};
+pub use calls::{stored, Desk, JudgeKind};
 pub use line::{verdict_line, verdict_of};
 pub use list::{adler, next_call, replay, Answer, Call};

@@ -127,15 +127,16 @@ impl Tree<'_> {
         self.end(&path, x, name, left)
     }
 
-    /// The end of a path, with its weight; marked if the condition is true.
-    /// The path's last steps may be silent.
+    /// The end of a path, with its weight; marked if the condition is true, or
+    /// with the gain of the steps that the root names. The path's last steps
+    /// may be silent.
     fn end(&mut self, path: &Path, x: f64, name: &str, silent: usize) -> f64 {
         let y = self.next_row;
         self.next_row += ROW;
         let whole_path = path.actions.len() == self.root.steps();
-        let met = self.marks
-            && whole_path
-            && plain::condition_holds(self.model, self.question, self.root, path);
+        let factor = (self.marks && whole_path)
+            .then(|| plain::factor_of(self.model, self.question, self.root, path));
+        let met = !self.root.sums_gains() && factor == Some(1);
         let look = if met { Look::Fulfilled } else { Look::State };
         self.canvas.boxed(look, x, y, STATE_WIDTH, name);
         let mut beside = x + STATE_WIDTH + 8.0;
@@ -146,8 +147,12 @@ impl Tree<'_> {
         }
         if whole_path {
             let whole = self.model.whole(self.root.steps());
-            let verb = if met { ", condition true" } else { "" };
-            words.push(format!("{}/{whole}{verb}", path.weight));
+            let counted = match factor {
+                Some(gain) if self.root.sums_gains() => format!(", gain {gain}"),
+                Some(1) => ", condition true".to_string(),
+                _ => String::new(),
+            };
+            words.push(format!("{}/{whole}{counted}", path.weight));
         }
         if !words.is_empty() {
             self.canvas.words(beside, y, &words.join(": "));

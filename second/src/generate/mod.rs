@@ -2,13 +2,16 @@
 //! follows from a seed.
 
 mod bench;
+mod bounds;
 mod cases;
 mod damage;
+mod gain_damage;
 mod lists;
 mod model;
 mod model_damage;
 mod question;
 mod question_damage;
+mod question_gains;
 mod rng;
 mod sheet_damage;
 mod streams;

@@ -1,9 +1,10 @@
 //! Random questions that are accepted, with bounds that are met, missed or
 //! just missed.
 
+use super::bounds;
 use super::rng::Rng;
 use crate::logic::{fast, Bound, Model, Node, Outcome, Path, Plan, PlanNode};
-use crate::logic::{Question, Relation, Totals};
+use crate::logic::{Question, Relation, Summed, Totals};
 
 /// How large the plans of a random question may be.
 #[derive(Clone, Copy)]
@@ -28,18 +29,12 @@ pub fn random_question(rng: &mut Rng, model: &Model, totals: &Totals, scale: Sca
         },
     };
     let silent = (0..model.states()).any(|state| model.is_silent(state as u8));
-    if silent && drawer.rng.once_in(3) {
-        let root = drawer.about_silent_steps();
-        drawer.question.nodes.push(root);
-        return drawer.question;
-    }
-    let least = if drawer.rng.once_in(8) { 1 } else { 4 };
-    let count = drawer.rng.range(least, scale.nodes);
-    for _ in 1..count {
-        let node = drawer.node();
-        drawer.question.nodes.push(node);
-    }
-    let root = drawer.root();
+    let root = match drawer.rng.below(20) {
+        0..=4 => drawer.gains_root(),
+        5..=6 => drawer.about_gains(),
+        _ if silent && drawer.rng.once_in(3) => drawer.about_silent_steps(),
+        _ => drawer.any_root(),
+    };
     drawer.question.nodes.push(root);
     drawer.question
 }
@@ -56,15 +51,25 @@ fn random_start(rng: &mut Rng, model: &Model) -> u8 {
     }
 }
 
-struct Drawer<'a> {
-    rng: &'a mut Rng,
+pub(super) struct Drawer<'a> {
+    pub(super) rng: &'a mut Rng,
     model: &'a Model,
     totals: &'a Totals,
     scale: Scale,
-    question: Question,
+    pub(super) question: Question,
 }
 
 impl Drawer<'_> {
+    /// Draws nodes of all kinds, and a root over them.
+    fn any_root(&mut self) -> Node {
+        let least = if self.rng.once_in(8) { 1 } else { 4 };
+        for _ in 1..self.rng.range(least, self.scale.nodes) {
+            let node = self.node();
+            self.question.nodes.push(node);
+        }
+        self.root()
+    }
+
     /// An earlier node, mostly a late one.
     fn child(&mut self) -> Option<u8> {
         let count = self.question.nodes.len();
@@ -73,12 +78,12 @@ impl Drawer<'_> {
         (count > 0).then(|| self.rng.range(first, count - 1) as u8)
     }
 
-    fn relation(&mut self) -> Relation {
+    pub(super) fn relation(&mut self) -> Relation {
         let all = [Relation::Less, Relation::Equal, Relation::Greater];
         self.rng.pick_or(&all, Relation::Equal)
     }
 
-    fn node(&mut self) -> Node {
+    pub(super) fn node(&mut self) -> Node {
         let drawn = match self.rng.below(32) {
             0 => Some(Node::False),
             1..=6 => self.child().map(Node::Not),
@@ -87,6 +92,7 @@ impl Drawer<'_> {
             16..=22 => self.child().map(Node::Next),
             23..=25 => Some(self.gain()),
             26..=27 => self.plan_over_any(),
+            28 => self.gains_from(self.question.start),
             _ => None,
         };
         drawn.unwrap_or_else(|| {
@@ -119,7 +125,7 @@ impl Drawer<'_> {
     }
 
     /// Adds a node over the last one.
-    fn add_over(&mut self, node: fn(u8) -> Node) {
+    pub(super) fn add_over(&mut self, node: fn(u8) -> Node) {
         let last = self.question.root() as u8;
         self.question.nodes.push(node(last));
     }
@@ -156,8 +162,18 @@ impl Drawer<'_> {
     /// on.
     fn close_gain(&mut self, place: usize) -> Node {
         let steps = self.rng.range(1, 6 - place.min(5));
+        let path = self.random_path(place + steps);
+        Node::Gain {
+            steps: steps as u8,
+            relation: self.relation(),
+            bound: path.gain(place, steps) + self.rng.pick_or(&[0, 0, 0, -1, 1], 0),
+        }
+    }
+
+    /// A path of so many steps from the question's start.
+    pub(super) fn random_path(&mut self, steps: usize) -> Path {
         let mut path = Path::standing(self.question.start);
-        for _ in 0..place + steps {
+        for _ in 0..steps {
             let state = path.states.last().copied().unwrap_or(0);
             let moves = self.model.moves(state);
             let Some(entry) = moves.get(self.rng.below(moves.len())) else {
@@ -166,11 +182,7 @@ impl Drawer<'_> {
             let outcome = self.rng.pick_or(&entry.outcomes, Outcome::default());
             path = path.extended(entry.action, &outcome);
         }
-        Node::Gain {
-            steps: steps as u8,
-            relation: self.relation(),
-            bound: path.gain(place, steps) + self.rng.pick_or(&[0, 0, 0, -1, 1], 0),
-        }
+        path
     }
 
     /// The root: mostly a plan over a condition that tells plans apart.
@@ -195,10 +207,11 @@ impl Drawer<'_> {
         root.unwrap_or(Node::False)
     }
 
-    /// Whether two of some random plans differ in weight.
-    fn tells_apart(&mut self, plan: &PlanNode) -> bool {
-        let first = self.random_weight(plan);
-        (0..4).any(|_| self.random_weight(plan) != first)
+    /// Whether two of some random plans differ in their totals.
+    pub(super) fn tells_apart(&mut self, plan: &PlanNode) -> bool {
+        let start = self.question.start;
+        let first = self.random_total(plan, start);
+        (0..4).any(|_| self.random_total(plan, start) != first)
     }
 
     fn plan_over_any(&mut self) -> Option<Node> {
@@ -207,30 +220,25 @@ impl Drawer<'_> {
     }
 
     /// A plan node over a condition, if some number of steps serves.
-    fn plan_over(&mut self, condition: u8) -> Option<Node> {
-        let depth = self
-            .question
-            .depths()
-            .get(usize::from(condition))
-            .copied()?;
+    pub(super) fn plan_over(&mut self, condition: u8) -> Option<Node> {
+        let depths = self.question.depths();
+        let depth = depths.get(usize::from(condition)).copied()?;
         let relation = self.relation();
-        let fits = |steps: &u8| self.fits(*steps, relation);
-        let serving: Vec<u8> = (1..=6).filter(fits).collect();
-        let deep: Vec<u8> = serving
-            .into_iter()
-            .filter(|n| usize::from(*n) >= depth)
-            .collect();
+        let serving = self.serving(relation, depth as u8);
         let mut plan = PlanNode {
-            steps: self.rng.pick(&deep)?,
-            condition,
+            steps: self.rng.pick(&serving)?,
+            summed: Summed::Weights { condition },
             relation,
             bound: Bound { p: 0, q: 1 },
         };
-        plan.bound = match self.rng.once_in(3) {
-            true => self.loose_bound(),
-            false => self.close_bound(&plan),
-        };
+        plan.bound = self.bound(&plan, self.question.start);
         Some(Node::Plan(plan))
+    }
+
+    /// The numbers of steps, from `least` on, whose plans stay within the scale.
+    pub(super) fn serving(&self, relation: Relation, least: u8) -> Vec<u8> {
+        let steps = least.max(1)..=6;
+        steps.filter(|steps| self.fits(*steps, relation)).collect()
     }
 
     /// Whether plans of so many steps stay within the scale.
@@ -248,59 +256,27 @@ impl Drawer<'_> {
         })
     }
 
-    fn loose_bound(&mut self) -> Bound {
-        let q = self.rng.pick_or(&[1, 1, 2, 3, 10, 100, 1_000_000], 1);
-        let p = self.rng.range(0, q as usize) as u32;
-        Bound { p, q }
-    }
-
-    /// The weight that some plan gives a node's condition.
-    fn random_weight(&mut self, node: &PlanNode) -> u64 {
-        let mut question = self.question.clone();
-        question.nodes.push(Node::Plan(*node));
-        let start = question.start;
-        let choices = random_choices(self.rng, self.model, start, node.steps());
-        let plan = Plan::from_choices(self.model, start, node.steps(), &choices);
-        plan.map_or(0, |plan| {
-            fast::weight_of(self.model, &question, node, &plan, self.totals)
-        })
-    }
-
-    /// A bound at, just below or just above the weight of some plan.
-    fn close_bound(&mut self, plan: &PlanNode) -> Bound {
+    /// A loose bound for a plan node, or one close to the total of some plan
+    /// from a state.
+    pub(super) fn bound(&mut self, plan: &PlanNode, state: u8) -> Bound {
+        if self.rng.once_in(3) {
+            return bounds::loose(self.rng, plan.summed);
+        }
         let whole = self.model.whole(plan.steps());
-        let weight = self.random_weight(plan);
-        let weight = match self.rng.below(6) {
-            0 => weight.saturating_sub(1),
-            1 => (weight + 1).min(whole),
-            _ => weight,
-        };
-        fraction(weight, whole)
+        let total = self.random_total(plan, state);
+        bounds::close(self.rng, plan.summed, total, whole)
     }
-}
 
-/// A fraction in lowest terms, or the nearest below in millionths.
-fn fraction(weight: u64, whole: u64) -> Bound {
-    let divisor = gcd(weight, whole).max(1);
-    let (p, q) = (weight / divisor, whole / divisor);
-    if q <= 1_000_000 {
-        return Bound {
-            p: p as u32,
-            q: q as u32,
-        };
-    }
-    let millionths = u128::from(weight) * 1_000_000 / u128::from(whole);
-    Bound {
-        p: millionths as u32,
-        q: 1_000_000,
-    }
-}
-
-pub(super) fn gcd(a: u64, b: u64) -> u64 {
-    if b == 0 {
-        a
-    } else {
-        gcd(b, a % b)
+    /// The total of some plan from a state.
+    fn random_total(&mut self, node: &PlanNode, state: u8) -> i128 {
+        let mut question = self.question.clone();
+        question.start = state;
+        question.nodes.push(Node::Plan(*node));
+        let choices = random_choices(self.rng, self.model, state, node.steps());
+        let plan = Plan::from_choices(self.model, state, node.steps(), &choices);
+        plan.map_or(0, |plan| {
+            fast::total_of(self.model, &question, node, &plan, self.totals)
+        })
     }
 }
 

@@ -1,6 +1,7 @@
 //! Ways to damage a question.
 
 use super::damage::Patches;
+use super::gain_damage::{node_at_ends, P_ENDS, Q_ENDS};
 use super::rng::Rng;
 use crate::blocks::{NodeImage, QuestionImage, BLOCK};
 
@@ -55,6 +56,9 @@ pub(super) const HARMS: &[Harm] = &[
     bound_ends,
     bound_ends,
     gain_ends,
+    expected_root,
+    expected_root,
+    expected_anywhere,
     |rng, draft| draft.patches.spoil(rng, 4..8),
     |rng, draft| draft.patches.spoil(rng, 488..510),
     beyond_count,
@@ -73,7 +77,7 @@ fn node_count(rng: &mut Rng, draft: &mut Draft) {
 }
 
 fn operator(rng: &mut Rng, draft: &mut Draft) {
-    let operator = rng.pick_or(&[0, 1, 2, 3, 4, 5, 6, 7, 8, 9, 10, 255], 9);
+    let operator = rng.pick_or(&[0, 1, 2, 3, 4, 5, 6, 7, 8, 9, 10, 11, 255], 10);
     draft.node(rng).1.operator = operator;
 }
 
@@ -128,6 +132,11 @@ fn q(rng: &mut Rng, draft: &mut Draft) {
 /// The root's bound at the ends of its range.
 fn bound_ends(rng: &mut Rng, draft: &mut Draft) {
     let root = draft.count() - 1;
+    if draft.image.nodes[root].operator == 9 {
+        draft.image.nodes[root].p = rng.pick_or(&P_ENDS, 0);
+        draft.image.nodes[root].q = rng.pick_or(&Q_ENDS, 1);
+        return;
+    }
     let q = rng.pick_or(&[0, 1, 10, 1_000_000, 1_000_001], 1);
     let p = rng.pick_or(&[-1, 0, 1, q as i32, q as i32 + 1, q as i32 - 1], 0);
     draft.image.nodes[root].p = p;
@@ -144,6 +153,24 @@ fn gain_ends(rng: &mut Rng, draft: &mut Draft) {
         p: rng.pick_or(&[-6001, -6000, 6000, 6001], 0),
         q: rng.pick_or(&[0, 1, 1, 1, 2], 1),
     };
+}
+
+/// A root of operator 9 with one field about an end of its range.
+fn expected_root(rng: &mut Rng, draft: &mut Draft) {
+    let root = draft.count() - 1;
+    draft.image.nodes[root] = node_at_ends(rng);
+}
+
+/// The same in place of any node, or of a whole question.
+fn expected_anywhere(rng: &mut Rng, draft: &mut Draft) {
+    if rng.once_in(3) {
+        draft.image = QuestionImage {
+            start: draft.image.start,
+            count: 1,
+            ..QuestionImage::default()
+        };
+    }
+    *draft.node(rng).1 = node_at_ends(rng);
 }
 
 fn beyond_count(rng: &mut Rng, draft: &mut Draft) {

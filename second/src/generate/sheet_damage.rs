@@ -81,8 +81,10 @@ pub(super) const HARMS: &[Harm] = &[
     silent_for_action,
     action_for_silent,
     action_for_silent,
-    weight,
-    weight,
+    total,
+    total,
+    total_form,
+    total_form,
     any_byte,
 ];
 
@@ -107,10 +109,25 @@ fn count(rng: &mut Rng, draft: &mut Draft) {
     draft.patches.set(base + 17, high);
 }
 
-/// A weight near the right one, or far from it.
-fn weight(rng: &mut Rng, draft: &mut Draft) {
+/// A total near the right one, or far from it.
+fn total(rng: &mut Rng, draft: &mut Draft) {
     let near = [1, u64::MAX, 100, 1 << 40];
-    draft.sheet.weight = draft.sheet.weight.wrapping_add(rng.pick_or(&near, 1));
+    draft.sheet.total = draft.sheet.total.wrapping_add(rng.pick_or(&near, 1));
+}
+
+/// The total without its sign, with the other sign or with the top bit set, cut
+/// to 32 bits in either way, or with all bits set. It may still be right.
+fn total_form(rng: &mut Rng, draft: &mut Draft) {
+    let right = draft.sheet.total;
+    let forms = [
+        (right as i64).unsigned_abs(),
+        right.wrapping_neg(),
+        right | 1 << 63,
+        right & 0xFFFF_FFFF,
+        right as i32 as u64,
+        u64::MAX,
+    ];
+    draft.sheet.total = rng.pick_or(&forms, right);
 }
 
 /// A choice byte beyond the last block's count.

@@ -6,7 +6,7 @@ use super::question::{random_choices, random_question, Scale};
 use super::rng::Rng;
 use super::{model_damage, question_damage, sheet_damage};
 use crate::blocks::{read_model, read_question, QuestionImage, Sheet, BLOCK};
-use crate::desk::Call;
+use crate::desk::{stored, Call};
 use crate::logic::{fast, plain, Model, Move, Node, Plan, PlanNode, Question, Totals};
 
 /// Random questions whose judging takes about a microsecond to a millisecond.
@@ -177,27 +177,20 @@ pub(super) fn stretch(rng: &mut Rng, question: &mut Question, model: &Model, tot
 /// Models and questions that just meet a limit or just pass it, also by paths
 /// and plans that come to silent states.
 fn limit_cases() -> Vec<(Vec<u8>, Vec<Vec<u8>>)> {
-    let ask = |start: u8, steps: usize, relation: &str| {
-        let nodes = [
-            "gain 2 steps greater 1".to_string(),
-            format!("plan 0 steps {steps} {relation} 3/10"),
-        ];
-        cases::question(start, &nodes)
+    let path_questions = |last| -> Vec<Vec<u8>> {
+        let asked = [(last, 5, "greater"), (last, 6, "less"), (0, 6, "greater")];
+        asked.into_iter().flat_map(limit_questions).collect()
     };
-    let path_questions = |last| {
-        vec![
-            ask(last, 5, "greater"),
-            ask(last, 6, "less"),
-            ask(0, 6, "greater"),
-        ]
-    };
-    let plan_questions = vec![
-        ask(0, 3, "equal"),
-        ask(0, 3, "greater"),
-        ask(0, 4, "equal"),
-        ask(0, 2, "equal"),
-        ask(9, 3, "equal"),
-    ];
+    let plan_questions: Vec<Vec<u8>> = [
+        (0, 3, "equal"),
+        (0, 3, "greater"),
+        (0, 4, "equal"),
+        (0, 2, "equal"),
+        (9, 3, "equal"),
+    ]
+    .into_iter()
+    .flat_map(limit_questions)
+    .collect();
     vec![
         (cases::million_paths(false), path_questions(13)),
         (cases::million_paths(true), path_questions(13)),
@@ -207,6 +200,22 @@ fn limit_cases() -> Vec<(Vec<u8>, Vec<Vec<u8>>)> {
         (cases::most_plans(true, false), plan_questions.clone()),
         (cases::most_plans(false, true), plan_questions.clone()),
         (cases::most_plans(true, true), plan_questions),
+    ]
+}
+
+/// Questions from a state about plans of so many steps: about the chance of a
+/// gain, and about an expected gain, at the root and below it.
+fn limit_questions((start, steps, relation): (u8, usize, &str)) -> [Vec<u8>; 3] {
+    let chance = [
+        "gain 2 steps greater 1".to_string(),
+        format!("plan 0 steps {steps} {relation} 3/10"),
+    ];
+    let expected = format!("plan gain 1 to 2 steps {steps} {relation} 3/10");
+    let below = [expected.clone(), "not 0".to_string()];
+    [
+        cases::question(start, &chance),
+        cases::question(start, &[expected]),
+        cases::question(start, &below),
     ]
 }
 
@@ -249,20 +258,37 @@ fn large_model(rng: &mut Rng, turn: usize) -> (Vec<u8>, u8) {
     }
 }
 
-/// A quick question of six steps: the condition looks only a little ahead.
+/// A quick question of six steps: the condition looks only a little ahead, or
+/// gains are summed.
 fn large_question(rng: &mut Rng, model: &Model, start: u8) -> Question {
-    let nodes = [
+    let packed = match rng.once_in(4) {
+        true => cases::question(start, &[large_gains(rng)]),
+        false => cases::question(start, &large_condition(rng, model)),
+    };
+    read_question(&packed, model).unwrap_or(Question {
+        start,
+        nodes: vec![Node::False],
+    })
+}
+
+/// The rewards of these models are from -3 to 3, and so some plan has more, or
+/// less, than nothing.
+fn large_gains(rng: &mut Rng) -> String {
+    let last = rng.range(1, 6);
+    let first = rng.range(1, last);
+    let relation = rng.pick_or(&["less", "greater"], "less");
+    let bound = rng.pick_or(&["0/1", "-1/7", "1/9"], "0/1");
+    format!("plan gain {first} to {last} steps 6 {relation} {bound}")
+}
+
+fn large_condition(rng: &mut Rng, model: &Model) -> [String; 5] {
+    [
         "gain 2 steps greater 0".to_string(),
         format!("do {}", rng.below(model.actions.len())),
         "not 1".to_string(),
         "and 0 2".to_string(),
         format!("plan 3 steps 6 greater {}/10", rng.below(10)),
-    ];
-    let packed = cases::question(start, &nodes);
-    read_question(&packed, model).unwrap_or(Question {
-        start,
-        nodes: vec![Node::False],
-    })
+    ]
 }
 
 /// Writes into buffers of every length about whole blocks, and checks.
@@ -308,7 +334,7 @@ pub(super) fn any_sheet(
     let mut sheet = Sheet {
         steps: 1,
         start: question.start,
-        weight: rng.below(100) as u64,
+        total: rng.below(100) as u64,
         choices: vec![0],
     };
     if let Some(root) = question.root_plan() {
@@ -332,7 +358,7 @@ pub(super) fn any_sheet(
     draft.pack()
 }
 
-/// Gives a sheet the choices of a random plan, and its weight.
+/// Gives a sheet the choices of a random plan, and its total.
 fn fill_sheet(
     rng: &mut Rng,
     model: &Model,
@@ -344,7 +370,7 @@ fn fill_sheet(
     sheet.choices = random_choices(rng, model, question.start, root.steps());
     let plan = Plan::from_choices(model, question.start, root.steps(), &sheet.choices);
     if let Some(plan) = plan {
-        sheet.weight = fast::weight_of(model, question, root, &plan, totals);
+        sheet.total = stored(fast::total_of(model, question, root, &plan, totals));
     }
 }
 

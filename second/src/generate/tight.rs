@@ -1,20 +1,25 @@
 //! Totals that meet or miss their bound by less than a double can tell. A
 //! pack is tried for six times, and the weights of the tries are chosen so
 //! that one plan's total over D to the 6, about 10^12, lies some 10^-18 from
-//! p/q, with q near a million, or just at it. D is called the base here, for
-//! its powers.
+//! p/q, with q near a million, or just at it. Where holding the pack earns r
+//! points, the plan's total of gains is r times that total; the points are
+//! chosen so that r divides q, and this total lies as near to p over q/r. D is
+//! called the base here, for its powers.
 
+use super::bounds::gcd;
 use super::cases;
-use super::question::{gcd, random_choices};
+use super::question::random_choices;
 use super::rng::Rng;
 use crate::blocks::{read_model, read_question, Sheet, BLOCK};
-use crate::desk::Call;
+use crate::desk::{stored, Call};
 use crate::logic::{fast, Bound, Model, Plan, Question, Relation, Totals, SILENT};
 use crate::text::pack_text;
 
 /// A try in each step.
 const TRIES: usize = 6;
 const MOST_Q: u64 = 1_000_000;
+/// The most points for an outcome, and the largest q of operator 9.
+const MOST_POINTS: usize = 1_000;
 
 /// A try's weights of holding the pack and of having to try again; the rest
 /// of D is the weight of losing it.
@@ -32,13 +37,66 @@ impl Try {
     }
 }
 
-/// A model with the plan whose total is tight, and its bound.
+/// Bounds that a plan's totals meet or just miss.
+struct Bounds {
+    chance: Bound,
+    /// The points for holding the pack, and the bound for the expected gain.
+    points: i32,
+    expected: Bound,
+}
+
+impl Bounds {
+    /// Those for a total that q times lies near p times D to the 6, or at it,
+    /// where points times `expected_q` is q times some number.
+    fn of(p: i128, q: i128, points: i128, expected_q: i128) -> Bounds {
+        let times = points * expected_q / q;
+        Bounds {
+            chance: Bound {
+                p: p as i32,
+                q: q as u32,
+            },
+            points: points as i32,
+            expected: Bound {
+                p: (p * times) as i32,
+                q: expected_q as u32,
+            },
+        }
+    }
+
+    /// The same with points that are lost and not earned, now and then.
+    fn signed(mut self, rng: &mut Rng) -> Bounds {
+        if rng.once_in(2) {
+            self.points = -self.points;
+            self.expected.p = -self.expected.p;
+        }
+        self
+    }
+}
+
+/// A model with the plan whose total is tight, and its bounds.
 struct Shelf {
     packed: Vec<u8>,
     model: Model,
     choices: Vec<u8>,
     total: u64,
-    bound: Bound,
+    bounds: Bounds,
+}
+
+/// What a question sums: the weights of paths on which the pack is held in
+/// the end, or the points for it.
+#[derive(Clone, Copy, PartialEq)]
+enum Sum {
+    Weights,
+    Gains,
+}
+
+impl Sum {
+    fn drawn(rng: &mut Rng) -> Sum {
+        match rng.once_in(4) {
+            true => Sum::Gains,
+            false => Sum::Weights,
+        }
+    }
 }
 
 /// Judges, writes and checks about tight totals, for each relation.
@@ -59,10 +117,11 @@ pub fn tight(rng: &mut Rng, count: usize) -> Vec<Call> {
 /// A random shelf, unless no tries are found for its bound.
 fn shelf(rng: &mut Rng) -> Option<Shelf> {
     let base = rng.pick_or(&[100, 100, 100, 99, 98], 100);
-    let (tries, bound) = match rng.below(5) {
+    let (tries, bounds) = match rng.below(5) {
         0..=1 => (0..1000).find_map(|_| met(rng, base))?,
         _ => near(rng, base)?,
     };
+    let bounds = bounds.signed(rng);
     let total = total(base, &tries);
     let rivals = rivals(rng, base, &tries);
     let swapped: Vec<bool> = rivals
@@ -70,7 +129,12 @@ fn shelf(rng: &mut Rng) -> Option<Shelf> {
         .map(|rival| rival.is_some() && rng.once_in(2))
         .collect();
     let silent = rng.once_in(3);
-    let packed = pack_text(&text(base, &tries, &rivals, &swapped, silent)).ok()?;
+    let packed = Text {
+        base,
+        points: bounds.points,
+        swapped: &swapped,
+    };
+    let packed = pack_text(&packed.of(&tries, &rivals, silent)).ok()?;
     let model = read_model(&packed).ok()?;
     let choices = tight_choices(&model, &swapped, 0, TRIES);
     Some(Shelf {
@@ -78,7 +142,7 @@ fn shelf(rng: &mut Rng) -> Option<Shelf> {
         model,
         choices,
         total,
-        bound,
+        bounds,
     })
 }
 
@@ -92,22 +156,20 @@ fn total(base: u64, tries: &[Try]) -> u64 {
 
 /// Tries whose total is not at the bound, though the two differ by no more
 /// than 3 over q times D to the 6: the total times q is p times D to the 6
-/// plus a small gap.
-fn near(rng: &mut Rng, base: u64) -> Option<(Vec<Try>, Bound)> {
+/// plus a small gap. q is a product of two numbers of at most 1,000.
+fn near(rng: &mut Rng, base: u64) -> Option<(Vec<Try>, Bounds)> {
     let whole = i128::from(base).pow(TRIES as u32);
-    let mut q = 0;
-    while gcd(q, base) != 1 {
-        q = rng.range(900_000, MOST_Q as usize) as u64;
+    let (mut points, mut expected_q) = (0, 0);
+    while gcd(points * expected_q, base) != 1 {
+        points = rng.range(950, MOST_POINTS) as u64;
+        expected_q = rng.range(950, MOST_POINTS) as u64;
     }
     let gap = rng.pick_or(&[-3, -2, -1, 1, 2, 3], 1);
-    let modulus = i128::from(q);
-    let p = (-gap * inverse(whole, modulus)).rem_euclid(modulus);
-    let total = (p * whole + gap) / modulus;
-    let bound = Bound {
-        p: p as u32,
-        q: q as u32,
-    };
-    Some((tries_for(rng, base, TRIES as u32, total as u64)?, bound))
+    let q = i128::from(points * expected_q);
+    let p = (-gap * inverse(whole, q)).rem_euclid(q);
+    let total = (p * whole + gap) / q;
+    let bounds = Bounds::of(p, q, points.into(), expected_q.into());
+    Some((tries_for(rng, base, TRIES as u32, total as u64)?, bounds))
 }
 
 /// The number that times `number` leaves 1 when divided by `modulus`; the two
@@ -125,7 +187,7 @@ fn inverse(number: i128, modulus: i128) -> i128 {
 
 /// Tries whose total is just at a bound: weights with common divisors, so
 /// that the total over D to the 6 has a q of no more than a million.
-fn met(rng: &mut Rng, base: u64) -> Option<(Vec<Try>, Bound)> {
+fn met(rng: &mut Rng, base: u64) -> Option<(Vec<Try>, Bounds)> {
     let divides = |f: &u64| base.is_multiple_of(*f);
     let factors: Vec<u64> = (1..=base / 3).filter(divides).collect();
     let mut tries = Vec::new();
@@ -139,11 +201,14 @@ fn met(rng: &mut Rng, base: u64) -> Option<(Vec<Try>, Bound)> {
     }
     let (total, whole) = (total(base, &tries), base.pow(TRIES as u32));
     let common = gcd(total, whole);
-    let bound = Bound {
-        p: (total / common) as u32,
-        q: (whole / common) as u32,
-    };
-    (whole / common <= MOST_Q).then_some((tries, bound))
+    let (p, q) = (total / common, whole / common);
+    // The fewest points with which the expected gain has a q within its range,
+    // some times over.
+    let few = |points: &u64| q.is_multiple_of(*points) && q / points <= MOST_POINTS as u64;
+    let fewest = (1..=MOST_POINTS as u64).find(few)?;
+    let points = fewest * rng.range(1, MOST_POINTS / fewest as usize) as u64;
+    let bounds = Bounds::of(p.into(), q.into(), points.into(), (q / fewest).into());
+    (q <= MOST_Q).then_some((tries, bounds))
 }
 
 /// So many tries that hold the pack with just this total, if some are found.
@@ -204,46 +269,53 @@ fn random_try(rng: &mut Rng, base: u64) -> Try {
     Try { held, again }
 }
 
-/// The model as text: states 0 to 5 before each try, 6 with the pack held, 7
-/// with it lost. Actions 0 and 1 are the try and its rival, or the other way
-/// round where they are swapped. In the end there is action 2, or nothing to
-/// do.
-fn text(
+/// How a model is written: D, the points for holding the pack, and where the
+/// rival comes before the try.
+struct Text<'a> {
     base: u64,
-    tries: &[Try],
-    rivals: &[Option<Try>],
-    swapped: &[bool],
-    silent: bool,
-) -> String {
-    let posts = "post held over\npost !over\npost !held over\n";
-    let mut text =
-        format!("model D {base}\nproposition 0 held\nproposition 1 over\nproposition 2 two\n");
-    for (state, rival) in rivals.iter().enumerate() {
-        let two = if rival.is_some() { "two" } else { "" };
-        text += &format!("state {state}: {two}\n");
-    }
-    text += "state 6: held over\nstate 7: over\n";
-    text += &format!("action 0 needs !over\n{posts}action 1 needs !over two\n{posts}");
-    for (state, own) in tries.iter().enumerate() {
-        let tight = usize::from(swapped[state]);
-        text += &outcome_line(state, tight, base, own);
-        if let Some(rival) = &rivals[state] {
-            text += &outcome_line(state, 1 - tight, base, rival);
-        }
-    }
-    if !silent {
-        text += "action 2 needs over\npost over\n";
-        text += &format!("outcome 6 2: 6 weight {base}\noutcome 7 2: 7 weight {base}\n");
-    }
-    text
+    points: i32,
+    swapped: &'a [bool],
 }
 
-/// After the last try, trying again leads nowhere.
-fn outcome_line(state: usize, action: usize, base: u64, weights: &Try) -> String {
-    let Try { held, again } = weights;
-    let next = (state + 1).min(TRIES - 1);
-    let lost = base - held - again;
-    format!("outcome {state} {action}: 6 weight {held} reward 1, {next} weight {again}, 7 weight {lost}\n")
+impl Text<'_> {
+    /// The model as text: states 0 to 5 before each try, 6 with the pack held,
+    /// 7 with it lost. Actions 0 and 1 are the try and its rival, or the other
+    /// way round where they are swapped. In the end there is action 2, or
+    /// nothing to do.
+    fn of(&self, tries: &[Try], rivals: &[Option<Try>], silent: bool) -> String {
+        let posts = "post held over\npost !over\npost !held over\n";
+        let mut text = format!("model D {}\n", self.base);
+        text += "proposition 0 held\nproposition 1 over\nproposition 2 two\n";
+        for (state, rival) in rivals.iter().enumerate() {
+            let two = if rival.is_some() { "two" } else { "" };
+            text += &format!("state {state}: {two}\n");
+        }
+        text += "state 6: held over\nstate 7: over\n";
+        text += &format!("action 0 needs !over\n{posts}action 1 needs !over two\n{posts}");
+        for (state, own) in tries.iter().enumerate() {
+            let tight = usize::from(self.swapped[state]);
+            text += &self.outcome_line(state, tight, own);
+            if let Some(rival) = &rivals[state] {
+                text += &self.outcome_line(state, 1 - tight, rival);
+            }
+        }
+        if !silent {
+            let base = self.base;
+            text += "action 2 needs over\npost over\n";
+            text += &format!("outcome 6 2: 6 weight {base}\noutcome 7 2: 7 weight {base}\n");
+        }
+        text
+    }
+
+    /// After the last try, trying again leads nowhere.
+    fn outcome_line(&self, state: usize, action: usize, weights: &Try) -> String {
+        let Try { held, again } = weights;
+        let next = (state + 1).min(TRIES - 1);
+        let (points, lost) = (self.points, self.base - held - again);
+        let outcomes =
+            format!("6 weight {held} reward {points}, {next} weight {again}, 7 weight {lost}");
+        format!("outcome {state} {action}: {outcomes}\n")
+    }
 }
 
 /// The choices of the plan that takes the tight try in each state.
@@ -261,59 +333,71 @@ fn tight_choices(model: &Model, swapped: &[bool], state: u8, steps: usize) -> Ve
     choices
 }
 
-/// Nodes that ask for a plan under which the pack is held in the end.
-fn nodes(rng: &mut Rng, bound: Bound, relation: Relation) -> Vec<String> {
-    let by_gain = rng.once_in(3);
-    let mut nodes = match by_gain {
-        true => vec!["gain 6 steps greater 0".to_string()],
-        false => vec!["proposition 0".to_string()],
-    };
-    if !by_gain {
-        nodes.extend((0..TRIES).map(|own| format!("next {own}")));
-    }
+/// Nodes that ask for a plan under which the pack is held in the end, or for
+/// what it then earns.
+fn nodes(rng: &mut Rng, shelf: &Shelf, sum: Sum, relation: Relation) -> Vec<String> {
     let word = match relation {
         Relation::Less => "less",
         Relation::Equal => "equal",
         Relation::Greater => "greater",
     };
+    if sum == Sum::Gains {
+        let Bound { p, q } = shelf.bounds.expected;
+        return vec![format!("plan gain 1 to 6 steps 6 {word} {p}/{q}")];
+    }
+    let mut nodes = condition(rng, shelf.bounds.points);
     let condition = nodes.len() - 1;
-    nodes.push(format!(
-        "plan {condition} steps 6 {word} {}/{}",
-        bound.p, bound.q
-    ));
+    let Bound { p, q } = shelf.bounds.chance;
+    nodes.push(format!("plan {condition} steps 6 {word} {p}/{q}"));
+    nodes
+}
+
+/// Nodes that say that the pack is held in the end.
+fn condition(rng: &mut Rng, points: i32) -> Vec<String> {
+    if rng.once_in(3) {
+        let earned = if points > 0 { "greater" } else { "less" };
+        return vec![format!("gain 6 steps {earned} 0")];
+    }
+    let mut nodes = vec!["proposition 0".to_string()];
+    nodes.extend((0..TRIES).map(|own| format!("next {own}")));
     nodes
 }
 
 /// A question with a tight root, and sheets: of the tight plan, the same with
-/// a weight off by one, and of some plan.
+/// a total off by one, and of some plan.
 fn root_calls(rng: &mut Rng, shelf: &Shelf, relation: Relation) -> Vec<Call> {
-    let packed = cases::question(0, &nodes(rng, shelf.bound, relation));
+    let sum = Sum::drawn(rng);
+    let packed = cases::question(0, &nodes(rng, shelf, sum, relation));
     let Ok(question) = read_question(&packed, &shelf.model) else {
         return Vec::new();
     };
     let mut calls = vec![Call::Put(packed), Call::Judge];
     calls.push(Call::Write(vec![0; 3 * BLOCK]));
+    let total = match sum {
+        Sum::Weights => i128::from(shelf.total),
+        Sum::Gains => i128::from(shelf.total) * i128::from(shelf.bounds.points),
+    };
     let mut sheet = Sheet {
         steps: TRIES as u8,
         start: 0,
-        weight: shelf.total,
+        total: stored(total),
         choices: shelf.choices.clone(),
     };
     calls.push(Call::Check(sheet.pack()));
-    sheet.weight = rng.pick_or(&[shelf.total - 1, shelf.total + 1], 0);
+    sheet.total = stored(total + rng.pick_or(&[-1, 1], 1));
     calls.push(Call::Check(sheet.pack()));
     sheet.choices = random_choices(rng, &shelf.model, 0, TRIES);
-    sheet.weight = weight(&shelf.model, &question, &sheet.choices);
+    sheet.total = stored(total_of(&shelf.model, &question, &sheet.choices));
     calls.push(Call::Check(sheet.pack()));
     calls
 }
 
-/// The weight of the root's plan with these choices.
-fn weight(model: &Model, question: &Question, choices: &[u8]) -> u64 {
+/// The total of the root's plan with these choices.
+fn total_of(model: &Model, question: &Question, choices: &[u8]) -> i128 {
     let plan = Plan::from_choices(model, question.start, TRIES, choices);
     match (question.root_plan(), plan) {
         (Some(root), Some(plan)) => {
-            fast::weight_of(model, question, &root, &plan, &Totals::of(model))
+            fast::total_of(model, question, &root, &plan, &Totals::of(model))
         }
         _ => 0,
     }
@@ -321,7 +405,8 @@ fn weight(model: &Model, question: &Question, choices: &[u8]) -> u64 {
 
 /// A question with a tight node below its root.
 fn inner_calls(rng: &mut Rng, shelf: &Shelf, relation: Relation) -> Vec<Call> {
-    let mut nodes = nodes(rng, shelf.bound, relation);
+    let sum = Sum::drawn(rng);
+    let mut nodes = nodes(rng, shelf, sum, relation);
     let tight = nodes.len() - 1;
     nodes.push(match rng.once_in(2) {
         true => format!("not {tight}"),

@@ -36,20 +36,51 @@ impl Relation {
     }
 }
 
-/// The probability p/q that a plan's weight is compared with.
+/// The fraction p/q that a plan's total over D to the n is compared with: a
+/// chance, from 0 to 1, or an expected gain.
 #[derive(Clone, Copy, Debug, PartialEq, Eq)]
 pub struct Bound {
-    pub p: u32,
+    pub p: i32,
     pub q: u32,
 }
 
+/// What a plan node sums over a plan's paths to its total.
+#[derive(Clone, Copy, Debug, PartialEq, Eq)]
+pub enum Summed {
+    /// The weights of the paths on which the condition, a node, is true:
+    /// document 01's W (operator 8).
+    Weights { condition: u8 },
+    /// The weight of each path times the gains of its steps `first` to `last`,
+    /// counted from 1: Definition 13 of source document 000 (operator 9).
+    Gains { first: u8, last: u8 },
+}
+
+impl Summed {
+    /// The operator of such a node.
+    pub fn operator(self) -> u8 {
+        match self {
+            Summed::Weights { .. } => 8,
+            Summed::Gains { .. } => 9,
+        }
+    }
+
+    /// A sheet's eight bytes as the claimed total: a weight is a number from 0
+    /// on, a total of gains stands in two's complement.
+    pub fn claimed(self, stored: u64) -> i128 {
+        match self {
+            Summed::Weights { .. } => i128::from(stored),
+            Summed::Gains { .. } => i128::from(stored as i64),
+        }
+    }
+}
+
 /// "Plan" is document 01's word for a bounded policy; this node is the
-/// diamond of source document 001: some policy of so many steps gives the
-/// condition's paths a weight in this relation to the bound.
+/// diamond of source document 001 and its like for expected gains: some policy
+/// of so many steps has a total in this relation to the bound.
 #[derive(Clone, Copy, Debug, PartialEq, Eq)]
 pub struct PlanNode {
     pub steps: u8,
-    pub condition: u8,
+    pub summed: Summed,
     pub relation: Relation,
     pub bound: Bound,
 }
@@ -59,11 +90,24 @@ impl PlanNode {
         usize::from(self.steps)
     }
 
-    /// Whether a weight out of `whole` stands in the relation to the bound:
-    /// W times q against p times D to the n, in whole numbers.
-    pub fn met_by(&self, weight: u64, whole: u64) -> bool {
-        let left = u128::from(weight) * u128::from(self.bound.q);
-        let right = u128::from(self.bound.p) * u128::from(whole);
+    /// The node of the condition, if there is one.
+    pub fn condition(&self) -> Option<usize> {
+        match self.summed {
+            Summed::Weights { condition } => Some(usize::from(condition)),
+            Summed::Gains { .. } => None,
+        }
+    }
+
+    /// Whether gains are summed (operator 9).
+    pub fn sums_gains(&self) -> bool {
+        matches!(self.summed, Summed::Gains { .. })
+    }
+
+    /// Whether a total over `whole` stands in the relation to the bound: the
+    /// total times q against p times D to the n, in whole numbers.
+    pub fn met_by(&self, total: i128, whole: u64) -> bool {
+        let left = total * i128::from(self.bound.q);
+        let right = i128::from(self.bound.p) * i128::from(whole);
         self.relation.relates(left, right)
     }
 }
@@ -99,7 +143,7 @@ impl Question {
         self.nodes.len().saturating_sub(1)
     }
 
-    /// The root, if it is a plan node.
+    /// The root, if it is a plan node of either kind.
     pub fn root_plan(&self) -> Option<PlanNode> {
         match self.nodes.last() {
             Some(Node::Plan(plan)) => Some(*plan),
@@ -107,7 +151,8 @@ impl Question {
         }
     }
 
-    /// All plan nodes with their numbers, reached from the root or not.
+    /// All plan nodes of both kinds with their numbers, reached from the root
+    /// or not.
     pub fn plan_nodes(&self) -> impl Iterator<Item = (usize, PlanNode)> + '_ {
         let numbered = self.nodes.iter().enumerate();
         numbered.filter_map(|(number, node)| match node {
@@ -155,10 +200,11 @@ impl Question {
     pub fn well_formed(&self) -> bool {
         let depths = self.depths();
         let root_is_state = self.path_formulas().last() == Some(&false);
-        let depth_of = |plan: PlanNode| depths.get(usize::from(plan.condition));
-        root_is_state
-            && self
-                .plan_nodes()
-                .all(|(_, plan)| depth_of(plan).is_some_and(|depth| *depth <= plan.steps()))
+        let seen_ahead = |plan: &PlanNode| match plan.condition() {
+            Some(condition) => depths.get(condition).copied(),
+            None => Some(0),
+        };
+        let mut plans = self.plan_nodes().map(|(_, plan)| plan);
+        root_is_state && plans.all(|plan| seen_ahead(&plan).is_some_and(|d| d <= plan.steps()))
     }
 }

@@ -11,7 +11,7 @@ mod verdict;
 pub mod fast;
 pub mod plain;
 
-pub use formula::{Bound, Node, PlanNode, Question, Relation};
+pub use formula::{Bound, Node, PlanNode, Question, Relation, Summed};
 pub use limits::{check_limits, Totals, MOST_PATHS, MOST_PLANS};
 pub use model::{Action, Literals, Model, Move, Outcome, SILENT};
 pub use path::Path;

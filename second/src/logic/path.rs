@@ -40,4 +40,12 @@ impl Path {
         let rewards = self.rewards.iter().skip(place).take(steps);
         rewards.map(|reward| i32::from(*reward)).sum()
     }
+
+    /// The cumulative reward of the steps `first` to `last`, counted from 1:
+    /// of s_l a_l .. s_u a_u s_u+1 in source document 000, Definition 13.
+    pub fn gain_of_steps(&self, first: u8, last: u8) -> i32 {
+        let numbered = (1u8..).zip(&self.rewards);
+        let summed = numbered.filter(|(step, _)| (first..=last).contains(step));
+        summed.map(|(_, reward)| i32::from(*reward)).sum()
+    }
 }

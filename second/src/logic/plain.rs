@@ -2,7 +2,7 @@
 //! every path of each, every formula by recursion. Slow, and plain to check.
 
 use super::{Judged, Model, Node, Path, Plan, PlanNode, PlanRecord, Question};
-use super::{Relation, Totals, Verdict};
+use super::{Relation, Summed, Totals, Verdict};
 
 /// The verdict on a question.
 pub fn judge(model: &Model, question: &Question) -> Judged {
@@ -19,15 +19,15 @@ pub fn judge(model: &Model, question: &Question) -> Judged {
     })
 }
 
-/// The summed weights of those of the plan's paths on which the condition of
-/// the question's root is true.
-pub fn weight_of(model: &Model, question: &Question, root: &PlanNode, plan: &Plan) -> u64 {
-    Reader { model, question }.weight(root, plan)
+/// The plan's total for the question's root.
+pub fn total_of(model: &Model, question: &Question, root: &PlanNode, plan: &Plan) -> i128 {
+    Reader { model, question }.total(root, plan)
 }
 
-/// Whether the condition of a plan node is true on a path.
-pub fn condition_holds(model: &Model, question: &Question, node: &PlanNode, path: &Path) -> bool {
-    Reader { model, question }.holds(usize::from(node.condition), path, 0)
+/// What a path's weight is counted with in a plan node's total: 1 or 0 for a
+/// condition that is true or not, or a gain.
+pub fn factor_of(model: &Model, question: &Question, node: &PlanNode, path: &Path) -> i32 {
+    Reader { model, question }.factor(node, path)
 }
 
 /// About how many nodes `judge` will look at: plans times paths times the
@@ -37,10 +37,11 @@ pub fn cost(model: &Model, question: &Question, totals: &Totals) -> u128 {
     costs.last().copied().unwrap_or(0)
 }
 
-/// The same for `weight_of`: the paths of one plan times the condition.
-pub fn weight_cost(model: &Model, question: &Question, root: &PlanNode, totals: &Totals) -> u128 {
+/// The same for `total_of`: the paths of one plan times the condition.
+pub fn total_cost(model: &Model, question: &Question, root: &PlanNode, totals: &Totals) -> u128 {
     let costs = costs(model, question, totals);
-    let condition = costs.get(usize::from(root.condition)).copied().unwrap_or(0);
+    let condition = root.condition().and_then(|node| costs.get(node));
+    let condition = condition.copied().unwrap_or(0);
     let paths = 4u128.pow(u32::from(root.steps));
     condition.saturating_add(8).saturating_mul(paths)
 }
@@ -53,9 +54,12 @@ fn costs(model: &Model, question: &Question, totals: &Totals) -> Vec<u128> {
         let below = match *node {
             Node::Not(child) | Node::Next(child) => of(child),
             Node::And(left, right) => of(left).saturating_add(of(right)),
-            Node::Plan(plan) => of(plan.condition)
-                .saturating_add(8)
-                .saturating_mul(plan_paths(model, plan.steps(), totals)),
+            Node::Plan(plan) => match plan.summed {
+                Summed::Weights { condition } => of(condition),
+                Summed::Gains { .. } => 0,
+            }
+            .saturating_add(8)
+            .saturating_mul(plan_paths(model, plan.steps(), totals)),
             _ => 0,
         };
         costs.push(below.saturating_add(1));
@@ -74,8 +78,9 @@ fn plan_paths(model: &Model, steps: usize, totals: &Totals) -> u128 {
     pairs.max().unwrap_or(0)
 }
 
-/// Definition 4, with the comparison of a plan's total with its bound left
-/// open: `floats` has judges that differ in that alone.
+/// Definition 4 of source document 001 and Definition 13 of 000, with the
+/// comparison of a plan's total with its bound left open: `floats` has judges
+/// that differ in that alone.
 pub trait Meaning {
     fn model(&self) -> &Model;
     fn question(&self) -> &Question;
@@ -120,13 +125,22 @@ pub trait Meaning {
         }
     }
 
-    /// The summed weights of those of the plan's paths on which the node's
-    /// condition is true.
-    fn weight(&self, node: &PlanNode, plan: &Plan) -> u64 {
+    /// The sum over all the plan's paths of the weight of each times what it
+    /// counts with.
+    fn total(&self, node: &PlanNode, plan: &Plan) -> i128 {
         let paths = plan.paths(self.model()).into_iter();
-        let condition = usize::from(node.condition);
-        let meeting = paths.filter(|path| self.holds(condition, path, 0));
-        meeting.map(|path| path.weight).sum()
+        let summand = |path: Path| i128::from(path.weight) * i128::from(self.factor(node, &path));
+        paths.map(summand).sum()
+    }
+
+    /// 1 where the node's condition is true on the path and 0 where it is not,
+    /// or the cumulative reward of the path's steps from the first to the last
+    /// that the node names.
+    fn factor(&self, node: &PlanNode, path: &Path) -> i32 {
+        match node.summed {
+            Summed::Weights { condition } => i32::from(self.holds(usize::from(condition), path, 0)),
+            Summed::Gains { first, last } => path.gain_of_steps(first, last),
+        }
     }
 }
 
@@ -145,7 +159,7 @@ impl Meaning for Reader<'_> {
     }
 
     fn met(&self, node: &PlanNode, plan: &Plan, _state: u8) -> bool {
-        node.met_by(self.weight(node, plan), self.model.whole(node.steps()))
+        node.met_by(self.total(node, plan), self.model.whole(node.steps()))
     }
 }
 
@@ -155,14 +169,14 @@ impl Reader<'_> {
     fn judge_plan(&self, node: &PlanNode) -> Judged {
         let whole = self.model.whole(node.steps());
         let mut plan = Plan::first(self.model, self.question.start, node.steps());
-        let mut shown: Option<(u64, u64, Plan)> = None;
+        let mut shown: Option<(i128, u64, Plan)> = None;
         let mut place = 0;
         loop {
             place += 1;
-            let weight = self.weight(node, &plan);
-            let met = node.met_by(weight, whole);
-            if met && better(node.relation, weight, shown.as_ref().map(|best| best.0)) {
-                shown = Some((weight, place, plan.clone()));
+            let total = self.total(node, &plan);
+            let met = node.met_by(total, whole);
+            if met && better(node.relation, total, shown.as_ref().map(|best| best.0)) {
+                shown = Some((total, place, plan.clone()));
             }
             if !plan.advance(self.model) {
                 break;
@@ -171,19 +185,19 @@ impl Reader<'_> {
         self.verdict(node, shown, place)
     }
 
-    fn verdict(&self, node: &PlanNode, shown: Option<(u64, u64, Plan)>, all: u64) -> Judged {
+    fn verdict(&self, node: &PlanNode, shown: Option<(i128, u64, Plan)>, all: u64) -> Judged {
         let counted = |count: u64| match node.relation {
             Relation::Equal => count,
             _ => 0,
         };
-        let Some((weight, place, plan)) = shown else {
+        let Some((total, place, plan)) = shown else {
             return Judged::plain(Verdict::No {
                 count: counted(all),
             });
         };
         Judged {
             verdict: Verdict::YesPlan(PlanRecord {
-                weight,
+                total,
                 steps: node.steps,
                 count: counted(place),
             }),
@@ -192,8 +206,8 @@ impl Reader<'_> {
     }
 }
 
-/// Whether a plan of this weight is shown rather than the best so far: only a
-/// greater weight for "greater", a lesser for "less", none for "equal".
-fn better(relation: Relation, weight: u64, best: Option<u64>) -> bool {
-    best.is_none_or(|best| relation != Relation::Equal && relation.relates(weight, best))
+/// Whether a plan of this total is shown rather than the best so far: only a
+/// greater total for "greater", a lesser for "less", none for "equal".
+fn better(relation: Relation, total: i128, best: Option<i128>) -> bool {
+    best.is_none_or(|best| relation != Relation::Equal && relation.relates(total, best))
 }

@@ -3,7 +3,8 @@
 /// A shown plan's figures.
 #[derive(Clone, Copy, Debug, PartialEq, Eq)]
 pub struct PlanRecord {
-    pub weight: u64,
+    /// The weight W of a plan or its total of gains, over D to the n.
+    pub total: i128,
     pub steps: u8,
     /// For "equal" the plan's place in dictionary order, else 0.
     pub count: u64,

@@ -89,9 +89,14 @@ fn gain(words: &mut Words, node: &mut NodeImage) -> Result<(), String> {
     Ok(())
 }
 
-/// `plan 2 steps 2 equal 45/100`: the condition's node, then the steps.
+/// `plan 2 steps 2 equal 45/100`: the condition's node, then the steps; or
+/// `plan gain 1 to 2 steps 2 greater 6/1`, with the first and the last of the
+/// steps whose gains are summed in its place.
 fn plan(words: &mut Words, node: &mut NodeImage) -> Result<(), String> {
-    child(words, node, 8)?;
+    match words.take_if("gain") {
+        true => window(words, node)?,
+        false => child(words, node, 8)?,
+    }
     words.take_word("steps")?;
     node.steps = words.take_number("the steps")?;
     node.right = relation(words)?;
@@ -102,7 +107,19 @@ fn plan(words: &mut Words, node: &mut NodeImage) -> Result<(), String> {
     Ok(())
 }
 
-/// `raw 9 0 1 2 -3 4`: operator, n, left, right, p and q, right or wrong.
+/// `1 to 2`. The left byte has room for a first step of 0 to 7 and a last one
+/// of 0 to 31.
+fn window(words: &mut Words, node: &mut NodeImage) -> Result<(), String> {
+    node.operator = 9;
+    let first: u8 = words.take_number("the first step")?;
+    words.take_word("to")?;
+    let last: u8 = words.take_number("the last step")?;
+    let left = last.checked_mul(8).filter(|_| first < 8);
+    node.left = first + left.ok_or("the byte has room for steps 0 to 7 and 0 to 31")?;
+    Ok(())
+}
+
+/// `raw 10 0 1 2 -3 4`: operator, n, left, right, p and q, right or wrong.
 fn raw(words: &mut Words, node: &mut NodeImage) -> Result<(), String> {
     node.operator = words.take_number("the operator")?;
     node.steps = words.take_number("n")?;

@@ -9,19 +9,25 @@ use crate::logic::SILENT;
 /// make a fourth block to be refused.
 const MOST_CHOICES: usize = 4 * 490;
 
-/// `sheet n 2 start 0 weight 45`.
+/// `sheet n 2 start 0 weight 45`, or with `total -20` for a total of gains,
+/// which has a sign.
 pub(super) fn begin(words: &mut Words, names: &ModelNames) -> Result<Sheet, String> {
     words.take_word("n")?;
     let steps = words.take_number("n")?;
     words.take_word("start")?;
     let start = names.states.number(&words.take("the start state")?)?;
-    words.take_word("weight")?;
-    let weight = words.take_number("the weight")?;
+    let total = match words.take_if("total") {
+        true => words.take_number::<i64>("the total")? as u64,
+        false => {
+            words.take_word("weight")?;
+            words.take_number("the weight")?
+        }
+    };
     words.end()?;
     Ok(Sheet {
         steps,
         start,
-        weight,
+        total,
         choices: Vec::new(),
     })
 }

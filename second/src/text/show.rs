@@ -216,6 +216,10 @@ fn node_words(image: &NodeImage) -> String {
         5 => format!("do {left}"),
         6 => format!("next {left}"),
         7 => format!("gain {steps} steps {relation} {p}"),
+        9 => {
+            let (first, last) = (left % 8, left / 8);
+            format!("plan gain {first} to {last} steps {steps} {relation} {p}/{q}")
+        }
         _ => format!("plan {left} steps {steps} {relation} {p}/{q}"),
     };
     let packed = node(&mut Words::of(&words), &ModelNames::default());
@@ -226,13 +230,23 @@ fn node_words(image: &NodeImage) -> String {
 }
 
 fn sheet_lines(sheet: &Sheet) -> String {
-    let (steps, start, weight) = (sheet.steps, sheet.start, sheet.weight);
-    let mut text = format!("sheet n {steps} start {start} weight {weight}\n");
+    let (steps, start) = (sheet.steps, sheet.start);
+    let total = total_words(sheet.total);
+    let mut text = format!("sheet n {steps} start {start} {total}\n");
     for part in sheet.choices.chunks(30) {
         let words: String = part.iter().map(|choice| choice_word(*choice)).collect();
         text += &format!("choices{words}\n");
     }
     text
+}
+
+/// A sheet does not tell which of the two its bytes are. No weight is so great
+/// that they could be a negative total as well.
+fn total_words(stored: u64) -> String {
+    match stored as i64 {
+        total if total < 0 => format!("total {total}"),
+        _ => format!("weight {stored}"),
+    }
 }
 
 /// A choice after a space.

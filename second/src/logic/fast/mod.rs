@@ -4,8 +4,10 @@
 //! a condition into rules by the step at which each becomes known, `walk`
 //! keeps their values along a history, `search` finds least and greatest
 //! totals, `totals` lists all totals for "equal", and `show` turns what was
-//! found into choices.
+//! found into choices. `gains` does all this for totals of gains, which have
+//! no condition.
 
+mod gains;
 mod need;
 mod program;
 mod search;
@@ -15,6 +17,7 @@ mod walk;
 
 use super::{Judged, Model, Node, Plan, PlanNode, PlanRecord, Question};
 use super::{Relation, Totals, Verdict};
+use gains::Gains;
 use program::Program;
 use walk::Walk;
 
@@ -28,20 +31,21 @@ pub fn judge(model: &Model, question: &Question, totals: &Totals) -> Judged {
     }
 }
 
-/// The summed weights of those of the plan's paths on which the condition of
-/// the question's root is true.
-pub fn weight_of(
+/// The plan's total for the question's root.
+pub fn total_of(
     model: &Model,
     question: &Question,
     root: &PlanNode,
     plan: &Plan,
     totals: &Totals,
-) -> u64 {
+) -> i128 {
+    if let Some(gains) = Gains::of(model, root) {
+        return gains.total(plan);
+    }
     let judge = Judge::prepare(model, question, totals);
     let program = judge.program(root);
-    let spare_steps = root.steps() - program.depth().min(root.steps());
     let total = search::plan_total(&mut judge.walk(&program), plan);
-    total.saturating_mul(model.whole(spare_steps))
+    judge.lengthened(root, program.depth(), total)
 }
 
 /// What is known of a question's state formulas, lowest nodes first.
@@ -86,12 +90,18 @@ impl<'a> Judge<'a> {
             }
             Node::Not(child) => !of(child) & needed,
             Node::And(left, right) => of(left) & of(right),
-            Node::Plan(plan) if !is_root && needed != 0 => {
-                let program = self.program(&plan);
-                states_where(needed, |state| self.some_plan(&plan, &program, state))
-            }
+            Node::Plan(plan) if !is_root && needed != 0 => self.plan_true_in(&plan, needed),
             _ => 0,
         }
+    }
+
+    /// The states among the needed ones where some plan meets a node's bound.
+    fn plan_true_in(&self, plan: &PlanNode, needed: u32) -> u32 {
+        if let Some(mut gains) = Gains::of(self.model, plan) {
+            return states_where(needed, |state| gains.some_plan(state));
+        }
+        let program = self.program(plan);
+        states_where(needed, |state| self.some_plan(plan, &program, state))
     }
 
     fn holds(&self, node: usize, state: u8) -> bool {
@@ -101,7 +111,7 @@ impl<'a> Judge<'a> {
 
     /// The condition of a plan node as rules along a path.
     fn program(&self, plan: &PlanNode) -> Program {
-        let condition = usize::from(plan.condition);
+        let condition = plan.condition().unwrap_or(0);
         Program::of(
             self.question,
             condition,
@@ -123,36 +133,38 @@ impl<'a> Judge<'a> {
             return self.first_equal(plan, &mut walk).is_some();
         }
         let found = search::greatest(&mut walk, plan.relation == Relation::Greater);
-        let weight = self.extreme(plan, program.depth(), found);
-        plan.met_by(weight, self.model.whole(plan.steps()))
+        let total = self.extreme(plan, program.depth(), found);
+        plan.met_by(total, self.model.whole(plan.steps()))
     }
 
     /// The greatest weight for "greater" or the least for "less", from the
     /// greatest total for the condition or for its negation.
-    fn extreme(&self, plan: &PlanNode, depth: usize, found: u64) -> u64 {
+    fn extreme(&self, plan: &PlanNode, depth: usize, found: u64) -> i128 {
         let total = match plan.relation {
             Relation::Less => self.model.whole(depth).saturating_sub(found),
             _ => found,
         };
+        self.lengthened(plan, depth, total)
+    }
+
+    /// The total of all steps from the total of those that matter.
+    fn lengthened(&self, plan: &PlanNode, depth: usize, total: u64) -> i128 {
         let spare_steps = plan.steps() - depth.min(plan.steps());
-        total.saturating_mul(self.model.whole(spare_steps))
+        i128::from(total) * i128::from(self.model.whole(spare_steps))
     }
 
     /// The number, from 0, of the first plan of the condition's depth whose
-    /// total meets an "equal" bound; none where the bound is no whole number.
+    /// total meets an "equal" bound.
     fn first_equal(&self, plan: &PlanNode, walk: &mut Walk) -> Option<u64> {
         let whole = self.model.whole(walk.program.depth());
-        let wanted = u128::from(plan.bound.p) * u128::from(whole);
-        let q = u128::from(plan.bound.q);
-        if wanted % q != 0 {
-            return None;
-        }
-        let wanted = u64::try_from(wanted / q).ok()?;
-        totals::first_with(walk, wanted)
+        totals::first_with(walk, wanted_total(plan, whole)?)
     }
 
     /// The verdict on a plan root.
     fn judge_plan(&self, plan: &PlanNode) -> Judged {
+        if let Some(mut gains) = Gains::of(self.model, plan) {
+            return gains.judge(self.question.start, self.totals);
+        }
         let program = self.program(plan);
         let mut walk = self.walk(&program);
         if plan.relation == Relation::Equal {
@@ -165,9 +177,9 @@ impl<'a> Judge<'a> {
         }
         let wanted = plan.relation == Relation::Greater;
         let (found, choices) = show::best_choices(&mut walk, plan.steps(), wanted);
-        let weight = self.extreme(plan, program.depth(), found);
-        if plan.met_by(weight, self.model.whole(plan.steps())) {
-            judged(plan, weight, 0, choices)
+        let total = self.extreme(plan, program.depth(), found);
+        if plan.met_by(total, self.model.whole(plan.steps())) {
+            judged(plan, total, 0, choices)
         } else {
             Judged::plain(Verdict::No { count: 0 })
         }
@@ -182,16 +194,26 @@ impl<'a> Judge<'a> {
             self.question.start,
             number,
         );
-        let whole = u128::from(self.model.whole(plan.steps()));
-        let weight = u128::from(plan.bound.p) * whole / u128::from(plan.bound.q);
-        let weight = u64::try_from(weight).unwrap_or(u64::MAX);
-        judged(plan, weight, before + 1, choices)
+        let whole = self.model.whole(plan.steps());
+        let total = wanted_total(plan, whole).unwrap_or(0);
+        judged(plan, total.into(), before + 1, choices)
     }
 }
 
-fn judged(plan: &PlanNode, weight: u64, count: u64, choices: Vec<u8>) -> Judged {
+/// The one total over `whole` that meets an "equal" bound; none where that is
+/// no whole number.
+fn wanted_total(plan: &PlanNode, whole: u64) -> Option<i64> {
+    let product = i128::from(plan.bound.p) * i128::from(whole);
+    let q = i128::from(plan.bound.q);
+    match product.checked_rem(q) {
+        Some(0) => i64::try_from(product / q).ok(),
+        _ => None,
+    }
+}
+
+fn judged(plan: &PlanNode, total: i128, count: u64, choices: Vec<u8>) -> Judged {
     let record = PlanRecord {
-        weight,
+        total,
         steps: plan.steps,
         count,
     };
@@ -207,7 +229,7 @@ fn has(set: u32, state: u8) -> bool {
 }
 
 /// Those of the states in which a test passes.
-fn states_where(states: u32, test: impl Fn(u8) -> bool) -> u32 {
+fn states_where(states: u32, mut test: impl FnMut(u8) -> bool) -> u32 {
     let in_set = (0..32).filter(|state| has(states, *state));
     let passing = in_set.filter(|state| test(*state));
     passing.fold(0, |set, state| set | 1 << state)

@@ -1,7 +1,7 @@
 //! Which state formulas the root can need in which states.
 
 use super::has;
-use crate::logic::{Model, Node, PlanNode, Question};
+use crate::logic::{Model, Node, Question};
 
 /// A path has at most six steps, so seven places.
 pub(super) const PLACES: usize = 7;
@@ -28,7 +28,9 @@ pub(super) fn needed(model: &Model, question: &Question, path_formulas: &[bool])
             }
             Node::Plan(plan) => {
                 let reach = reachable(model, states);
-                spread(question, path_formulas, &plan, &reach, &mut need);
+                if let Some(condition) = plan.condition() {
+                    spread(question, path_formulas, condition, &reach, &mut need);
+                }
             }
             _ => {}
         }
@@ -53,11 +55,11 @@ fn reachable(model: &Model, states: u32) -> [u32; PLACES] {
 fn spread(
     question: &Question,
     path_formulas: &[bool],
-    plan: &PlanNode,
+    condition: usize,
     reach: &[u32; PLACES],
     need: &mut [u32],
 ) {
-    let places = places_of(question, usize::from(plan.condition), path_formulas);
+    let places = places_of(question, condition, path_formulas);
     for (number, places) in places.iter().enumerate() {
         let is_state = !path_formulas[number];
         for (place, states) in reach.iter().enumerate() {

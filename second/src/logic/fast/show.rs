@@ -56,7 +56,7 @@ fn best_move<'a>(
 
 /// Beyond the condition's depth every plan weighs the same: the lowest
 /// choices come first.
-fn first_choices(model: &Model, state: u8, steps: usize, choices: &mut Vec<u8>) {
+pub(super) fn first_choices(model: &Model, state: u8, steps: usize, choices: &mut Vec<u8>) {
     if steps > 0 {
         choices.extend(Plan::first(model, state, steps).choices(model));
     }
