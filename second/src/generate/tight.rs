@@ -336,11 +336,7 @@ fn tight_choices(model: &Model, swapped: &[bool], state: u8, steps: usize) -> Ve
 /// Nodes that ask for a plan under which the pack is held in the end, or for
 /// what it then earns.
 fn nodes(rng: &mut Rng, shelf: &Shelf, sum: Sum, relation: Relation) -> Vec<String> {
-    let word = match relation {
-        Relation::Less => "less",
-        Relation::Equal => "equal",
-        Relation::Greater => "greater",
-    };
+    let word = relation.word();
     if sum == Sum::Gains {
         let Bound { p, q } = shelf.bounds.expected;
         return vec![format!("plan gain 1 to 6 steps 6 {word} {p}/{q}")];

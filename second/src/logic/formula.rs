@@ -26,6 +26,14 @@ impl Relation {
         }
     }
 
+    pub fn word(self) -> &'static str {
+        match self {
+            Relation::Less => "less",
+            Relation::Equal => "equal",
+            Relation::Greater => "greater",
+        }
+    }
+
     /// Whether `left` stands in this relation to `right`.
     pub fn relates<T: PartialOrd>(self, left: T, right: T) -> bool {
         match self {

@@ -1,17 +1,25 @@
-//! How often each call got each answer.
+//! How often each call got each answer, and what it was about.
+
+mod details;
 
 use crate::desk::{replay, Answer};
 use crate::logic::{Judged, Verdict};
 use std::collections::BTreeMap;
 
-/// Counts of (call, answer), in order of call and answer number.
+/// Counts of (call, answer), in order of call and answer number. An answer is
+/// counted by itself and, after a colon, with each thing that it was about.
 pub type Tally = BTreeMap<(&'static str, u8, String), usize>;
 
 /// Replays a stream from the empty desk and counts its answers.
 pub fn tally(stream: &[u8]) -> Tally {
     let mut counts = Tally::new();
-    replay(stream, |_, answer, _| {
-        *counts.entry(key(answer)).or_default() += 1
+    replay(stream, |call, answer, desk| {
+        let (name, number, words) = key(answer);
+        for about in details::details(call, answer, desk) {
+            let words = format!("{words}: {about}");
+            *counts.entry((name, number, words)).or_default() += 1;
+        }
+        *counts.entry((name, number, words)).or_default() += 1;
     });
     counts
 }
