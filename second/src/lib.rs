@@ -8,6 +8,7 @@ pub mod desk;
 pub mod draw;
 pub mod faults;
 pub mod floats;
+pub mod gain_faults;
 pub mod generate;
 pub mod ground;
 pub mod logic;

@@ -5,7 +5,7 @@ use second::desk::{c_calls, next_call, verdict_line, Desk, JudgeKind};
 use second::generate::{bench_cases, stream};
 use second::tally::tally;
 use second::timing::time;
-use second::{faults, floats, sum_faults};
+use second::{faults, floats, gain_faults, sum_faults};
 use std::io::{self, Read, Write};
 use std::process::ExitCode;
 
@@ -16,6 +16,7 @@ const USAGE: &str = "usage: second [--plain] COMMAND
   tally                      a stream of calls to counts of its answers
   floats                     a stream of calls to counts of the answers that judges in floats get wrong
   faults                     a stream of calls to counts of the answers that judges that err about silent states get wrong
+  gain-faults                a stream of calls to counts of the answers that judges that err about expected gains get wrong
   sum-faults                 a stream of calls to counts of the answers that judges with wrong word sums get wrong
   generate KIND SEED COUNT   a stream of models, questions, judges, small, sheets, lists, tight or words
   compare SEED COUNT         the fast judge against the plain one
@@ -49,6 +50,7 @@ fn run(kind: JudgeKind, words: &[&str]) -> io::Result<ExitCode> {
         ["tally"] => print_tally(&read_input()?)?,
         ["floats"] => print_floats(&read_input()?)?,
         ["faults"] => print_faults(&read_input()?)?,
+        ["gain-faults"] => print_gain_faults(&read_input()?)?,
         ["sum-faults"] => print_sum_faults(&read_input()?)?,
         ["generate", kind, seed, count] => return generate(kind, seed, count),
         ["compare", seed, count] => return compare_judges(seed, count),
@@ -112,6 +114,13 @@ fn print_floats(stream: &[u8]) -> io::Result<()> {
 
 fn print_faults(stream: &[u8]) -> io::Result<()> {
     for ((fault, call), count) in faults::differences(stream) {
+        print_line(&format!("{count:8} {call} {fault:?}"))?;
+    }
+    Ok(())
+}
+
+fn print_gain_faults(stream: &[u8]) -> io::Result<()> {
+    for ((fault, call), count) in gain_faults::differences(stream) {
         print_line(&format!("{count:8} {call} {fault:?}"))?;
     }
     Ok(())
