@@ -58,6 +58,20 @@ fn published_mary_questions() {
     check_questions("mary-published", 12);
 }
 
+/// Document 02, A.3: expected gains on the two-shelf model, and at the ends of
+/// what can be gained.
+#[test]
+fn expected_gain_questions() {
+    check_questions("two-shelf-gains", 42);
+    check_questions("toll", 10);
+}
+
+/// Source document 000, Example 10.
+#[test]
+fn robot_questions() {
+    check_questions("robot", 10);
+}
+
 #[test]
 fn shelf_questions() {
     check_questions("shelf", 3);
@@ -70,12 +84,12 @@ fn six_tries_questions() {
 
 #[test]
 fn limit_questions() {
-    check_questions("limits", 19);
+    check_questions("limits", 37);
 }
 
 #[test]
 fn refused_questions() {
-    check_questions("refusals", 17);
+    check_questions("refusals", 36);
 }
 
 #[test]
@@ -99,7 +113,8 @@ fn refused_models() {
 fn accepted_models() {
     let accepted = files(".", "model")
         .into_iter()
-        .chain(files("silent", "model"));
+        .chain(files("silent", "model"))
+        .chain(files("robot", "model"));
     let mut count = 0;
     for file in accepted {
         let parts = pack(&[&file]);
@@ -107,7 +122,7 @@ fn accepted_models() {
         assert_eq!(loaded, Ok(()), "{}", file.display());
         count += 1;
     }
-    assert!(count >= 12);
+    assert!(count >= 15);
 }
 
 fn check_sheet(file: &Path) {
@@ -133,6 +148,9 @@ fn sheets() {
     let folders = [
         "two-shelf",
         "two-shelf-silent",
+        "two-shelf-gains",
+        "toll",
+        "robot",
         "silent",
         "mary",
         "mary-published",
@@ -144,7 +162,7 @@ fn sheets() {
         .iter()
         .flat_map(|folder| files(folder, "sheet"))
         .collect();
-    assert!(sheets.len() >= 42);
+    assert!(sheets.len() >= 75);
     for file in sheets {
         check_sheet(&file);
     }
