@@ -1,5 +1,6 @@
 //! Worst cases within the limits, for timing.
 
+use super::bench_gains;
 use super::cases::{based_line, most_plans, pack, question, LOW_BITS, POSTS, WEIGHTS};
 
 /// A model followed by a question, under a name.
@@ -132,7 +133,7 @@ fn equal_levels() -> Vec<u8> {
     pack(&text)
 }
 
-fn words(nodes: &[&str]) -> Vec<String> {
+pub(super) fn words(nodes: &[&str]) -> Vec<String> {
     nodes.iter().map(|node| node.to_string()).collect()
 }
 
@@ -167,6 +168,18 @@ pub fn bench_cases() -> Vec<Case> {
             "silent-nested-gains",
             &ten_and_silent(),
             &nested_deep("greater", 6),
+        ),
+        case(
+            "expected-greater-million",
+            &ten,
+            &bench_gains::greater_root(),
+        ),
+        case("expected-equal-65536", &levels, &bench_gains::equal_root()),
+        case("expected-nested-19", &ten, &bench_gains::nested()),
+        case(
+            "expected-nested-equal",
+            &bench_gains::six_ways(),
+            &bench_gains::nested_equal(),
         ),
     ]
 }

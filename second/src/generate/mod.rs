@@ -2,6 +2,7 @@
 //! follows from a seed.
 
 mod bench;
+mod bench_gains;
 mod bounds;
 mod cases;
 mod damage;

@@ -1,0 +1,131 @@
+//! Worst cases for expected gains (operator 9). Such a node has no child, so
+//! that 40 nodes have room for no more than 19 of them that are all needed in
+//! every state: 18 "and" join them, and two "next" and a plan lead there.
+
+use super::bench::words;
+use super::cases::pack;
+
+/// A root that shows the plan of greatest gain in six steps.
+pub(super) fn greater_root() -> Vec<String> {
+    words(&["plan gain 1 to 6 steps 6 greater 0/1"])
+}
+
+/// A root whose total is a whole number that no plan has, since all plans are
+/// then looked at.
+pub(super) fn equal_root() -> Vec<String> {
+    words(&["plan gain 1 to 6 steps 6 equal 4321/1000"])
+}
+
+/// 19 nodes of operator 9, all of which are to be true: windows from each step
+/// to the last, by turns with bounds that are easily passed from either side.
+pub(super) fn nested() -> Vec<String> {
+    let mut nodes: Vec<String> = Vec::new();
+    for own in 0..19 {
+        let (first, bound) = (1 + own % 6, 10 + own);
+        let relation = match own % 2 {
+            0 => format!("greater -{bound}/1"),
+            _ => format!("less {bound}/1"),
+        };
+        nodes.push(format!("plan gain {first} to 6 steps 6 {relation}"));
+        if own > 0 {
+            let last = nodes.len() - 1;
+            nodes.push(format!("and {} {last}", last - 1));
+        }
+    }
+    after_steps(nodes, 2)
+}
+
+/// 12 nodes of operator 9 with "equal", none of which is to be true.
+pub(super) fn nested_equal() -> Vec<String> {
+    let mut nodes: Vec<String> = Vec::new();
+    for own in 0..12 {
+        let (first, p) = (1 + own % 6, 2 * own + 1);
+        nodes.push(format!("plan gain {first} to 6 steps 6 equal {p}/2"));
+        nodes.push(format!("not {}", nodes.len() - 1));
+        if own > 0 {
+            let last = nodes.len() - 1;
+            nodes.push(format!("and {} {last}", last - 2));
+        }
+    }
+    after_steps(nodes, 3)
+}
+
+/// The last node, read after so many steps of some plan.
+fn after_steps(mut nodes: Vec<String>, steps: usize) -> Vec<String> {
+    for _ in 0..steps {
+        nodes.push(format!("next {}", nodes.len() - 1));
+    }
+    let condition = nodes.len() - 1;
+    nodes.push(format!("plan {condition} steps {steps} greater 1/1000"));
+    nodes
+}
+
+/// A model of 32 states with six certain moves in each, so that every state has
+/// 6 to the 6, that is 46,656, plans of six steps.
+pub(super) fn six_ways() -> Vec<u8> {
+    let mut text = String::from("model D 10 N 5\n");
+    for state in 0..32usize {
+        let bits = (0..5).filter(|bit| state >> bit & 1 == 1);
+        let truths: String = bits.map(|bit| format!(" {bit}")).collect();
+        text += &format!("state {state}:{truths}\n");
+    }
+    for action in 0..6 {
+        text += &format!("action {action}\npost always\n");
+    }
+    for state in 0..32usize {
+        for action in 0..6usize {
+            let target = (5 * state + 7 * action + 3) % 32;
+            let reward = (13 * state + 7 * action * action) as i32 % 41 - 20;
+            text += &format!("outcome {state} {action}: {target} weight 10 reward {reward}\n");
+        }
+    }
+    pack(&text)
+}
+
+#[cfg(test)]
+mod tests {
+    use super::*;
+    use crate::blocks::{read_model, read_question};
+    use crate::generate::bench_cases;
+    use crate::logic::{Model, Totals};
+
+    /// The states that can be met after just so many steps from state 0.
+    fn met_after(model: &Model, steps: usize) -> Vec<u8> {
+        let mut states = vec![0];
+        for _ in 0..steps {
+            let moves = states.iter().flat_map(|state| model.moves(*state));
+            states = moves
+                .flat_map(|entry| entry.outcomes.iter().map(|outcome| outcome.target))
+                .collect();
+            states.sort();
+            states.dedup();
+        }
+        states
+    }
+
+    #[test]
+    fn every_state_has_as_many_plans() {
+        let model = read_model(&six_ways()).expect("an accepted model");
+        let totals = Totals::of(&model);
+        assert!((0..32).all(|state| totals.plans(6, state) == 46_656));
+        assert!((0..32).all(|state| totals.paths(6, state) == 46_656));
+    }
+
+    /// The nested nodes are needed in all states, and are as many as is said.
+    #[test]
+    fn needed_everywhere() {
+        let wanted = [
+            ("expected-nested-19", 2, 19),
+            ("expected-nested-equal", 3, 12),
+        ];
+        for (name, steps, count) in wanted {
+            let case = bench_cases().into_iter().find(|case| case.name == name);
+            let case = case.expect(name);
+            let model = read_model(&case.model).expect("an accepted model");
+            assert_eq!(met_after(&model, steps).len(), 32, "{name}");
+            let question = read_question(&case.question, &model).expect("accepted");
+            let gains = question.plan_nodes().filter(|(_, plan)| plan.sums_gains());
+            assert_eq!(gains.count(), count, "{name}");
+        }
+    }
+}
