@@ -18,7 +18,7 @@ use Rattle.logic.specs.promises.MostChoices.{most-choices}
 use Rattle.best_plan.specs.promises.Buffers.{Wrote, Keeps, wins, Picked, Candidate, walked, lost}
 use Rattle.best_plan.specs.declared.Best.{Best}
 use Rattle.best_plan.specs.declared.Walked.{Walked}
-use Rattle.best_plan.proofs.FirstBest.{ordered, better, first-best-more}
+use Rattle.logic.proofs.FirstBest.{ordered, better, first-best-more}
 use Rattle.best_plan.proofs.ChoiceStack.{wrote-none, wrote-choice, wrote-inside, wrote-both, wrote-first, wrote-over}
 use Rattle.best_plan.proofs.TotalsBounded.{plan-few}
 use Rattle.best_plan.proofs.BestByFirstStep.{worth-of, plan-from, best-of, greatest-step, choices-step}

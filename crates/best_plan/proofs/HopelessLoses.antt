@@ -20,7 +20,7 @@ use Rattle.prepared_model.proofs.ReadByPlace.{states-are, denominator-is, weigh
 use Rattle.bounds.proofs.Powers.{power-le}
 use Rattle.best_plan.specs.promises.Greatest.{worth, best-left}
 use Rattle.best_plan.specs.promises.Buffers.{wins}
-use Rattle.best_plan.proofs.FirstBest.{ordered}
+use Rattle.logic.proofs.FirstBest.{ordered}
 use Rattle.best_plan.proofs.TotalsBounded.{greatest-small}
 use Rattle.best_plan.proofs.OutcomesWalked.{worth-more}
 

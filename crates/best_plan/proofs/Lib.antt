@@ -1,5 +1,4 @@
 pub mod ChoiceStack
-pub mod FirstBest
 pub mod BestByFirstStep
 pub mod TotalsBounded
 pub mod ChoicesTried

@@ -19,7 +19,7 @@ use Rattle.prepared_model.specs.promises.Rows.{outcomes-in, step-in, row-in, Of
 use Rattle.logic.specs.promises.MostChoices.{most-choices}
 use Rattle.best_plan.specs.promises.Greatest.{best-choices, worth, below}
 use Rattle.best_plan.specs.promises.Buffers.{Wrote}
-use Rattle.best_plan.proofs.FirstBest.{additive}
+use Rattle.logic.proofs.FirstBest.{additive}
 use Rattle.best_plan.proofs.BestByFirstStep.{flat-append}
 use Rattle.best_plan.proofs.ChoiceStack.{wrote-none, wrote-both}
 use Rattle.best_plan.proofs.TotalsBounded.{value-small, below-few}

@@ -27,7 +27,7 @@ use Rattle.prepared_model.proofs.ReadByPlace.{states-are, denominator-is, none-
 use Rattle.bounds.proofs.Powers.{power-le}
 use Rattle.logic.specs.promises.MostChoices.{most-choices}
 use Rattle.best_plan.specs.promises.Greatest.{best-choices, below}
-use Rattle.best_plan.proofs.FirstBest.{ordered, additive}
+use Rattle.logic.proofs.FirstBest.{ordered, additive}
 use Rattle.best_plan.proofs.BestByFirstStep.{best-of, plan-from, choices-step}
 
 -- ---- totals

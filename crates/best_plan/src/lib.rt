@@ -17,6 +17,7 @@ ghost use Rattle.evaluation.specs.promises.Known.{Back};
 ghost use Rattle.best_plan.specs.promises.Greatest.{Finds, best-left};
 ghost use Rattle.best_plan.specs.promises.Buffers.{Keeps, Setting, Picked, Candidate, Ends};
 ghost use Rattle.best_plan.specs.promises.Buffers as spec;
+use bounds::exceeds;
 use bounds::power;
 use evaluation::PLACES;
 use evaluation::Place;
@@ -68,16 +69,6 @@ pub struct Best {
 pub struct Walked {
     value: u64,
     end: usize,
-}
-
-// Whether a total is better than another, and not as good.
-fn exceeds(value: u64, other: u64, least: bool) -> bool
-    ensures value { λ r. ⌜ r ≡ not (order least value other) ⌝ }
-{
-    if least {
-        return value < other;
-    }
-    other < value
 }
 
 // Whether a total wins over the best so far, if there is one.

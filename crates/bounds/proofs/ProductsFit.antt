@@ -102,7 +102,7 @@ module _ (m q : Bytes) (j : ℕ) (b : Bounded m q j) where
           let r = b .nodes .formed .in-range j (b .node) .of-plan o in
           record {
             some-part = r .some-part;
-            total = λ x h. 
+            total = λ x h.
                 let g : x ≤ 100 ^ 6 = le-trans h (rw (most-8 o) whole-small) in
                 le-trans (mul-le-mul (r .few-parts) g) (omega arith);
             lift = rw (lift-8 o) (omega arith);

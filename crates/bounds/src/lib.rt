@@ -1,7 +1,9 @@
 // Bounds: powers of the denominator, and a total against the bound of a node of operator 8 or 9, the total times q against p times D to the n.
 ghost use mathlib.Core.Path.{_≡_};
+ghost use mathlib.Core.Bool.{not};
 ghost use Prim.Native.Nat.{_*_, _^_, _≤_};
 ghost use Rattle.logic.specs.Formula.{relation, nonnegative};
+ghost use Rattle.logic.specs.promises.Orders.{order};
 ghost use Rattle.logic.specs.Quantity.{naturals};
 ghost use Rattle.logic.specs.Quantity as quantity;
 ghost use Rattle.models.specs.Layout.{denominator-of};
@@ -41,6 +43,16 @@ fn related(kind: u8, a: u64, b: u64) -> bool
         0 | EQUAL => a == b,
         _ => a > b,
     }
+}
+
+// Whether a total is better than another, and not as good.
+pub fn exceeds(value: u64, other: u64, least: bool) -> bool
+    ensures value { λ r. ⌜ r ≡ not (order least value other) ⌝ }
+{
+    if least {
+        return value < other;
+    }
+    other < value
 }
 
 // p where it is above 0, else 0.

@@ -27,7 +27,7 @@ use Rattle.evaluation.proofs.LearntInOrder.{one-if-small}
 use Rattle.relevance.specs.promises.Need.{Given}
 use Rattle.best_plan.specs.declared.Found.{Found}
 use Rattle.best_plan.specs.promises.Greatest.{Finds}
-use Rattle.best_plan.proofs.FirstBest.{additive}
+use Rattle.logic.proofs.FirstBest.{additive}
 use Rattle.best_plan.proofs.TotalsBounded.{greatest-small, value-small}
 use Rattle.judging.specs.promises.Decided.{best}
 use Rattle.judging.specs.promises.Conditions.{Stands, Same, best-total, Searched, memo-place, Remembers}

@@ -35,7 +35,7 @@ use Rattle.prepared_question.specs.promises.Nodes.{formula}
 use Rattle.evaluation.specs.promises.Reached.{root-of}
 use Rattle.plan_choices.specs.promises.Extended.{extend}
 use Rattle.plan_choices.proofs.ExtendedChoices.{extend-choices}
-use Rattle.best_plan.proofs.FirstBest.{ordered, additive}
+use Rattle.logic.proofs.FirstBest.{ordered, additive}
 use Rattle.relevance.specs.promises.Need.{Given}
 use Rattle.judging.specs.declared.Outcome.{Outcome}
 use Rattle.judging.specs.declared.plans.Decision.{Decision}

@@ -46,7 +46,7 @@ sum-added x f g (o ∷ l) h =
     let k = mul-add x (o .weight) (sum naturals (λ o. o .weight) l) in
     omega arith
 
-sum-same : (f g : Step → ℕ) (l : List Step) → ((o : Step) → List·Memᴰ o l → f o ≡ g o) → sum naturals f l ≡ sum naturals g l
+pub sum-same : (f g : Step → ℕ) (l : List Step) → ((o : Step) → List·Memᴰ o l → f o ≡ g o) → sum naturals f l ≡ sum naturals g l
 unfolding sum
 sum-same f g [] h = refl
 sum-same f g (o ∷ l) h = ap₂ _+_ (h o (List·Memᴰ·head refl)) (sum-same f g l (λ x i. h x (List·Memᴰ·tail i)))

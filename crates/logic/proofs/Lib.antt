@@ -26,6 +26,7 @@ pub mod AcceptedByActions
 pub mod Acceptance
 pub mod Examples
 pub mod Depth
+pub mod FirstBest
 pub mod FirstChoice
 pub mod Lengthening
 pub mod GainsByTable

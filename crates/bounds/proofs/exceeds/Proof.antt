@@ -2,9 +2,9 @@
 use mathlib.Core.Path.{sym, ap, _∙_}
 use mathlib.Core.Bool.{not}
 use Rattle.logic.specs.promises.Orders.{order}
-use Rattle.best_plan.proofs.FirstBest.{less-not}
-use Rattle.best_plan.proofs.exceeds.Statement.{statement}
-use Rattle.best_plan.proofs.exceeds.Tie as tie
+use Rattle.logic.proofs.FirstBest.{less-not}
+use Rattle.bounds.proofs.exceeds.Statement.{statement}
+use Rattle.bounds.proofs.exceeds.Tie as tie
 
 returns : tie.Need-returns
 returns c = let S = c .before .args in less-not (S .value) (S .other) ∙ ap (λ t. not (order t (S .value) (S .other))) (sym (c .if1 .taken))
