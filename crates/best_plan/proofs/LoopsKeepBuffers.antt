@@ -194,8 +194,8 @@ module _ {m q : Bytes} {truth cone late : List ℕ} {start : ℕ} {trail₀ : Li
 -- ---- from the start
 
 -- What the marks of the last step ask.
-pub late-asked : {m q : Bytes} {start : ℕ} {truth cone : List ℕ} → Ready m q start truth cone → Deep q × Cone q cone
-late-asked R = (record { few = R .nodes .formed .few-nodes; deep = R .nodes .deep }, R .ordered)
+pub late-asked : {m q : Bytes} {start : ℕ} {truth cone : List ℕ} → Ready m q start truth cone → 0 < length cone → Deep q × Cone q cone × (0 < length cone)
+late-asked R some = (record { few = R .nodes .formed .few-nodes; deep = R .nodes .deep }, R .ordered, some)
 
 pub setting-start : {m q : Bytes} {truth cone late : List ℕ} {start d : ℕ} {trail : List ℕ} {gains : List ℤ} {v′ : List ℕ}
     → Ready m q start truth cone → Late q cone late → (v : List ℕ) → d ≡ depth (formula q (root-of cone)) → d ≤ 6 → length gains ≡ 7 → length v ≡ 280 → getD gains 0 (pos 0) ≡ pos 0

@@ -17,7 +17,7 @@ use Rattle.evaluation.specs.promises.Reached.{root-of, on-path}
 use Rattle.evaluation.specs.promises.Learnt.{known}
 use Rattle.evaluation.specs.promises.Known.{Offered, Stepped, Back}
 use Rattle.evaluation.proofs.StepUndone.{back-same, knows-back, state-back, step-back}
-use Rattle.evaluation.proofs.StepTaken.{state-reached, leaf-value, state-stepped, whole-stepped, on-path-stepped}
+use Rattle.evaluation.proofs.StepTaken.{state-reached, leaf-value, state-stepped, whole-stepped, path-stepped}
 use Rattle.logic.specs.promises.MostChoices.{most-choices}
 use Rattle.best_plan.specs.promises.Greatest.{best-choices}
 use Rattle.best_plan.specs.promises.Buffers.{Wrote, Setting, Picked}
@@ -37,7 +37,7 @@ module _ {m q : Bytes} {truth cone late : List ℕ} {start : ℕ} {trail : List 
 
   -- Where no step is left, the value is known.
   leaf-here : k ≡ 0 → known v (root-of cone) 0 ≡ on-path m q start cone (take h trail) []
-  leaf-here e = leaf-value (S .ready) (take h trail) gains v (S .knows) (omega (arith, S .deep, S .whole)) []
+  leaf-here e = leaf-value (S .ready) (S .marked .some) (take h trail) gains v (S .knows) (omega (arith, S .deep, S .whole)) []
 
   pub picked-leaf : (least : Bool) (b : Best) (at : ℕ) (c : List ℕ) → k ≡ 0 → (b .value ≡ known v (root-of cone) 0) × (b .end ≡ at)
       → Picked least m (on-path m q start cone (take h trail)) s k at c c b
@@ -104,7 +104,7 @@ module _ {m q : Bytes} {truth cone late : List ℕ} {start : ℕ} {trail : List 
     -- What is picked after the step is the best below the outcome; t0 is the trail that the first h steps were.
     module _ {t0 : List ℕ} (e : take h trail ≡ t0) where
       same-value : on-path m q start cone (take (h + 1) trail′) ≡ λ r. on-path m q start cone t0 (step-in m s a o ∷ r)
-      same-value = on-path-stepped (S .ready) offered (S .knows) T ∙ ap (λ t r. on-path m q start cone t (step-in m s a o ∷ r)) e
+      same-value = path-stepped (S .ready) offered (S .knows) T (value-of (model-in m) (formula q (root-of cone)) start) ∙ ap (λ t r. on-path m q start cone t (step-in m s a o ∷ r)) e
 
       module _ {least : Bool} {at : ℕ} {before after : List ℕ} {b : Best} (P : Picked least m (on-path m q start cone (take (h + 1) trail′)) t k at before after b) where
         pub picked-value : b .value ≡ greatest (weights (order least)) (model-in m) k ((step-in m s a o) .target) (λ r. on-path m q start cone t0 (step-in m s a o ∷ r))

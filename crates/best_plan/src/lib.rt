@@ -377,7 +377,8 @@ pub fn find(
     least: bool,
 ) -> Found
     requires { ⌜ Ready (now m) (now q) start (now truth) (now cone) ⌝ }
-    requires { ⌜ (d ≡ depth (formula (now q) (root-of (now cone)))) × (d ≤ 6) × (4095 ≤ length (now choices)) ⌝ }
+    requires { ⌜
+        (d ≡ depth (formula (now q) (root-of (now cone)))) × (d ≤ 6) × (4095 ≤ length (now choices)) × (0 < length (now cone)) ⌝ }
     ensures effect { λ r. ⌜ Finds least (now (m .entry)) (now (q .entry)) start (now (cone .entry)) d (now (choices .exit)) r ⌝ }
 {
     let marks = late(q, cone);

@@ -67,12 +67,33 @@ mag-negative (pos zero) = omega arith
 mag-negative (pos (suc n)) = omega arith
 mag-negative (negsuc n) = omega arith
 
--- The difference of two numbers of 32 bits fits in 64.
-pub difference-fits : (x y : ℤ) → mag x < 2 ^ 31 → mag y < 2 ^ 31 → SFits w64 (x -ℤ y)
-difference-fits x y h g =
+-- The difference of two numbers of 32 bits is small, and fits in 64.
+pub difference-small : (x y : ℤ) → mag x < 2 ^ 31 → mag y < 2 ^ 31 → mag (x -ℤ y) < 2 ^ 33
+difference-small x y h g =
     let c = mag-add x (negℤ y) in
     let d = mag-negative y in
-    record { sfits = omega arith }
+    omega arith
+
+pub difference-fits : (x y : ℤ) → mag x < 2 ^ 31 → mag y < 2 ^ 31 → SFits w64 (x -ℤ y)
+difference-fits x y h g = let s = difference-small x y h g in record { sfits = omega arith }
+
+-- The sum of a number of 64 bits that is small and a natural number, as the machine makes it.
+module _ (x : ℤ) (n : ℕ) (h : mag x < 2 ^ 33) (g : n < 2 ^ 16) where
+  both-are : toZ w64 (ofZ w64 x) +ℤ toZ w64 n ≡ x +ℤ pos n
+  both-are = ap₂ _+ℤ_ (toZ-ofZ w64 x (record { sfits = omega arith })) (toZ-ofZ w64 (pos n) (record { sfits = omega arith }))
+
+  sum-small : mag (x +ℤ pos n) < 2 ^ 34
+  sum-small = omega (arith, mag-add x (pos n))
+
+  pub sum-fits : SFits w64 (toZ w64 (ofZ w64 x) +ℤ toZ w64 n)
+  sum-fits = rw both-are (record { sfits = omega (arith, sum-small) })
+
+  pub sum-is : toZ w64 (ofZ w64 (toZ w64 (ofZ w64 x) +ℤ toZ w64 n)) ≡ x +ℤ pos n
+  sum-is = ap (λ z. toZ w64 (ofZ w64 z)) both-are ∙ toZ-ofZ w64 (x +ℤ pos n) (record { sfits = omega (arith, sum-small) })
+
+  -- Where it is natural, it is so as an unsigned number too.
+  pub natural-fits : {y : ℕ} → x +ℤ pos n ≡ pos y → y < 2 ^ 64
+  natural-fits e = omega (arith, ap mag e, sum-small)
 
 -- What is left of a sum without its first part.
 pub rest-of-sum : (x y : ℤ) → (x +ℤ y) -ℤ x ≡ y

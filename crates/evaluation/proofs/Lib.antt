@@ -5,3 +5,4 @@ pub mod OperatorMeaning
 pub mod LearnKnows
 pub mod StepTaken
 pub mod StepUndone
+pub mod PathWorth

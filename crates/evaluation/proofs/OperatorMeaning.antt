@@ -187,6 +187,7 @@ module _ {m q : Bytes} {s : ℕ} {truth cone : List ℕ} (ready : Ready m q s tr
           (λ e. flat path (questions.at-prop S A N q asked j inside e) refl)
           n a d f g
           (λ e. flat path (questions.at-plan S A N q asked j inside e) refl)
+          (λ e. flat path (questions.at-earns S A N q asked j inside e) refl)
           (λ n e. absurd (omega (arith, range .operator-to)))
           (x .operator) refl
 
@@ -231,7 +232,7 @@ module _ {m q : Bytes} {s : ℕ} {truth cone : List ℕ} (ready : Ready m q s tr
             let b : from k ≡ [] = drop-of-length-le (steps-of m s t) {i = k} (omega (arith, steps-length m s t)) in
             state-value q truth trail gains (length t) (state-after m s t) (depth (formula q (node i))) (node i) v e
             ∙ ap (λ y. byte truth (32 * node i + y)) (sym a)
-            ∙ ready .truth-right (node i) (at k) r e
+            ∙ ready .truth-right (omega arith) (node i) (at k) r e
             ∙ ap (value-of (model-in m) (formula q (node i)) (at k)) (sym b)
         go (no f) =
             let n : length t - depth (formula q (node i)) ≡ k = omega arith in

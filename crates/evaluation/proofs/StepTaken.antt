@@ -66,7 +66,7 @@ module _ {m q : Bytes} {start : ℕ} {truth cone : List ℕ} (ready : Ready m q 
     unfolding state-after
     state-on = state-append m start T (b ∷ []) ∙ ap (λ z. z .target) the-step
 
-    -- After the step, the state is the one reached, and a path goes on as one from before it does with the step first.
+    -- After the step, the state is the one reached, and a path goes on as one from before it does with the step first: both have the same value f.
     module _ {trail′ : List ℕ} {gains′ : List ℤ} {v′ : List ℕ} {t : ℕ} (S : Stepped m q start cone h s i o trail trail′ gains′ v′ t) where
       pub state-stepped : state-after m start (take (h + 1) trail′) ≡ t
       state-stepped = ap (state-after m start) (S .longer) ∙ state-on ∙ sym (S .state)
@@ -74,10 +74,10 @@ module _ {m q : Bytes} {start : ℕ} {truth cone : List ℕ} (ready : Ready m q 
       pub whole-stepped : length (take (h + 1) trail′) ≡ h + 1
       whole-stepped = ap length (S .longer) ∙ length-append T (b ∷ []) ∙ omega (arith, S .whole)
 
-      pub on-path-stepped : on-path m q start cone (take (h + 1) trail′) ≡ λ r. on-path m q start cone T (step-in m s i o ∷ r)
+      pub path-stepped : (f : List Step → ℕ) → _≡_ {A = List Step → ℕ} (λ r. f (steps-of m start (take (h + 1) trail′) ++ r)) (λ r. f (steps-of m start T ++ (step-in m s i o ∷ r)))
       unfolding steps-of
-      on-path-stepped =
-          fun-ext (λ r. ap (value-of (model-in m) (formula q (root-of cone)) start)
+      path-stepped f =
+          fun-ext (λ r. ap f
           (ap (λ l. steps-of m start l ++ r) (S .longer)
           ∙ ap (λ l. l ++ r) (steps-append m start T (b ∷ []))
           ∙ append-assoc (steps-of m start T) (step-of m (state-after m start T) b ∷ []) r
@@ -133,10 +133,10 @@ module _ {m q : Bytes} {start : ℕ} {truth cone : List ℕ} (ready : Ready m q 
       }
 
   -- Where as many steps are taken as the condition looks ahead, its value at the first place is its value on the path, however that goes on.
-  pub leaf-value : (t : List ℕ) (gains : List ℤ) (v : List ℕ) → Knows m q start cone t gains v → depth (formula q (root-of cone)) ≤ length t
+  pub leaf-value : 0 < length cone → (t : List ℕ) (gains : List ℤ) (v : List ℕ) → Knows m q start cone t gains v → depth (formula q (root-of cone)) ≤ length t
       → (r : List Step) → known v (root-of cone) 0 ≡ on-path m q start cone t r
   unfolding state-after
-  leaf-value t gains v K h r =
+  leaf-value some t gains v K h r =
       let R : List Step = steps-of m start t in
-      K .values .right (length cone - 1) 0 (omega (arith, ready .ordered .some)) (omega arith) (λ e. omega (arith, ready .ordered .some)) itself
+      K .values .right (length cone - 1) 0 (omega arith) (omega arith) (λ e. omega arith) itself
       ∙ ap one-if (sat-same (model-in m) (formula q (root-of cone)) (length t) start R (R ++ r) h (sym (take-append-le (length t) R r (omega (arith, steps-length m start t)))))

@@ -3,3 +3,4 @@ pub mod Known
 pub mod Learnt
 pub mod Path
 pub mod Reached
+pub mod Worth

@@ -1,8 +1,9 @@
 // The values of a condition's nodes along a path, each computed once, with the step that makes it known.
 ghost use mathlib.Core.Path.{_≡_};
-ghost use Prim.Native.Nat.{_<_};
-ghost use lib.IntN.{pos};
+ghost use Prim.Native.Nat.{_^_, _<_};
+ghost use lib.IntN.{pos, _-ℤ_};
 ghost use lib.ListN.{length, getD, set, take};
+ghost use lib.Signed.{mag};
 ghost use Rattle.logic.specs.Quantity.{integers};
 ghost use Rattle.logic.specs.Quantity as quantity;
 ghost use Rattle.logic.specs.Formula.{relation};
@@ -11,6 +12,7 @@ ghost use Rattle.evaluation.specs.promises.Learnt.{value-by, learn-node,
 ghost use Rattle.evaluation.specs.promises.Learnt as spec;
 ghost use Rattle.evaluation.specs.promises.Reached.{Ready};
 ghost use Rattle.evaluation.specs.promises.Known.{Knows, Offered, Stepped};
+ghost use Rattle.evaluation.specs.promises.Worth.{worth-known, Readable};
 ghost use Rattle.questions.specs.Layout.{node-of};
 use blocks::byte;
 use models::STATES;
@@ -87,13 +89,25 @@ pub fn related(kind: u8, gain: i64, bound: i64) -> bool
     }
 }
 
+// The gain of the steps after the first k, up to step h.
+fn gain_between(gains: &[i32; PLACES], k: u8, h: u8) -> i64
+    requires { ⌜ (k < 7) × (h < 7) ⌝ }
+    ensures value { λ r. let gains = now (gains .entry) in ⌜ r ≡ getD gains h (pos 0) -ℤ getD gains k (pos 0) ⌝ }
+    ensures range { λ r. ⌜ mag r < 2 ^ 33 ⌝ }
+{
+    gain_at(gains, h) as i64 - gain_at(gains, k) as i64
+}
+
 // Whether node j, a "gain", is true at place k.
 fn gained(q: &[u8; QUESTION], gains: &[i32; PLACES], h: u8, k: u8, j: u8) -> bool
     requires { ⌜ (j < 40) × (h < 7) × (k < 7) ⌝ }
     ensures value { λ r. ⌜ r ≡ spec.gained (now (q .entry)) (now (gains .entry)) h k j ⌝ }
 {
-    let gain = gain_at(gains, h) as i64 - gain_at(gains, k) as i64;
-    related(right(q, j), gain, bound(q, j) as i64)
+    related(
+        right(q, j),
+        gain_between(gains, k, h),
+        bound(q, j) as i64,
+    )
 }
 
 // The value at place k of node j, which looks at steps: each arm has its operator's meaning.
@@ -174,6 +188,20 @@ pub fn learn(
         learn_node(q, truth, trail, gains, v, h, s, cone[i]);
         i += 1;
     }
+}
+
+// What the path taken is worth where as many steps are taken as it looks ahead, d: with nodes in the cone, the value of the condition at its
+// root; with none, the raised gain of the steps after the first a.
+pub fn worth(cone: &[u8], gains: &[i32; PLACES], v: &[u8; VALUES], a: u8, d: u8) -> u64
+    requires { ⌜ Readable (now cone) (now gains) a d ⌝ }
+    ensures value { λ r. ⌜ r ≡ worth-known (now (cone .entry)) (now (gains .entry)) (now (v .entry)) a d ⌝ }
+{
+    let n = cone.len();
+    if n == 0 {
+        let up = 1000 * (d - a) as u16;
+        return (gain_between(gains, a, d) + up as i64) as u64;
+    }
+    known(v, cone[n - 1], 0) as u64
 }
 
 fn put(trail: &mut [u16], i: usize, x: u16)

@@ -52,7 +52,7 @@ module _ {m q : Bytes} {start : ℕ} {truth cone late trail : List ℕ} {gains :
   state-here = stepping.state-reached (B .ready) (B .knows) (B .state)
 
   pub root-small : root-of cone < 40
-  root-small = cone-node (B .ready) (length cone - 1) (omega (arith, B .ready .ordered .some))
+  root-small = cone-node (B .ready) (length cone - 1) (omega (arith, B .marked .some))
 
   -- The path that an outcome o of the choice at place a ends.
   module _ (a o : ℕ) (offers : Offers m s a o) where
@@ -272,7 +272,7 @@ module _ {m q : Bytes} {start : ℕ} {truth cone late trail : List ℕ} {gains :
               let at = state-after m start (take k (on a o u)) in
               let t : byte truth (32 * node i + (step-in m s a o) .target) ≡ value-of (model-in m) (formula q (node i)) at (drop k (steps-of m start (on a o u))) =
               ap (λ y. byte truth (32 * node i + y)) (sym here)
-              ∙ B .ready .truth-right (node i) at n e
+              ∙ B .ready .truth-right (B .marked .some) (node i) at n e
               ∙ ap (value-of (model-in m) (formula q (node i)) at) (sym rest) in
               R .right a o u
               ∙ ap (λ y. one-if (not (eqb y 0))) t
@@ -316,7 +316,7 @@ module _ {m q : Bytes} {start : ℕ} {truth cone late trail : List ℕ} {gains :
   ended masks M =
       record {
         right = λ a o u.
-            let W = M .right (length cone - 1) (omega (arith, B .ready .ordered .some)) (B .marked .root) in
+            let W = M .right (length cone - 1) (omega (arith, B .marked .some)) (B .marked .root) in
             W .right 0 a o u (omega (arith, B .deep, B .whole)) itself
             ∙ ap (value-of (model-in m) (formula q (root-of cone)) start)
             (steps-append m start T (number-of m s a o ∷ []) ∙ ap (λ z. steps-of m start T ++ (z ∷ [])) (stepping.the-step (B .ready) (offered a o u) (B .knows)));

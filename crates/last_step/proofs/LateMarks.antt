@@ -102,7 +102,7 @@ pub record Passing (q : Bytes) (cone marks : List ℕ) (i : ℕ) : Type 0 where
   pub root : getD marks (root-of cone) 0 ≡ 1
   pub closed : (k : ℕ) → getD marks k 0 ≡ 1 → Passed-on q marks k ⊎ Earlier cone i k
 
-module _ {q : Bytes} {cone : List ℕ} (w : Deep q × Cone q cone) where
+module _ {q : Bytes} {cone : List ℕ} (w : Deep q × Cone q cone × (0 < length cone)) where
   abbrev ordered : Cone q cone
   ordered = w .1
 
@@ -124,14 +124,14 @@ module _ {q : Bytes} {cone : List ℕ} (w : Deep q × Cone q cone) where
       child e = subst (λ x. x < 40) (e .2) (cone-node (e .0) (omega (arith, e .1)))
 
   pub root-node : root-of cone < 40
-  root-node = cone-node (length cone - 1) (omega (arith, ordered .some))
+  root-node = cone-node (length cone - 1) (omega (arith, w .2))
 
   pub passing-start : Passing q cone (set (blank 40) (root-of cone) 1) (length cone)
   passing-start =
       record {
         size = length-set (blank 40) (root-of cone) 1 ∙ length-replicate {A = ℕ} 40 0;
         root = one-there 40 (root-of cone) root-node;
-        closed = λ k e. inr (length cone - 1, omega (arith, ordered .some), sym (one-only 40 (root-of cone) root-node k e));
+        closed = λ k e. inr (length cone - 1, omega (arith, w .2), sym (one-only 40 (root-of cone) root-node k e));
       }
 
   turned-earlier : (i k : ℕ) → i < length cone → Turns-on q (getD cone i 0) k → Earlier cone i k
@@ -161,6 +161,6 @@ module _ {q : Bytes} {cone : List ℕ} (w : Deep q × Cone q cone) where
       old : (k : ℕ) → getD marks k 0 ≡ 1 → Passed-on q marks k ⊎ Earlier cone (suc i) k → Passed-on q marks′ k ⊎ Earlier cone i k
       old k e = ⊎-elim (λ c. inl (passed-stays c (done .0))) (λ w. turn k e w (ℕ-discrete (w .0) i))
 
-pub passing-end : {q : Bytes} {cone marks : List ℕ} → Passing q cone marks 0 → Late q cone marks
-passing-end {q} {cone} p =
-    record { root = p .root; closed = λ i h e. ⊎-elim (λ c. c) (λ w. absurd (omega (arith, w .1))) (p .closed (getD cone i 0) e) }
+pub passing-end : {q : Bytes} {cone marks : List ℕ} → 0 < length cone → Passing q cone marks 0 → Late q cone marks
+passing-end {q} {cone} h p =
+    record { some = h; root = p .root; closed = λ i l e. ⊎-elim (λ c. c) (λ w. absurd (omega (arith, w .1))) (p .closed (getD cone i 0) e) }

@@ -66,7 +66,7 @@ fn pass_on(q: &[u8; QUESTION], marks: &mut [u8; NODES], j: u8)
 
 // Marks from the condition downwards: children stand before their parents.
 pub fn late(q: &[u8; QUESTION], cone: &[u8]) -> [u8; NODES]
-    requires { ⌜ Deep (now q) × Cone (now q) (now cone) ⌝ }
+    requires { ⌜ Deep (now q) × Cone (now q) (now cone) × (0 < length (now cone)) ⌝ }
     ensures value { λ r. ⌜ Late (now (q .entry)) (now (cone .entry)) r ⌝ }
 {
     let mut marks = [0u8; NODES];

@@ -35,6 +35,7 @@ reads-cases =
     (λ e. inl (inr refl))
     (λ e. absurd (false≢true e))
     (λ e. absurd (false≢true e))
+    (λ e. absurd (false≢true e))
     (λ k e. absurd (false≢true e))
 
 -- The children of a node have smaller numbers than its own.
@@ -204,11 +205,10 @@ module _ {marks out : List ℕ} {i n : ℕ} (p : Listed marks i n out) where
       place f a b (no y) (no z) = absurd (omega (arith, p .rising e f (omega arith) a))
 
 pub listed-cone : {q : Bytes} {c n : ℕ} {marks out : List ℕ} → Asked q → Chosen q c marks → c < node-count q → Listed marks (c + 1) n out → length out ≡ 40
-    → (n ≤ 40) × Cone q (take n out) × (root-of (take n out) ≡ c)
+    → (n ≤ 40) × Cone q (take n out) × (root-of (take n out) ≡ c) × (0 < length (take n out))
 listed-cone {q} {c} {n} {marks} {out} a chosen h p z = (
   fits,
   record {
-    some = rw size (omega (arith, top .1));
     nodes = λ i l. subst (λ x. x < node-count q) (sym (at i (inside i l))) (omega (arith, p .nodes i (inside i l) .0));
     lefts = λ i l d e. child i (inside i l) ((node-of q (getD (take n out) i 0)) .left)
         (left-before a (getD (take n out) i 0) (node i (inside i l)) e) (marked i (inside i l) .left d e);
@@ -216,6 +216,7 @@ listed-cone {q} {c} {n} {marks} {out} a chosen h p z = (
         (right-before a (getD (take n out) i 0) (node i (inside i l)) e) (marked i (inside i l) .right d e);
   },
   ap (λ k. getD (take n out) (k - 1) 0) size ∙ at (n - 1) (omega (arith, top .1)) ∙ sym (ap (λ k. getD out k 0) last) ∙ top .2,
+  rw size (omega (arith, top .1)),
 )
   where
     fits : n ≤ 40

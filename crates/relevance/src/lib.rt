@@ -178,7 +178,9 @@ fn list_node(marks: &[u8; NODES], out: &mut [u8], i: u8, n: usize) -> usize
 // The nodes of the condition c, children before parents; gives their number.
 pub fn cone(q: &[u8; QUESTION], c: u8, out: &mut [u8]) -> usize
     requires { ⌜ Asked (now q) × (c < question.node-count (now q)) × (length (now out) ≡ 40) ⌝ }
-    ensures effect { λ r. ⌜ (r ≤ 40) × Cone (now (q .entry)) (take r (now (out .exit))) × (root-of (take r (now (out .exit))) ≡ c) ⌝ }
+    ensures effect { λ r.
+        let nodes = take r (now (out .exit)) in
+        ⌜ (r ≤ 40) × Cone (now (q .entry)) nodes × (root-of nodes ≡ c) × (0 < length nodes) ⌝ }
 {
     let marks = chosen(q, c);
     let mut n: usize = 0;

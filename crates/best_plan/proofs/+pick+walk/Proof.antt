@@ -77,7 +77,7 @@ pick-μ-loop m q truth cone late trail₀ gains₀ v₀ choices₀ spot s n best
 
 module _ (t : ℕ) where
   pick-leaf-requires : pick-lts.Need-leaf-requires (pick-claims t) (pick-at t) pick.Post pick-Inv-loop pick-μ-loop
-  pick-leaf-requires c κs = (c .before .before .before .before .before .pre .1 .0) .ready .ordered .some
+  pick-leaf-requires c κs = (c .before .before .before .before .before .pre .1 .0) .marked .some
 
   pick-returns : pick-lts.Need-returns (pick-claims t) (pick-at t) pick.Post pick-Inv-loop pick-μ-loop
   pick-returns c = let S = c .before .before .before .before .before .before in

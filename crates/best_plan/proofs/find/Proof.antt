@@ -9,7 +9,7 @@ use Rattle.best_plan.proofs.find.Statement.{statement}
 use Rattle.best_plan.proofs.find.Tie as tie
 
 late-requires : tie.Need-late-requires
-late-requires c κs = late-asked (c .before .before .pre .0)
+late-requires c κs = let S = c .before .before in late-asked (S .pre .0) (S .pre .1 .3)
 
 learn-requires : tie.Need-learn-requires
 learn-requires c κs =

@@ -28,10 +28,9 @@ pub data Reached (m q : Bytes) (c s : ℕ) : ℕ → ℕ → Type 0 where
 abbrev pub Earlier : List ℕ → ℕ → ℕ → Type 0
 Earlier l i j = (e : ℕ) × (e < i) × (getD l e 0 ≡ j)
 
--- The nodes of a condition, children before parents, the condition's own last. A state formula's children are not asked for: its truth
--- is in a table.
+-- The nodes of a condition, children before parents, the condition's own last; or none, where no condition is asked for. A state formula's
+-- children are not asked for: its truth is in a table.
 pub record Cone (q : Bytes) (cone : List ℕ) : Type 0 where
-  pub some : 0 < length cone
   pub nodes : (i : ℕ) → i < length cone → getD cone i 0 < node-count q
   pub lefts : (i : ℕ) → i < length cone → (depth (formula q (getD cone i 0)) ≡ 0 → ⊥) → reads-left ((node-of q (getD cone i 0)) .operator) ≡ true
       → Earlier cone i ((node-of q (getD cone i 0)) .left)
@@ -45,12 +44,12 @@ root-of cone = getD cone (length cone - 1) 0
 abbrev pub on-path : (m q : Bytes) (start : ℕ) (cone t : List ℕ) → List Step → ℕ
 on-path m q start cone t r = value-of (model-in m) (formula q (root-of cone)) start (steps-of m start t ++ r)
 
--- What a search from s for the condition at the root of a cone is handed. `truth` has 32 places a node: 1 where a state formula is true
--- in a state, and it has to be right only where it is read.
+-- What a search from s for the condition at the root of a cone, if it has nodes, is handed. `truth` has 32 places a node: 1 where a state
+-- formula is true in a state, and it has to be right only where it is read.
 pub record Ready (m q : Bytes) (s : ℕ) (truth cone : List ℕ) : Type 0 where
   pub prepared : Prepared m
   pub nodes : Nodes (state-count m) (action-count m) (prop-count m) q
   pub state : s < state-count m
   pub ordered : Cone q cone
-  pub truth-right : (j t : ℕ) → Reached m q (root-of cone) s j t → depth (formula q j) ≡ 0
+  pub truth-right : 0 < length cone → (j t : ℕ) → Reached m q (root-of cone) s j t → depth (formula q j) ≡ 0
       → getD truth (32 * j + t) 0 ≡ value-of (model-in m) (formula q j) t []

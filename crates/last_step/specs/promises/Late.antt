@@ -26,8 +26,9 @@ pub record Passed-on (q marks : List ℕ) (j : ℕ) : Type 0 where
       → getD marks ((node-of q j) .right) 0 ≡ 1
   pub under-next : (depth-in q j ≡ 0 → ⊥) → (node-of q j) .operator ≡ 6 → getD marks ((node-of q j) .left) 0 ≡ 1
 
--- The condition itself is marked, and with each marked node the children on which it depends.
+-- There is a condition; it is marked itself, and with each marked node the children on which it depends.
 pub record Late (q : Bytes) (cone marks : List ℕ) : Type 0 where
+  pub some : 0 < length cone
   pub root : getD marks (root-of cone) 0 ≡ 1
   pub closed : (i : ℕ) → i < length cone → getD marks (getD cone i 0) 0 ≡ 1 → Passed-on q marks (getD cone i 0)
 

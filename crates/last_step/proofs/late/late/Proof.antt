@@ -14,10 +14,10 @@ abbrev μ-loop : tie.MeasureT-loop
 μ-loop q cone marks₀ root i₀ marks i = i
 
 sub-root : tie.Need-sub-root Inv-loop μ-loop
-sub-root c = c .before .pre .1 .some
+sub-root c = c .before .pre .2
 
 shared-slice-read-root : tie.Need-shared-slice-read-root Inv-loop μ-loop
-shared-slice-read-root c = let z = c .before .before .pre .1 .some in omega (arith, z)
+shared-slice-read-root c = let z = c .before .before .pre .2 in omega (arith, z)
 
 cast-root : tie.Need-cast-root Inv-loop μ-loop
 cast-root c = let z = root-node (c .before .before .pre) in omega (arith, z)
@@ -50,7 +50,7 @@ loop-again c = let S = c .before .before .before .before .before .before .before
 returns : tie.Need-returns Inv-loop μ-loop
 returns c = let S = c .before .before .before .before in
     let L = c .before .loop in
-    passing-end (subst (Passing (S .args .q .now) (S .args .cone .now) (L .marks)) (omega arith) (L .inv .1))
+    passing-end (S .pre .2) (subst (Passing (S .args .q .now) (S .args .cone .now) (L .marks)) (omega arith) (L .inv .1))
 
 pub late-spec : {M : Type 1} → statement M
 late-spec =

@@ -62,10 +62,10 @@ loop-again c = let S = c .before .before .before .before .before .before in
     )
 
 sub-mask-at : tie.Need-sub-mask-at Inv-loop μ-loop
-sub-mask-at c = c .before .before .before .before .pre .ready .ordered .some
+sub-mask-at c = c .before .before .before .before .pre .marked .some
 
 shared-slice-read-mask-at : tie.Need-shared-slice-read-mask-at Inv-loop μ-loop
-shared-slice-read-mask-at c = let z = c .before .before .before .before .before .pre .ready .ordered .some in omega (arith, z)
+shared-slice-read-mask-at c = let z = c .before .before .before .before .before .pre .marked .some in omega (arith, z)
 
 mask-at-requires : tie.Need-mask-at-requires Inv-loop μ-loop
 mask-at-requires c κs = root-small (c .before .before .before .before .before .pre)
