@@ -10,9 +10,11 @@ use lib.ListN.{length, take}
 use Rattle.logic.specs.promises.Orders.{weights, order}
 use Rattle.logic.specs.Plan.{choices}
 use Rattle.logic.specs.promises.Recursion.{greatest}
+use Rattle.logic.specs.promises.Total.{value-of}
 use Rattle.blocks.specs.Bytes.{Bytes}
 use Rattle.models.specs.Layout.{state-count}
 use Rattle.prepared_model.specs.promises.Rows.{choices-in, outcomes-in, step-in, Offers, model-in}
+use Rattle.prepared_question.specs.promises.Nodes.{formula}
 use Rattle.evaluation.specs.promises.Reached.{root-of, on-path}
 use Rattle.evaluation.specs.promises.Learnt.{known}
 use Rattle.evaluation.specs.promises.Known.{Offered, Stepped, Back}
