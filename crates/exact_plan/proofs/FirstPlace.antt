@@ -8,13 +8,11 @@ use mathlib.Core.List.{List, []}
 use lib.IntN.{ℤ}
 use lib.ListN.{length, take, getD}
 use lib.Seq.{getD-take, length-take-le}
-use Rattle.logic.specs.promises.Total.{value-of}
 use Rattle.blocks.specs.Bytes.{Bytes}
 use Rattle.prepared_model.specs.promises.Rows.{model-in}
 use Rattle.evaluation.specs.promises.Path.{steps-of, state-after}
-use Rattle.prepared_question.specs.promises.Nodes.{formula}
-use Rattle.evaluation.specs.promises.Reached.{root-of, on-path}
 use Rattle.evaluation.specs.promises.Known.{Knows}
+use Rattle.evaluation.specs.promises.Worth.{worth-of, worth-on}
 use Rattle.exact_plan.specs.promises.Totals.{totals}
 use Rattle.exact_plan.specs.promises.Listing.{Given, Here, Written, First}
 
@@ -43,7 +41,7 @@ module _ (buf : List ℕ) (len x : ℕ) (fits : len ≤ length buf) where
 
 -- ---- the start
 
-module _ {m q : Bytes} {start d : ℕ} {truth cone table : List ℕ} (G : Given m q start d truth cone table) where
+module _ {m q : Bytes} {start a d : ℕ} {truth cone table : List ℕ} (G : Given m q start a d truth cone table) where
   pub begins : {n : ℕ} (trail : List ℕ) (gains : List ℤ) (v : List ℕ) → d ≤ n → n ≤ 6 → Knows m q start cone [] gains v
       → Here m q start d cone trail gains v 0 start n
   unfolding state-after
@@ -51,9 +49,9 @@ module _ {m q : Bytes} {start d : ℕ} {truth cone table : List ℕ} (G : Given 
 
   -- The list from the start, and the first of it.
   pub first-listed : (n x : ℕ) {r i : ℕ} {trail trail₁ : List ℕ} {gains₁ : List ℤ} {v₁ buf buf₁ : List ℕ}
-      → Written (totals (model-in m) n start (on-path m q start cone (take 0 trail))) m q start cone 0 0 trail trail₁ gains₁ v₁ buf buf₁ r
-      → First (take r buf₁) x i → First (totals (model-in m) n start (value-of (model-in m) (formula q (root-of cone)) start)) x i
+      → Written (totals (model-in m) n start (worth-on m q start a d cone (take 0 trail))) m q start cone 0 0 trail trail₁ gains₁ v₁ buf buf₁ r
+      → First (take r buf₁) x i → First (totals (model-in m) n start (worth-of m q start a d cone)) x i
   unfolding steps-of
   first-listed n x {r} {i} {buf₁ = buf₁} W F =
-      let X : List ℕ = totals (model-in m) n start (value-of (model-in m) (formula q (root-of cone)) start) in
+      let X : List ℕ = totals (model-in m) n start (worth-of m q start a d cone) in
       subst (λ l. First l x i) (ap (λ k. take k buf₁) (W .count ∙ sym (zero-add (length X))) ∙ W .listed) F

@@ -1,9 +1,9 @@
--- Lists written while a path is followed: one after the other, where the condition is decided, and below an outcome.
+-- Lists written while a path is followed: one after the other, where the worth of the paths is decided, and below an outcome.
 use Prim.Native.Nat.{ℕ, _+_, _*_, _^_, _≤_, _<_}
 use native.Mathlib.Nat.{add-zero}
 use native.Mathlib.Omega.{arith}
 use mathlib.Core.Path.{_≡_, refl, sym, ap, ap₂, subst, _∙_}
-use mathlib.Core.List.{List, [], _∷_, _++_, append-assoc, append-nil}
+use mathlib.Core.List.{List, [], _∷_, _++_, append-assoc, append-nil, List·Memᴰ·not-nil}
 use lib.IntN.{ℤ}
 use lib.ListN.{length, take, getD, replicate, length-append}
 use Rattle.logic.specs.Model.{Step}
@@ -15,12 +15,11 @@ use Rattle.models.specs.Layout.{state-count, denominator-of}
 use Rattle.prepared_model.specs.promises.Rows.{step-in, Offers, model-in}
 use Rattle.prepared_model.proofs.ReadByPlace.{states-are, denominator-is}
 use Rattle.prepared_model.proofs.PlacesInRange.{read-range}
-use Rattle.evaluation.specs.promises.Reached.{root-of, on-path}
-use Rattle.evaluation.specs.promises.Learnt.{known}
 use Rattle.evaluation.specs.promises.Known.{Knows, Offered, Stepped}
-use Rattle.evaluation.proofs.LearntInOrder.{one-if-small}
+use Rattle.evaluation.specs.promises.Worth.{worth-of, worth-on, worth-known}
 use Rattle.evaluation.proofs.StepUndone.{back-none, back-same, knows-back, state-back, step-back}
-use Rattle.evaluation.proofs.StepTaken.{leaf-value, state-stepped, whole-stepped, on-path-stepped}
+use Rattle.evaluation.proofs.StepTaken.{state-stepped, whole-stepped, path-stepped}
+use Rattle.evaluation.proofs.PathWorth.{worth-on-small, worth-readable, worth-here}
 use Rattle.exact_plan.specs.promises.Totals.{totals}
 use Rattle.exact_plan.specs.promises.Room.{Room}
 use Rattle.exact_plan.specs.promises.Listing.{Given, Here, Written, Decides}
@@ -73,7 +72,7 @@ module _ {m q : Bytes} {start : ℕ} {cone : List ℕ} {h : ℕ} {trail : List �
         knows = knows-back (W .back);
       }
 
-module _ {m q : Bytes} {start d : ℕ} {truth cone table : List ℕ} (G : Given m q start d truth cone table) where
+module _ {m q : Bytes} {start a d : ℕ} {truth cone table : List ℕ} (G : Given m q start a d truth cone table) where
   pub state-small : {s : ℕ} → s < state-count m → s < 32
   state-small h = omega (arith, G .ready .prepared .states)
 
@@ -84,39 +83,39 @@ module _ {m q : Bytes} {start d : ℕ} {truth cone table : List ℕ} (G : Given 
     pub within : (i o : ℕ) → Offers m s i o → (s < 32) × (i < 8) × (o < 4)
     within = read-range (G .ready .prepared) s (H .inside)
 
-    -- ---- where the condition is decided
+    -- ---- where the worth of the paths is decided
     module _ (dh : d ≤ h) where
-      value-here : (r : List Step) → known v (root-of cone) 0 ≡ on-path m q start cone (take h trail) r
-      value-here = leaf-value (G .ready) (take h trail) gains v (H .knows) (omega (arith, H .whole, G .looks))
+      value-here : (r : List Step) → worth-known cone gains v a d ≡ worth-on m q start a d cone (take h trail) r
+      value-here = worth-here a d (G .from) cone (G .ready) (G .looks) (H .knows) (omega (arith, H .whole))
 
       module _ (buf : List ℕ) {at : ℕ} (room : Room k (plan-total (model-in m) k s) at (length buf)) where
         served : getD table (32 * k + s) 0 ≡ plan-total (model-in m) k s
         served = G .counts .right k s (omega (arith, H .steps)) (H .inside) (room .few)
 
-        pub decides : Decides m cone v table buf s k at
+        pub decides : Decides m cone gains v table buf a d s k at
         decides =
             record {
-              some = G .ready .ordered .some;
+              readable = worth-readable a d (G .from) (G .ready) (H .knows) (omega (arith, H .whole)) (omega (arith, H .whole, H .steps));
+              small = rw (value-here []) (worth-on-small a d (G .ready) (H .knows .followed) (omega (arith, H .steps)) [] (λ o i. absurd (List·Memᴰ·not-nil i)));
               steps = omega (arith, H .steps);
               state = state-small (H .inside);
               part-of = G .ready .prepared .parts;
-              truth = rw (value-here []) (one-if-small _);
               room = omega (arith, served, room .fits);
             }
 
         pub decided-written : {buf′ : List ℕ} {r : ℕ} → r ≡ getD table (32 * k + s) 0
-            → buf′ ≡ splice buf at (replicate (getD table (32 * k + s) 0) (known v (root-of cone) 0 * denominator-of m ^ k))
-            → Written (totals (model-in m) k s (on-path m q start cone (take h trail))) m q start cone h at trail trail gains v buf buf′ r
+            → buf′ ≡ splice buf at (replicate (getD table (32 * k + s) 0) (worth-known cone gains v a d * denominator-of m ^ k))
+            → Written (totals (model-in m) k s (worth-on m q start a d cone (take h trail))) m q start cone h at trail trail gains v buf buf′ r
         decided-written {buf′} {r} e f =
-            let X : List ℕ = replicate (plan-total (model-in m) k s) (known v (root-of cone) 0 * denominator-of m ^ k) in
-            let alike : totals (model-in m) k s (on-path m q start cone (take h trail)) ≡ X =
+            let X : List ℕ = replicate (plan-total (model-in m) k s) (worth-known cone gains v a d * denominator-of m ^ k) in
+            let alike : totals (model-in m) k s (worth-on m q start a d cone (take h trail)) ≡ X =
             totals-alike (model-in m) (G .ready .prepared .accepted) k s (rw (states-are m) (H .inside))
-            (on-path m q start cone (take h trail)) (known v (root-of cone) 0) (λ r. sym (value-here r))
-            ∙ ap (λ z. replicate (plan-total (model-in m) k s) (known v (root-of cone) 0 * z ^ k)) (denominator-is m) in
-            let g : buf′ ≡ splice buf at X = f ∙ ap (λ n. splice buf at (replicate n (known v (root-of cone) 0 * denominator-of m ^ k))) served in
+            (worth-on m q start a d cone (take h trail)) (worth-known cone gains v a d) (λ r. sym (value-here r))
+            ∙ ap (λ z. replicate (plan-total (model-in m) k s) (worth-known cone gains v a d * z ^ k)) (denominator-is m) in
+            let g : buf′ ≡ splice buf at X = f ∙ ap (λ n. splice buf at (replicate n (worth-known cone gains v a d * denominator-of m ^ k))) served in
             record {
               back = back-none (H .knows);
-              count = e ∙ served ∙ sym (totals-length (model-in m) k s (on-path m q start cone (take h trail)));
+              count = e ∙ served ∙ sym (totals-length (model-in m) k s (worth-on m q start a d cone (take h trail)));
               listed =
                   subst (λ l. take (at + length l) buf′ ≡ take at buf ++ l) (sym alike)
                   (ap (take (at + length X)) g ∙ take-written buf at X (omega (arith, room .fits)));
@@ -140,13 +139,13 @@ module _ {m q : Bytes} {start d : ℕ} {truth cone table : List ℕ} (G : Given 
           }
 
       pub below-written : {at r : ℕ} {trail₂ : List ℕ} {gains₂ : List ℤ} {v₂ buf buf₂ : List ℕ}
-          → Written (totals (model-in m) k t (on-path m q start cone (take (h + 1) trail₁))) m q start cone (h + 1) at trail₁ trail₂ gains₂ v₂ buf buf₂ r
-          → Written (totals (model-in m) k ((step-in m s i o) .target) (λ l. on-path m q start cone (take h trail) (step-in m s i o ∷ l)))
+          → Written (totals (model-in m) k t (worth-on m q start a d cone (take (h + 1) trail₁))) m q start cone (h + 1) at trail₁ trail₂ gains₂ v₂ buf buf₂ r
+          → Written (totals (model-in m) k ((step-in m s i o) .target) (λ l. worth-on m q start a d cone (take h trail) (step-in m s i o ∷ l)))
           m q start cone h at trail trail₂ gains₂ v₂ buf buf₂ r
       below-written {at} {r} {trail₂} {gains₂} {v₂} {buf} {buf₂} W =
-          let X : List ℕ = totals (model-in m) k ((step-in m s i o) .target) (λ l. on-path m q start cone (take h trail) (step-in m s i o ∷ l)) in
-          let same : totals (model-in m) k t (on-path m q start cone (take (h + 1) trail₁)) ≡ X =
-          ap₂ (λ t f. totals (model-in m) k t f) (S .state) (on-path-stepped (G .ready) offered (H .knows) S) in
+          let X : List ℕ = totals (model-in m) k ((step-in m s i o) .target) (λ l. worth-on m q start a d cone (take h trail) (step-in m s i o ∷ l)) in
+          let same : totals (model-in m) k t (worth-on m q start a d cone (take (h + 1) trail₁)) ≡ X =
+          ap₂ (λ t f. totals (model-in m) k t f) (S .state) (path-stepped (G .ready) offered (H .knows) S (worth-of m q start a d cone)) in
           record {
             back = step-back S (W .back);
             count = W .count ∙ ap length same;

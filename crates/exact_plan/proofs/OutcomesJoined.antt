@@ -1,6 +1,6 @@
 -- The lists of a choice's outcomes, combined one after the other in place: what a turn asks, and what it leaves.
 use Prim.Native.Nat.{ℕ, zero, suc, _+_, _*_, _-_, _^_, _≤_, _<_, min, max}
-use native.Mathlib.Nat.{le-refl, le-trans, le-mul-of-pos-right, mul-le-mul}
+use native.Mathlib.Nat.{le-refl, le-trans, le-mul-of-pos-right, mul-le-mul, mul-le-mul-left}
 use native.Mathlib.Numerals.{add-one}
 use native.Mathlib.Omega.{arith}
 use mathlib.Core.Path.{_≡_, refl, sym, ap, ap₂, subst, _∙_}
@@ -19,10 +19,11 @@ use Rattle.logic.proofs.Members.{in-map}
 use Rattle.blocks.specs.Bytes.{Bytes}
 use Rattle.blocks.specs.Splice.{splice}
 use Rattle.models.specs.Layout.{state-count}
-use Rattle.prepared_model.specs.promises.Rows.{choices-in, choice-in, outcomes-in, step-in, model-in}
-use Rattle.prepared_model.proofs.ReadByPlace.{states-are, denominator-is}
-use Rattle.evaluation.specs.promises.Reached.{on-path}
-use Rattle.evaluation.proofs.LearntInOrder.{one-if-small}
+use Rattle.prepared_model.specs.promises.Rows.{choices-in, choice-in, outcomes-in, step-in, Offers, model-in}
+use Rattle.prepared_model.proofs.ReadByPlace.{states-are, denominator-is, modest-rewards}
+use Rattle.evaluation.specs.promises.Path.{Trail}
+use Rattle.evaluation.specs.promises.Worth.{worth-on}
+use Rattle.evaluation.proofs.PathWorth.{modest-cons, worth-on-small}
 use Rattle.bounds.proofs.Powers.{power-le}
 use Rattle.exact_plan.specs.promises.Totals.{totals, part, joined, combined, weighed}
 use Rattle.exact_plan.specs.promises.Spread.{Shifts, Joins}
@@ -42,33 +43,34 @@ use Rattle.exact_plan.proofs.ListsWritten.{rebased, still, reached}
 abbrev pub ways : (m : Bytes) (s p k : ℕ) → ℕ → ℕ
 ways m s p k i = plan-total (model-in m) k ((step-in m s p i) .target)
 
-abbrev pub lists : (m q : Bytes) (start : ℕ) (cone : List ℕ) (s p k : ℕ) → List ℕ → ℕ → List ℕ
-lists m q start cone s p k T i = weighed (model-in m) k (on-path m q start cone T) (step-in m s p i)
+abbrev pub lists : (m q : Bytes) (start a d : ℕ) (cone : List ℕ) (s p k : ℕ) → List ℕ → ℕ → List ℕ
+lists m q start a d cone s p k T i = weighed (model-in m) k (worth-on m q start a d cone T) (step-in m s p i)
 
 count-length : (k n : ℕ) → length (count-from k n) ≡ n
 unfolding count-from
 count-length k zero = refl
 count-length k (suc n) = ap suc (count-length (suc k) n)
 
--- A state, and a choice there with k steps below it.
-pub record Place (m : Bytes) (s p k : ℕ) : Type 0 where
+-- A state, and a choice there with k steps below it; the worth of a path looks d steps ahead.
+pub record Place (m : Bytes) (d s p k : ℕ) : Type 0 where
   pub state : s < state-count m
   pub choice : p < choices-in m s
   pub few : k + 1 ≤ 6
+  pub ahead : d ≤ 6
 
 pub placed : {m q : Bytes} {start d : ℕ} {cone trail : List ℕ} {gains : List ℤ} {v : List ℕ} {h s : ℕ} (p k : ℕ)
-    → Here m q start d cone trail gains v h s (k + 1) → p < choices-in m s → Place m s p k
-placed p k H g = record { state = H .inside; choice = g; few = omega (arith, H .steps) }
+    → Here m q start d cone trail gains v h s (k + 1) → p < choices-in m s → Place m d s p k
+placed p k H g = record { state = H .inside; choice = g; few = omega (arith, H .steps); ahead = omega (arith, H .steps, H .deep) }
 
 -- The lists of the outcomes from lo to hi stand combined at `at`, and no outcome has a longer list.
-pub record Spanned (m q : Bytes) (start d : ℕ) (cone : List ℕ) (h s p k at c : ℕ) (trail₀ buf₀ trail : List ℕ) (gains : List ℤ) (v buf : List ℕ)
+pub record Spanned (m q : Bytes) (start a d : ℕ) (cone : List ℕ) (h s p k at c : ℕ) (trail₀ buf₀ trail : List ℕ) (gains : List ℤ) (v buf : List ℕ)
     (lo hi len : ℕ) : Type 0 where
   pub all : c ≡ outcomes-in m s p
   pub some : lo < hi
   pub most : hi ≤ c
   pub longest : (i : ℕ) → i < c → ways m s p k i ≤ len
   pub here : Here m q start d cone trail gains v h s (k + 1)
-  pub written : Written (combined (lists m q start cone s p k (take h trail₀)) (count-from lo (hi - lo))) m q start cone h at trail₀ trail gains v buf₀ buf len
+  pub written : Written (combined (lists m q start a d cone s p k (take h trail₀)) (count-from lo (hi - lo))) m q start cone h at trail₀ trail gains v buf₀ buf len
   pub whole : length buf ≡ length buf₀
 
 count-one : (k : ℕ) → count-from k 1 ≡ k ∷ []
@@ -104,10 +106,10 @@ module _ (buf buf₁ : List ℕ) (at len n k : ℕ) (K : Grows buf at len n k) (
   inside : at + length (part buf at len) * length ys ≤ length buf
   inside = rw (lx, ly) (omega (arith, K .room .fits))
 
-  pub held-joins : (w : ℕ) → Up-to (100 ^ 6) (map (λ y. w * y) ys) → Joins buf₁ at len n w
+  pub held-joins : (w : ℕ) → Up-to (12000 * 100 ^ 6) (map (λ y. w * y) ys) → Joins buf₁ at len n w
   held-joins w h =
       rw (lx, ly) at
-      (joins buf buf buf₁ at (part buf at len) ys (omega (arith, K .room .fits)) inside (rw ly some) there behind w (4 * 100 ^ 6) (100 ^ 6)
+      (joins buf buf buf₁ at (part buf at len) ys (omega (arith, K .room .fits)) inside (rw ly some) there behind w (4 * (12000 * 100 ^ 6)) (12000 * 100 ^ 6)
       (rw lx (K .some)) (rw (lx, ly) (omega (arith, K .room .fits))) (K .small) h (omega arith))
 
   pub joined-held : (buf₂ : List ℕ) (w : ℕ) (right : Bool)
@@ -122,19 +124,19 @@ module _ (buf buf₁ : List ℕ) (at len n k : ℕ) (K : Grows buf at len n k) (
 
 -- ---- the outcomes of a choice
 
-module _ {m q : Bytes} {start d : ℕ} {truth cone table : List ℕ} (G : Given m q start d truth cone table) {s p k : ℕ} (place : Place m s p k) where
+module _ {m q : Bytes} {start a d : ℕ} {truth cone table : List ℕ} (G : Given m q start a d truth cone table) {s p k : ℕ} (place : Place m d s p k) where
   abbrev t : ℕ → ℕ
   t = ways m s p k
 
   abbrev F : List ℕ → ℕ → List ℕ
-  F = lists m q start cone s p k
+  F = lists m q start a d cone s p k
 
   lists-length : (T : List ℕ) (i : ℕ) → length (F T i) ≡ t i
   unfolding weighed
   lists-length T i =
       let o : Step = step-in m s p i in
-      length-map (totals (model-in m) k (o .target) (λ r. on-path m q start cone T (o ∷ r))) (λ y. o .weight * y)
-      ∙ totals-length (model-in m) k (o .target) (λ r. on-path m q start cone T (o ∷ r))
+      length-map (totals (model-in m) k (o .target) (λ r. worth-on m q start a d cone T (o ∷ r))) (λ y. o .weight * y)
+      ∙ totals-length (model-in m) k (o .target) (λ r. worth-on m q start a d cone T (o ∷ r))
 
   ways-some : (i : ℕ) → i < outcomes-in m s p → 0 < t i
   ways-some i u = some-plan (G .ready .prepared) k ((step-in m s p i) .target) (reached G s p i (place .state) (place .choice, u))
@@ -143,19 +145,22 @@ module _ {m q : Bytes} {start d : ℕ} {truth cone table : List ℕ} (G : Given 
   ways-served : (i : ℕ) → i < outcomes-in m s p → t i ≤ 65536 → getD table (32 * k + (step-in m s p i) .target) 0 ≡ t i
   ways-served i u h = G .counts .right k ((step-in m s p i) .target) (omega (arith, place .few)) (reached G s p i (place .state) (place .choice, u)) h
 
-  lists-small : (T : List ℕ) (i : ℕ) → i < outcomes-in m s p → Up-to (100 ^ 6) (F T i)
+  lists-small : {T : List ℕ} → Trail m start T → (i : ℕ) → i < outcomes-in m s p → Up-to (12000 * 100 ^ 6) (F T i)
   unfolding weighed
-  lists-small T i u x j =
+  lists-small {T} followed i u x j =
       let o : Step = step-in m s p i in
-      let f : List Step → ℕ = λ r. on-path m q start cone T (o ∷ r) in
+      let f : List Step → ℕ = λ r. worth-on m q start a d cone T (o ∷ r) in
       let D : ℕ = (model-in m) .denominator in
-      let l : x ≤ o .weight * D ^ k =
-      up-times (o .weight) (D ^ k) (totals (model-in m) k (o .target) f)
-      (up-totals (model-in m) (G .ready .prepared .accepted) k (o .target) (rw (states-are m) (reached G s p i (place .state) (place .choice, u))) f
-      (λ r. one-if-small _))
+      let w = G .ready .prepared in
+      let h = place .state in
+      let c : Offers m s p i = (place .choice, u) in
+      let l : x ≤ o .weight * (12000 * D ^ k) =
+      up-times (o .weight) (12000 * D ^ k) (totals (model-in m) k (o .target) f)
+      (up-totals (model-in m) (w .accepted) (modest-rewards w) k (o .target) (rw (states-are m) (reached G s p i h c)) f 12000
+      (λ r g. worth-on-small a d (G .ready) followed (place .ahead) (o ∷ r) (modest-cons o r (w .raisable s p i h c) g)))
       x j in
-      let b : D ^ k ≤ 100 ^ 5 = power-le D k 5 (rw (denominator-is m) (G .ready .prepared .parts)) (omega (arith, place .few)) in
-      omega (arith, mul-le-mul (G .ready .prepared .light s p i (place .state) (place .choice, u)) b)
+      let b : D ^ k ≤ 100 ^ 5 = power-le D k 5 (rw (denominator-is m) (w .parts)) (omega (arith, place .few)) in
+      omega (arith, l, mul-le-mul (w .light s p i h c) (mul-le-mul-left 12000 b))
 
   pub count-right : (i : ℕ) → i < outcomes-in m s p → t i ≤ 65536 → {x y : ℕ} → x ≡ getD table (32 * k + y) 0 → y ≡ (step-in m s p i) .target → x ≡ t i
   count-right i u h e f = e ∙ ap (λ y. getD table (32 * k + y) 0) f ∙ ways-served i u h
@@ -164,10 +169,11 @@ module _ {m q : Bytes} {start d : ℕ} {truth cone table : List ℕ} (G : Given 
   span-count : (T : List ℕ) (lo n : ℕ) → length (combined (F T) (count-from lo n)) ≡ multiply t (count-from lo n)
   span-count T lo n = combined-length (F T) t (lists-length T) (count-from lo n)
 
-  span-small : (T : List ℕ) (lo n : ℕ) → lo + n ≤ outcomes-in m s p → n ≤ 4 → Up-to (4 * 100 ^ 6) (combined (F T) (count-from lo n))
-  span-small T lo n h l x j =
-      let u = up-combined (F T) (100 ^ 6) (count-from lo n) (λ i c. lists-small T i (omega (arith, counted-range lo n c .1))) x j in
-      omega (arith, u, mul-le-mul l (le-refl (100 ^ 6)), ap (λ z. z * 100 ^ 6) (count-length lo n))
+  span-small : {T : List ℕ} → Trail m start T → (lo n : ℕ) → lo + n ≤ outcomes-in m s p → n ≤ 4 → Up-to (4 * (12000 * 100 ^ 6)) (combined (F T) (count-from lo n))
+  span-small {T} followed lo n h l x j =
+      let b : ℕ = 12000 * 100 ^ 6 in
+      let u = up-combined (F T) b (count-from lo n) (λ i c. lists-small followed i (omega (arith, counted-range lo n c .1))) x j in
+      omega (arith, u, mul-le-mul l (le-refl b), ap (λ z. z * b) (count-length lo n))
 
   span-within : (lo n : ℕ) → lo + n ≤ outcomes-in m s p → multiply t (count-from lo n) ≤ multiply t (count-from 0 (outcomes-in m s p))
   span-within lo n h = multiply-within t (outcomes-in m s p) ways-some lo n h
@@ -191,14 +197,14 @@ module _ {m q : Bytes} {start d : ℕ} {truth cone table : List ℕ} (G : Given 
     module _ (lo : ℕ) (u : lo < outcomes-in m s p) {trail trail₁ : List ℕ} {gains gains₁ : List ℤ} {v v₁ : List ℕ} (buf : List ℕ) {buf₁ : List ℕ}
         {h r w : ℕ} (in-buf : length buf ≡ size)
         (H : Here m q start d cone trail gains v h s (k + 1))
-        (W : Written (totals (model-in m) k ((step-in m s p lo) .target) (λ l. on-path m q start cone (take h trail) (step-in m s p lo ∷ l)))
+        (W : Written (totals (model-in m) k ((step-in m s p lo) .target) (λ l. worth-on m q start a d cone (take h trail) (step-in m s p lo ∷ l)))
         m q start cone h at trail trail₁ gains₁ v₁ buf buf₁ r)
         (whole : length buf₁ ≡ length buf) (e : w ≡ (step-in m s p lo) .weight) where
       xs : List ℕ
-      xs = totals (model-in m) k ((step-in m s p lo) .target) (λ l. on-path m q start cone (take h trail) (step-in m s p lo ∷ l))
+      xs = totals (model-in m) k ((step-in m s p lo) .target) (λ l. worth-on m q start a d cone (take h trail) (step-in m s p lo ∷ l))
 
       first-count : r ≡ t lo
-      first-count = W .count ∙ totals-length (model-in m) k ((step-in m s p lo) .target) (λ l. on-path m q start cone (take h trail) (step-in m s p lo ∷ l))
+      first-count = W .count ∙ totals-length (model-in m) k ((step-in m s p lo) .target) (λ l. worth-on m q start a d cone (take h trail) (step-in m s p lo ∷ l))
 
       inside-buf : at + t lo ≤ length buf
       inside-buf = omega (arith, room .fits, ways-few lo u)
@@ -216,7 +222,7 @@ module _ {m q : Bytes} {start d : ℕ} {truth cone table : List ℕ} (G : Given 
             target = omega (arith, inside-buf, first-count);
             fits = λ y i.
                 let v : ℕ = (step-in m s p lo) .weight in
-                let l : v * y ≤ 100 ^ 6 = lists-small (take h trail) lo u (v * y) (in-map (λ y. v * y) (subst (List·Memᴰ y) at-first i)) in
+                let l : v * y ≤ 12000 * 100 ^ 6 = lists-small (H .knows .followed) lo u (v * y) (in-map (λ y. v * y) (subst (List·Memᴰ y) at-first i)) in
                 rw e (omega arith);
           }
 
@@ -232,7 +238,7 @@ module _ {m q : Bytes} {start d : ℕ} {truth cone table : List ℕ} (G : Given 
         first-before = held-before buf buf₂ at (F (take h trail) lo) (omega (arith, inside-buf)) first-holds at (le-refl at)
 
         pub first-spanned : {c hi : ℕ} → c ≡ outcomes-in m s p → Longest m table s p c k lo → hi ≡ lo + 1
-            → Spanned m q start d cone h s p k at c trail₁ buf₂ trail₁ gains₁ v₁ buf₂ lo hi r
+            → Spanned m q start a d cone h s p k at c trail₁ buf₂ trail₁ gains₁ v₁ buf₂ lo hi r
         first-spanned {c} {hi} ec L eh =
             let T : List ℕ = take h trail in
             let n : hi - lo ≡ 1 = omega arith in
@@ -260,7 +266,7 @@ module _ {m q : Bytes} {start d : ℕ} {truth cone table : List ℕ} (G : Given 
             }
 
     module _ {h c lo hi len : ℕ} {trail₀ trail : List ℕ} {gains : List ℤ} {v buf₀ buf : List ℕ}
-        (S : Spanned m q start d cone h s p k at c trail₀ buf₀ trail gains v buf lo hi len) (in-buf : length buf₀ ≡ size) where
+        (S : Spanned m q start a d cone h s p k at c trail₀ buf₀ trail gains v buf lo hi len) (in-buf : length buf₀ ≡ size) where
       span : lo + (hi - lo) ≤ outcomes-in m s p
       span = omega (arith, S .all, S .some, S .most)
 
@@ -283,12 +289,12 @@ module _ {m q : Bytes} {start d : ℕ} {truth cone table : List ℕ} (G : Given 
 
       -- All of them.
       pub span-end : c ≤ hi - lo
-          → Written (combined (weighed (model-in m) k (on-path m q start cone (take h trail₀))) (outcomes (model-in m) s (choice-in m s p)))
+          → Written (combined (weighed (model-in m) k (worth-on m q start a d cone (take h trail₀))) (outcomes (model-in m) s (choice-in m s p)))
           m q start cone h at trail₀ trail gains v buf₀ buf len
       span-end g =
           let x : lo ≡ 0 = omega (arith, S .some, S .most) in
           let y : hi - lo ≡ outcomes-in m s p = omega (arith, S .all, S .some, S .most) in
-          let f : Step → List ℕ = weighed (model-in m) k (on-path m q start cone (take h trail₀)) in
+          let f : Step → List ℕ = weighed (model-in m) k (worth-on m q start a d cone (take h trail₀)) in
           let e : combined (F (take h trail₀)) (count-from lo (hi - lo)) ≡ combined f (outcomes (model-in m) s (choice-in m s p)) =
           ap₂ (λ i n. combined (F (take h trail₀)) (count-from i n)) x y ∙ sym (combined-outcomes (G .ready .prepared) s p (place .state) (place .choice) f) in
           subst (λ l. Written l m q start cone h at trail₀ trail gains v buf₀ buf len) e (S .written)
@@ -310,7 +316,7 @@ module _ {m q : Bytes} {start d : ℕ} {truth cone table : List ℕ} (G : Given 
             record {
               some = long-some;
               few = le-trans wide-within (room .few);
-              small = λ x i. span-small (take h trail₀) lo (hi - lo) span (omega (arith, span, outcomes-few)) x (subst (List·Memᴰ x) at-span i);
+              small = λ x i. span-small (S .written .back .knows .followed) lo (hi - lo) span (omega (arith, span, outcomes-few)) x (subst (List·Memᴰ x) at-span i);
               room = subst (Room k (t o) (at + len * t o)) (sym (S .whole ∙ in-buf))
                   (room-next room (S .longest o (rw (S .all) span-outcome)) (le-refl len) long-some wide-within);
             }
@@ -318,7 +324,7 @@ module _ {m q : Bytes} {start d : ℕ} {truth cone table : List ℕ} (G : Given 
         pub span-wider : {trail₁ : List ℕ} {gains₁ : List ℤ} {v₁ buf₁ : List ℕ} {r lo₁ hi₁ : ℕ}
             → Written (joined (ltb lo o) (part buf at len) (F (take h trail) o)) m q start cone h at trail trail₁ gains₁ v₁ buf buf₁ r
             → length buf₁ ≡ length buf → lo₁ ≡ min lo o → hi₁ ≡ max hi (o + 1)
-            → Spanned m q start d cone h s p k at c trail₀ buf₀ trail₁ gains₁ v₁ buf₁ lo₁ hi₁ r
+            → Spanned m q start a d cone h s p k at c trail₀ buf₀ trail₁ gains₁ v₁ buf₁ lo₁ hi₁ r
         span-wider {trail₁} {gains₁} {v₁} {buf₁} {r} {lo₁} {hi₁} W e₄ el eh =
             let T : List ℕ = take h trail₀ in
             let X : List ℕ = combined (F T) (count-from lo₁ (hi₁ - lo₁)) in
@@ -347,15 +353,15 @@ module _ {m q : Bytes} {start d : ℕ} {truth cone table : List ℕ} (G : Given 
 
   module _ (o : ℕ) (u : o < outcomes-in m s p) {trail trail₁ : List ℕ} {gains₁ : List ℤ} {v₁ : List ℕ} {buf buf₁ : List ℕ} {h at len r : ℕ}
       (K : Grows buf at len (t o) k) (n : ℕ) (en : n ≡ t o)
-      (W : Written (totals (model-in m) k ((step-in m s p o) .target) (λ l. on-path m q start cone (take h trail) (step-in m s p o ∷ l)))
+      (W : Written (totals (model-in m) k ((step-in m s p o) .target) (λ l. worth-on m q start a d cone (take h trail) (step-in m s p o ∷ l)))
       m q start cone h (at + len * n) trail trail₁ gains₁ v₁ buf buf₁ r)
       (whole : length buf₁ ≡ length buf) (w : ℕ) (ew : w ≡ (step-in m s p o) .weight) where
     ys : List ℕ
-    ys = totals (model-in m) k ((step-in m s p o) .target) (λ l. on-path m q start cone (take h trail) (step-in m s p o ∷ l))
+    ys = totals (model-in m) k ((step-in m s p o) .target) (λ l. worth-on m q start a d cone (take h trail) (step-in m s p o ∷ l))
 
     ly : length ys ≡ n
     unfolding ys
-    ly = totals-length (model-in m) k ((step-in m s p o) .target) (λ l. on-path m q start cone (take h trail) (step-in m s p o ∷ l)) ∙ sym en
+    ly = totals-length (model-in m) k ((step-in m s p o) .target) (λ l. worth-on m q start a d cone (take h trail) (step-in m s p o ∷ l)) ∙ sym en
 
     K₁ : Grows buf at len n k
     K₁ = rw en K
@@ -372,7 +378,7 @@ module _ {m q : Bytes} {start d : ℕ} {truth cone table : List ℕ} (G : Given 
     is-weighed = ap (λ z. map (λ y. z * y) ys) ew
 
     pub grown-joins : Joins buf₁ at len n w
-    grown-joins = held-joins buf buf₁ at len n k K₁ ys ly some-one new whole w (subst (Up-to (100 ^ 6)) (sym is-weighed) (lists-small (take h trail) o u))
+    grown-joins = held-joins buf buf₁ at len n k K₁ ys ly some-one new whole w (subst (Up-to (12000 * 100 ^ 6)) (sym is-weighed) (lists-small (W .back .knows .followed) o u))
 
     pub grown-written : (right : Bool) {buf₂ : List ℕ} → buf₂ ≡ splice buf₁ at (joined right (part buf₁ at len) (map (λ y. w * y) (part buf₁ (at + len * n) n)))
         → Written (joined right (part buf at len) (F (take h trail) o)) m q start cone h at trail trail₁ gains₁ v₁ buf buf₂ (len * n)

@@ -18,11 +18,11 @@ use Rattle.exact_plan.specs.promises.Totals.{combined}
 use Rattle.exact_plan.proofs.Spans.{multiply-map, combined-map}
 use Rattle.logic.proofs.Naturals.{multiply-positive}
 
--- A value of at most 1 times the denominator to the k.
-pub value-fits : {x v y d k : ℕ} → x ≡ v → v ≤ 1 → y ≡ d ^ k → d ≤ 100 → k ≤ 6 → x * y < 2 ^ 64
-value-fits {x} {v} {y} {d} {k} e h f g i =
+-- A worth times the denominator to the k.
+pub worth-fits : {x v y d k : ℕ} → x ≡ v → v ≤ 12000 → y ≡ d ^ k → d ≤ 100 → k ≤ 6 → x * y < 2 ^ 64
+worth-fits {x} {v} {y} {d} {k} e h f g i =
     let l : y ≤ 100 ^ 6 = rw f (power-le d k 6 g i) in
-    let u : x ≤ 1 = omega arith in
+    let u : x ≤ 12000 = omega arith in
     omega (arith, mul-le-mul u l)
 
 -- Every state has a plan.

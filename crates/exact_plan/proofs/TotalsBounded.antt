@@ -1,23 +1,24 @@
--- How large totals are: those of conditions, which are 0 or 1 on each path, are at most the denominator to the number of steps; where
--- the condition is decided already, all are alike.
+-- How large totals are: where every path is worth at most b, at most b times the denominator to the number of steps; where the worth is
+-- decided already, all are alike.
 use Prim.Native.Nat.{ℕ, _+_, _*_, _^_, _≤_, _<_}
-use native.Mathlib.Nat.{add-le-add, mul-le-mul-left, mul-one, mul-comm, le-trans, suc-mul}
+use native.Mathlib.Nat.{add-le-add, mul-le-mul-left, mul-add, mul-one, mul-comm, suc-mul}
 use native.Mathlib.Omega.{arith}
-use mathlib.Core.Path.{_≡_, refl, sym, ap, ap₂, _∙_}
+use mathlib.Core.Path.{_≡_, refl, sym, ap, ap₂, subst, _∙_}
 use mathlib.Core.List.{List, [], _∷_, map, List·Memᴰ, List·Memᴰ·head, List·Memᴰ·tail, List·Memᴰ·eq-of-singleton}
 use lib.ListN.{length, replicate}
 use Rattle.logic.specs.Model.{Model, Step}
-use Rattle.logic.specs.Quantity.{naturals}
+use Rattle.logic.specs.Quantity.{naturals, sum}
 use Rattle.logic.specs.Plan.{plans, paths, weight}
 use Rattle.logic.specs.Limits.{plan-total}
 use Rattle.logic.specs.Accepted.{Accepted}
 use Rattle.logic.specs.Bound.{total}
+use Rattle.logic.specs.promises.Raised.{Modest-rewards}
 use Rattle.logic.proofs.Members.{map-member, flatMap-member}
 use Rattle.logic.proofs.Sums.{naturals-additive, sum-ext, sum-times}
-use Rattle.logic.proofs.PathWeights.{total-ones}
+use Rattle.logic.proofs.PathWeights.{total-ones, path-weights}
+use Rattle.logic.proofs.WholeTotals.{All-modest, path-modest}
 use Rattle.logic.proofs.Dictionary.{plan-count}
 use Rattle.exact_plan.specs.promises.Totals.{totals, grid, combined}
-use Rattle.logic.proofs.Naturals.{sum-le}
 
 abbrev pub Up-to : ℕ → List ℕ → Type 0
 Up-to b l = (x : ℕ) → List·Memᴰ x l → x ≤ b
@@ -43,16 +44,23 @@ same-map : {A : Type 0} (f : A → ℕ) (c : ℕ) (l : List A) → ((a : A) → 
 same-map f c [] h = refl
 same-map f c (x ∷ l) h = ap₂ {C = List ℕ} _∷_ (h x (List·Memᴰ·head refl)) (same-map f c l (λ a i. h a (List·Memᴰ·tail i)))
 
-module _ (m : Model) (accepted : Accepted m) (n s : ℕ) (k : s < length (m .states)) where
-  -- Values of at most 1.
-  pub up-totals : (f : List Step → ℕ) → ((r : List Step) → f r ≤ 1) → Up-to (m .denominator ^ n) (totals m n s f)
-  unfolding totals total
-  up-totals f h x i =
-      let u = map-member (λ π. total naturals m n s π f) (plans m n s) i in
-      rw (u .2)
-      (le-trans (sum-le (λ r. weight r * f r) (λ r. weight r * 1) (paths m n s (u .0)) (λ r. mul-le-mul-left (weight r) (h r)))
-      (omega (arith, total-ones m accepted n s k (u .0) (u .1))))
+-- Values of at most b, weighed.
+sum-up : {A : Type 0} (w f : A → ℕ) (b : ℕ) (l : List A) → ((x : A) → List·Memᴰ x l → f x ≤ b) → sum naturals (λ x. w x * f x) l ≤ b * sum naturals w l
+unfolding sum
+sum-up w f b [] h = omega arith
+sum-up w f b (x ∷ l) h =
+    omega (arith, mul-le-mul-left (w x) (h x (List·Memᴰ·head refl)), sum-up w f b l (λ y i. h y (List·Memᴰ·tail i)), mul-add b (w x) (sum naturals w l), mul-comm (w x) b)
 
+-- Worths of at most b, on paths with modest rewards: a model has no others.
+pub up-totals : (m : Model) → Accepted m → Modest-rewards m → (n s : ℕ) → s < length (m .states) → (f : List Step → ℕ) (b : ℕ)
+    → ((r : List Step) → All-modest r → f r ≤ b) → Up-to (b * m .denominator ^ n) (totals m n s f)
+unfolding totals total
+up-totals m accepted modest n s k f b h x i =
+    let u = map-member (λ π. total naturals m n s π f) (plans m n s) i in
+    let l = sum-up weight f b (paths m n s (u .0)) (λ r j. h r (path-modest m accepted modest n s k (u .0) (u .1) r j .1)) in
+    rw (u .2) (subst (λ z. total naturals m n s (u .0) f ≤ b * z) (path-weights m accepted n s k (u .0) (u .1)) l)
+
+module _ (m : Model) (accepted : Accepted m) (n s : ℕ) (k : s < length (m .states)) where
   -- One value on all paths.
   pub totals-alike : (f : List Step → ℕ) (v : ℕ) → ((r : List Step) → f r ≡ v) → totals m n s f ≡ replicate (plan-total m n s) (v * m .denominator ^ n)
   unfolding totals total

@@ -2,10 +2,8 @@
 ghost use Prim.Native.Nat.{_+_, _≤_};
 ghost use lib.ListN.{length, take};
 ghost use Rattle.logic.specs.Limits.{plan-total};
-ghost use Rattle.logic.specs.promises.Total.{value-of};
 ghost use Rattle.prepared_model.specs.promises.Rows.{model-in};
-ghost use Rattle.prepared_question.specs.promises.Nodes.{formula};
-ghost use Rattle.evaluation.specs.promises.Reached.{root-of};
+ghost use Rattle.evaluation.specs.promises.Worth.{worth-of};
 ghost use Rattle.exact_plan.specs.promises.Totals.{totals};
 ghost use Rattle.exact_plan.specs.promises.Listing.{Given, First};
 
@@ -59,17 +57,18 @@ fn first_within(
     table: &[u64; COUNTS],
     buf: &mut [u64],
     start: u8,
+    a: u8,
     d: u8,
     n: u8,
     x: u64,
 ) -> usize
-    requires { ⌜ Given (now m) (now q) start d (now truth) (now cone) (now table) ⌝ }
+    requires { ⌜ Given (now m) (now q) start a d (now truth) (now cone) (now table) ⌝ }
     requires { ⌜
         (d ≤ n) × (n ≤ 6) × (plan-total (model-in (now m)) n start ≤ 65536)
         × (plan-total (model-in (now m)) n start + 282 ≤ length (now buf)) ⌝ }
     ensures value { λ r.
         let m = now (m .entry) in let q = now (q .entry) in let cone = now (cone .entry) in
-        ⌜ First (totals (model-in m) n start (value-of (model-in m) (formula q (root-of cone)) start)) x r ⌝ }
+        ⌜ First (totals (model-in m) n start (worth-of m q start a d cone)) x r ⌝ }
 {
     let mut trail = [0u16; STEPS];
     let mut gains = [0i32; PLACES];
@@ -77,6 +76,7 @@ fn first_within(
     learn(q, truth, &trail, &gains, cone, &mut v, 0, start);
     let spot = Spot {
         start: start,
+        a: a,
         d: d,
         h: 0,
         s: start,
@@ -98,7 +98,8 @@ fn first_within(
     find(buf, len, x)
 }
 
-// The place of the first plan in dictionary order, of all n-step plans from s, whose total is x; where there is none, their number. The
+// The place of the first plan in dictionary order, of all n-step plans from s, whose total is x; where there is none, their number. A path is
+// worth the value of the condition at the cone's root, or with no nodes in the cone the raised gain of steps a + 1 to d. The
 // buffer has one of three lengths, by their number and 282 beside: to clear the longest takes longer than to search few plans.
 pub fn first_equal(
     m: &[u16; MODEL],
@@ -107,25 +108,26 @@ pub fn first_equal(
     cone: &[u8],
     table: &[u64; COUNTS],
     s: u8,
+    a: u8,
     d: u8,
     n: u8,
     x: u64,
 ) -> usize
-    requires { ⌜ Given (now m) (now q) s d (now truth) (now cone) (now table) ⌝ }
+    requires { ⌜ Given (now m) (now q) s a d (now truth) (now cone) (now table) ⌝ }
     requires { ⌜ (d ≤ n) × (n ≤ 6) × (plan-total (model-in (now m)) n s ≤ 65536) ⌝ }
     ensures value { λ r.
         let m = now (m .entry) in let q = now (q .entry) in let cone = now (cone .entry) in
-        ⌜ First (totals (model-in m) n s (value-of (model-in m) (formula q (root-of cone)) s)) x r ⌝ }
+        ⌜ First (totals (model-in m) n s (worth-of m q s a d cone)) x r ⌝ }
 {
     let all = plans_counted(table, n, s as usize);
     if all <= FEW {
         let mut buf = [0u64; FEW_ROOM];
-        return first_within(m, q, truth, cone, table, &mut buf, s, d, n, x);
+        return first_within(m, q, truth, cone, table, &mut buf, s, a, d, n, x);
     }
     if all <= SOME {
         let mut buf = [0u64; SOME_ROOM];
-        return first_within(m, q, truth, cone, table, &mut buf, s, d, n, x);
+        return first_within(m, q, truth, cone, table, &mut buf, s, a, d, n, x);
     }
     let mut buf = [0u64; ROOM];
-    first_within(m, q, truth, cone, table, &mut buf, s, d, n, x)
+    first_within(m, q, truth, cone, table, &mut buf, s, a, d, n, x)
 }

@@ -9,8 +9,7 @@ ghost use Rattle.logic.specs.Limits.{multiply, plan-total};
 ghost use Rattle.blocks.specs.Splice.{splice};
 ghost use Rattle.models.specs.Layout.{denominator-of};
 ghost use Rattle.prepared_model.specs.promises.Rows.{choices-in, choice-in, step-in, Offers, model-in};
-ghost use Rattle.evaluation.specs.promises.Learnt as learnt;
-ghost use Rattle.evaluation.specs.promises.Reached.{root-of, on-path};
+ghost use Rattle.evaluation.specs.promises.Worth.{worth-on, worth-known};
 ghost use Rattle.exact_plan.specs.promises.Totals.{totals, combined, weighed, joined, part};
 ghost use Rattle.exact_plan.specs.promises.Room.{Room};
 ghost use Rattle.exact_plan.specs.promises.Listing.{Given, Here, Written, Longest, Decides, Grows};
@@ -23,8 +22,8 @@ use evaluation::Place;
 use evaluation::STEPS;
 use evaluation::TRUTHS;
 use evaluation::VALUES;
-use evaluation::known;
 use evaluation::step;
+use evaluation::worth;
 use limits::COUNTS;
 use limits::plans_counted;
 use prepared_model::MODEL;
@@ -35,10 +34,11 @@ use prepared_model::target;
 use prepared_model::weight;
 use prepared_question::QUESTION;
 
-// Where a list is made: after h steps from the start, in the state s, with k steps to go, and written from `at` on. The condition looks
-// d steps ahead.
+// Where a list is made: after h steps from the start, in the state s, with k steps to go, and written from `at` on. The worth of a path looks
+// d steps ahead; a gain is that of the steps after the first a.
 pub struct Spot {
     pub start: u8,
+    pub a: u8,
     pub d: u8,
     pub h: u8,
     pub s: u8,
@@ -97,28 +97,28 @@ fn most(x: usize, y: usize) -> usize
     if x < y { y } else { x }
 }
 
-// The list where the condition is decided: all plans have the same total.
+// The list where the worth of the paths is decided: all plans have the same total.
 fn decided(
     m: &[u16; MODEL],
     table: &[u64; COUNTS],
     cone: &[u8],
+    gains: &[i32; PLACES],
     v: &[u8; VALUES],
     buf: &mut [u64],
-    s: u8,
-    k: u8,
-    at: usize,
+    spot: Spot,
 ) -> usize
-    requires { ⌜ Decides (now m) (now cone) (now v) (now table) (now buf) s k at ⌝ }
-    ensures value { λ r. ⌜ r ≡ getD (now (table .entry)) (32 * k + s) 0 ⌝ }
+    requires { ⌜
+        Decides (now m) (now cone) (now gains) (now v) (now table) (now buf) (spot .a) (spot .d) (spot .s) (spot .k) (spot .at) ⌝ }
+    ensures value { λ r. ⌜ r ≡ getD (now (table .entry)) (32 * spot .k + spot .s) 0 ⌝ }
     ensures frame { λ _.
-        let buf′ = now (buf .exit) in let buf = now (buf .entry) in let table = now (table .entry) in let v = now (v .entry) in
-        let cone = now (cone .entry) in let m = now (m .entry) in
-        ⌜ buf′ ≡ splice buf at (replicate (getD table (32 * k + s) 0) (learnt.known v (root-of cone) 0 * denominator-of m ^ k)) ⌝ }
+        let buf′ = now (buf .exit) in let buf = now (buf .entry) in let table = now (table .entry) in let gains = now (gains .entry) in
+        let v = now (v .entry) in let cone = now (cone .entry) in let m = now (m .entry) in
+        ⌜ buf′ ≡ splice buf (spot .at) (replicate (getD table (32 * spot .k + spot .s) 0)
+        (worth-known cone gains v (spot .a) (spot .d) * denominator-of m ^ spot .k)) ⌝ }
 {
-    let n = plans_counted(table, k, s as usize) as usize;
-    let last = cone.len() - 1;
-    let x = known(v, cone[last], 0) as u64 * power(denominator(m), k);
-    fill(buf, at, n, x);
+    let n = plans_counted(table, spot.k, spot.s as usize) as usize;
+    let x = worth(cone, gains, v, spot.a, spot.d) * power(denominator(m), spot.k);
+    fill(buf, spot.at, n, x);
     n
 }
 
@@ -135,18 +135,18 @@ pub fn list(
     buf: &mut [u64],
     spot: Spot,
 ) -> usize
-    requires { ⌜ Given (now m) (now q) (spot .start) (spot .d) (now truth) (now cone) (now table) ⌝ }
+    requires { ⌜ Given (now m) (now q) (spot .start) (spot .a) (spot .d) (now truth) (now cone) (now table) ⌝ }
     requires { ⌜ Here (now m) (now q) (spot .start) (spot .d) (now cone) (now trail) (now gains) (now v) (spot .h) (spot .s) (spot .k) ⌝ }
     requires { ⌜ Room (spot .k) (plan-total (model-in (now m)) (spot .k) (spot .s)) (spot .at) (length (now buf)) ⌝ }
     ensures effect { λ r.
         let trail′ = now (trail .exit) in let gains′ = now (gains .exit) in let v′ = now (v .exit) in let buf′ = now (buf .exit) in
         let m = now (m .entry) in let q = now (q .entry) in let cone = now (cone .entry) in let trail = now (trail .entry) in
         let buf = now (buf .entry) in
-        ⌜ Written (totals (model-in m) (spot .k) (spot .s) (on-path m q (spot .start) cone (take (spot .h) trail))) m q (spot .start) cone
+        ⌜ Written (totals (model-in m) (spot .k) (spot .s) (worth-on m q (spot .start) (spot .a) (spot .d) cone (take (spot .h) trail))) m q (spot .start) cone
         (spot .h) (spot .at) trail trail′ gains′ v′ buf buf′ r ⌝ }
 {
     if spot.d <= spot.h {
-        return decided(m, table, cone, v, buf, spot.s, spot.k, spot.at);
+        return decided(m, table, cone, gains, v, buf, spot);
     }
     let n = choices(m, spot.s as usize);
     let mut len: usize = 0;
@@ -154,6 +154,7 @@ pub fn list(
     while i < n {
         let first = Spot {
             start: spot.start,
+            a: spot.a,
             d: spot.d,
             h: spot.h,
             s: spot.s,
@@ -181,7 +182,7 @@ fn combine(
     spot: Spot,
     i: usize,
 ) -> usize
-    requires { ⌜ Given (now m) (now q) (spot .start) (spot .d) (now truth) (now cone) (now table) ⌝ }
+    requires { ⌜ Given (now m) (now q) (spot .start) (spot .a) (spot .d) (now truth) (now cone) (now table) ⌝ }
     requires { ⌜
         Here (now m) (now q) (spot .start) (spot .d) (now cone) (now trail) (now gains) (now v) (spot .h) (spot .s) (spot .k + 1)
         × (i < choices-in (now m) (spot .s)) ⌝ }
@@ -192,7 +193,7 @@ fn combine(
         let trail′ = now (trail .exit) in let gains′ = now (gains .exit) in let v′ = now (v .exit) in let buf′ = now (buf .exit) in
         let m = now (m .entry) in let q = now (q .entry) in let cone = now (cone .entry) in let trail = now (trail .entry) in
         let buf = now (buf .entry) in
-        ⌜ Written (combined (weighed (model-in m) (spot .k) (on-path m q (spot .start) cone (take (spot .h) trail)))
+        ⌜ Written (combined (weighed (model-in m) (spot .k) (worth-on m q (spot .start) (spot .a) (spot .d) cone (take (spot .h) trail)))
         (outcomes (model-in m) (spot .s) (choice-in m (spot .s) i))) m q (spot .start) cone (spot .h) (spot .at) trail trail′ gains′ v′ buf
         buf′ r ⌝ }
 {
@@ -232,7 +233,7 @@ fn grown(
     spot: Spot,
     more: Further,
 ) -> usize
-    requires { ⌜ Given (now m) (now q) (spot .start) (spot .d) (now truth) (now cone) (now table) ⌝ }
+    requires { ⌜ Given (now m) (now q) (spot .start) (spot .a) (spot .d) (now truth) (now cone) (now table) ⌝ }
     requires { ⌜
         Here (now m) (now q) (spot .start) (spot .d) (now cone) (now trail) (now gains) (now v) (spot .h) (spot .s) (spot .k + 1)
         × Offers (now m) (spot .s) (more .i) (more .o) ⌝ }
@@ -244,13 +245,14 @@ fn grown(
         let buf = now (buf .entry) in let m = now (m .entry) in let q = now (q .entry) in let cone = now (cone .entry) in
         let trail = now (trail .entry) in
         ⌜ Written (joined (more .right) (part buf (spot .at) (more .len))
-        (weighed (model-in m) (spot .k) (on-path m q (spot .start) cone (take (spot .h) trail)) (step-in m (spot .s) (more .i) (more .o))))
+        (weighed (model-in m) (spot .k) (worth-on m q (spot .start) (spot .a) (spot .d) cone (take (spot .h) trail)) (step-in m (spot .s) (more .i) (more .o))))
         m q (spot .start) cone (spot .h) (spot .at) trail trail′ gains′ v′ buf buf′ r ⌝ }
 {
     let s = spot.s as usize;
     let n = plans_counted(table, spot.k, target(m, s, more.i, more.o)) as usize;
     let behind = Spot {
         start: spot.start,
+        a: spot.a,
         d: spot.d,
         h: spot.h,
         s: spot.s,
@@ -287,7 +289,7 @@ fn below(
     spot: Spot,
     to: Outcome,
 ) -> usize
-    requires { ⌜ Given (now m) (now q) (spot .start) (spot .d) (now truth) (now cone) (now table) ⌝ }
+    requires { ⌜ Given (now m) (now q) (spot .start) (spot .a) (spot .d) (now truth) (now cone) (now table) ⌝ }
     requires { ⌜
         Here (now m) (now q) (spot .start) (spot .d) (now cone) (now trail) (now gains) (now v) (spot .h) (spot .s) (spot .k + 1)
         × Offers (now m) (spot .s) (to .i) (to .o) ⌝ }
@@ -299,7 +301,7 @@ fn below(
         let m = now (m .entry) in let q = now (q .entry) in let cone = now (cone .entry) in let trail = now (trail .entry) in
         let buf = now (buf .entry) in
         ⌜ Written (totals (model-in m) (spot .k) ((step-in m (spot .s) (to .i) (to .o)) .target)
-        (λ l. on-path m q (spot .start) cone (take (spot .h) trail) ((step-in m (spot .s) (to .i) (to .o)) ∷ l))) m q (spot .start) cone
+        (λ l. worth-on m q (spot .start) (spot .a) (spot .d) cone (take (spot .h) trail) ((step-in m (spot .s) (to .i) (to .o)) ∷ l))) m q (spot .start) cone
         (spot .h) (spot .at) trail trail′ gains′ v′ buf buf′ r ⌝ }
 {
     let here = Place {
@@ -321,6 +323,7 @@ fn below(
     );
     let on = Spot {
         start: spot.start,
+        a: spot.a,
         d: spot.d,
         h: spot.h + 1,
         s: t,

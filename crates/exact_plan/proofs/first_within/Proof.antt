@@ -6,7 +6,7 @@ use lib.IntN.{ℤ, pos}
 use lib.ListN.{length, take, replicate, length-replicate}
 use Rattle.logic.specs.Limits.{plan-total}
 use Rattle.prepared_model.specs.promises.Rows.{model-in}
-use Rattle.evaluation.specs.promises.Reached.{on-path}
+use Rattle.evaluation.specs.promises.Worth.{worth-on}
 use Rattle.evaluation.proofs.LearnKnows.{cone-node}
 use Rattle.evaluation.proofs.StepTaken.{begun}
 use Rattle.exact_plan.proofs.RoomForEach.{room-whole}
@@ -34,7 +34,7 @@ find-requires : tie.Need-find-requires
 find-requires c κs = let S = c .before .before .before .before .before .before .before .before .before .before .before .before .before .before in
     let x = c .before .before .before .list in
     let M = S .args .m .now in
-    let f = on-path M (S .args .q .now) (S .args .start) (S .args .cone .now) (take 0 (replicate 6 0)) in
+    let f = worth-on M (S .args .q .now) (S .args .start) (S .args .a) (S .args .d) (S .args .cone .now) (take 0 (replicate 6 0)) in
     omega (arith, x .ensures .count, totals-length (model-in M) (S .args .n) (S .args .start) f, x .kept .1 .1 .1 .1 .1 .1 .1 .1 .0, S .pre .1 .2, S .pre .1 .3)
 
 same-length : tie.Need-same-length

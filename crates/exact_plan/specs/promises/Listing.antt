@@ -12,8 +12,8 @@ use Rattle.prepared_model.specs.promises.Rows.{step-in, model-in}
 use Rattle.evaluation.specs.promises.Path.{state-after}
 use Rattle.prepared_question.specs.promises.Nodes.{formula}
 use Rattle.evaluation.specs.promises.Reached.{root-of, Ready}
-use Rattle.evaluation.specs.promises.Learnt.{known}
 use Rattle.evaluation.specs.promises.Known.{Knows, Back}
+use Rattle.evaluation.specs.promises.Worth.{worth-known, Readable}
 use Rattle.exact_plan.specs.promises.Totals.{part}
 use Rattle.exact_plan.specs.promises.Room.{Room}
 
@@ -21,11 +21,13 @@ use Rattle.exact_plan.specs.promises.Room.{Room}
 pub record Counts (m : Bytes) (table : List ℕ) : Type 0 where
   pub right : (n s : ℕ) → n ≤ 6 → s < state-count m → plan-total (model-in m) n s ≤ 65536 → getD table (32 * n + s) 0 ≡ plan-total (model-in m) n s
 
--- The tables for a search from the start for the condition at the cone's root, which looks d steps ahead.
-pub record Given (m q : Bytes) (start d : ℕ) (truth cone table : List ℕ) : Type 0 where
+-- The tables for a search from the start, where the worth of a path looks d steps ahead: for the condition at the cone's root, or for the
+-- raised gain of the steps after the first a.
+pub record Given (m q : Bytes) (start a d : ℕ) (truth cone table : List ℕ) : Type 0 where
   pub ready : Ready m q start truth cone
   pub counts : Counts m table
-  pub looks : d ≡ depth (formula q (root-of cone))
+  pub looks : 0 < length cone → d ≡ depth (formula q (root-of cone))
+  pub from : a ≤ d
 
 -- After h steps from the start, in the state s, with k steps to go.
 pub record Here (m q : Bytes) (start d : ℕ) (cone trail : List ℕ) (gains : List ℤ) (v : List ℕ) (h s k : ℕ) : Type 0 where
@@ -48,20 +50,20 @@ pub record Longest (m : Bytes) (table : List ℕ) (s i c k j : ℕ) : Type 0 whe
   pub inside : j < c
   pub most : (o : ℕ) → o < c → getD table (32 * k + (step-in m s i o) .target) 0 ≤ getD table (32 * k + (step-in m s i j) .target) 0
 
--- Where the condition is decided: its value stands at the root's first place, and the list fits.
-pub record Decides (m cone v table buf : List ℕ) (s k at : ℕ) : Type 0 where
-  pub some : 0 < length cone
+-- Where the worth of the paths is decided: it can be read, and the list fits.
+pub record Decides (m cone : List ℕ) (gains : List ℤ) (v table buf : List ℕ) (a d s k at : ℕ) : Type 0 where
+  pub readable : Readable cone gains a d
+  pub small : worth-known cone gains v a d ≤ 12000
   pub steps : k ≤ 6
   pub state : s < 32
   pub part-of : denominator-of m ≤ 100
-  pub truth : known v (root-of cone) 0 ≤ 1
   pub room : at + getD table (32 * k + s) 0 ≤ length buf
 
 -- What stands at `at` before the list of a further outcome, n numbers over k steps, is made behind the product and joined on.
 pub record Grows (buf : List ℕ) (at len n k : ℕ) : Type 0 where
   pub some : 0 < len
   pub few : len * n ≤ 65536
-  pub small : (x : ℕ) → List·Memᴰ x (part buf at len) → x ≤ 4 * 100 ^ 6
+  pub small : (x : ℕ) → List·Memᴰ x (part buf at len) → x ≤ 4 * (12000 * 100 ^ 6)
   pub room : Room k n (at + len * n) (length buf)
 
 -- r is the first place of x in the list; where there is none, the list's length.

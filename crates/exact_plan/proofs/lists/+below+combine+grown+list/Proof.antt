@@ -13,7 +13,7 @@ use Rattle.logic.specs.Limits.{plan-total}
 use Rattle.prepared_model.specs.promises.Rows.{choices-in, choice-in, outcomes-in, model-in}
 use Rattle.prepared_model.proofs.ReadByPlace.{some-outcome}
 use Rattle.prepared_model.proofs.PlacesInRange.{place-range}
-use Rattle.evaluation.specs.promises.Reached.{on-path}
+use Rattle.evaluation.specs.promises.Worth.{worth-on}
 use Rattle.exact_plan.specs.promises.Room.{Room}
 use Rattle.exact_plan.specs.promises.Totals.{combined, weighed}
 use Rattle.exact_plan.proofs.OutcomesJoined.{Place, placed, count-right, span-outcome, Spanned, ways, first-room, first-shifts, first-before, first-spanned, span-end, span-grows, span-wider, grown-joins, grown-written}
@@ -98,14 +98,14 @@ list-claims t = (decided.Asked, decided.Learnt, choices.Asked, choices.Learnt, c
 
 abbrev combine-Inv : combine-lts.InvT-loop
 combine-Inv m q truth cone table trail₀ gains₀ v₀ buf₀ spot i s c lo₀ hi₀ len₀ trail gains v buf lo hi len =
-    Spanned m q (spot .start) (spot .d) cone (spot .h) (spot .s) i (spot .k) (spot .at) c trail₀ buf₀ trail gains v buf lo hi len
+    Spanned m q (spot .start) (spot .a) (spot .d) cone (spot .h) (spot .s) i (spot .k) (spot .at) c trail₀ buf₀ trail gains v buf lo hi len
 
 abbrev combine-μ : combine-lts.MeasureT-loop
 combine-μ m q truth cone table trail₀ gains₀ v₀ buf₀ spot i s c lo₀ hi₀ len₀ trail gains v buf lo hi len = c - (hi - lo)
 
 abbrev list-Inv : list-lts.InvT-loop
 list-Inv m q truth cone table trail₀ gains₀ v₀ buf₀ spot n len₀ i₀ trail gains v buf len i =
-    (n ≡ choices-in m (spot .s)) × (spot .h < spot .d) × Listed m q (spot .start) (spot .d) cone (spot .h) (spot .s) (spot .k) (spot .k - 1) (spot .at) trail₀ buf₀ trail gains v buf len i
+    (n ≡ choices-in m (spot .s)) × (spot .h < spot .d) × Listed m q (spot .start) (spot .a) (spot .d) cone (spot .h) (spot .s) (spot .k) (spot .k - 1) (spot .at) trail₀ buf₀ trail gains v buf len i
 
 abbrev list-μ : list-lts.MeasureT-loop
 list-μ m q truth cone table trail₀ gains₀ v₀ buf₀ spot n len₀ i₀ trail gains v buf len i = n - i
@@ -155,7 +155,7 @@ module _ (t : ℕ) where
 
   -- ---- the outcomes of a choice
 
-  combine-place : (S : combine-lts.Start (combine-claims t) (combine-begins t) combine.Post combine-Inv combine-μ) → Place (S .args .m .now) (S .args .spot .s) (S .args .i) (S .args .spot .k)
+  combine-place : (S : combine-lts.Start (combine-claims t) (combine-begins t) combine.Post combine-Inv combine-μ) → Place (S .args .m .now) (S .args .spot .d) (S .args .spot .s) (S .args .i) (S .args .spot .k)
   combine-place S = placed (S .args .i) (S .args .spot .k) (S .pre .1 .1 .0 .0) (S .pre .1 .1 .0 .1)
 
   -- The outcome with the longest list is one.
@@ -258,14 +258,14 @@ module _ (t : ℕ) where
       let b = c .before .before .before .before .before .before .before .before .before .below in
       let h = c .before .before .before .before .shift in
       let M = S .args .m .now in
-      let f : List ℕ → List Step → ℕ = on-path M (S .args .q .now) (S .args .spot .start) (S .args .cone .now) in
+      let f : List ℕ → List Step → ℕ = worth-on M (S .args .q .now) (S .args .spot .start) (S .args .spot .a) (S .args .spot .d) (S .args .cone .now) in
       rebased (λ T. combined (weighed (model-in M) (S .args .spot .k) (f T)) (outcomes (model-in M) (S .args .spot .s) (choice-in M (S .args .spot .s) (S .args .i))))
       (b .ensures .back .kept) (first-before (S .pre .1 .0) (combine-place S) (S .pre .1 .1 .1) (c .before .before .before .before .before .before .before .before .before .before .before .before .before .before .longest .result) (first (c .before .before .before .before .before .before .before .before .before .before .before .before .before .before)) (S .args .buf .now) refl (S .pre .1 .1 .0 .0) (b .ensures) (b .kept .1 .1 .1 .1 .1 .1 .1 .1 .0) (c .before .before .before .before .before .weight .ensures .0) (h .ensures))
       (span-end (S .pre .1 .0) (combine-place S) (S .pre .1 .1 .1) (c .before .loop .inv) (c .before .before .before .before .shift .kept .0 ∙ c .before .before .before .before .before .before .before .before .before .below .kept .1 .1 .1 .1 .1 .1 .1 .1 .0) (omega arith))
 
   -- ---- a further outcome
 
-  grown-place : (S : grown-lts.Start (grown-claims t) (grown-begins t) grown.Post) → Place (S .args .m .now) (S .args .spot .s) (S .args .more .i) (S .args .spot .k)
+  grown-place : (S : grown-lts.Start (grown-claims t) (grown-begins t) grown.Post) → Place (S .args .m .now) (S .args .spot .d) (S .args .spot .s) (S .args .more .i) (S .args .spot .k)
   grown-place S = placed (S .args .more .i) (S .args .spot .k) (S .pre .1 .1 .0 .0) (S .pre .1 .1 .0 .1 .0)
 
   -- The table's number of plans below it.
@@ -329,15 +329,15 @@ module _ (t : ℕ) where
   turn c = omega (arith, c .before .loop .inv .0, c .loop-test .taken)
 
   list-decided-requires : list-lts.Need-decided-requires (list-claims t) (list-begins t) list.Post list-Inv list-μ
-  list-decided-requires c κs = let S = c .before .before .before .before .before .before in decides (S .pre .1 .0) (S .pre .1 .1 .0) (c .before .before .if1 .taken) (S .args .buf .now) (S .pre .1 .1 .1)
+  list-decided-requires c κs = let S = c .before .before .before .before .before .before .before in decides (S .pre .1 .0) (S .pre .1 .1 .0) (c .before .before .before .if1 .taken) (S .args .buf .now) (S .pre .1 .1 .1)
 
   list-same-length : list-lts.Need-same-length (list-claims t) (list-begins t) list.Post list-Inv list-μ
-  list-same-length c = c .before .before .decided .kept .1 .1 .1 .1 .0
+  list-same-length c = c .before .before .decided .kept .1 .1 .1 .1 .1 .0
 
   list-returns : list-lts.Need-returns (list-claims t) (list-begins t) list.Post list-Inv list-μ
   list-returns c =
-      let S = c .before .before .before .before .before .before .before .before .before in
-      decided-written (S .pre .1 .0) (S .pre .1 .1 .0) (c .before .before .before .before .before .if1 .taken) (S .args .buf .now) (S .pre .1 .1 .1) (c .before .before .decided .ensures .0) (c .before .before .decided .ensures .1)
+      let S = c .before .before .before .before .before .before .before .before .before .before in
+      decided-written (S .pre .1 .0) (S .pre .1 .1 .0) (c .before .before .before .before .before .before .if1 .taken) (S .args .buf .now) (S .pre .1 .1 .1) (c .before .before .decided .ensures .0) (c .before .before .decided .ensures .1)
 
   list-cast-choices : list-lts.Need-cast-choices (list-claims t) (list-begins t) list.Post list-Inv list-μ
   list-cast-choices c = search needs
@@ -351,8 +351,8 @@ module _ (t : ℕ) where
       let x = c .before .before .if1 .left in
       (c .choices .ensures, omega arith, listed-none (S .pre .1 .0) (S .args .spot .k) (S .args .spot .k - 1) (omega (arith, S .pre .1 .1 .0 .deep)) (S .pre .1 .1 .0))
 
-  list-sub-t21 : list-lts.Need-sub-t21 (list-claims t) (list-begins t) list.Post list-Inv list-μ
-  list-sub-t21 c = omega (arith, on (c .before .before))
+  list-sub-t22 : list-lts.Need-sub-t22 (list-claims t) (list-begins t) list.Post list-Inv list-μ
+  list-sub-t22 c = omega (arith, on (c .before .before))
 
   list-add-len : list-lts.Need-add-len (list-claims t) (list-begins t) list.Post list-Inv list-μ
   list-add-len c =
@@ -442,7 +442,7 @@ pub +below+combine+grown+list-spec : {M : Type 1} → statement M
     (list-cast-choices t)
     (list-choices-requires t)
     (list-loop-holds t)
-    (list-sub-t21 t)
+    (list-sub-t22 t)
     (list-add-len t)
     (list-combine-requires t)
     (list-add-len-2 t)
