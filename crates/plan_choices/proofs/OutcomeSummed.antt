@@ -3,7 +3,7 @@
 use Prim.Native.Nat.{ℕ, zero, suc, _+_, _*_, _-_, _^_, _≤_, _<_}
 use native.Mathlib.Omega.{arith}
 use native.Mathlib.Numerals.{add-one}
-use native.Mathlib.Nat.{le-trans, mul-le-mul, pow-le-pow-left, pow-le-pow-right}
+use native.Mathlib.Nat.{le-trans, mul-le-mul, mul-le-mul-left, pow-le-pow-left, pow-le-pow-right}
 use mathlib.Core.Path.{_≡_, refl, sym, ap, ap₂, subst, _∙_}
 use mathlib.Core.List.{List, [], _∷_}
 use lib.IntN.{ℤ, pos}
@@ -14,24 +14,27 @@ use Rattle.logic.specs.Model.{Model, Step, outcomes}
 use Rattle.logic.specs.Checked.{ok}
 use Rattle.logic.specs.Plan.{Plan}
 use Rattle.logic.specs.Choices.{plan-of}
-use Rattle.logic.specs.Formula.{depth, W}
+use Rattle.logic.specs.Formula.{depth}
 use Rattle.logic.specs.Quantity.{naturals}
 use Rattle.logic.specs.Quantity as quantity
+use Rattle.logic.specs.Bound.{total}
+use Rattle.logic.specs.promises.Raised.{Modest}
 use Rattle.logic.proofs.Tests.{tabulate-more}
 use Rattle.blocks.specs.Block.{sum-below}
 use Rattle.models.specs.Layout.{state-count}
 use Rattle.models.proofs.ModelOfBytes.{tabulate-member, sum-tabulate}
-use Rattle.prepared_model.specs.promises.Rows.{step-in, Offers, model-in, Row-of}
-use Rattle.prepared_model.proofs.ReadByPlace.{states-are, denominator-is}
+use Rattle.prepared_model.specs.promises.Rows.{step-in, Offers, model-in, Prepared, Row-of}
+use Rattle.prepared_model.proofs.ReadByPlace.{states-are, denominator-is, modest-rewards}
 use Rattle.prepared_model.proofs.PlacesInRange.{read-range}
 use Rattle.prepared_question.specs.promises.Nodes.{formula}
 use Rattle.evaluation.specs.promises.Path.{steps-of, state-after}
-use Rattle.evaluation.specs.promises.Reached.{root-of, on-path, Ready}
-use Rattle.evaluation.specs.promises.Learnt.{known, learnt}
+use Rattle.evaluation.specs.promises.Reached.{root-of, Ready}
+use Rattle.evaluation.specs.promises.Learnt.{learnt}
 use Rattle.evaluation.specs.promises.Known.{Knows, Offered, Stepped}
+use Rattle.evaluation.specs.promises.Worth.{worth-of, worth-on, worth-known, Readable}
 use Rattle.evaluation.proofs.StepUndone.{back-none, back-same, knows-back, state-back, step-back}
-use Rattle.evaluation.proofs.StepTaken.{state-reached, leaf-value, begun, state-stepped, whole-stepped, on-path-stepped}
-use Rattle.evaluation.proofs.LearntInOrder.{one-if-small}
+use Rattle.evaluation.proofs.StepTaken.{state-reached, begun, state-stepped, whole-stepped, path-stepped}
+use Rattle.evaluation.proofs.PathWorth.{modest-cons, worth-on-small, worth-readable, worth-here}
 use Rattle.plan_choices.specs.promises.PlanSum.{Run, each, weigh}
 use Rattle.plan_choices.specs.promises.Weighed.{Here, Ran}
 use Rattle.plan_choices.proofs.SumIsWeight.{plan-weighed}
@@ -58,12 +61,17 @@ pub after-end : (choices : List ℕ) (at : ℕ) → length choices ≤ at → dr
 after-end choices at h = let e : drop at choices ≡ [] = drop-of-length-le choices {i = at} h in e ∙ sym (ap (drop 1) e)
 
 -- The sum below an outcome after the trail t, of k steps; and the sum below the first n outcomes of the choice at place i.
-module _ (m q : List ℕ) (start : ℕ) (cone t : List ℕ) (k : ℕ) where
+module _ (m q : List ℕ) (start a d : ℕ) (cone t : List ℕ) (k : ℕ) where
   abbrev pub below : Step → List ℕ → Run
-  below o = weigh (model-in m) k (o .target) (λ r. on-path m q start cone t (o ∷ r))
+  below o = weigh (model-in m) k (o .target) (λ r. worth-on m q start a d cone t (o ∷ r))
 
   abbrev pub runs : (s i n : ℕ) → List ℕ → Run
   runs s i n cs = each below (tabulate n (step-in m s i)) cs
+
+-- The denominator to at most n steps.
+denominator-power : {m : List ℕ} → Prepared m → (k n : ℕ) → k ≤ n → (model-in m) .denominator ^ k ≤ 100 ^ n
+denominator-power {m} w k n h =
+    le-trans (pow-le-pow-left (subst (λ x. x ≤ 100) (sym (denominator-is m)) (w .parts)) k) (pow-le-pow-right {n = 100} (omega arith) {i = k} {j = n} h)
 
 weights-few : (n : ℕ) (f : ℕ → ℕ) → ((j : ℕ) → j < n → f j ≤ 100) → sum-below n f ≤ n * 100
 unfolding sum-below
@@ -72,72 +80,79 @@ weights-few (suc n) f h = omega (arith, weights-few n f (λ j l. h j (omega arit
 
 -- ---- the choice at a spot
 
-module _ {m q : List ℕ} {start : ℕ} {truth cone : List ℕ} (ready : Ready m q start truth cone) {trail : List ℕ} {gains : List ℤ} {v : List ℕ} {h s k : ℕ}
-    (here : Here m q start cone trail gains v h s k) where
+module _ {m q : List ℕ} {start : ℕ} (a d : ℕ) {truth cone : List ℕ} (ready : Ready m q start truth cone) {trail : List ℕ} {gains : List ℤ} {v : List ℕ} {h s k : ℕ}
+    (here : Here m q start d cone trail gains v h s k) where
   pub state-here : s < state-count m
   state-here = state-reached ready (here .knows) (here .state)
 
-  -- At the end of a path the condition has its value.
-  pub weigh-done : (choices : List ℕ) (at x : ℕ) → k ≡ 0 → at ≤ length choices → x ≡ known v (root-of cone) 0
-      → Ran (weigh (model-in m) k s (on-path m q start cone (take h trail)) (drop at choices)) m q start cone h trail trail gains v choices x at
-  unfolding weigh
-  weigh-done choices at x z l e =
-      let T = take h trail in
-      let d : depth (formula q (root-of cone)) ≤ length T = omega (arith, here .deep, here .whole) in
-      rw z (record { sum = e ∙ leaf-value ready T gains v (here .knows) d []; left = refl; inside = l; back = back-none (here .knows) })
+  module _ (looks : 0 < length cone → d ≡ depth (formula q (root-of cone))) (from : a ≤ d) (z : k ≡ 0) where
+    passed : d ≤ length (take h trail)
+    passed = omega (arith, here .deep, here .whole)
+
+    pub leaf-readable : Readable cone gains a d
+    leaf-readable = worth-readable a d from ready (here .knows) passed (omega (arith, here .whole, here .steps))
+
+    -- At the end of a path its worth is known.
+    pub weigh-done : (choices : List ℕ) (at x : ℕ) → at ≤ length choices → x ≡ worth-known cone gains v a d
+        → Ran (weigh (model-in m) k s (worth-on m q start a d cone (take h trail)) (drop at choices)) m q start cone h trail trail gains v choices x at
+    unfolding weigh
+    weigh-done choices at x l e = rw z (record { sum = e ∙ worth-here a d from cone ready looks (here .knows) passed []; left = refl; inside = l; back = back-none (here .knows) })
 
   -- No outcome is passed yet.
-  pub runs-none : (choices : List ℕ) (at i : ℕ) → at ≤ length choices → Ran (runs m q start cone (take h trail) (k - 1) s i 0 (drop at choices)) m q start cone h trail trail gains v choices 0 at
+  pub runs-none : (choices : List ℕ) (at i : ℕ) → at ≤ length choices → Ran (runs m q start a d cone (take h trail) (k - 1) s i 0 (drop at choices)) m q start cone h trail trail gains v choices 0 at
   unfolding each tabulate count-from
   runs-none choices at i l = record { sum = refl; left = refl; inside = l; back = back-none (here .knows) }
 
   -- A choice is read, and the sum is that below its outcomes.
-  pub weigh-choice : {trail′ : List ℕ} {gains′ : List ℤ} {v′ : List ℕ} (choices : List ℕ) (at a next : ℕ) {i c o x y : ℕ} → (k ≡ 0 → ⊥) → a ≡ getD choices at 0
-      → drop next choices ≡ drop 1 (drop at choices) → Row-of m s a i c → o ≡ c
-      → Ran (runs m q start cone (take h trail) (k - 1) s i o (drop next choices)) m q start cone h trail trail′ gains′ v′ choices x y
-      → Ran (weigh (model-in m) k s (on-path m q start cone (take h trail)) (drop at choices)) m q start cone h trail trail′ gains′ v′ choices x y
-  weigh-choice {trail′} {gains′} {v′} choices at a next {i} {x = x} {y} n e f w all R =
+  pub weigh-choice : {trail′ : List ℕ} {gains′ : List ℤ} {v′ : List ℕ} (choices : List ℕ) (at b next : ℕ) {i c o x y : ℕ} → (k ≡ 0 → ⊥) → b ≡ getD choices at 0
+      → drop next choices ≡ drop 1 (drop at choices) → Row-of m s b i c → o ≡ c
+      → Ran (runs m q start a d cone (take h trail) (k - 1) s i o (drop next choices)) m q start cone h trail trail′ gains′ v′ choices x y
+      → Ran (weigh (model-in m) k s (worth-on m q start a d cone (take h trail)) (drop at choices)) m q start cone h trail trail′ gains′ v′ choices x y
+  weigh-choice {trail′} {gains′} {v′} choices at b next {i} {x = x} {y} n e f w all R =
       subst (λ z. Ran z m q start cone h trail trail′ gains′ v′ choices x y)
-      (ap (λ o. runs m q start cone (take h trail) (k - 1) s i o (drop next choices)) all
-      ∙ ap (λ os. each (below m q start cone (take h trail) (k - 1)) os (drop next choices)) (sym (w .row))
-      ∙ weigh-step (model-in m) (on-path m q start cone (take h trail)) choices k s at a next n e f) R
+      (ap (λ o. runs m q start a d cone (take h trail) (k - 1) s i o (drop next choices)) all
+      ∙ ap (λ os. each (below m q start a d cone (take h trail) (k - 1)) os (drop next choices)) (sym (w .row))
+      ∙ weigh-step (model-in m) (worth-on m q start a d cone (take h trail)) choices k s at b next n e f) R
 
 -- ---- a turn: the outcome o of the choice at place i, after the sum below the outcomes before it
 
-pub record Before-outcome (m q : List ℕ) (start : ℕ) (truth cone trail₀ : List ℕ) (gains₀ : List ℤ) (v₀ : List ℕ) (h s k : ℕ) (choices : List ℕ) (at i c o : ℕ)
+pub record Before-outcome (m q : List ℕ) (start a d : ℕ) (truth cone trail₀ : List ℕ) (gains₀ : List ℤ) (v₀ : List ℕ) (h s k : ℕ) (choices : List ℕ) (at i c o : ℕ)
     (trail : List ℕ) (gains : List ℤ) (v : List ℕ) (sum next : ℕ) : Type 0 where
   pub ready : Ready m q start truth cone
-  pub here : Here m q start cone trail₀ gains₀ v₀ h s k
+  pub here : Here m q start d cone trail₀ gains₀ v₀ h s k
   pub left : k ≡ 0 → ⊥
   pub offers : (o : ℕ) → o < c → Offers m s i o
   pub more : o < c
-  pub ran : Ran (runs m q start cone (take h trail₀) (k - 1) s i o (drop at choices)) m q start cone h trail₀ trail gains v choices sum next
+  pub ran : Ran (runs m q start a d cone (take h trail₀) (k - 1) s i o (drop at choices)) m q start cone h trail₀ trail gains v choices sum next
 
-module _ {m q : List ℕ} {start : ℕ} {truth cone trail₀ : List ℕ} {gains₀ : List ℤ} {v₀ : List ℕ} {h s k : ℕ} {choices : List ℕ} {at i c o : ℕ}
-    {trail : List ℕ} {gains : List ℤ} {v : List ℕ} {sum next : ℕ} (T : Before-outcome m q start truth cone trail₀ gains₀ v₀ h s k choices at i c o trail gains v sum next) where
+module _ {m q : List ℕ} {start a d : ℕ} {truth cone trail₀ : List ℕ} {gains₀ : List ℤ} {v₀ : List ℕ} {h s k : ℕ} {choices : List ℕ} {at i c o : ℕ}
+    {trail : List ℕ} {gains : List ℤ} {v : List ℕ} {sum next : ℕ} (T : Before-outcome m q start a d truth cone trail₀ gains₀ v₀ h s k choices at i c o trail gains v sum next) where
   abbrev under : Step → List ℕ → Run
-  under = below m q start cone (take h trail₀) (k - 1)
+  under = below m q start a d cone (take h trail₀) (k - 1)
 
   abbrev upto : ℕ → Run
-  upto n = runs m q start cone (take h trail₀) (k - 1) s i n (drop at choices)
+  upto n = runs m q start a d cone (take h trail₀) (k - 1) s i n (drop at choices)
 
   inside-here : s < state-count m
-  inside-here = state-here (T .ready) (T .here)
+  inside-here = state-here a d (T .ready) (T .here)
 
   pub within : (s < 32) × (i < 8) × (o < 4)
   within = read-range (T .ready .prepared) s inside-here i o (T .offers o (T .more))
 
   -- The weights of a choice's outcomes are small, and so are the sums below them.
-  runs-small : (n : ℕ) → n ≤ c → n ≤ 4 → upto n .0 ≤ 400 * 100 ^ 5
+  runs-small : (n : ℕ) → n ≤ c → n ≤ 4 → upto n .0 ≤ 400 * (12000 * 100 ^ 5)
   runs-small n l f =
       let P = T .ready .prepared in
       let D : ℕ = (model-in m) .denominator in
-      let d : D ≤ 100 = subst (λ x. x ≤ 100) (sym (denominator-is m)) (P .parts) in
-      let b : D ^ (k - 1) ≤ 100 ^ 5 = le-trans (pow-le-pow-left d (k - 1)) (pow-le-pow-right {n = 100} (omega arith) {i = k - 1} {j = 5} (omega (arith, T .here .steps))) in
-      let at-step : (p : Step) (cs : List ℕ) → p .target < length (model-in m .states) → under p cs .0 ≤ D ^ (k - 1) =
-      λ p cs x. weigh-small (model-in m) (P .accepted) (k - 1) (p .target) (λ r. on-path m q start cone (take h trail₀) (p ∷ r)) (λ r. one-if-small _) x cs in
-      let u = each-small under (D ^ (k - 1)) (tabulate n (step-in m s i))
-      (λ p j cs. let x = tabulate-member (step-in m s i) n j in at-step p cs (rw (states-are m, x .2) (P .inside s i (x .0) inside-here (T .offers (x .0) (omega (arith, x .1))))))
+      let b : 12000 * D ^ (k - 1) ≤ 12000 * 100 ^ 5 = mul-le-mul-left 12000 (denominator-power P (k - 1) 5 (omega (arith, T .here .steps))) in
+      let u = each-small under (12000 * D ^ (k - 1)) (tabulate n (step-in m s i))
+      (λ p j cs.
+      let x = tabulate-member (step-in m s i) n j in
+      let o : Offers m s i (x .0) = T .offers (x .0) (omega (arith, x .1)) in
+      weigh-small (model-in m) (P .accepted) (modest-rewards P) 12000 (k - 1) (p .target) (λ r. worth-on m q start a d cone (take h trail₀) (p ∷ r))
+      (λ r g. worth-on-small a d (T .ready) (T .here .knows .followed) (omega (arith, T .here .steps, T .here .deep)) (p ∷ r)
+      (modest-cons p r (subst (λ (y : Step). Modest (y .reward)) (sym (x .2)) (P .raisable s i (x .0) inside-here o)) g))
+      (rw (states-are m, x .2) (P .inside s i (x .0) inside-here o)) cs)
       (drop at choices) in
       let w = weights-few n (λ o. (step-in m s i o) .weight) (λ o x. P .light s i o inside-here (T .offers o (omega arith))) in
       let v : quantity.sum naturals (λ o. o .weight) (tabulate n (step-in m s i)) ≤ 400 = rw (sum-tabulate (λ o. o .weight) (step-in m s i) n) (omega (arith, w)) in
@@ -150,7 +165,7 @@ module _ {m q : List ℕ} {start : ℕ} {truth cone trail₀ : List ℕ} {gains�
   known-here = knows-back (T .ran .back)
 
   module _ {trail′ : List ℕ} {gains′ : List ℤ} {v′ : List ℕ} {t : ℕ} (St : Stepped m q start cone h s i o trail trail′ gains′ v′ t) where
-    pub here-next : Here m q start cone trail′ gains′ v′ (h + 1) t (k - 1)
+    pub here-next : Here m q start d cone trail′ gains′ v′ (h + 1) t (k - 1)
     here-next =
         record {
           steps = omega (arith, T .here .steps, T .left);
@@ -161,12 +176,12 @@ module _ {m q : List ℕ} {start : ℕ} {truth cone trail₀ : List ℕ} {gains�
         }
 
     module _ {trail″ : List ℕ} {gains″ : List ℤ} {v″ : List ℕ} {x next′ : ℕ}
-        (C : Ran (weigh (model-in m) (k - 1) t (on-path m q start cone (take (h + 1) trail′)) (drop next choices)) m q start cone (h + 1) trail′ trail″ gains″ v″ choices x next′) where
+        (C : Ran (weigh (model-in m) (k - 1) t (worth-on m q start a d cone (take (h + 1) trail′)) (drop next choices)) m q start cone (h + 1) trail′ trail″ gains″ v″ choices x next′) where
       -- The values of the steps to come are those of the step taken and the steps after it.
-      part : weigh (model-in m) (k - 1) t (on-path m q start cone (take (h + 1) trail′)) (drop next choices) ≡ under (step-in m s i o) (upto o .1)
+      part : weigh (model-in m) (k - 1) t (worth-on m q start a d cone (take (h + 1) trail′)) (drop next choices) ≡ under (step-in m s i o) (upto o .1)
       part =
           ap₂ (λ t f. weigh (model-in m) (k - 1) t f (drop next choices)) (St .state)
-          (on-path-stepped (T .ready) offered known-here St ∙ ap (λ l r. on-path m q start cone l (step-in m s i o ∷ r)) (T .ran .back .kept))
+          (path-stepped (T .ready) offered known-here St (worth-of m q start a d cone) ∙ ap (λ l r. worth-on m q start a d cone l (step-in m s i o ∷ r)) (T .ran .back .kept))
           ∙ ap (under (step-in m s i o)) (T .ran .left)
 
       pub runs-more : {sum′ : ℕ} → sum′ ≡ sum + (step-in m s i o) .weight * x → Ran (upto (o + 1)) m q start cone h trail₀ trail″ gains″ v″ choices sum′ next′
@@ -190,15 +205,26 @@ module _ {m q : List ℕ} {start : ℕ} {truth cone trail₀ : List ℕ} {gains�
 -- ---- the whole
 
 -- At the start, before any step.
-pub here-begun : {m q : List ℕ} {start : ℕ} {truth cone : List ℕ} → Ready m q start truth cone → (trail : List ℕ) (gains : List ℤ) (v : List ℕ)
+pub here-begun : {m q : List ℕ} {start d : ℕ} {truth cone : List ℕ} → Ready m q start truth cone → (trail : List ℕ) (gains : List ℤ) (v : List ℕ)
     → length gains ≡ 7 → length v ≡ 280 → getD gains 0 (pos 0) ≡ pos 0 → {v′ : List ℕ} → v′ ≡ learnt q truth trail gains 0 start cone v
-    → {n : ℕ} → depth (formula q (root-of cone)) ≤ n → n ≤ 6 → Here m q start cone trail gains v′ 0 start n
+    → {n : ℕ} → d ≤ n → n ≤ 6 → Here m q start d cone trail gains v′ 0 start n
 unfolding state-after
-here-begun ready trail gains v sums room g {v′} e d l =
+here-begun ready trail gains v sums room g {v′} e h l =
     record { steps = omega arith; deep = omega arith; whole = refl; state = refl; knows = begun ready trail gains v v′ g sums room e }
 
-pub all-weighed : {m q : List ℕ} {start : ℕ} {cone : List ℕ} (n : ℕ) (trail : List ℕ) {trail′ : List ℕ} {gains′ : List ℤ} {v′ choices : List ℕ} {x next : ℕ}
-    → Ran (weigh (model-in m) n start (on-path m q start cone (take 0 trail)) (drop 0 choices)) m q start cone 0 trail trail′ gains′ v′ choices x next
-    → (π : Plan n) → plan-of (model-in m) n start choices ≡ ok π → x ≡ W (model-in m) (formula q (root-of cone)) n start π
-unfolding steps-of
-all-weighed {m} {q} {start} {cone} n trail {choices = choices} R π e = R .sum ∙ plan-weighed (model-in m) (formula q (root-of cone)) n start choices π e
+module _ {m q : List ℕ} {start : ℕ} (a d : ℕ) {truth cone : List ℕ} (ready : Ready m q start truth cone) (n : ℕ) (trail : List ℕ) {trail′ : List ℕ}
+    {gains′ : List ℤ} {v′ choices : List ℕ} {x next : ℕ}
+    (R : Ran (weigh (model-in m) n start (worth-on m q start a d cone (take 0 trail)) (drop 0 choices)) m q start cone 0 trail trail′ gains′ v′ choices x next) where
+  pub all-weighed : (π : Plan n) → plan-of (model-in m) n start choices ≡ ok π → x ≡ total naturals (model-in m) n start π (worth-of m q start a d cone)
+  unfolding steps-of
+  all-weighed π e = R .sum ∙ plan-weighed (model-in m) n start (worth-of m q start a d cone) choices π e
+
+  -- Whatever the choices are.
+  pub all-small : d ≤ n → n ≤ 6 → x ≤ 12000 * 100 ^ 6
+  all-small h l =
+      let P = ready .prepared in
+      rw (R .sum)
+      (le-trans
+      (weigh-small (model-in m) (P .accepted) (modest-rewards P) 12000 n start (worth-on m q start a d cone (take 0 trail))
+      (worth-on-small a d ready (R .back .knows .followed) (omega arith)) (rw (states-are m) (ready .state)) (drop 0 choices))
+      (mul-le-mul-left 12000 (denominator-power P n 6 l)))

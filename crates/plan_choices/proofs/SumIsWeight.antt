@@ -1,5 +1,5 @@
--- The sum over the choices of a plan is its total, by the first step as the choices are read, and so W; and W is at most D to the n, since
--- a condition is 0 or 1 on each path.
+-- The sum over the choices of a plan is its total, by the first step as the choices are read; and of a condition, which is 0 or 1 on each path,
+-- it is at most D to the n.
 use Prim.Native.Nat.{ℕ, zero, suc, _+_, _*_, _^_, _≤_, _<_}
 use native.Mathlib.Omega.{arith}
 use native.Mathlib.Nat.{le-trans, mul-le-mul-left}
@@ -69,12 +69,12 @@ module _ (M : Model) where
       (λ o ds y q. weigh-read n (o .target) (λ r. f (o ∷ r)) ds y q) (outcomes M s a) cs (v .0) (v .1) in
       subst (λ z. weigh M (suc n) s f (a ∷ cs) ≡ (total naturals M (suc n) s (z .0) f, z .1)) (ok-same (v .2)) (weigh-choice n s f a cs (v .0 .0) (v .0 .1) w)
 
-  pub plan-weighed : (φ : Formula) (n s : ℕ) (cs : List ℕ) (π : Plan n) → plan-of M n s cs ≡ ok π → weigh M n s (value-of M φ s) cs .0 ≡ W M φ n s π
+  pub plan-weighed : (n s : ℕ) (f : List Step → ℕ) (cs : List ℕ) (π : Plan n) → plan-of M n s cs ≡ ok π → weigh M n s f cs .0 ≡ total naturals M n s π f
   unfolding plan-of
-  plan-weighed φ n s cs π e =
+  plan-weighed n s f cs π e =
       let u = bind-ok (read-plan M n s cs) _ e in
       let v = guard-ok 10 (is-empty (u .0 .1)) _ (u .2) in
-      ap (λ (x : Run). x .0) (weigh-read n s (value-of M φ s) cs (u .0) (u .1)) ∙ sym (W-total M φ n s (u .0 .0)) ∙ ap (W M φ n s) (ok-same (v .1))
+      ap (λ (x : Run). x .0) (weigh-read n s f cs (u .0) (u .1)) ∙ ap (λ π. total naturals M n s π f) (ok-same (v .1))
 
 -- ---- choices that are not refused spell a plan
 

@@ -4,18 +4,15 @@ use mathlib.Core.Path.{_≡_}
 use mathlib.Core.List.{List}
 use lib.IntN.{ℤ}
 use lib.ListN.{length, take, drop}
-use Rattle.logic.specs.Formula.{depth}
 use Rattle.blocks.specs.Bytes.{Bytes}
-use Rattle.prepared_question.specs.promises.Nodes.{formula}
 use Rattle.evaluation.specs.promises.Path.{state-after}
-use Rattle.evaluation.specs.promises.Reached.{root-of}
 use Rattle.evaluation.specs.promises.Known.{Knows, Back}
 use Rattle.plan_choices.specs.promises.PlanSum.{Run}
 
--- After h steps from the start, in the state s, with k steps to go.
-pub record Here (m q : Bytes) (start : ℕ) (cone trail : List ℕ) (gains : List ℤ) (v : List ℕ) (h s k : ℕ) : Type 0 where
+-- After h steps from the start, in the state s, with k steps to go; the worth of a path looks d steps ahead.
+pub record Here (m q : Bytes) (start d : ℕ) (cone trail : List ℕ) (gains : List ℤ) (v : List ℕ) (h s k : ℕ) : Type 0 where
   pub steps : h + k ≤ 6
-  pub deep : depth (formula q (root-of cone)) ≤ h + k
+  pub deep : d ≤ h + k
   pub whole : length (take h trail) ≡ h
   pub state : state-after m start (take h trail) ≡ s
   pub knows : Knows m q start cone (take h trail) gains v
