@@ -1,13 +1,13 @@
 -- Where as many steps are taken as a path's worth looks ahead, what `worth` reads is what the path is worth, however it goes on; and it is small.
-use Prim.Native.Nat.{ℕ, zero, suc, _+_, _*_, _-_, _/_, _%_, _≤_, _<_}
+use Prim.Native.Nat.{ℕ, zero, suc, _*_, _-_, _/_, _%_, _≤_, _<_}
 use native.Mathlib.Omega.{arith}
 use native.Mathlib.Nat.{le-trans}
 use mathlib.Core.Path.{_≡_, refl, sym, ap, ap₂, subst, _∙_}
 use mathlib.Core.Logic.{⊎-elim}
-use mathlib.Core.List.{List, [], _∷_, _++_, List·Memᴰ, List·Memᴰ·head, List·Memᴰ·tail, List·Memᴰ·not-nil, List·Memᴰ·cases-cons, List·Memᴰ·append-cases}
+use mathlib.Core.List.{List, [], _∷_, _++_, List·Memᴰ·head, List·Memᴰ·tail, List·Memᴰ·not-nil, List·Memᴰ·cases-cons, List·Memᴰ·append-cases}
 use lib.IntN.{ℤ, pos, natAbs, _+ℤ_, _-ℤ_}
-use lib.ListN.{length, getD, take, drop, length-drop, take-append-drop}
-use lib.Seq.{take-take, take-append-le, length-take-le}
+use lib.ListN.{length, getD, take, drop, take-append-drop}
+use lib.Seq.{take-take, take-append-le}
 use Rattle.logic.specs.Model.{Step}
 use Rattle.logic.specs.Quantity.{naturals, sum}
 use Rattle.logic.specs.Bound.{gain-between}
@@ -21,7 +21,7 @@ use Rattle.prepared_question.specs.promises.Nodes.{formula, Nodes}
 use Rattle.evaluation.specs.promises.Path.{step-of, steps-of, Trail, stop, move, gain-of}
 use Rattle.evaluation.specs.promises.Reached.{root-of, Ready}
 use Rattle.evaluation.specs.promises.Learnt.{known}
-use Rattle.evaluation.specs.promises.Known.{Gained, Knows}
+use Rattle.evaluation.specs.promises.Known.{Knows}
 use Rattle.evaluation.specs.promises.Worth.{worth-of, worth-on, raised-known, worth-known, Readable}
 use Rattle.evaluation.proofs.Integers.{rest-of-sum}
 use Rattle.evaluation.proofs.LearntInOrder.{one-if-small}

@@ -11,7 +11,6 @@ use Rattle.logic.specs.Model.{Step}
 use Rattle.logic.specs.Formula.{depth}
 use Rattle.logic.specs.Quantity.{sum}
 use Rattle.logic.specs.Bound.{one-if}
-use Rattle.logic.specs.promises.Total.{value-of}
 use Rattle.logic.proofs.Depth.{sat-same}
 use Rattle.blocks.specs.Bytes.{Bytes}
 use Rattle.models.specs.Layout.{state-count}

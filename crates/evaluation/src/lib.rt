@@ -103,11 +103,7 @@ fn gained(q: &[u8; QUESTION], gains: &[i32; PLACES], h: u8, k: u8, j: u8) -> boo
     requires { ⌜ (j < 40) × (h < 7) × (k < 7) ⌝ }
     ensures value { λ r. ⌜ r ≡ spec.gained (now (q .entry)) (now (gains .entry)) h k j ⌝ }
 {
-    related(
-        right(q, j),
-        gain_between(gains, k, h),
-        bound(q, j) as i64,
-    )
+    related(right(q, j), gain_between(gains, k, h), bound(q, j) as i64)
 }
 
 // The value at place k of node j, which looks at steps: each arm has its operator's meaning.
@@ -190,8 +186,8 @@ pub fn learn(
     }
 }
 
-// What the path taken is worth where as many steps are taken as it looks ahead, d: with nodes in the cone, the value of the condition at its
-// root; with none, the raised gain of the steps after the first a.
+// What the path taken is worth, once as many steps are taken as that looks ahead, d: with nodes in the cone, the value of the condition at
+// its root; with none, the raised gain of the steps after the first a.
 pub fn worth(cone: &[u8], gains: &[i32; PLACES], v: &[u8; VALUES], a: u8, d: u8) -> u64
     requires { ⌜ Readable (now cone) (now gains) a d ⌝ }
     ensures value { λ r. ⌜ r ≡ worth-known (now (cone .entry)) (now (gains .entry)) (now (v .entry)) a d ⌝ }

@@ -98,9 +98,9 @@ fn first_within(
     find(buf, len, x)
 }
 
-// The place of the first plan in dictionary order, of all n-step plans from s, whose total is x; where there is none, their number. A path is
-// worth the value of the condition at the cone's root, or with no nodes in the cone the raised gain of steps a + 1 to d. The
-// buffer has one of three lengths, by their number and 282 beside: to clear the longest takes longer than to search few plans.
+// The place of the first plan in dictionary order, of all n-step plans from s, whose total is x; where there is none, their number. A path
+// is worth the value of the condition at the cone's root, or with no nodes in the cone the raised gain of steps a + 1 to d. The buffer has
+// one of three lengths, by their number and 282 beside: to clear the longest takes longer than to search few plans.
 pub fn first_equal(
     m: &[u16; MODEL],
     q: &[u8; QUESTION],

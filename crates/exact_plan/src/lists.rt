@@ -34,8 +34,8 @@ use prepared_model::target;
 use prepared_model::weight;
 use prepared_question::QUESTION;
 
-// Where a list is made: after h steps from the start, in the state s, with k steps to go, and written from `at` on. The worth of a path looks
-// d steps ahead; a gain is that of the steps after the first a.
+// Where a list is made: after h steps from the start, in the state s, with k steps to go, and written from `at` on. The worth of a path
+// looks d steps ahead; a gain is that of the steps after the first a.
 pub struct Spot {
     pub start: u8,
     pub a: u8,
@@ -142,8 +142,8 @@ pub fn list(
         let trail′ = now (trail .exit) in let gains′ = now (gains .exit) in let v′ = now (v .exit) in let buf′ = now (buf .exit) in
         let m = now (m .entry) in let q = now (q .entry) in let cone = now (cone .entry) in let trail = now (trail .entry) in
         let buf = now (buf .entry) in
-        ⌜ Written (totals (model-in m) (spot .k) (spot .s) (worth-on m q (spot .start) (spot .a) (spot .d) cone (take (spot .h) trail))) m q (spot .start) cone
-        (spot .h) (spot .at) trail trail′ gains′ v′ buf buf′ r ⌝ }
+        let f = worth-on m q (spot .start) (spot .a) (spot .d) cone (take (spot .h) trail) in
+        ⌜ Written (totals (model-in m) (spot .k) (spot .s) f) m q (spot .start) cone (spot .h) (spot .at) trail trail′ gains′ v′ buf buf′ r ⌝ }
 {
     if spot.d <= spot.h {
         return decided(m, table, cone, gains, v, buf, spot);
@@ -193,9 +193,9 @@ fn combine(
         let trail′ = now (trail .exit) in let gains′ = now (gains .exit) in let v′ = now (v .exit) in let buf′ = now (buf .exit) in
         let m = now (m .entry) in let q = now (q .entry) in let cone = now (cone .entry) in let trail = now (trail .entry) in
         let buf = now (buf .entry) in
-        ⌜ Written (combined (weighed (model-in m) (spot .k) (worth-on m q (spot .start) (spot .a) (spot .d) cone (take (spot .h) trail)))
-        (outcomes (model-in m) (spot .s) (choice-in m (spot .s) i))) m q (spot .start) cone (spot .h) (spot .at) trail trail′ gains′ v′ buf
-        buf′ r ⌝ }
+        let f = worth-on m q (spot .start) (spot .a) (spot .d) cone (take (spot .h) trail) in
+        ⌜ Written (combined (weighed (model-in m) (spot .k) f) (outcomes (model-in m) (spot .s) (choice-in m (spot .s) i))) m q (spot .start)
+        cone (spot .h) (spot .at) trail trail′ gains′ v′ buf buf′ r ⌝ }
 {
     let s = spot.s as usize;
     let c = outcomes(m, s, i);
@@ -244,8 +244,9 @@ fn grown(
         let trail′ = now (trail .exit) in let gains′ = now (gains .exit) in let v′ = now (v .exit) in let buf′ = now (buf .exit) in
         let buf = now (buf .entry) in let m = now (m .entry) in let q = now (q .entry) in let cone = now (cone .entry) in
         let trail = now (trail .entry) in
+        let f = worth-on m q (spot .start) (spot .a) (spot .d) cone (take (spot .h) trail) in
         ⌜ Written (joined (more .right) (part buf (spot .at) (more .len))
-        (weighed (model-in m) (spot .k) (worth-on m q (spot .start) (spot .a) (spot .d) cone (take (spot .h) trail)) (step-in m (spot .s) (more .i) (more .o))))
+        (weighed (model-in m) (spot .k) f (step-in m (spot .s) (more .i) (more .o))))
         m q (spot .start) cone (spot .h) (spot .at) trail trail′ gains′ v′ buf buf′ r ⌝ }
 {
     let s = spot.s as usize;
@@ -300,9 +301,9 @@ fn below(
         let trail′ = now (trail .exit) in let gains′ = now (gains .exit) in let v′ = now (v .exit) in let buf′ = now (buf .exit) in
         let m = now (m .entry) in let q = now (q .entry) in let cone = now (cone .entry) in let trail = now (trail .entry) in
         let buf = now (buf .entry) in
+        let f = worth-on m q (spot .start) (spot .a) (spot .d) cone (take (spot .h) trail) in
         ⌜ Written (totals (model-in m) (spot .k) ((step-in m (spot .s) (to .i) (to .o)) .target)
-        (λ l. worth-on m q (spot .start) (spot .a) (spot .d) cone (take (spot .h) trail) ((step-in m (spot .s) (to .i) (to .o)) ∷ l))) m q (spot .start) cone
-        (spot .h) (spot .at) trail trail′ gains′ v′ buf buf′ r ⌝ }
+        (λ l. f ((step-in m (spot .s) (to .i) (to .o)) ∷ l))) m q (spot .start) cone (spot .h) (spot .at) trail trail′ gains′ v′ buf buf′ r ⌝ }
 {
     let here = Place {
         start: spot.start,

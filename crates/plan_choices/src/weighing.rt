@@ -28,8 +28,8 @@ use prepared_model::row_of;
 use prepared_model::weight;
 use prepared_question::QUESTION;
 
-// Where a sum is made: after h steps from the start, in the state s, with k steps to go; the choices are read from `at` on. The worth of a path
-// looks d steps ahead; a gain is that of the steps after the first a.
+// Where a sum is made: after h steps from the start, in the state s, with k steps to go; the choices are read from `at` on. The worth of a
+// path looks d steps ahead; a gain is that of the steps after the first a.
 pub struct Spot {
     start: u8,
     a: u8,
@@ -87,8 +87,9 @@ fn weigh_from(
     ensures effect { λ r.
         let trail′ = now (trail .exit) in let gains′ = now (gains .exit) in let v′ = now (v .exit) in let m = now (m .entry) in
         let q = now (q .entry) in let cone = now (cone .entry) in let trail = now (trail .entry) in let choices = now (choices .entry) in
-        ⌜ Ran (weigh (model-in m) (spot .k) (spot .s) (worth-on m q (spot .start) (spot .a) (spot .d) cone (take (spot .h) trail)) (drop (spot .at) choices)) m q
-        (spot .start) cone (spot .h) trail trail′ gains′ v′ choices (r .value) (r .next) ⌝ }
+        let f = worth-on m q (spot .start) (spot .a) (spot .d) cone (take (spot .h) trail) in
+        ⌜ Ran (weigh (model-in m) (spot .k) (spot .s) f (drop (spot .at) choices)) m q (spot .start) cone (spot .h) trail trail′ gains′ v′
+        choices (r .value) (r .next) ⌝ }
 {
     if spot.k == 0 {
         return Part {
@@ -145,7 +146,8 @@ pub fn plan_weight(
     requires { ⌜ (0 < length (now cone) → d ≡ depth (formula (now q) (root-of (now cone)))) × (a ≤ d) × (d ≤ n) × (n ≤ 6) ⌝ }
     ensures value { λ r.
         let m = now (m .entry) in let choices = now (choices .entry) in let q = now (q .entry) in let cone = now (cone .entry) in
-        ⌜ ((π : Plan n) → plan-of (model-in m) n start choices ≡ ok π → r ≡ total naturals (model-in m) n start π (worth-of m q start a d cone)) ⌝ }
+        ⌜ ((π : Plan n) → plan-of (model-in m) n start choices ≡ ok π
+        → r ≡ total naturals (model-in m) n start π (worth-of m q start a d cone)) ⌝ }
     ensures range { λ r. ⌜ r ≤ 12000 * 100 ^ 6 ⌝ }
 {
     let mut trail = [0u16; STEPS];

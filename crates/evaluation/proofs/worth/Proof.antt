@@ -3,10 +3,8 @@ use Prim.Native.Nat.{ℕ, _*_, _-_}
 use native.Mathlib.Omega.{arith}
 use mathlib.Core.Path.{_≡_, sym, ap, _∙_}
 use lib.IntN.{pos, natAbs, _+ℤ_}
-use lib.ListN.{getD}
 use mir.Syntax.{w64}
 use mir.Val.{toZ, ofZ}
-use Rattle.evaluation.specs.promises.Learnt.{known}
 use Rattle.evaluation.specs.promises.Worth.{raised-known}
 use Rattle.evaluation.proofs.Integers.{sum-fits, sum-is, natural-fits}
 use Rattle.evaluation.proofs.PathWorth.{known-of-gain, known-of-value}

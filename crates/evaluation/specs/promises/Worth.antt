@@ -23,7 +23,8 @@ worth-of m q start a d (c ∷ cone) ρ = value-of (model-in m) (formula q (root-
 abbrev pub worth-on : (m q : Bytes) (start a d : ℕ) (cone t : List ℕ) → List Step → ℕ
 worth-on m q start a d cone t r = worth-of m q start a d cone (steps-of m start t ++ r)
 
--- The gain of the steps after the first a, up to step d, and 1000 for each of them; gains are the sums of the rewards of the first 0, 1, .. steps.
+-- The gain of the steps after the first a, up to step d, and 1000 for each of them; gains are the sums of the rewards of the first 0, 1, ..
+-- steps.
 abbrev pub raised-known : List ℤ → (a d : ℕ) → ℤ
 raised-known gains a d = (getD gains d (pos 0) -ℤ getD gains a (pos 0)) +ℤ pos (1000 * (d - a))
 

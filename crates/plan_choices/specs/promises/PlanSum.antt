@@ -1,5 +1,5 @@
--- The total of the plan that choices spell, by its first step, and the choices left over. That it is the plan's total, where they spell one, is
--- proved (`SumIsWeight`).
+-- What the paths that choices allow are worth, weighed and summed by the first step, and the choices left over. That it is the plan's total,
+-- where they spell one, is proved (`SumIsWeight`).
 use Prim.Native.Nat.{ℕ, zero, suc, _+_, _*_}
 use mathlib.Core.List.{List, [], _∷_}
 use lib.ListN.{getD, drop}
