@@ -13,10 +13,11 @@ use Rattle.logic.specs.Quantity.{naturals, sum}
 use Rattle.logic.specs.Bound.{gain-between}
 use Rattle.logic.specs.Formula.{depth}
 use Rattle.logic.specs.promises.Raised.{raise, raised, Modest}
+use Rattle.logic.specs.promises.Total.{value-of}
 use Rattle.logic.proofs.WholeTotals.{All-modest, worth-raised}
 use Rattle.blocks.specs.Bytes.{Bytes}
 use Rattle.models.specs.Layout.{state-count, action-count, prop-count}
-use Rattle.prepared_model.specs.promises.Rows.{step-in, Prepared}
+use Rattle.prepared_model.specs.promises.Rows.{step-in, model-in, Prepared}
 use Rattle.prepared_question.specs.promises.Nodes.{formula, Nodes}
 use Rattle.evaluation.specs.promises.Path.{step-of, steps-of, Trail, stop, move, gain-of}
 use Rattle.evaluation.specs.promises.Reached.{root-of, Ready}
@@ -41,6 +42,17 @@ unfolding worth-known
 known-of-value [] gains v a d h = absurd (omega arith)
 known-of-value (c ∷ cone) gains v a d h = refl
 
+module _ (m q : Bytes) (start a d : ℕ) where
+  pub worth-condition : (cone : List ℕ) → 0 < length cone → worth-of m q start a d cone ≡ value-of (model-in m) (formula q (root-of cone)) start
+  unfolding worth-of
+  worth-condition [] h = absurd (omega arith)
+  worth-condition (c ∷ cone) h = refl
+
+  pub worth-gain : (cone : List ℕ) → length cone ≡ 0 → worth-of m q start a d cone ≡ raised a d
+  unfolding worth-of
+  worth-gain [] e = refl
+  worth-gain (c ∷ cone) e = absurd (omega arith)
+
 -- With no nodes in the cone, nothing is asked of them.
 pub ready-none : {m q : Bytes} {s : ℕ} (truth : List ℕ) → Prepared m → Nodes (state-count m) (action-count m) (prop-count m) q → s < state-count m → Ready m q s truth []
 ready-none truth p n h =
@@ -54,13 +66,13 @@ ready-none truth p n h =
 
 -- ---- modest rewards
 
-pub modest-append : (r l : List Step) → All-modest r → All-modest l → All-modest (r ++ l)
+modest-append : (r l : List Step) → All-modest r → All-modest l → All-modest (r ++ l)
 modest-append r l h g o i = ⊎-elim (h o) (g o) (List·Memᴰ·append-cases r i)
 
 pub modest-cons : (o : Step) (r : List Step) → Modest (o .reward) → All-modest r → All-modest (o ∷ r)
 modest-cons o r h g p i = ⊎-elim (λ e. subst (λ (z : Step). Modest (z .reward)) (sym e) h) (g p) (List·Memᴰ·cases-cons i)
 
-pub trail-modest : {m : List ℕ} → Prepared m → {s : ℕ} {t : List ℕ} → Trail m s t → s < state-count m → All-modest (steps-of m s t)
+trail-modest : {m : List ℕ} → Prepared m → {s : ℕ} {t : List ℕ} → Trail m s t → s < state-count m → All-modest (steps-of m s t)
 unfolding steps-of step-of
 trail-modest w stop h = λ o i. absurd (List·Memᴰ·not-nil i)
 trail-modest {m} w (move {s} {b} {t} u r) h =
