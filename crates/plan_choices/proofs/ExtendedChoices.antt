@@ -1,15 +1,18 @@
 -- What a run writes of the choices of a plan: the choices of the plan extended; what follows the plan's choices is left to read.
-use Prim.Native.Nat.{ℕ, zero, suc, _-_, _≤_}
+use Prim.Native.Nat.{ℕ, zero, suc, _-_, _≤_, _<_}
 use native.Mathlib.Omega.{arith}
 use native.Mathlib.Nat.{not-suc-le-zero, le-of-suc-le-suc, min-eq-left}
-use mathlib.Core.Path.{_≡_, refl, ap, ap₂, _∙_}
-use mathlib.Core.List.{List, [], _∷_, _++_, map, flatMap, append-assoc}
-use lib.ListN.{drop}
+use mathlib.Core.Path.{_≡_, refl, sym, ap, ap₂, subst, _∙_}
+use mathlib.Core.List.{List, [], _∷_, _++_, map, flatMap, append-assoc, List·Memᴰ, List·Memᴰ·head}
+use lib.ListN.{drop, getD, length}
 use Rattle.logic.specs.Lists.{join}
 use Rattle.logic.specs.Model.{Model, outcomes}
 use Rattle.logic.specs.Plan.{Plan, choices, Match, ends, pair}
 use Rattle.logic.specs.Order.{Is-plan}
-use Rattle.logic.specs.promises.Extension.{first-choice, first-plan, extended}
+use Rattle.logic.specs.Accepted.{Accepted, Executable}
+use Rattle.logic.specs.promises.Extension.{first-choice, chosen-plan, first-plan, extended}
+use Rattle.logic.proofs.FirstChoice.{map-same}
+use Rattle.logic.proofs.Members.{match-weaken}
 use Rattle.plan_choices.specs.promises.Extended.{Run, each, choice-at, after-choice, extend}
 
 module _ {A : Type 0} (f : A → List ℕ → Run) where
@@ -41,31 +44,47 @@ flatMap-join f g [] ys = refl
 flatMap-join f g (x ∷ xs) [] = refl
 flatMap-join f g (x ∷ xs) (y ∷ ys) = ap (λ z. f (g x y) ++ z) (flatMap-join f g xs ys)
 
-match-map : {A B : Type 0} {R S : A → B → Type 0} {xs : List A} {ys : List B} → ((x : A) (y : B) → R x y → S x y) → Match R xs ys → Match S xs ys
-match-map h ends = ends
-match-map h (pair r t) = pair (h _ _ r) (match-map h t)
+module _ (m : Model) (τ : ℕ → ℕ → ℕ) where
+  -- With no steps to read, the choices of the table's plan are written.
+  pub extend-table : (n s : ℕ) (cs : List ℕ) → extend m τ 0 n s cs ≡ (choices n (chosen-plan m τ n s), cs)
+  unfolding extend choices chosen-plan choice-at after-choice
+  extend-table zero s cs = refl
+  extend-table (suc n) s cs =
+      let a : ℕ = τ (suc n) s in
+      ap (λ (y : Run). (a ∷ y .0, y .1))
+      (each-unread (λ o. extend m τ 0 n (o .target)) (λ o. choices n (chosen-plan m τ n (o .target))) (outcomes m s a) cs (λ o. extend-table n (o .target) cs)
+      ∙ ap (λ w. (w, cs)) (flatMap-map (choices n) (λ o. chosen-plan m τ n (o .target)) (outcomes m s a)))
 
-module _ (m : Model) where
-  extend-first : (n s : ℕ) (cs : List ℕ) → extend m 0 n s cs ≡ (choices n (first-plan m n s), cs)
-  unfolding extend choices first-plan choice-at after-choice
-  extend-first zero s cs = refl
-  extend-first (suc n) s cs =
-      ap (λ (y : Run). (first-choice m s ∷ y .0, y .1))
-      (each-unread (λ o. extend m 0 n (o .target)) (λ o. choices n (first-plan m n (o .target))) (outcomes m s (first-choice m s)) cs (λ o. extend-first n (o .target) cs)
-      ∙ ap (λ w. (w, cs)) (flatMap-map (choices n) (λ o. first-plan m n (o .target)) (outcomes m s (first-choice m s))))
+  module _ (accepted : Accepted m) (first : (k s : ℕ) → s < length (m .states) → τ (suc k) s ≡ first-choice m s) where
+    first-in : (s : ℕ) → s < length (m .states) → Executable m s (first-choice m s)
+    unfolding first-choice
+    first-in s h =
+        let w = accepted .some-choice s h in
+        record { state = h; choice = subst (λ l. List·Memᴰ (getD l 0 0) l) (sym (w .2)) (List·Memᴰ·head refl) }
 
-  -- The choices of a d-step plan, with whatever follows them, become those of its extension to n steps.
-  pub extend-choices : (d n s : ℕ) (p : Plan d) (rest : List ℕ) → d ≤ n → Is-plan m d s p → extend m d n s (choices d p ++ rest) ≡ (choices n (extended m d n s p), rest)
-  unfolding choices extended extend choice-at after-choice
-  extend-choices zero n s p rest h i = extend-first n s rest
-  extend-choices (suc d) zero s p rest h i = absurd (not-suc-le-zero h)
-  extend-choices (suc d) (suc n) s p rest h i =
-      let a : ℕ = p .0 in
-      let cs : List ℕ = flatMap (choices d) (p .1) ++ rest in
-      let one : suc d - 1 ≡ d = omega arith in
-      ap₂ (λ (k : ℕ) (l : List ℕ). after-choice a (each (λ o. extend m k n (o .target)) (outcomes m s a) l)) one
-      (ap (λ (k : ℕ). drop k (a ∷ cs)) (min-eq-left {n = 1} {m = suc d} (omega arith)))
-      ∙ ap (after-choice a)
-      (each-read (λ o. extend m d n (o .target)) (choices d) (λ o q. choices n (extended m d n (o .target) q)) (outcomes m s a) (p .1) rest
-      (match-map (λ o q j r. extend-choices d n (o .target) q r (le-of-suc-le-suc h) j) (i .1)))
-      ∙ ap (λ (w : List ℕ). (a ∷ w, rest)) (flatMap-join (choices n) (λ o q. extended m d n (o .target) q) (outcomes m s a) (p .1))
+    -- A table of first choices has the first plan.
+    first-chosen : (n s : ℕ) → s < length (m .states) → chosen-plan m τ n s ≡ first-plan m n s
+    unfolding chosen-plan first-plan
+    first-chosen zero s h = refl
+    first-chosen (suc n) s h =
+        ap (λ a. (a, map (λ o. chosen-plan m τ n (o .target)) (outcomes m s a))) (first n s h)
+        ∙ ap (λ ps. (first-choice m s, ps))
+        (map-same _ (λ o. first-plan m n (o .target)) (outcomes m s (first-choice m s)) (λ o i. first-chosen n (o .target) (accepted .inside (first-in s h) o i)))
+
+    -- The choices of a d-step plan, with whatever follows them, become those of its extension to n steps.
+    pub extend-choices : (d n s : ℕ) (p : Plan d) (rest : List ℕ) → d ≤ n → s < length (m .states) → Is-plan m d s p
+        → extend m τ d n s (choices d p ++ rest) ≡ (choices n (extended m d n s p), rest)
+    unfolding choices extended extend choice-at after-choice
+    extend-choices zero n s p rest h k i = extend-table n s rest ∙ ap (λ π. (choices n π, rest)) (first-chosen n s k)
+    extend-choices (suc d) zero s p rest h k i = absurd (not-suc-le-zero h)
+    extend-choices (suc d) (suc n) s p rest h k i =
+        let a : ℕ = p .0 in
+        let cs : List ℕ = flatMap (choices d) (p .1) ++ rest in
+        let one : suc d - 1 ≡ d = omega arith in
+        let x : Executable m s a = record { state = k; choice = i .0 } in
+        ap₂ (λ (k : ℕ) (l : List ℕ). after-choice a (each (λ o. extend m τ k n (o .target)) (outcomes m s a) l)) one
+        (ap (λ (k : ℕ). drop k (a ∷ cs)) (min-eq-left {n = 1} {m = suc d} (omega arith)))
+        ∙ ap (after-choice a)
+        (each-read (λ o. extend m τ d n (o .target)) (choices d) (λ o q. choices n (extended m d n (o .target) q)) (outcomes m s a) (p .1) rest
+        (match-weaken (λ o q j e r. extend-choices d n (o .target) q r (le-of-suc-le-suc h) (accepted .inside x o j) e) (i .1)))
+        ∙ ap (λ (w : List ℕ). (a ∷ w, rest)) (flatMap-join (choices n) (λ o q. extended m d n (o .target) q) (outcomes m s a) (p .1))

@@ -1,11 +1,12 @@
--- The choices of an extended plan, written while those of the shorter plan are read. That they are those of `extended` is proved
--- (`Choices`).
-use Prim.Native.Nat.{ℕ, zero, suc, _+_, _*_, _-_, _≤_, min}
+-- The choices of an extended plan, written while those of the shorter plan are read; beyond it they are given by a table. That they are those of
+-- `extended`, or of the table's plan, is proved (`ExtendedChoices`).
+use Prim.Native.Nat.{ℕ, zero, suc, _+_, _*_, _-_, _≤_, _<_, min}
 use mathlib.Core.Path.{_≡_}
 use mathlib.Core.List.{List, [], _∷_, _++_}
 use lib.ListN.{getD, drop, length}
 use Rattle.logic.specs.Model.{Model, outcomes}
-use Rattle.logic.specs.promises.Extension.{first-choice}
+use Rattle.models.specs.Layout.{state-count}
+use Rattle.prepared_model.specs.promises.Rows.{choices-in, choice-in}
 use Rattle.blocks.specs.Splice.{splice}
 
 -- What is written, and what is left to read.
@@ -17,7 +18,7 @@ unfoldable pub each : {A : Type 0} → (A → List ℕ → Run) → List A → L
 each f [] cs = ([], cs)
 each f (x ∷ xs) cs = (f x cs .0 ++ each f xs (f x cs .1) .0, each f xs (f x cs .1) .1)
 
--- The choice at a history: read while the given plan has steps, then a, the first choice of the state.
+-- The choice at a history: read while the given plan has steps, then a.
 unfoldable pub choice-at : ℕ → ℕ → List ℕ → ℕ
 choice-at a zero cs = a
 choice-at a (suc d) cs = getD cs 0 0
@@ -26,12 +27,21 @@ choice-at a (suc d) cs = getD cs 0 0
 unfoldable pub after-choice : ℕ → Run → Run
 after-choice a y = (a ∷ y .0, y .1)
 
--- n steps from s, of which d are read.
-unfoldable pub extend : Model → (d n s : ℕ) → List ℕ → Run
-extend m d zero s cs = ([], cs)
-extend m d (suc n) s cs =
-    let a : ℕ = choice-at (first-choice m s) d cs in
-    after-choice a (each (λ o. extend m (d - 1) n (o .target)) (outcomes m s a) (drop (min 1 d) cs))
+-- n steps from s, of which d are read; τ has the other choices, by the steps left and the state.
+unfoldable pub extend : Model → (τ : ℕ → ℕ → ℕ) (d n s : ℕ) → List ℕ → Run
+extend m τ d zero s cs = ([], cs)
+extend m τ d (suc n) s cs =
+    let a : ℕ = choice-at (τ (suc n) s) d cs in
+    after-choice a (each (λ o. extend m τ (d - 1) n (o .target)) (outcomes m s a) (drop (min 1 d) cs))
+
+-- Choices by a table of their places, 32 states for each number of steps left.
+abbrev pub by-place : (m places : List ℕ) (k s : ℕ) → ℕ
+by-place m places k s = choice-in m s (getD places (32 * k + s) 0)
+
+-- The table has a place for each of the n steps left and every state.
+pub record Placed (m places : List ℕ) (n : ℕ) : Type 0 where
+  pub few : n ≤ 6
+  pub inside : (k s : ℕ) → k < n → s < state-count m → getD places (32 * suc k + s) 0 < choices-in m s
 
 -- ---- in a buffer
 

@@ -7,8 +7,8 @@ use Rattle.plan_choices.proofs.extending.extend.Tie as tie
 
 extend-from-requires : tie.Need-extend-from-requires
 extend-from-requires c κs = let S = c .before .before .before in
-    let most = most-choices-6 (S .args .n) (S .pre .1 .0) in
-    (S .pre .0, (omega arith, omega arith, omega arith))
+    let most = most-choices-6 (S .args .n) (S .pre .1 .0 .few) in
+    (S .pre .0, (S .pre .1 .0, omega arith, omega arith))
 
 same-length : tie.Need-same-length
 same-length c = search needs
