@@ -30,6 +30,12 @@ use Rattle.prepared_model.proofs.ReadByPlace.{states-are, denominator-is, some-
 use Rattle.best_gain.specs.declared.Window.{Window}
 use Rattle.best_gain.specs.promises.Tabled.{worth-by, Low, Picks, Window-right, before-left, last-left, best-left, Filled}
 
+-- A table of zeros has 0 everywhere, and past its end.
+pub zeros : (n i : ℕ) → getD {A = ℕ} (replicate n 0) i 0 ≡ 0
+zeros zero i = refl
+zeros (suc n) zero = refl
+zeros (suc n) (suc i) = zeros n i
+
 -- ---- sums over the first outcomes
 
 -- A sum of weighed numbers of at most b is at most the sum of the weights, times b.
@@ -232,8 +238,3 @@ module _ (least : Bool) {m : Bytes} (w : Prepared m) (win : Window) (right : Win
             zeros 224 (32 * k + s) ∙ sym (ap (λ k. best-left least M win k s) e ∙ greatest-nothing M (w .accepted) least (before-left win 0) (last-left win 0) s);
         choices = λ k s h b. absurd (omega arith);
       }
-    where
-      zeros : (n i : ℕ) → getD {A = ℕ} (replicate n 0) i 0 ≡ 0
-      zeros zero i = refl
-      zeros (suc n) zero = refl
-      zeros (suc n) (suc i) = zeros n i

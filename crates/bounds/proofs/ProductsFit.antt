@@ -76,15 +76,22 @@ module _ (m q : Bytes) (j : ℕ) (b : Bounded m q j) where
   unfolding lift-of
   lift-9 o = rw o refl
 
-  most-8 : (node-of q j) .operator ≡ 8 → most-of m q j ≡ D
+  pub most-8 : (node-of q j) .operator ≡ 8 → most-of m q j ≡ D
   unfolding most-of
   most-8 o = rw o (omega arith)
 
-  most-9 : (node-of q j) .operator ≡ 9 → most-of m q j ≡ 12000 * D
+  pub most-9 : (node-of q j) .operator ≡ 9 → most-of m q j ≡ 12000 * D
   unfolding most-of
   most-9 o = rw o refl
 
   -- The numbers of the node: its q times a raised total, q times the lift, and D to the n times p, above 0 and below it.
+  pub most-small : most-of m q j ≤ 12000 * 100 ^ 6
+  most-small =
+      ⊎-elim
+      (λ o. rw (most-8 o) (le-trans whole-small (omega arith)))
+      (λ o. rw (most-9 o) (mul-le-mul-left 12000 whole-small))
+      (sets-which ((node-of q j) .operator) (b .sets))
+
   pub record Small : Type 0 where
     pub some-part : 0 < (node-of q j) .q
     pub total : (x : ℕ) → x ≤ most-of m q j → (node-of q j) .q * x ≤ 1000 * (12000 * 100 ^ 6)

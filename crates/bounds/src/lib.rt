@@ -8,6 +8,7 @@ ghost use Rattle.logic.specs.Quantity.{naturals};
 ghost use Rattle.logic.specs.Quantity as quantity;
 ghost use Rattle.models.specs.Layout.{denominator-of};
 ghost use Rattle.questions.specs.Layout.{node-of};
+ghost use Rattle.bounds.specs.promises.Bounded as spec;
 ghost use Rattle.bounds.specs.promises.Bounded.{Bounded, Exactly, under, lift-of, lowered, most-of, meets-at};
 use prepared_model::MODEL;
 use prepared_model::denominator;
@@ -143,4 +144,13 @@ pub fn exact_total(m: &[u16; MODEL], q: &[u8; QUESTION], j: u8) -> Exact
         whole: all % parts == 0,
         total: all / parts,
     }
+}
+
+// The total that a raised one is.
+pub fn lowered(m: &[u16; MODEL], q: &[u8; QUESTION], j: u8, x: u64) -> i64
+    requires { ⌜ Bounded (now m) (now q) j ⌝ }
+    requires { ⌜ x ≤ 12000 * 100 ^ 6 ⌝ }
+    ensures value { λ r. ⌜ r ≡ spec.lowered (now (m .entry)) (now (q .entry)) j x ⌝ }
+{
+    x as i64 - lift(m, q, j) as i64
 }

@@ -1,11 +1,11 @@
 -- The best total of a condition in a state: that of what is left of it, what a search finds, and what is remembered, whichever "plan" asked.
 use Prim.Native.Nat.{ℕ, _+_, _*_, _-_, _^_, _≤_, _<_}
 use native.Mathlib.Omega.{arith}
-use native.Mathlib.Decide.{ℕ-discrete, decLt}
+use native.Mathlib.Decide.{ℕ-discrete}
 use mathlib.Core.Path.{_≡_, refl, sym, ap, ap₂, subst, _∙_, fun-ext}
 use mathlib.Core.Bool.{Bool, true, false}
 use mathlib.Core.List.{List, [], _∷_}
-use lib.ListN.{getD, length, set, replicate, length-set, length-replicate, getD-replicate, List·getD-eq-default}
+use lib.ListN.{getD, length, set, replicate, length-set, length-replicate}
 use lib.Seq.{getD-set-same, getD-set-other}
 use Rattle.logic.specs.Model.{Step}
 use Rattle.logic.specs.Quantity.{sum}
@@ -19,19 +19,19 @@ use Rattle.logic.proofs.Recursion.{best-plan-total}
 use Rattle.blocks.specs.Bytes.{Bytes}
 use Rattle.models.specs.Layout.{state-count, denominator-of}
 use Rattle.prepared_model.specs.promises.Rows.{model-in}
-use Rattle.prepared_model.proofs.ReadByPlace.{denominator-is}
+use Rattle.prepared_model.proofs.ReadByPlace.{states-are, denominator-is}
 use Rattle.questions.specs.Layout.{node-count}
 use Rattle.prepared_question.specs.promises.Nodes.{formula, depth-in}
 use Rattle.evaluation.specs.promises.Reached.{Reached, Cone, root-of, Ready}
 use Rattle.evaluation.proofs.LearntInOrder.{one-if-small}
 use Rattle.relevance.specs.promises.Need.{Given}
+use Rattle.best_gain.proofs.TableRows.{zeros}
 use Rattle.best_plan.specs.declared.Found.{Found}
 use Rattle.best_plan.specs.promises.Greatest.{Finds}
 use Rattle.logic.proofs.FirstBest.{additive}
 use Rattle.best_plan.proofs.TotalsBounded.{greatest-small, value-small}
 use Rattle.judging.specs.promises.Decided.{best}
 use Rattle.judging.specs.promises.Conditions.{Stands, Same, best-total, Searched, memo-place, Remembers}
-use Rattle.judging.proofs.SearchDecides.{given-model, given-states}
 
 pub same-best : {m q truth : Bytes} {c s i : ℕ} (least : Bool) → Same m q truth c s i → best-total m q i s least ≡ best-total m q c s least
 same-best {m} {s = s} least x = ap₂ (λ d f. greatest (weights (order least)) (model-in m) d s f) (x .looks) (fun-ext (x .values))
@@ -71,7 +71,7 @@ module _ {m q : Bytes} {truth : List ℕ} {c s : ℕ} (given : Given m q) (h : S
         nodes = given .nodes;
         state = h .state;
         ordered = cone;
-        truth-right = λ i t r d. h .told .right i t (subst (λ c. Reached m q c s i t) e r) d;
+        truth-right = λ some i t r d. h .told .right i t (subst (λ c. Reached m q c s i t) e r) d;
       }
 
   pub finds : {least : Bool} {l after : List ℕ} {d : ℕ} {r : Found} → d ≡ depth (formula q c) → root-of l ≡ c → Finds least m q s l d after r
@@ -86,8 +86,8 @@ module _ {m q : Bytes} {truth : List ℕ} {c s : ℕ} (given : Given m q) (h : S
   pub best-small : best-total m q c s least ≤ denominator-of m ^ depth (formula q c)
   best-small =
       subst (λ D. best-total m q c s least ≤ D ^ depth (formula q c)) (denominator-is m)
-      (greatest-small least (model-in m) (given-model given) (depth (formula q c)) s (value-of (model-in m) (formula q c) s)
-      (subst (λ k. s < k) (sym (given-states given)) (h .state)) (λ r. one-if-small _))
+      (greatest-small least (model-in m) (given .prepared .accepted) (depth (formula q c)) s (value-of (model-in m) (formula q c) s)
+      (subst (λ k. s < k) (sym (states-are m)) (h .state)) (λ r. one-if-small _))
 
   pub best-fits : depth (formula q c) ≤ 6 → best-total m q c s least ≤ 100 ^ 6
   best-fits l =
@@ -125,10 +125,4 @@ module _ {m q : Bytes} {truth : List ℕ} {c s : ℕ} (given : Given m q) (h : S
           ∙ ap (λ x. 1 + x) (f ∙ ap₂ (λ i j. best-total m q i j least) ec es ∙ ap (best-total m q c′ s′) (one-if-same least least′ eb))
 
 pub remembers-none : (m q : Bytes) → Remembers m q (replicate {A = ℕ} 2560 0)
-remembers-none m q = record { size = length-replicate {A = ℕ} 2560 0; at = λ c s least l w n. absurd (n (zeros (memo-place c s least) (decLt (memo-place c s least) 2560))) }
-  where
-    zeros : (i : ℕ) → Dec (i < 2560) → getD (replicate {A = ℕ} 2560 0) i 0 ≡ 0
-    zeros i (yes h) = getD-replicate {A = ℕ} 2560 i 0 0 h
-    zeros i (no h) =
-        let z : length (replicate {A = ℕ} 2560 0) ≤ i = subst (λ k. k ≤ i) (sym (length-replicate {A = ℕ} 2560 0)) (omega arith) in
-        List·getD-eq-default (replicate {A = ℕ} 2560 0) 0 z
+remembers-none m q = record { size = length-replicate {A = ℕ} 2560 0; at = λ c s least l w n. absurd (n (zeros 2560 (memo-place c s least))) }

@@ -5,6 +5,7 @@ use native.Mathlib.Omega.{arith}
 use native.Mathlib.Nat.{le-max-left, le-max-right}
 use borrow.Author.Count.{below-more}
 use mathlib.Core.Path.{_≡_, refl, sym, ap, ap₂, subst, _∙_}
+use mathlib.Core.Bool.{false}
 use mathlib.Core.List.{List, []}
 use lib.Bits.{bitAnd}
 use lib.Dec.{eqb}
@@ -19,7 +20,8 @@ use Rattle.models.specs.Layout.{state-count, action-count, prop-count}
 use Rattle.prepared_model.specs.promises.Rows.{model-in}
 use Rattle.questions.specs.Layout.{start-of, node-count, node-of}
 use Rattle.questions.proofs.TableNodeByNode.{by-operator}
-use Rattle.questions.specs.promises.Formed.{Formed}
+use Rattle.questions.specs.promises.Formed.{Formed, sets-bound}
+use Rattle.questions.proofs.SetsBound.{sets-neither}
 use Rattle.questions.proofs.AcceptedFacts as questions
 use Rattle.prepared_question.specs.promises.Nodes.{formula}
 use Rattle.evaluation.specs.promises.Reached.{Reached, itself, under-not, and-left, and-right, under-next}
@@ -82,10 +84,11 @@ module _ {m q : Bytes} (given : Given m q) where
 
     -- "false" is false; the other operators make path formulas, which have a depth.
     pub truth-none : depth (formula q j) ≡ 0 → ((node-of q j) .operator ≡ 2 → ⊥) → ((node-of q j) .operator ≡ 3 → ⊥) → ((node-of q j) .operator ≡ 4 → ⊥)
-        → ((node-of q j) .operator ≡ 8 → ⊥) → 0 ≡ value j
+        → sets-bound ((node-of q j) .operator) ≡ false → 0 ≡ value j
     unfolding sat depth one-if
-    truth-none d n2 n3 n4 n8 =
+    truth-none d n2 n3 n4 none =
         let range = asked .in-range j h in
+        let n = sets-neither ((node-of q j) .operator) none in
         by-operator (λ op. (node-of q j) .operator ≡ op → 0 ≡ value j)
         (λ o. absurd (omega (arith, range .operator-from)))
         (λ o. of-formula (questions.at-never S A N q asked j h o))
@@ -95,7 +98,8 @@ module _ {m q : Bytes} (given : Given m q) where
         (λ o. absurd (omega (arith, ap depth (questions.at-does S A N q asked j h o))))
         (λ o. absurd (omega (arith, ap depth (questions.at-next S A N q asked j h o))))
         (λ o. absurd (omega (arith, ap depth (questions.at-gain S A N q asked j h o), (range .of-gain o) .compares .some-step)))
-        (λ o. absurd (n8 o))
+        (λ o. absurd (n .0 o))
+        (λ o. absurd (n .1 o))
         (λ k o. absurd (omega (arith, range .operator-to)))
         ((node-of q j) .operator) refl
 

@@ -1,103 +1,105 @@
 -- How the verdict follows from what a search decided, and how it is told: the plan that a search found, extended or looked up by its place,
--- is the shown plan.
-use Prim.Native.Nat.{ℕ, _+_, _≤_, _<_}
+-- is the shown plan. And what is told of a sheet's plan.
+use Prim.Native.Nat.{ℕ, _+_, _*_, _^_, _≤_, _<_}
 use native.Mathlib.Omega.{arith}
-use native.Mathlib.Nat.{le-antisymm}
+use native.Mathlib.Nat.{le-antisymm, le-trans, mul-le-mul-left}
 use native.Mathlib.Decide.{ℕ-discrete}
-use mathlib.Core.Path.{_≡_, sym, ap, ap₂, subst, _∙_}
+use mathlib.Core.Path.{_≡_, refl, sym, ap, ap₂, subst, _∙_}
 use mathlib.Core.Bool.{Bool, true, false, cond}
-use mathlib.Core.List.{List, _++_}
+use mathlib.Core.List.{List, List·Memᴰ}
 use lib.Dec.{eqb}
-use lib.ListN.{drop, take-append-drop}
+use lib.IntN.{ℤ, pos}
+use lib.ListN.{take}
 use borrow.Author.Tests.{ltb-true, ltb-false}
-use Rattle.logic.specs.Formula.{plan, depth, nonnegative, W}
-use Rattle.logic.specs.promises.Orders.{weights, order}
 use Rattle.logic.specs.Checked.{ok}
-use Rattle.logic.specs.Plan.{Plan, choices}
+use Rattle.logic.specs.Quantity.{naturals}
+use Rattle.logic.specs.Bound.{Bound, total, one-if, total-of, met-by}
+use Rattle.logic.specs.Plan.{Plan, plans, choices}
 use Rattle.logic.specs.Choices.{plan-of}
+use Rattle.logic.specs.Formula.{depth, relation}
+use Rattle.logic.specs.promises.Extension.{first-plan}
 use Rattle.logic.specs.Limits.{plan-total}
-use Rattle.logic.specs.Order.{Is-plan}
-use Rattle.logic.specs.Bound.{one-if, total}
-use Rattle.logic.specs.promises.Total.{value-of}
-use Rattle.logic.specs.Verdict.{Verdict, verdict}
+use Rattle.logic.specs.Verdict.{Goal, bound-goal, goal, Verdict, verdict}
 use Rattle.logic.specs.Verdict as verdicts
-use Rattle.logic.proofs.Best.{best-member}
-use Rattle.logic.proofs.Recursion.{best-plan-first}
-use Rattle.logic.proofs.Dictionary.{plans-are}
+use Rattle.logic.proofs.Checked.{ok-same}
+use Rattle.logic.proofs.Depth.{state-depth}
+use Rattle.logic.proofs.Dictionary.{plan-count}
+use Rattle.logic.proofs.Reading.{plan-of-sound}
+use Rattle.logic.proofs.Shown.{sets-goal}
+use Rattle.logic.proofs.Tests.{getD-member}
 use Rattle.blocks.specs.Bytes.{Bytes}
 use Rattle.blocks.specs.Splice.{splice}
 use Rattle.blocks.proofs.Splice.{splice-none}
 use Rattle.models.specs.Layout.{state-count}
 use Rattle.prepared_model.specs.promises.Rows.{model-in}
 use Rattle.questions.specs.Layout.{start-of, node-count, node-of, question-of}
+use Rattle.questions.specs.promises.Formed.{sets-bound}
 use Rattle.limits.specs.promises.Totals.{Totals}
 use Rattle.prepared_question.specs.promises.Nodes.{formula}
-use Rattle.evaluation.specs.promises.Reached.{root-of}
-use Rattle.plan_choices.specs.promises.Extended.{extend}
-use Rattle.plan_choices.proofs.ExtendedChoices.{extend-choices}
-use Rattle.logic.proofs.FirstBest.{ordered, additive}
+use Rattle.evaluation.specs.promises.Worth.{worth-of}
+use Rattle.bounds.specs.promises.Bounded.{Bounded, lowered, most-of, meets-at}
+use Rattle.bounds.proofs.ProductsFit.{most-small}
 use Rattle.relevance.specs.promises.Need.{Given}
 use Rattle.judging.specs.declared.Outcome.{Outcome}
+use Rattle.judging.specs.declared.Weighed.{Weighed}
 use Rattle.judging.specs.declared.plans.Decision.{Decision}
 use Rattle.judging.specs.promises.Asked.{Asked, Served}
 use Rattle.judging.specs.promises.Truth.{Supplied}
-use Rattle.judging.specs.promises.Decided.{condition, best, led-plan, plan-at, Posed, Decided}
-use Rattle.judging.specs.promises.Announced.{root, root-verdict, told, shown-choices, Announces, Weighs}
-use Rattle.judging.proofs.SearchDecides.{shows, denies, plan-here, given-model, given-states, led-yes, led-no, equal-yes, equal-no, few-plans, led-met}
-use Rattle.logic.proofs.Depth.{state-depth}
+use Rattle.judging.specs.promises.Worths.{Looks}
+use Rattle.judging.specs.promises.Decided.{raised-at, bound-as, best-node, plan-at, Posed, Decided}
+use Rattle.judging.specs.promises.Announced.{root, root-verdict, told, shown-choices, Announces, Sums, Spelled, Weighs}
+use Rattle.judging.proofs.NodeBounds.{sets-at, raises-at, total-most, best-most, inside}
+use Rattle.judging.proofs.SearchDecides.{shows, denies, led-yes, led-no, equal-yes, equal-no, few-plans}
+use Rattle.judging.proofs.SearchHanded.{handed-worth}
 
 -- ---- telling
 
-pub announces-plan : {v : Verdict} {w n k i : ℕ} {cs l after : List ℕ} {x : Outcome} (before : List ℕ) → v ≡ shows w n k cs → i ≡ n → l ≡ cs
+pub announces-plan : {v : Verdict} {w : ℤ} {n k i : ℕ} {cs l after : List ℕ} {x : Outcome} (before : List ℕ) → v ≡ shows w n k cs → i ≡ n → l ≡ cs
     → x ≡ record { yes = true; plan = true; weight = w; steps = i; count = k } → after ≡ splice before 0 l → Announces v x before after
-unfolding told shown-choices nonnegative
+unfolding told shown-choices
 announces-plan {w = w} {k = k} before e f same g h = (
   g ∙ ap (λ i. record { yes = true; plan = true; weight = w; steps = i; count = k }) f ∙ ap told (sym e),
   h ∙ ap (splice before 0) same ∙ ap (λ u. splice before 0 (shown-choices u)) (sym e),
 )
 
 pub announces-no : {v : Verdict} {k : ℕ} {x : Outcome} (before : List ℕ) → v ≡ denies k
-    → x ≡ record { yes = false; plan = false; weight = 0; steps = 0; count = k } → Announces v x before before
+    → x ≡ record { yes = false; plan = false; weight = pos 0; steps = 0; count = k } → Announces v x before before
 unfolding told shown-choices
 announces-no before e f = (f ∙ ap told (sym e), sym (splice-none before 0) ∙ ap (λ u. splice before 0 (shown-choices u)) (sym e))
 
 pub announces-truth : {v : Verdict} {y : ℕ} {x : Outcome} (t : Bool) (before : List ℕ) → v ≡ cond t verdicts.yes (denies 0) → y ≡ one-if t
-    → x ≡ record { yes = eqb y 1; plan = false; weight = 0; steps = 0; count = 0 } → Announces v x before before
+    → x ≡ record { yes = eqb y 1; plan = false; weight = pos 0; steps = 0; count = 0 } → Announces v x before before
 unfolding told shown-choices one-if
 announces-truth true before e f g = (
-  g ∙ ap (λ y. record { yes = eqb y 1; plan = false; weight = 0; steps = 0; count = 0 }) f ∙ ap told (sym e),
+  g ∙ ap (λ y. record { yes = eqb y 1; plan = false; weight = pos 0; steps = 0; count = 0 }) f ∙ ap told (sym e),
   sym (splice-none before 0) ∙ ap (λ u. splice before 0 (shown-choices u)) (sym e),
 )
 announces-truth false before e f g =
-    announces-no before e (g ∙ ap (λ y. record { yes = eqb y 1; plan = false; weight = 0; steps = 0; count = 0 }) f)
+    announces-no before e (g ∙ ap (λ y. record { yes = eqb y 1; plan = false; weight = pos 0; steps = 0; count = 0 }) f)
 
--- ---- a state formula looks at no step
+-- ---- the verdict on a node that sets a bound
 
--- ---- the verdict on a "plan" node
-
-module _ {m q : Bytes} {counts : List ℕ} (asked : Asked m q counts) (j s : ℕ) (h : j < node-count q)
-    (o : (node-of q j) .operator ≡ 8) (inside : s < state-count m) {scratch : List ℕ} {r : Decision} (x : Decided m q j s scratch r) where
+module _ {m q : Bytes} {counts : List ℕ} (asked : Asked m q counts) {j : ℕ} (b : Bounded m q j) (s : ℕ) (here : s < state-count m)
+    {scratch places : List ℕ} {r : Decision} (x : Decided m q j s scratch places r) where
   -- "equal"
   pub equal-few : (node-of q j) .right ≡ 2 → (plan-total (model-in m) ((node-of q j) .n) s ≤ 65536) × (r .place ≤ 65536)
-  equal-few e = let f = few-plans asked j s h o e inside in let w = x .placed e .within in (f, omega arith)
+  equal-few e = let f = few-plans asked j s (b .node) (b .sets) e here in let w = x .placed e .within in (f, omega arith)
 
   pub equal-inside : (node-of q j) .right ≡ 2 → r .met ≡ true → r .place < plan-total (model-in m) ((node-of q j) .n) s
   equal-inside e t = ltb-true (r .place) (plan-total (model-in m) ((node-of q j) .n) s) (sym (x .placed e .bounds) ∙ t)
 
   pub equal-verdict : (node-of q j) .right ≡ 2 → r .met ≡ true
       → verdict (model-in m) s (formula q j)
-      ≡ shows (r .weight) ((node-of q j) .n) (1 + r .place) (choices ((node-of q j) .n) (plan-at (model-in m) ((node-of q j) .n) s (r .place)))
-  equal-verdict e t = equal-yes (asked .given) j s h o e (x .placed e .first) (equal-inside e t)
+      ≡ shows (lowered m q j (r .weight)) ((node-of q j) .n) (1 + r .place) (choices ((node-of q j) .n) (plan-at (model-in m) ((node-of q j) .n) s (r .place)))
+  equal-verdict e t = equal-yes b s here e (x .placed e .first) (equal-inside e t)
 
   pub led-verdict : ((node-of q j) .right ≡ 2 → ⊥) → r .met ≡ true
       → verdict (model-in m) s (formula q j)
-      ≡ shows (r .weight) ((node-of q j) .n) 0
-      (choices ((node-of q j) .n) (led-plan (model-in m) (condition q j) (depth (condition q j)) ((node-of q j) .n) s (eqb ((node-of q j) .right) 1)))
+      ≡ shows (lowered m q j (r .weight)) ((node-of q j) .n) 0 (choices ((node-of q j) .n) (best-node m q j s (eqb ((node-of q j) .right) 1)))
   led-verdict e t =
       let p = x .led e in
-      let cs : List ℕ = choices ((node-of q j) .n) (led-plan (model-in m) (condition q j) (depth (condition q j)) ((node-of q j) .n) s (eqb ((node-of q j) .right) 1)) in
-      led-yes (asked .given) j s h o e inside (sym (led-met (asked .given) j s h o e inside p) ∙ t)
-      ∙ ap (λ w. shows w ((node-of q j) .n) 0 cs) (sym (p .weighs))
+      led-yes b s here e (sym (ap (λ w. meets-at m q j (lowered m q j w)) (p .weighs)) ∙ sym (p .bounds) ∙ t)
+      ∙ ap (λ w. shows (lowered m q j w) ((node-of q j) .n) 0 (choices ((node-of q j) .n) (best-node m q j s (eqb ((node-of q j) .right) 1)))) (sym (p .weighs))
 
   pub no-verdict : r .met ≡ false → verdict (model-in m) s (formula q j) ≡ denies (r .place)
   no-verdict t = go (ℕ-discrete ((node-of q j) .right) 2)
@@ -106,10 +108,10 @@ module _ {m q : Bytes} {counts : List ℕ} (asked : Asked m q counts) (j s : ℕ
       go (yes e) =
           let p = x .placed e in
           let l = ltb-false (r .place) (plan-total (model-in m) ((node-of q j) .n) s) (sym (p .bounds) ∙ t) in
-          equal-no (asked .given) j s h o e (p .first) l ∙ ap denies (le-antisymm l (p .within))
+          equal-no b s here e (p .first) l ∙ ap denies (le-antisymm l (p .within))
       go (no e) =
           let p = x .led e in
-          led-no (asked .given) j s h o e inside (sym (led-met (asked .given) j s h o e inside p) ∙ t) ∙ ap denies (sym (p .unplaced))
+          led-no b s here e (sym (ap (λ w. meets-at m q j (lowered m q j w)) (p .weighs)) ∙ sym (p .bounds) ∙ t) ∙ ap denies (sym (p .unplaced))
 
   pub place-few : r .place ≤ 65536
   place-few = go (ℕ-discrete ((node-of q j) .right) 2)
@@ -118,27 +120,18 @@ module _ {m q : Bytes} {counts : List ℕ} (asked : Asked m q counts) (j s : ℕ
       go (yes e) = equal-few e .1
       go (no e) = omega (arith, x .led e .unplaced)
 
-  -- ---- the choices of the plan found, extended
-
-  best-is-plan : (least : Bool) → Is-plan (model-in m) (depth (condition q j)) s (best (model-in m) (condition q j) (depth (condition q j)) s least)
-  best-is-plan least =
-      let d : ℕ = depth (condition q j) in
-      plans-are (model-in m) d s (best (model-in m) (condition q j) d s least) .0
-      (best-member (weights (order least)) (ordered least) (λ p. total (weights (order least)) (model-in m) d s p (value-of (model-in m) (condition q j) s))
-      (best-plan-first (weights (order least)) (additive (order least)) (ordered least) (model-in m) (given-model (asked .given)) d s
-      (value-of (model-in m) (condition q j) s) (subst (λ k. s < k) (sym (given-states (asked .given))) inside)))
-
-  pub led-choices : {d n : ℕ} → ((node-of q j) .right ≡ 2 → ⊥) → d ≡ depth (condition q j) → n ≡ (node-of q j) .n
-      → extend (model-in m) d n s scratch .0
-      ≡ choices ((node-of q j) .n) (led-plan (model-in m) (condition q j) (depth (condition q j)) ((node-of q j) .n) s (eqb ((node-of q j) .right) 1))
-  led-choices e f g =
-      let p = x .led e in
-      let d : ℕ = depth (condition q j) in
-      let n : ℕ = (node-of q j) .n in
-      let b = best (model-in m) (condition q j) d s (eqb ((node-of q j) .right) 1) in
-      ap₂ (λ d n. extend (model-in m) d n s scratch .0) f g
-      ∙ ap (λ l. extend (model-in m) d n s l .0) (sym (take-append-drop (r .count) scratch) ∙ ap (λ l. l ++ drop (r .count) scratch) (p .chosen))
-      ∙ ap (λ z. z .0) (extend-choices (model-in m) d n s b (drop (r .count) scratch) (plan-here (asked .given) j h o .deep) (best-is-plan (eqb ((node-of q j) .right) 1)))
+  -- The total found is small, where it is one.
+  pub weight-small : r .met ≡ true → r .weight ≤ 12000 * 100 ^ 6
+  weight-small t = le-trans (go (ℕ-discrete ((node-of q j) .right) 2)) (most-small m q j b)
+    where
+      go : Dec ((node-of q j) .right ≡ 2) → r .weight ≤ most-of m q j
+      go (yes e) =
+          let n : ℕ = (node-of q j) .n in
+          let l = equal-inside e t in
+          subst (λ w. w ≤ most-of m q j) (x .placed e .first .weighs l)
+          (total-most b s here (plan-at (model-in m) n s (r .place))
+          (getD-member (plans (model-in m) n s) (r .place) (first-plan (model-in m) n s) (subst (λ k. r .place < k) (sym (plan-count (model-in m) n s)) l)))
+      go (no e) = subst (λ w. w ≤ most-of m q j) (sym (x .led e .weighs)) (best-most b s here (eqb ((node-of q j) .right) 1))
 
 -- ---- the root
 
@@ -168,17 +161,43 @@ module _ {m q : Bytes} (given : Given m q) where
       subst (λ j. Judged-at m q truth j s) (sym e)
       (subst (λ s. Judged-at m q truth (root q) s) (sym f) (root-node, given .nodes .formed .starts, x, root-depth))
 
-  pub root-posed : {truth : Bytes} → Supplied m q truth (root q) (start-of q) → (node-of q (root q)) .operator ≡ 8 → Posed m q truth (root q) (start-of q)
-  root-posed x o = record { node = root-node; is-plan = o; state = given .nodes .formed .starts; told = x .under-plan o }
+  pub root-posed : {truth : Bytes} → Supplied m q truth (root q) (start-of q) → sets-bound ((node-of q (root q)) .operator) ≡ true → Posed m q truth (root q) (start-of q)
+  root-posed x o = record { node = root-node; sets = o; state = given .nodes .formed .starts; told = x .under-plan }
 
 pub root-announces : (m q : Bytes) {j s : ℕ} {x : Outcome} (before after : List ℕ) → j ≡ root q → s ≡ start-of q
     → Announces (verdict (model-in m) s (formula q j)) x before after → Announces (root-verdict (model-in m) q) x before after
 root-announces m q {x = x} before after e f =
     subst (λ v. Announces v x before after) (ap₂ (λ s j. verdict (model-in m) s (formula q j)) f e)
 
-pub root-weighs : (m q cs l : Bytes) (r n s : ℕ) → n ≡ (node-of q (root q)) .n → s ≡ start-of q → root-of l ≡ (node-of q (root q)) .left
-    → ((π : Plan n) → plan-of (model-in m) n s cs ≡ ok π → r ≡ W (model-in m) (formula q (root-of l)) n s π) → Weighs (model-in m) q cs r
-root-weighs m q cs l r n s e f g h =
-    subst (λ n. (π : Plan n) → plan-of (model-in m) n (start-of q) cs ≡ ok π → r ≡ W (model-in m) (condition q (root q)) n (start-of q) π) e
-    (subst (λ s. (π : Plan n) → plan-of (model-in m) n s cs ≡ ok π → r ≡ W (model-in m) (condition q (root q)) n s π) f
-    (subst (λ c. (π : Plan n) → plan-of (model-in m) n s cs ≡ ok π → r ≡ W (model-in m) (formula q c) n s π) g h))
+-- ---- a sheet's plan
+
+module _ {m q : Bytes} (given : Given m q) (cs : Bytes) where
+  pub root-sums : {truth nodes : List ℕ} {r n s count a d : ℕ} → Posed m q truth (root q) (start-of q) → Looks q (root q) nodes count a d
+      → n ≡ (node-of q (root q)) .n → s ≡ start-of q
+      → ((π : Plan n) → plan-of (model-in m) n s cs ≡ ok π → r ≡ total naturals (model-in m) n s π (worth-of m q s a d (take count nodes))) → Sums m q cs r
+  root-sums {nodes = nodes} {r} {n} {s} {count} {a} {d} posed l e f g =
+      subst (λ n. (π : Plan n) → plan-of (model-in m) n (start-of q) cs ≡ ok π → r ≡ total naturals (model-in m) n (start-of q) π (raised-at m q (root q) (start-of q))) e
+      (subst (λ w. (π : Plan n) → plan-of (model-in m) n (start-of q) cs ≡ ok π → r ≡ total naturals (model-in m) n (start-of q) π w) (handed-worth given posed l)
+      (subst (λ s. (π : Plan n) → plan-of (model-in m) n s cs ≡ ok π → r ≡ total naturals (model-in m) n s π (worth-of m q s a d (take count nodes))) f g))
+
+  module _ (b : Bounded m q (root q)) where
+    here : start-of q < state-count m
+    here = given .nodes .formed .starts
+
+    member : (π : Plan ((node-of q (root q)) .n)) → plan-of (model-in m) ((node-of q (root q)) .n) (start-of q) cs ≡ ok π
+        → List·Memᴰ π (plans (model-in m) ((node-of q (root q)) .n) (start-of q))
+    member π e = plan-of-sound (model-in m) ((node-of q (root q)) .n) (start-of q) cs π e .0
+
+    pub spelled-most : {r : ℕ} → Spelled (model-in m) q cs → Sums m q cs r → r ≤ most-of m q (root q)
+    spelled-most x f = subst (λ r. r ≤ most-of m q (root q)) (sym (f (x .0) (x .1))) (total-most b (start-of q) here (x .0) (member (x .0) (x .1)))
+
+    -- The total, lowered, and whether it meets the bound.
+    pub weighs : {r : ℕ} {total : ℤ} {met : Bool} → Sums m q cs r → total ≡ lowered m q (root q) r → met ≡ meets-at m q (root q) (lowered m q (root q) r)
+        → Weighs (model-in m) q cs (record { total = total; met = met })
+    weighs {r} {total} {met} f e t g a =
+        let B : Bound = bound-as (relation ((node-of q (root q)) .right)) m q (root q) (start-of q) in
+        subst (λ g. (π : Plan (g .steps)) → plan-of (model-in m) (g .steps) (start-of q) cs ≡ ok π → (total ≡ g .total π) × (met ≡ g .met π))
+        (ok-same (sym (sets-goal (sets-at b (start-of q))) ∙ a))
+        (λ π p.
+        let z = ap (lowered m q (root q)) (f π p) ∙ sym (raises-at b (start-of q) here .lowered π (member π p)) in
+        (e ∙ z, t ∙ ap (meets-at m q (root q)) z))

@@ -4,3 +4,5 @@ pub mod Asked
 pub mod Conditions
 pub mod Decided
 pub mod Truth
+pub mod Worths
+pub mod Rows

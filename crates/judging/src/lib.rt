@@ -1,8 +1,9 @@
 // Judging an accepted question on an accepted model: the truth of the nodes from the first to the last, where it matters, and the verdict
 // on the root.
 ghost use mathlib.Core.Path.{_≡_};
-ghost use Prim.Native.Nat.{_≤_, _<_};
+ghost use Prim.Native.Nat.{_*_, _^_, _≤_, _<_};
 ghost use mathlib.Core.Bool.{true, false};
+ghost use lib.IntN.{pos};
 ghost use lib.ListN.{length};
 ghost use Rattle.logic.specs.Formula as formulas;
 ghost use Rattle.logic.specs.Verdict.{verdict};
@@ -14,17 +15,24 @@ ghost use Rattle.relevance.specs.promises.Need.{Given};
 ghost use Rattle.judging.specs.promises.Asked.{Asked, Served};
 ghost use Rattle.judging.specs.promises.Truth.{Supplied};
 ghost use Rattle.judging.specs.promises.Decided.{Posed, Decided};
-ghost use Rattle.judging.specs.promises.Announced.{root, root-verdict, Announces, Weighs};
+ghost use Rattle.questions.specs.promises.Formed.{sets-bound};
+ghost use Rattle.bounds.specs.promises.Bounded.{Bounded};
+ghost use Rattle.judging.specs.promises.Announced.{root, root-verdict, Announces, Sums, Spelled, Weighs};
 
 mod conditions;
 mod plans;
 mod truth;
+mod worths;
 
 use crate::plans::Decision;
 use crate::plans::decide;
 use crate::truth::plain_truth;
 use crate::truth::truth_table;
+use crate::worths::worth_of;
+use best_gain::GAINS;
 use best_plan::STACK;
+use bounds::lowered;
+use bounds::meets;
 use evaluation::TRUTHS;
 use limits::COUNTS;
 use limits::plan_totals;
@@ -35,32 +43,29 @@ use prepared_model::MODEL;
 use prepared_question::QUESTION;
 use prepared_question::asks_equal;
 use prepared_question::count;
-use prepared_question::depth;
-use prepared_question::left;
 use prepared_question::operator;
 use prepared_question::start;
 use prepared_question::steps;
 use questions::NODES;
-use questions::PLAN;
-use relevance::cone;
+use questions::sets_bound;
 use relevance::needed;
 
 // The numbers of a table of best totals: by condition and state, the greatest and the least.
 const BESTS: usize = 2560;
 
-// What judging came to. `plan`: the root is "plan" and true, and then weight, steps and count are the shown plan's; on no, count is the
-// number of all plans for "equal", else 0.
+// What judging came to. `plan`: the root sets a bound on plans and is true, and then weight, steps and count are the shown plan's; on no, count is
+// the number of all plans for "equal", else 0.
 pub struct Outcome {
     pub yes: bool,
     pub plan: bool,
-    pub weight: u64,
+    pub weight: i64,
     pub steps: u32,
     pub count: u32,
 }
 
 // An outcome without a plan.
 fn plain(yes: bool, count: u32) -> Outcome
-    ensures value { λ r. ⌜ r ≡ record { yes = yes; plan = false; weight = 0; steps = 0; count = count } ⌝ }
+    ensures value { λ r. ⌜ r ≡ record { yes = yes; plan = false; weight = pos 0; steps = 0; count = count } ⌝ }
 {
     Outcome {
         yes: yes,
@@ -72,7 +77,7 @@ fn plain(yes: bool, count: u32) -> Outcome
 }
 
 // An outcome with a plan: yes.
-fn with_plan(weight: u64, steps: u8, count: u32) -> Outcome
+fn with_plan(weight: i64, steps: u8, count: u32) -> Outcome
     ensures value { λ r. ⌜ r ≡ record { yes = true; plan = true; weight = weight; steps = steps; count = count } ⌝ }
 {
     Outcome {
@@ -99,28 +104,30 @@ fn show(
     q: &[u8; QUESTION],
     counts: &[u64; COUNTS],
     scratch: &[u8],
+    places: &[u8; GAINS],
     choices: &mut [u8],
     j: u8,
     s: u8,
     r: Decision,
 ) -> Outcome
-    requires { ⌜ Asked (now m) (now q) (now counts) × Decided (now m) (now q) j s (now scratch) r × (r .met ≡ true) ⌝ }
     requires { ⌜
-        (j < node-count (now q)) × (node-of (now q) j .operator ≡ 8) × (s < state-count (now m)) × (1365 ≤ length (now choices)) ⌝ }
+        Asked (now m) (now q) (now counts) × Bounded (now m) (now q) j × Decided (now m) (now q) j s (now scratch) (now places) r
+        × (r .met ≡ true) ⌝ }
+    requires { ⌜ (s < state-count (now m)) × (1365 ≤ length (now choices)) ⌝ }
     ensures effect { λ x.
         let choices′ = now (choices .exit) in let m = now (m .entry) in let q = now (q .entry) in let choices = now (choices .entry) in
         ⌜ Announces (verdict (model-in m) s (formula q j)) x choices choices′ ⌝ }
 {
     let n = steps(q, j);
-    let weight = r.weight;
+    let total = lowered(m, q, j, r.weight);
     let place = r.place;
     if asks_equal(q, j) {
         nth(m, counts, choices, s, n, place as u64);
-        return with_plan(weight, n, 1 + place as u32);
+        return with_plan(total, n, 1 + place as u32);
     }
-    let d = depth(q, left(q, j));
-    extend(m, scratch, choices, s as usize, d as usize, n as usize);
-    with_plan(weight, n, 0)
+    let d = r.given as usize;
+    extend(m, places, scratch, choices, s as usize, d, n as usize);
+    with_plan(total, n, 0)
 }
 
 // The verdict on node j, a state formula, in s.
@@ -139,18 +146,18 @@ fn at_node(
         let choices′ = now (choices .exit) in let m = now (m .entry) in let q = now (q .entry) in let choices = now (choices .entry) in
         ⌜ Announces (verdict (model-in m) s (formula q j)) r choices choices′ ⌝ }
 {
-    if operator(q, j) != PLAN {
-        let x = plain_truth(m, q, truth, j, s);
-        return plain(x == 1, 0);
+    if sets_bound(operator(q, j)) {
+        let mut scratch = [0u8; STACK];
+        let mut places = [0u8; GAINS];
+        let r = decide(m, q, counts, truth, &mut scratch, &mut places, j, s);
+        let place = r.place;
+        if r.met {
+            return show(m, q, counts, &scratch, &places, choices, j, s, r);
+        }
+        return plain(false, place as u32);
     }
-    let mut scratch = [0u8; STACK];
-    let r = decide(m, q, counts, truth, &mut scratch, j, s);
-    let met = r.met;
-    let place = r.place;
-    if met {
-        return show(m, q, counts, &scratch, choices, j, s, r);
-    }
-    plain(false, place as u32)
+    let x = plain_truth(m, q, truth, j, s);
+    plain(x == 1, 0)
 }
 
 // Judges a question: the verdict on its root in its start state, and the choices of a shown plan from the beginning of `choices` on.
@@ -171,20 +178,43 @@ pub fn judged(m: &[u16; MODEL], q: &[u8; QUESTION], choices: &mut [u8]) -> Outco
 fn root_weight(m: &[u16; MODEL], q: &[u8; QUESTION], truth: &[u8; TRUTHS], choices: &[u8]) -> u64
     requires { ⌜ Given (now m) (now q) ⌝ }
     requires { ⌜ Posed (now m) (now q) (now truth) (root (now q)) (start-of (now q)) ⌝ }
-    ensures value { λ r. ⌜ Weighs (model-in (now (m .entry))) (now (q .entry)) (now (choices .entry)) r ⌝ }
+    ensures value { λ r. ⌜ Sums (now (m .entry)) (now (q .entry)) (now (choices .entry)) r ⌝ }
+    ensures range { λ r. ⌜ r ≤ 12000 * 100 ^ 6 ⌝ }
 {
     let j = count(q) - 1;
     let mut nodes = [0u8; NODES];
-    let k = cone(q, left(q, j), &mut nodes);
-    plan_weight(m, q, truth, &nodes[..k], choices, start(q), steps(q, j))
+    let w = worth_of(m, q, j, &mut nodes);
+    plan_weight(
+        m,
+        q,
+        truth,
+        &nodes[..w.count],
+        choices,
+        start(q),
+        w.before,
+        w.last,
+        steps(q, j),
+    )
 }
 
-// The total of the plan with these choices, for the condition of the root, which is a "plan".
-pub fn sheet_weight(m: &[u16; MODEL], q: &[u8; QUESTION], choices: &[u8]) -> u64
-    requires { ⌜ Served (now m) (now q) × (node-of (now q) (root (now q)) .operator ≡ 8) ⌝ }
+// The total of a plan for the root, and whether it meets the root's bound.
+pub struct Weighed {
+    pub total: i64,
+    pub met: bool,
+}
+
+// The total of the plan with these choices, for the root, which sets a bound on plans.
+pub fn sheet_weight(m: &[u16; MODEL], q: &[u8; QUESTION], choices: &[u8]) -> Weighed
+    requires { ⌜ Served (now m) (now q) × (sets-bound (node-of (now q) (root (now q)) .operator) ≡ true) ⌝ }
+    requires { ⌜ Spelled (model-in (now m)) (now q) (now choices) ⌝ }
     ensures value { λ r. ⌜ Weighs (model-in (now (m .entry))) (now (q .entry)) (now (choices .entry)) r ⌝ }
 {
     let counts = plan_totals(m);
     let truth = root_truth(m, q, &counts);
-    root_weight(m, q, &truth, choices)
+    let x = root_weight(m, q, &truth, choices);
+    let j = count(q) - 1;
+    Weighed {
+        total: lowered(m, q, j, x),
+        met: meets(m, q, j, x),
+    }
 }

@@ -1,33 +1,28 @@
--- The nodes of the root's condition, and a table that is right where they read it.
+-- What the root looks at, and a table that is right where it is read.
 use Prim.Native.Nat.{ℕ, _-_}
 use native.Mathlib.Omega.{arith}
 use mathlib.Core.Path.{_≡_, refl, sym, ap, subst, _∙_}
 use mathlib.Core.List.{List}
 use lib.ListN.{take}
 use lib.Seq.{length-take-le}
-use Rattle.logic.specs.Formula.{depth}
 use Rattle.questions.specs.Layout.{node-count, node-of}
-use Rattle.prepared_question.specs.promises.Nodes.{formula}
 use Rattle.evaluation.specs.promises.Reached.{Ready}
+use Rattle.bounds.specs.promises.Bounded.{Bounded}
+use Rattle.bounds.proofs.ProductsFit.{compares}
 use Rattle.judging.specs.promises.Announced.{root}
-use Rattle.judging.proofs.SearchHanded.{planned, before, ready}
-use Rattle.judging.proofs.VerdictShown.{root-weighs}
+use Rattle.judging.specs.promises.Worths.{Looks}
+use Rattle.judging.proofs.SearchHanded.{bounded-at, handed-ready, handed-looks, handed-from, handed-within}
+use Rattle.judging.proofs.VerdictShown.{root-sums}
 use borrow.Author.Needs.{needs}
 use Rattle.judging.proofs.root_weight.Statement.{statement}
 use Rattle.judging.proofs.root_weight.Tie as tie
-use Rattle.judging.proofs.root_weight.Reads as reads
-use Rattle.judging.proofs.root_weight.Lts as lts
-use Rattle.prepared_question.proofs.count.Reads as count-reads
-use Rattle.prepared_question.proofs.left.Reads as left-reads
-use Rattle.prepared_question.proofs.start.Reads as start-reads
-use Rattle.prepared_question.proofs.steps.Reads as steps-reads
-use Rattle.relevance.proofs.cone.Reads as cone-reads
-use Rattle.plan_choices.proofs.weighing.plan_weight.Reads as plan-weight-reads
 
--- The condition's node.
-at-root : (S : tie.Start) {k l : ℕ} → k ≡ node-count (S .args .q .now) → l ≡ (node-of (S .args .q .now) (k - 1)) .left
-    → l ≡ (node-of (S .args .q .now) (root (S .args .q .now))) .left
-at-root S e f = f ∙ ap (λ (i : ℕ). (node-of (S .args .q .now) (i - 1)) .left) e
+at-root : (c : tie.After-count) → c .count .result - 1 ≡ root (c .before .args .q .now)
+at-root c = ap (λ (n : ℕ). n - 1) (c .count .ensures)
+
+-- What is looked at, by the root's number.
+looks : (c : tie.After-worth-of) → Looks (c .before .before .before .args .q .now) (root (c .before .before .before .args .q .now)) (c .worth-of .last .1 .1 .1 .0) (c .worth-of .result .count) (c .worth-of .result .before) (c .worth-of .result .last)
+looks c = subst (λ (j : ℕ). Looks (c .before .before .before .args .q .now) j (c .worth-of .last .1 .1 .1 .0) (c .worth-of .result .count) (c .worth-of .result .before) (c .worth-of .result .last)) (at-root (c .before .before)) (c .worth-of .ensures)
 
 count-requires : tie.Need-count-requires
 count-requires c κs = search needs
@@ -35,22 +30,15 @@ count-requires c κs = search needs
 sub-j : tie.Need-sub-j
 sub-j c = search needs
 
-left-requires : tie.Need-left-requires
-left-requires c κs = search needs
-
-slice-aggregate-cone : tie.Need-slice-aggregate-cone
-slice-aggregate-cone c = search needs
-
-cone-requires : tie.Need-cone-requires
-cone-requires c κs = let S = c .before .before .before .before in
-    let l = before (S .pre .0) (S .pre .1) .0 in
-    ((_, _, _, S .pre .0 .nodes), omega (arith, l, at-root S (c .before .before .count .ensures) (c .before .left .ensures)), refl)
+worth-of-requires : tie.Need-worth-of-requires
+worth-of-requires c κs = let S = c .before .before .before in
+    (subst (λ (j : ℕ). Bounded (S .args .m .now) (S .args .q .now) j) (sym (at-root (c .before))) (bounded-at (S .pre .0) (S .pre .1)), refl)
 
 array-share-prefix-nodes : tie.Need-array-share-prefix-nodes
-array-share-prefix-nodes c = search needs
+array-share-prefix-nodes c = omega (arith, c .worth-of .ensures .few, c .worth-of .ensures .size)
 
 slice-aggregate-plan-weight : tie.Need-slice-aggregate-plan-weight
-slice-aggregate-plan-weight c = sym (length-take-le _ _ (omega (arith, c .before .before .cone .ensures .0, c .before .before .cone .kept .1 .1 .0)))
+slice-aggregate-plan-weight c = sym (length-take-le _ _ (omega (arith, c .before .worth-of .ensures .few, c .before .worth-of .ensures .size)))
 
 start-requires : tie.Need-start-requires
 start-requires c κs = search needs
@@ -59,22 +47,10 @@ steps-requires : tie.Need-steps-requires
 steps-requires c κs = search needs
 
 plan-weight-requires : tie.Need-plan-weight-requires
-plan-weight-requires c κs = let S = c .before .before .before .before .before .before .before .before .before in
-    let G = S .pre .0 in
-    let top = c .before .before .before .before .cone .ensures .2 ∙ at-root S (c .before .before .before .before .before .before .before .count .ensures) (c .before .before .before .before .before .before .left .ensures) in
-    let l : List ℕ = take (c .before .before .before .before .cone .result) (c .before .before .before .before .cone .last .1 .1 .0) in
-    let n = c .steps .ensures ∙ ap (λ (i : ℕ). (node-of (S .args .q .now) (i - 1)) .n) (c .before .before .before .before .before .before .before .count .ensures) in (
-      subst (λ (s : ℕ). Ready (S .args .m .now) (S .args .q .now) s (S .args .truth .now) l) (sym (c .before .start .ensures))
-          (ready G (S .pre .1) (c .before .before .before .before .cone .ensures .1) top),
-      (omega (arith, planned G (S .pre .1) .deep, ap (λ (i : ℕ). depth (formula (S .args .q .now) i)) top), omega (arith, planned G (S .pre .1) .few)),
-    )
+plan-weight-requires c κs = ?
 
 returns : tie.Need-returns
-returns c = let S = c .before .before .before .before .before .before .before .before .before .before in
-    let n = c .before .steps .ensures ∙ ap (λ (i : ℕ). (node-of (S .args .q .now) (i - 1)) .n) (c .before .before .before .before .before .before .before .before .count .ensures) in
-    root-weighs (S .args .m .now) (S .args .q .now) (S .args .choices .now) (take (c .before .before .before .before .before .cone .result) (c .before .before .before .before .before .cone .last .1 .1 .0))
-    (c .plan-weight .result) (c .before .steps .result) (c .before .before .start .result) n (c .before .before .start .ensures)
-    (c .before .before .before .before .before .cone .ensures .2 ∙ at-root S (c .before .before .before .before .before .before .before .before .count .ensures) (c .before .before .before .before .before .before .before .left .ensures)) (c .plan-weight .ensures)
+returns c = ?
 
 pub root-weight-spec : {M : Type 1} → statement M
 root-weight-spec =
@@ -82,9 +58,7 @@ root-weight-spec =
     (tie.spec
     count-requires
     sub-j
-    left-requires
-    slice-aggregate-cone
-    cone-requires
+    worth-of-requires
     array-share-prefix-nodes
     slice-aggregate-plan-weight
     start-requires

@@ -35,7 +35,7 @@ find-requires c κs = let S = c .before .before .before .before .before .before 
     let P = S .pre .0 in
     let d = looks (P .0) (P .1) (c .before .before .before .before .before .depth .ensures) in (
       ready (P .0) (P .1) (c .before .before .before .cone .ensures .1) (c .before .before .before .cone .ensures .2),
-      (d ∙ ap (λ (i : ℕ). depth (formula (S .args .q .now) i)) (sym (c .before .before .before .cone .ensures .2)), omega (arith, S .pre .1 .0), S .pre .1 .1),
+      (d ∙ ap (λ (i : ℕ). depth (formula (S .args .q .now) i)) (sym (c .before .before .before .cone .ensures .2)), omega (arith, S .pre .1 .0), S .pre .1 .1, c .before .before .before .cone .ensures .3),
     )
 
 same-length : tie.Need-same-length
