@@ -4,7 +4,7 @@ use Prim.Native.Nat.{ℕ, suc, _+_, _*_, _-_, _≤_, _<_}
 use native.Mathlib.Omega.{arith}
 use mathlib.Core.Path.{_≡_, refl, sym, ap, ap₂, subst, _∙_}
 use mathlib.Core.Bool.{Bool}
-use mathlib.Core.List.{List}
+use mathlib.Core.List.{List, []}
 use lib.Dec.{eqb}
 use lib.ListN.{getD}
 use Rattle.logic.specs.Model.{Model}
@@ -20,6 +20,7 @@ use Rattle.models.specs.Layout.{state-count}
 use Rattle.prepared_model.specs.promises.Rows.{model-in}
 use Rattle.prepared_model.proofs.ReadByPlace.{states-are}
 use Rattle.questions.specs.Layout.{node-of}
+use Rattle.prepared_question.specs.promises.Nodes.{formula}
 use Rattle.bounds.specs.promises.Bounded.{Bounded, first-paid, last-paid, lowered, most-of, meets-at}
 use Rattle.best_gain.specs.declared.Window.{Window}
 use Rattle.best_gain.specs.promises.Tabled.{Filled}
@@ -28,6 +29,7 @@ use Rattle.plan_choices.proofs.ExtendedChoices.{extend-table}
 use Rattle.judging.specs.promises.Decided.{best-raised, best-node, Led}
 use Rattle.judging.specs.declared.plans.Decision.{Decision}
 use Rattle.judging.proofs.NodeBounds.{earned, raised-9, inside, best-most}
+use Rattle.judging.proofs.SearchDecides.{led-truth}
 
 -- The window of node j.
 abbrev pub window-of : Bytes → ℕ → Window
@@ -82,3 +84,9 @@ module _ {m q : Bytes} {j : ℕ} (b : Bounded m q j) (o : (node-of q j) .operato
         table = table-placed;
         chosen = ap (λ z. z .0) (extend-table M (by-place m places) n s scratch) ∙ ap (choices n) (table-plan s h ∙ ap (best-node m q j s) same);
       }
+
+  -- It decides the node in every state.
+  pub table-truth : ((node-of q j) .right ≡ 2 → ⊥) → (s : ℕ) → s < state-count m → least ≡ eqb ((node-of q j) .right) 1 → {x : ℕ} {met : Bool}
+      → x ≡ getD best (32 * n + s) 0 → met ≡ meets-at m q j (lowered m q j x) → met ≡ sat M (formula q j) s []
+  table-truth r s h same e f =
+      f ∙ ap (λ x. meets-at m q j (lowered m q j x)) (e ∙ table-total s h ∙ ap (best-raised m q j s) same) ∙ led-truth b s h r

@@ -2,6 +2,7 @@
 -- on is needed and stands before it too.
 use Prim.Native.Nat.{ℕ, _+_, _*_, _-_, _/_, _%_, _≤_, _<_}
 use native.Mathlib.Omega.{arith}
+use native.Mathlib.Decide.{decLt}
 use native.Mathlib.Nat.{le-max-left, le-max-right}
 use borrow.Author.Count.{below-more}
 use mathlib.Core.Path.{_≡_, refl, sym, ap, ap₂, subst, _∙_}
@@ -9,7 +10,7 @@ use mathlib.Core.Bool.{false}
 use mathlib.Core.List.{List, []}
 use lib.Bits.{bitAnd}
 use lib.Dec.{eqb}
-use lib.ListN.{getD, length, set}
+use lib.ListN.{getD, length, set, replicate, length-set, length-replicate}
 use lib.Seq.{getD-set-same, getD-set-other}
 use Rattle.logic.specs.Model.{prop-in}
 use Rattle.logic.specs.Formula.{Formula, sat, depth}
@@ -28,7 +29,9 @@ use Rattle.evaluation.specs.promises.Reached.{Reached, itself, under-not, and-l
 use Rattle.evaluation.proofs.OperatorMeaning.{flipped, joined}
 use Rattle.relevance.specs.promises.Need.{Given, Marked, Needs}
 use Rattle.judging.specs.promises.Truth.{Told, Supplied, Right}
+use Rattle.judging.specs.promises.Rows.{Rows, Row-told}
 use Rattle.relevance.proofs.MarksPassedOn.{first-inside, reached-marked}
+use Rattle.judging.proofs.BestTotals.{remembers-none}
 
 module _ {m q : Bytes} (given : Given m q) where
   -- ---- by the operator
@@ -169,3 +172,49 @@ right-more {m} {q} {need} {truth} {k} v p z f =
           (λ x h e d. getD-set-other truth k x v 0 (omega arith) ∙ p .at x h e d)
           (λ e d. getD-set-same truth k v 0 z ∙ f e d);
     }
+
+-- ---- by rows
+
+pub rows-none : {m q need : List ℕ} → Needs m q need → Rows m q need (replicate {A = ℕ} 1280 0) (replicate {A = ℕ} 4095 0) (replicate {A = ℕ} 2560 0) 0
+rows-none {m} {q} {need} needs =
+    record {
+      needs = needs;
+      size = length-replicate {A = ℕ} 1280 0;
+      right = right-none m q need _;
+      room = length-replicate {A = ℕ} 4095 0;
+      remembers = remembers-none m q;
+    }
+
+pub row-none : (m q : Bytes) (j : ℕ) (truth : List ℕ) → Row-told m q j truth truth 0
+row-none m q j truth = record { size = refl; told = λ s l. absurd (omega arith); others = λ k l. refl }
+
+pub row-more : {m q : Bytes} {j s : ℕ} {before after : List ℕ} (v : ℕ) → Row-told m q j before after s → 32 * j + s < length after
+    → v ≡ value-of (model-in m) (formula q j) s [] → Row-told m q j before (set after (32 * j + s) v) (s + 1)
+row-more {m} {q} {j} {s} {before} {after} v p z e =
+    record {
+      size = length-set after (32 * j + s) v ∙ p .size;
+      told = below-more (λ t. getD (set after (32 * j + s) v) (32 * j + t) 0 ≡ value-of (model-in m) (formula q j) t []) s
+          (λ t l. getD-set-other after (32 * j + s) (32 * j + t) v 0 (omega arith) ∙ p .told t l)
+          (getD-set-same after (32 * j + s) v 0 z ∙ e);
+      others = λ k l. getD-set-other after (32 * j + s) k v 0 (omega arith) ∙ p .others k l;
+    }
+
+-- A row that is right in every state.
+pub row-whole : {m q : Bytes} {need truth after scratch memo : List ℕ} {j : ℕ} → Rows m q need truth scratch memo j
+    → Row-told m q j truth after (state-count m) → Rows m q need after scratch memo (j + 1)
+row-whole {m} {q} {need} {truth} {after} {j = j} r p =
+    record {
+      needs = r .needs;
+      size = p .size ∙ r .size;
+      right = record { at = λ x h e d. at-place x h e d (decLt x (32 * j)) };
+      room = r .room;
+      remembers = r .remembers;
+    }
+  where
+    at-place : (x : ℕ) → x < 32 * (j + 1) → getD need x 0 ≡ 1 → depth (formula q (x / 32)) ≡ 0 → Dec (x < 32 * j)
+        → getD after x 0 ≡ value-of (model-in m) (formula q (x / 32)) (x % 32) []
+    at-place x h e d (yes l) = p .others x l ∙ r .right .at x l e d
+    at-place x h e d (no l) =
+        let a : j ≡ x / 32 = omega arith in
+        let b : x ≡ 32 * j + x % 32 = omega arith in
+        ap (λ i. getD after i 0) b ∙ p .told (x % 32) (r .needs .inside x e .1) ∙ ap (λ i. value-of (model-in m) (formula q i) (x % 32) []) a

@@ -214,8 +214,9 @@ pub fn plan_true(
     s: u8,
 ) -> bool
     requires { ⌜ Asked (now m) (now q) (now counts) × Posed (now m) (now q) (now truth) j s ⌝ }
-    requires { ⌜ ((node-of (now q) j .right ≡ 2 → ⊥) → node-of (now q) j .operator ≡ 8) ⌝ }
-    requires { ⌜ (4095 ≤ length (now scratch)) × Remembers (now m) (now q) (now memo) ⌝ }
+    requires { ⌜
+        ((node-of (now q) j .right ≡ 2 → ⊥) → node-of (now q) j .operator ≡ 8) × (4095 ≤ length (now scratch))
+        × Remembers (now m) (now q) (now memo) ⌝ }
     ensures value { λ r. ⌜ r ≡ sat (model-in (now (m .entry))) (formula (now (q .entry)) j) s [] ⌝ }
     ensures frame { λ _. ⌜ Remembers (now (m .entry)) (now (q .entry)) (now (memo .exit)) ⌝ }
 {

@@ -82,8 +82,9 @@ fn truth_at(
     s: u8,
 ) -> u8
     requires { ⌜ Asked (now m) (now q) (now counts) × (j < question.node-count (now q)) × (s < state-count (now m)) ⌝ }
-    requires { ⌜ Supplied (now m) (now q) (now truth) j s × (4095 ≤ length (now scratch)) × Remembers (now m) (now q) (now memo) ⌝ }
-    requires { ⌜ By-state (now q) j ⌝ }
+    requires { ⌜
+        Supplied (now m) (now q) (now truth) j s × (4095 ≤ length (now scratch)) × Remembers (now m) (now q) (now memo)
+        × By-state (now q) j ⌝ }
     ensures value { λ r.
         let q = now (q .entry) in let m = now (m .entry) in
         ⌜ (depth (formula q j) ≡ 0 → r ≡ value-of (model-in m) (formula q j) s []) ⌝ }

@@ -17,12 +17,16 @@ use borrow.Author.Needs.{needs}
 use Rattle.judging.proofs.root_weight.Statement.{statement}
 use Rattle.judging.proofs.root_weight.Tie as tie
 
-at-root : (c : tie.After-count) → c .count .result - 1 ≡ root (c .before .args .q .now)
+at-root : (c : tie.After-count) → c .count .result - 1 ≡ root (c .before .before .args .q .now)
 at-root c = ap (λ (n : ℕ). n - 1) (c .count .ensures)
 
 -- What is looked at, by the root's number.
-looks : (c : tie.After-worth-of) → Looks (c .before .before .before .args .q .now) (root (c .before .before .before .args .q .now)) (c .worth-of .last .1 .1 .1 .0) (c .worth-of .result .count) (c .worth-of .result .before) (c .worth-of .result .last)
-looks c = subst (λ (j : ℕ). Looks (c .before .before .before .args .q .now) j (c .worth-of .last .1 .1 .1 .0) (c .worth-of .result .count) (c .worth-of .result .before) (c .worth-of .result .last)) (at-root (c .before .before)) (c .worth-of .ensures)
+looks : (c : tie.After-worth-of) → Looks (c .before .before .before .before .args .q .now) (root (c .before .before .before .before .args .q .now)) (c .worth-of .last .1 .1 .1 .0) (c .worth-of .result .count) (c .worth-of .result .before) (c .worth-of .result .last)
+looks c = subst (λ (j : ℕ). Looks (c .before .before .before .before .args .q .now) j (c .worth-of .last .1 .1 .1 .0) (c .worth-of .result .count) (c .worth-of .result .before) (c .worth-of .result .last)) (at-root (c .before .before)) (c .worth-of .ensures)
+
+-- The root's steps.
+steps-at : (c : tie.After-count) {n : ℕ} → n ≡ (node-of (c .before .before .args .q .now) (c .count .result - 1)) .n → n ≡ (node-of (c .before .before .args .q .now) (root (c .before .before .args .q .now))) .n
+steps-at c e = e ∙ ap (λ (j : ℕ). (node-of (c .before .before .args .q .now) j) .n) (at-root c)
 
 count-requires : tie.Need-count-requires
 count-requires c κs = search needs
@@ -47,10 +51,24 @@ steps-requires : tie.Need-steps-requires
 steps-requires c κs = search needs
 
 plan-weight-requires : tie.Need-plan-weight-requires
-plan-weight-requires c κs = ?
+plan-weight-requires c κs = let S = c .before .before .before .before .before .before .before in
+    let G = S .pre .0 in
+    let P = S .pre .1 in
+    let w = looks (c .before .before .before) in
+    let n = steps-at (c .before .before .before .before .before) (c .steps .ensures) in
+    let l : List ℕ = take (c .before .before .before .worth-of .result .count) (c .before .before .before .worth-of .last .1 .1 .1 .0) in (
+      subst (λ (s : ℕ). Ready (S .args .m .now) (S .args .q .now) s (S .args .truth .now) l) (sym (c .before .start .ensures)) (handed-ready G P w),
+      (
+        handed-looks G P w,
+        handed-from G P w,
+        omega (arith, handed-within G P w, n),
+        omega (arith, compares (S .args .m .now) (S .args .q .now) (root (S .args .q .now)) (bounded-at G P) .few-steps, n),
+      ),
+    )
 
 returns : tie.Need-returns
-returns c = ?
+returns c = let S = c .before .before .before .before .before .before .before .before in
+    (root-sums (S .pre .0) (S .args .choices .now) (S .pre .1) (looks (c .before .before .before .before)) (steps-at (c .before .before .before .before .before .before) (c .before .steps .ensures)) (c .before .before .start .ensures) (c .plan-weight .ensures .0), c .plan-weight .ensures .1)
 
 pub root-weight-spec : {M : Type 1} → statement M
 root-weight-spec =

@@ -1,45 +1,69 @@
+-- The root's total, by the tables, lowered, and whether it meets the bound.
+use Prim.Native.Nat.{ℕ, _-_, _≤_}
+use native.Mathlib.Omega.{arith}
+use mathlib.Core.Path.{_≡_, sym, ap, subst, _∙_}
+use Rattle.questions.specs.Layout.{start-of}
+use Rattle.relevance.specs.promises.Need.{Given}
+use Rattle.bounds.specs.promises.Bounded.{Bounded, lowered, most-of, meets-at}
+use Rattle.judging.specs.promises.Announced.{root}
+use Rattle.judging.specs.promises.Decided.{Posed}
+use Rattle.judging.proofs.SearchHanded.{bounded-at}
+use Rattle.judging.proofs.VerdictShown.{asked-at, root-posed, spelled-most, weighs}
+use mir.Syntax.{w64}
+use mir.ValLaws.{toZ-ofZ}
+use borrow.Author.Needs.{needs}
 use Rattle.judging.proofs.sheet_weight.Statement.{statement}
 use Rattle.judging.proofs.sheet_weight.Tie as tie
-use Rattle.judging.proofs.sheet_weight.Reads as reads
-use Rattle.judging.proofs.sheet_weight.Lts as lts
-use Rattle.bounds.proofs.lowered.Reads as lowered-reads
-use Rattle.bounds.proofs.meets.Reads as meets-reads
-use Rattle.judging.proofs.root_truth.Reads as root-truth-reads
-use Rattle.judging.proofs.root_weight.Reads as root-weight-reads
-use Rattle.limits.proofs.plan_totals.Reads as plan-totals-reads
-use Rattle.prepared_question.proofs.count.Reads as count-reads
 
--- src/lib.rt:212:18
+given : (S : tie.Start) → Given (S .args .m .now) (S .args .q .now)
+given S = record { prepared = S .pre .0 .0 .prepared; nodes = S .pre .0 .0 .nodes }
+
 plan-totals-requires : tie.Need-plan-totals-requires
-plan-totals-requires c κs = ?
+plan-totals-requires c κs = c .before .pre .0 .0 .prepared
 
--- src/lib.rt:213:17
 root-truth-requires : tie.Need-root-truth-requires
-root-truth-requires c κs = ?
+root-truth-requires c κs = asked-at (c .before .before .before .pre .0 .0) (c .before .plan-totals .ensures)
 
--- src/lib.rt:214:9
+-- The root, to be decided in the start state by the table.
+posed : (c : tie.After-root-truth) → Posed (c .before .before .before .before .args .m .now) (c .before .before .before .before .args .q .now) (c .root-truth .result) (root (c .before .before .before .before .args .q .now)) (start-of (c .before .before .before .before .args .q .now))
+posed c = root-posed (given (c .before .before .before .before)) (c .root-truth .ensures) (c .before .before .before .before .pre .0 .1)
+
+bounded : (c : tie.After-root-truth) → Bounded (c .before .before .before .before .args .m .now) (c .before .before .before .before .args .q .now) (root (c .before .before .before .before .args .q .now))
+bounded c = bounded-at (given (c .before .before .before .before)) (posed c)
+
 root-weight-requires : tie.Need-root-weight-requires
-root-weight-requires c κs = ?
+root-weight-requires c κs = (given (c .before .before .before .before .before), posed (c .before))
 
--- src/lib.rt:215:13
 count-requires : tie.Need-count-requires
-count-requires c κs = ?
+count-requires c κs = search needs
 
--- src/lib.rt:215:13
 sub-j : tie.Need-sub-j
-sub-j c = ?
+sub-j c = omega (arith, c .count .ensures, c .before .before .before .before .before .before .before .pre .0 .0 .nodes .formed .some-node)
 
--- src/lib.rt:217:16
+at-root : (c : tie.After-count) → c .count .result - 1 ≡ root (c .before .before .before .before .before .before .before .args .q .now)
+at-root c = ap (λ (n : ℕ). n - 1) (c .count .ensures)
+
+bounded-here : (c : tie.After-count) → Bounded (c .before .before .before .before .before .before .before .args .m .now) (c .before .before .before .before .before .before .before .args .q .now) (c .count .result - 1)
+bounded-here c = subst (λ (j : ℕ). Bounded (c .before .before .before .before .before .before .before .args .m .now) (c .before .before .before .before .before .before .before .args .q .now) j) (sym (at-root c)) (bounded (c .before .before .before))
+
 lowered-requires : tie.Need-lowered-requires
-lowered-requires c κs = ?
+lowered-requires c κs = (bounded-here c, c .before .root-weight .ensures .1)
 
--- src/lib.rt:218:14
 meets-requires : tie.Need-meets-requires
-meets-requires c κs = ?
+meets-requires c κs = let S = c .before .before .before .before .before .before .before .before in (
+  bounded-here (c .before),
+  subst (λ (j : ℕ). c .before .before .root-weight .result ≤ most-of (S .args .m .now) (S .args .q .now) j) (sym (at-root (c .before)))
+      (spelled-most (given S) (S .args .choices .now) (bounded (c .before .before .before .before)) (S .pre .1) (c .before .before .root-weight .ensures .0)),
+)
 
--- src/lib.rt:207:1
 returns : tie.Need-returns
-returns c = ?
+returns c = let S = c .before .before .before .before .before .before .before .before .before in
+    let m = S .args .m .now in
+    let q = S .args .q .now in
+    let x = c .before .before .before .root-weight .result in
+    weighs (given S) (S .args .choices .now) (bounded (c .before .before .before .before .before)) (c .before .before .before .root-weight .ensures .0)
+    (toZ-ofZ w64 (c .before .lowered .result) (record { sfits = c .before .lowered .ok }) ∙ c .before .lowered .ensures ∙ ap (λ (j : ℕ). lowered m q j x) (at-root (c .before .before)))
+    (c .meets .ensures ∙ ap (λ (j : ℕ). meets-at m q j (lowered m q j x)) (at-root (c .before .before)))
 
 pub sheet-weight-spec : {M : Type 1} → statement M
 sheet-weight-spec =

@@ -52,7 +52,12 @@ same-length : tie.Need-same-length
 same-length c = search needs
 
 returns-3 : tie.Need-returns-3
-returns-3 c = ?
+returns-3 c = let S = c .before .before .before .before .before .before .before .before .before in
+    let n = asked-other (S .args .q .now) (S .args .j) (c .before .before .before .before .before .before .before .asks-equal .ensures) (c .before .before .before .before .before .before .if1 .left) in
+    record {
+      led = λ f. subst (λ (p : List ℕ). Led (S .args .m .now) (S .args .q .now) (S .args .j) (S .args .s) (c .before .before .led .last .1 .1 .1 .0) p (c .before .before .led .result)) (sym (S .pre .1 .1)) (c .before .before .led .ensures);
+      placed = λ e. absurd (n e);
+    }
 
 pub decide-spec : {M : Type 1} → statement M
 decide-spec =

@@ -14,13 +14,13 @@ first-requires c κs = let S = c .before .before .before in
 returns : tie.Need-returns
 returns c = let S = c .before .before .before .before in
     let P = S .pre .0 in
-    (placed-truth (P .0 .given) (P .1) (asked-equal (S .args .q .now) (S .args .j) (c .before .before .asks-equal .ensures) (c .before .if1 .taken)) (c .first .ensures), S .pre .2 .1)
+    (placed-truth (P .0 .given) (P .1) (asked-equal (S .args .q .now) (S .args .j) (c .before .before .asks-equal .ensures) (c .before .if1 .taken)) (c .first .ensures), S .pre .1 .2)
 
 plan-led-requires : tie.Need-plan-led-requires
 plan-led-requires c κs = let S = c .before .before .before .before .before in
     let P = S .pre .0 in
     let n = asked-other (S .args .q .now) (S .args .j) (c .before .before .before .asks-equal .ensures) (c .before .before .if1 .left) in
-    ((P .0 .given, P .1, S .pre .1 n), (n, S .pre .2 .0, S .pre .2 .1))
+    ((P .0 .given, P .1, S .pre .1 .0 n), (n, S .pre .1 .1, S .pre .1 .2))
 
 same-length : tie.Need-same-length
 same-length c = search needs

@@ -5,9 +5,6 @@ use borrow.Author.Needs.{needs}
 use Rattle.judging.proofs.TruthByOperator.{supplied}
 use Rattle.judging.proofs.truth.truth_if.Statement.{statement}
 use Rattle.judging.proofs.truth.truth_if.Tie as tie
-use Rattle.judging.proofs.truth.truth_if.Reads as reads
-use Rattle.judging.proofs.truth.truth_if.Lts as lts
-use Rattle.judging.proofs.truth.truth_at.Reads as truth-at-reads
 
 element-copy-out-if1 : tie.Need-element-copy-out-if1
 element-copy-out-if1 c = let P = c .before .pre .0 in omega (arith, P .1, P .0 .given .nodes .formed .few-nodes)
@@ -26,7 +23,7 @@ truth-at-requires c κs = let S = c .before .before .before .before .before in
     let P = S .pre .0 in
     let N = S .pre .1 in
     let e = c .before .before .if1 .left in
-    ((P .0, omega arith, N .0 .inside (S .args .k) e .1), (supplied (P .0 .given) (N .0) (S .args .k) (N .1) (S .args .k) (omega arith) (P .1) e, N .2, N .3))
+    ((P .0, omega arith, N .0 .inside (S .args .k) e .1), (supplied (P .0 .given) (N .0) (S .args .k) (N .1) (S .args .k) (omega arith) (P .1) e, N .2, N .3, N .4))
 
 same-length : tie.Need-same-length
 same-length c = search needs
