@@ -37,6 +37,15 @@ i16 b i = signed 15 (u16 b i)
 unfoldable pub i32 : Bytes → ℕ → ℤ
 i32 b i = signed 31 (u32 b i)
 
+unfoldable pub i64 : Bytes → ℕ → ℤ
+i64 b i = signed 63 (u64 b i)
+
+-- The number of k + 1 bits that stands for z in two's complement: `signed` the other way round, of every z that k + 1 bits hold (proved:
+-- `signed-twos`).
+unfoldable pub twos-complement : ℕ → ℤ → ℕ
+twos-complement k (pos x) = x
+twos-complement k (negsuc x) = 2 ^ (k + 1) - 1 - x
+
 -- The lowest k bytes of a number, little-endian.
 unfoldable pub little-endian : ℕ → ℕ → Bytes
 little-endian zero x = []

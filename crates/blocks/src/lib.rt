@@ -2,7 +2,7 @@
 ghost use mathlib.Core.Path.{_≡_};
 ghost use Prim.Native.Nat.{_+_, _*_, _≤_, _<_, _%_};
 ghost use lib.ListN.{length, take};
-ghost use Rattle.blocks.specs.Bytes.{u16, u32, u64, signed, i16, i32};
+ghost use Rattle.blocks.specs.Bytes.{u16, u32, u64, signed, i16, i32, i64, twos-complement};
 ghost use Rattle.blocks.specs.Bytes as spec;
 ghost use Rattle.blocks.specs.Block.{whole-blocks, word-sum, sums-right, with-word-sum};
 ghost use Rattle.blocks.specs.Block as spec-block;
@@ -121,6 +121,28 @@ pub fn i32_at(b: &[u8], i: usize) -> i32
         return x as i32;
     }
     -1 - (4294967295 - x) as i32
+}
+
+// The signed 64-bit number at i.
+pub fn i64_at(b: &[u8], i: usize) -> i64
+    requires { ⌜ i < 65536 ⌝ }
+    ensures value { λ r. ⌜ r ≡ i64 (now (b .entry)) i ⌝ }
+{
+    let x = u64_at(b, i);
+    if x < 9223372036854775808 {
+        return x as i64;
+    }
+    -1 - (18446744073709551615 - x) as i64
+}
+
+// The 64 bits of a signed number, as a number: its two's complement.
+pub fn bits_of(z: i64) -> u64
+    ensures value { λ r. ⌜ r ≡ twos-complement 63 z ⌝ }
+{
+    if z < 0 {
+        return 18446744073709551615 - (-1 - z) as u64;
+    }
+    z as u64
 }
 
 // Whether the n bytes from a place on are zero. They are summed, so that no byte needs a branch.

@@ -1,11 +1,10 @@
 use Prim.Native.Nat.{_-_, _≤_}
 use native.Mathlib.Omega.{arith}
 use mathlib.Core.Path.{sym, ap, _∙_}
-use lib.IntN.{negsuc}
 use mir.Syntax.{w32}
-use mir.ValLaws.{toZ-pos, toZ-ofZ}
+use mir.ValLaws.{toZ-pos}
 use Rattle.blocks.specs.Bytes.{i32, signed}
-use Rattle.blocks.proofs.TwosComplement.{signed-low, signed-high, small, high32}
+use Rattle.blocks.proofs.TwosComplement.{signed-low, signed-high, minus-fits, minus-reads}
 use borrow.Author.Needs.{needs}
 use Rattle.blocks.proofs.i32_at.Statement.{statement}
 use Rattle.blocks.proofs.i32_at.Tie as tie
@@ -30,14 +29,13 @@ cast-result-2 c = search needs
 sub-result-2 : tie.Need-sub-result-2
 sub-result-2 c = let x = c .before .u32-at .result in
     let h : 2147483648 ≤ x = c .if1 .left in
-    rw (high32 x h (search needs)) (small (negsuc (4294967295 - x)) 2147483647 (omega arith) (omega arith))
+    minus-fits w32 (4294967295 - x) (omega arith)
 
 returns-2 : tie.Need-returns-2
 unfolding i32
 returns-2 c = let x = c .before .u32-at .result in
     let h : 2147483648 ≤ x = c .if1 .left in
-    rw (high32 x h (search needs)) (toZ-ofZ w32 (negsuc (4294967295 - x)) (small (negsuc (4294967295 - x)) 2147483647 (omega arith) (omega arith)))
-    ∙ sym (signed-high 31 x h) ∙ ap (signed 31) (c .before .u32-at .ensures)
+    minus-reads w32 (4294967295 - x) (omega arith) ∙ sym (signed-high 31 x h) ∙ ap (signed 31) (c .before .u32-at .ensures)
 
 pub i32-at-spec : {M : Type 1} → statement M
 i32-at-spec =
