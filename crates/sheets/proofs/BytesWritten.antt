@@ -6,10 +6,11 @@ use mathlib.Core.Path.{_≡_, refl, sym, subst}
 use mathlib.Core.Bool.{Bool, true, false}
 use mathlib.Core.List.{List, [], _∷_, _++_}
 use lib.Dec.{ltb}
+use lib.IntN.{ℤ}
 use lib.ListN.{length, take, drop, getD, replicate, length-take, List·getD-eq-default}
 use lib.Seq.{getD-drop, getD-take}
 use borrow.Author.Tests.{ltb-true, ltb-false}
-use Rattle.blocks.specs.Bytes.{All-bytes, little-endian}
+use Rattle.blocks.specs.Bytes.{All-bytes, twos-complement, little-endian}
 use Rattle.blocks.specs.Block.{with-word-sum}
 use Rattle.sheets.specs.Layout.{sheet-block, blocks-for, sheet-bytes}
 use Rattle.sheets.proofs.PiecesInOrder.{pieces, pieces-none, pieces-more}
@@ -62,8 +63,9 @@ all-pieces : (f : ℕ → List ℕ) (n : ℕ) → ((k : ℕ) → k < n → Small
 all-pieces f zero h = subst Small (sym (pieces-none f)) nil
 all-pieces f (suc n) h = subst Small (sym (pieces-more f n)) (append (pieces f n) (f n) (all-pieces f n (λ k l. h k (omega arith))) (h n (omega arith)))
 
-pub sheet-small : (n start w : ℕ) (cs : List ℕ) → n < 256 → start < 256 → length cs ≤ 1365 → Small cs → Small (sheet-bytes n start w cs)
+pub sheet-small : (n start : ℕ) (z : ℤ) (cs : List ℕ) → n < 256 → start < 256 → length cs ≤ 1365 → Small cs → Small (sheet-bytes n start z cs)
 unfolding sheet-bytes blocks-for
-sheet-small n start w cs hn hs few s =
+sheet-small n start z cs hn hs few s =
+    let w : ℕ = twos-complement 63 z in
     all-pieces (λ k. sheet-block n start w k (take 490 (drop (490 * k) cs))) (blocks-for (length cs))
     (λ k l. block n start w k (take 490 (drop (490 * k) cs)) hn hs (omega arith) (taken 490 (drop (490 * k) cs) (dropped (490 * k) cs s)))

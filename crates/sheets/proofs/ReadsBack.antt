@@ -1,23 +1,25 @@
 -- What is written is read back: block k of the sheet's bytes holds its number, the head fields, the weight and its part of the choices;
 -- every test passes, and the parts are the choices again.
-use Prim.Native.Nat.{ℕ, _+_, _*_, _-_, _/_, _%_, _≤_, _<_, min}
+use Prim.Native.Nat.{ℕ, _+_, _*_, _-_, _/_, _%_, _^_, _≤_, _<_, min}
 use native.Mathlib.Nat.{mul-div-right, mul-mod-right}
 use native.Mathlib.Omega.{arith}
 use mathlib.Core.Path.{_≡_, refl, sym, ap, ap₂, _∙_}
 use mathlib.Core.Bool.{Bool, true, false, cond, _&&_}
 use mathlib.Core.List.{List, _++_, append-assoc}
 use lib.Dec.{eqb, ltb}
-use lib.IntN.{pos}
+use lib.IntN.{ℤ}
 use lib.ListN.{length, take, drop, getD, replicate, length-append, length-take, length-drop, length-replicate, getD-replicate, List·getD-append}
+use lib.Signed.{mag}
 use lib.Seq.{getD-drop, drop-drop, drop-at, take-at, take-all}
 use borrow.Author.Tests.{eq-eqb, le-leb, ltb-true}
 use Rattle.logic.specs.Lists.{every}
 use Rattle.logic.specs.Checked.{ok}
 use Rattle.logic.proofs.Tests.{every-intro}
-use Rattle.blocks.specs.Bytes.{Bytes, zeros, within, little-endian}
+use Rattle.blocks.specs.Bytes.{Bytes, zeros, within, signed, twos-complement, little-endian}
 use Rattle.blocks.specs.Block.{block-count, whole-blocks, sums-right, word-sum, headed, with-word-sum}
-use Rattle.sheets.specs.Layout.{weight-of, count-of, choices-of, sheet-of, sheet-block, blocks-for, sheet-bytes}
+use Rattle.sheets.specs.Layout.{weight-of, count-of, choices-of, total-of, sheet-of, sheet-block, blocks-for, sheet-bytes}
 use Rattle.sheets.specs.Grounds.{head-right, count-right, weight-right, spare-right, read-sheet}
+use Rattle.blocks.proofs.TwosComplement.{signed-twos, twos-small}
 use Rattle.blocks.proofs.NumberReadBack.{reads-16, reads-64}
 use Rattle.blocks.proofs.WordSumSealed.{sealed-sum}
 use Rattle.sheets.proofs.PiecesInOrder.{pieces, pieces-same, piece-at, parts}
@@ -45,7 +47,11 @@ zeros-test b u i m e =
 regroup : (a b c d : List ℕ) → ((a ++ b) ++ c) ++ d ≡ a ++ (b ++ (c ++ d))
 regroup a b c d = simp append-assoc
 
-module _ (n start w : ℕ) (cs : List ℕ) where
+module _ (n start : ℕ) (z : ℤ) (cs : List ℕ) where
+  -- the total's eight bytes
+  abbrev w : ℕ
+  w = twos-complement 63 z
+
   abbrev chunk : ℕ → List ℕ
   chunk k = take 490 (drop (490 * k) cs)
 
@@ -53,16 +59,16 @@ module _ (n start w : ℕ) (cs : List ℕ) where
   block k = sheet-block n start w k (chunk k)
 
   abbrev bytes : Bytes
-  bytes = sheet-bytes n start w cs
+  bytes = sheet-bytes n start z cs
 
   chunk-few : (k : ℕ) → length (chunk k) ≤ 490
   chunk-few k = simp length-take (omega arith)
 
-  pub sheet-length : length (sheet-bytes n start w cs) ≡ 512 * blocks-for (length cs)
+  pub sheet-length : length (sheet-bytes n start z cs) ≡ 512 * blocks-for (length cs)
   unfolding sheet-bytes
   sheet-length = blocks-length n start w cs (blocks-for (length cs))
 
-  pub sheet-few : length cs ≤ 1365 → length (sheet-bytes n start w cs) ≤ 1536
+  pub sheet-few : length cs ≤ 1365 → length (sheet-bytes n start z cs) ≤ 1536
   unfolding blocks-for
   sheet-few few = let e = sheet-length in omega arith
 
@@ -70,7 +76,7 @@ module _ (n start w : ℕ) (cs : List ℕ) where
   unfolding block-count
   counted = ap (λ z. z / 512) sheet-length ∙ mul-div-right (blocks-for (length cs)) {m = 512} (omega arith)
 
-  module _ (small : w < 18446744073709551616) (some : 1 ≤ length cs) (few : length cs ≤ 1365) where
+  module _ (small : mag z < 2 ^ 63) (some : 1 ≤ length cs) (few : length cs ≤ 1365) where
     module _ (k : ℕ) (l : k < block-count bytes) where
       spare : List ℕ
       spare = replicate (492 - length (chunk k)) 0
@@ -96,7 +102,7 @@ module _ (n start w : ℕ) (cs : List ℕ) where
 
       weight-at : weight-of bytes k ≡ w
       unfolding weight-of sheet-block with-word-sum little-endian
-      weight-at = reads-64 bytes _ (512 * k + 8) w small (at 8)
+      weight-at = reads-64 bytes _ (512 * k + 8) w (twos-small 63 z small) (at 8)
 
       kind-test : headed bytes k 4 k ≡ true
       unfolding headed sheet-block with-word-sum
@@ -153,12 +159,16 @@ module _ (n start w : ℕ) (cs : List ℕ) where
         pieces-same (choices-of bytes) chunk (block-count bytes) part-at ∙ ap (pieces chunk) counted ∙ parts cs 490 (blocks-for (length cs))
         ∙ take-all (490 * blocks-for (length cs)) cs (omega arith)
 
-    pub reads-back : read-sheet n start (sheet-bytes n start w cs) ≡ ok (record { weight = pos w; choices = cs })
-    unfolding read-sheet sheet-of blocks-for
+    total-back : total-of bytes ≡ z
+    unfolding total-of blocks-for
+    total-back = ap (signed 63) (weight-at 0 (omega (arith, counted))) ∙ signed-twos 63 z small
+
+    pub reads-back : read-sheet n start (sheet-bytes n start z cs) ≡ ok (record { weight = z; choices = cs })
+    unfolding read-sheet sheet-of
     reads-back =
         let kinds : every (block-count bytes) (λ k. headed bytes k 4 k) ≡ true = every-intro (λ k. headed bytes k 4 k) (block-count bytes) kind-test in
         let heads : every (block-count bytes) (head-right n start bytes) ≡ true = every-intro (head-right n start bytes) (block-count bytes) head-test in
         let counts : every (block-count bytes) (λ k. count-right bytes k && weight-right bytes k) ≡ true =
         every-intro (λ k. count-right bytes k && weight-right bytes k) (block-count bytes) (λ k l. ap₂ _&&_ (count-passes k l) (weight-test k l)) in
         let spares : every (block-count bytes) (spare-right bytes) ≡ true = every-intro (spare-right bytes) (block-count bytes) spare-test in
-        rw (whole-test, sums-test, kinds, heads, counts, spares) (ap₂ (λ x y. ok (record { weight = pos x; choices = y })) (weight-at 0 (omega (arith, counted))) choices-back)
+        rw (whole-test, sums-test, kinds, heads, counts, spares) (ap₂ (λ x y. ok (record { weight = x; choices = y })) total-back choices-back)

@@ -6,9 +6,10 @@ use native.Mathlib.Nat.{add-zero, add-suc, add-assoc}
 use native.Mathlib.Numerals.{add-one}
 use mathlib.Core.Path.{_≡_, refl, sym, ap, ap₂, _∙_}
 use mathlib.Core.List.{List, [], _++_, append-assoc}
+use lib.IntN.{ℤ}
 use lib.ListN.{length, take, drop, set, getD, replicate, length-append, length-take, length-drop, length-set, length-replicate, take-append-drop}
 use lib.Seq.{paste, paste-zero, paste-suc, take-at, drop-at, drop-drop, drop-append-le, take-append-le, take-append-seam, getD-drop}
-use Rattle.blocks.specs.Bytes.{Bytes}
+use Rattle.blocks.specs.Bytes.{Bytes, twos-complement}
 use Rattle.blocks.specs.Block.{with-word-sum}
 use Rattle.sheets.specs.Layout.{sheet-block, blocks-for, sheet-bytes}
 use Rattle.sheets.specs.promises.Writer.{unsealed, chunk-size, begun, sealed, place, stored}
@@ -158,12 +159,13 @@ module _ (n start w : ℕ) (cs : List ℕ) where
       block-is : (k : ℕ) → k < blocks-for count → (u : List ℕ) × (drop (512 * k) b ≡ full k ++ u)
       block-is k l = (_, ap (drop (512 * k)) e ∙ next-piece full 512 k (blocks-for count) t l (λ i g. full-length i))
 
-      pub all-sealed : sealed (blocks-for count) b ≡ sheet-bytes n start w cs ++ t
+      pub all-sealed : (z : ℤ) → w ≡ twos-complement 63 z → sealed (blocks-for count) b ≡ sheet-bytes n start z cs ++ t
       unfolding sealed sheet-bytes
-      all-sealed =
+      all-sealed z bits =
           let B : ℕ = blocks-for count in
           ap₂ _++_ (pieces-same (λ k. with-word-sum (take 510 (drop (512 * k) b))) (λ k. sheet-block n start w k (chunk k)) B one)
           (ap (drop (512 * B)) e ∙ drop-at (pieces full B) t (512 * B) (pieces-length full 512 B (λ i g. full-length i)))
+          ∙ ap (λ w. pieces (λ k. sheet-block n start w k (chunk k)) B ++ t) bits
         where
           one : (k : ℕ) → k < blocks-for count → with-word-sum (take 510 (drop (512 * k) b)) ≡ sheet-block n start w k (chunk k)
           one k l =

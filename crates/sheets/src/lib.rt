@@ -67,12 +67,19 @@ fn count_at(b: &[u8], k: usize) -> usize
     blocks::u16_at(b, BLOCK * k + COUNT_AT) as usize
 }
 
-// The weight in block k.
-pub fn weight_at(b: &[u8], k: usize) -> u64
+// The weight in block k, as the number of its eight bytes.
+fn weight_at(b: &[u8], k: usize) -> u64
     requires { ⌜ k < 3 ⌝ }
     ensures value { λ r. ⌜ r ≡ weight-of (now (b .entry)) k ⌝ }
 {
     blocks::u64_at(b, BLOCK * k + WEIGHT_AT)
+}
+
+// The total that the sheet claims.
+pub fn total_at(b: &[u8]) -> i64
+    ensures value { λ r. ⌜ r ≡ (sheet-of (now (b .entry))) .weight ⌝ }
+{
+    blocks::i64_at(b, WEIGHT_AT)
 }
 
 // Ground 4 of block k.

@@ -22,6 +22,7 @@ use crate::WEIGHT_AT;
 use crate::blocks_for;
 use blocks::BLOCK;
 use blocks::NUMBER_AT;
+use blocks::bits_of;
 use blocks::buffers::clear;
 use blocks::buffers::put_number;
 use blocks::buffers::store;
@@ -159,17 +160,18 @@ fn seal_blocks(buf: &mut [u8], blocks: usize)
     }
 }
 
-// The sheet of the n-step plan that these choices are, at the front of buf, and no byte beyond; gives the number of bytes written.
-pub fn write_sheet(buf: &mut [u8], m: &[u8], n: u8, start: u8, weight: u64, choices: &[u8]) -> usize
+// The sheet of the n-step plan that these choices are, with this total, at the front of buf, and no byte beyond; gives the number of bytes
+// written.
+pub fn write_sheet(buf: &mut [u8], m: &[u8], n: u8, start: u8, total: i64, choices: &[u8]) -> usize
     requires { ⌜
         (refusal (read-model (now m)) ≡ 0) × (start < state-count (now m))
         × all-read (read-plan (model-of (now m)) n start (now choices)) (now choices) ⌝ }
     requires { ⌜ (length (now choices) ≤ 1365) × (512 * blocks-for (length (now choices)) ≤ length (now buf)) ⌝ }
-    ensures effect { λ r. ⌜ now (buf .exit) ≡ sheet-bytes n start weight (now (choices .entry)) ++ drop r (now (buf .entry)) ⌝ }
+    ensures effect { λ r. ⌜ now (buf .exit) ≡ sheet-bytes n start total (now (choices .entry)) ++ drop r (now (buf .entry)) ⌝ }
     ensures value { λ r. ⌜ r ≡ 512 * blocks-for (length (now (choices .entry))) ⌝ }
 {
     let count = choices.len();
-    begin_blocks(buf, n, start, weight, count);
+    begin_blocks(buf, n, start, bits_of(total), count);
     store_plan(buf, m, choices, n as usize, start as usize, 0);
     let blocks = blocks_for(count);
     seal_blocks(buf, blocks);
