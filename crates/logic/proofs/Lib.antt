@@ -17,6 +17,7 @@ pub mod OnPlan
 pub mod Shown
 pub mod Search
 pub mod WholeTotals
+pub mod TotalsSmall
 pub mod Contradiction
 pub mod Postconditions
 pub mod PolicyPaths
