@@ -1,5 +1,5 @@
 -- Numbers in bytes: the bytes of a number, lowest first, read back as the number.
-use Prim.Native.Nat.{ℕ, zero, suc, _+_, _*_, _-_, _/_, _%_, _<_}
+use Prim.Native.Nat.{ℕ, zero, suc, _+_, _*_, _-_, _/_, _%_, _^_, _<_}
 use native.Mathlib.Numerals.{add-one}
 use native.Mathlib.Nat.{mod-eq-of-lt}
 use native.Mathlib.Omega.{arith}
@@ -32,6 +32,11 @@ same-16 b l i j p q = ap₂ (λ x y. x + 256 * y) p q
 pub word-small : (b : List ℕ) → All-bytes b → (at : ℕ) → u16 b at < 65536
 unfolding u16
 word-small b h at = omega (arith, h at, h (at + 1))
+
+-- A number of eight bytes is below 2 to the 64.
+pub number-small : (b : List ℕ) → All-bytes b → (at : ℕ) → u64 b at < 2 ^ 64
+unfolding u64 u32
+number-small b h at = omega (arith, word-small b h at, word-small b h (at + 2), word-small b h (at + 4), word-small b h (at + 4 + 2))
 
 -- The number that a number's lowest 2, 4 and 8 bytes make.
 pub two-bytes : (x : ℕ) → x % 256 + 256 * (x / 256 % 256) ≡ x % 65536

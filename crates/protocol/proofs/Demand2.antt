@@ -1,22 +1,23 @@
 -- Demand 2 for every session whose replies are those that document 01 describes by the history: refusals are by the first ground that
--- applies (`FirstGround`); the verdict says yes exactly where the formula is true, for a "plan" root since there is a shown plan just where it
--- is true, and announces the plan and the count of document 01's words (`ShownPlan`).
+-- applies (`FirstGround`); the verdict says yes exactly where the formula is true, for a root that sets a bound on plans since there is a shown
+-- plan just where it is true, and announces the plan and the count of document 01's words (`ShownPlan`).
 use Prim.Native.Nat.{ℕ}
 use mathlib.Core.Path.{_≡_, refl, sym, ap, _∙_}
 use mathlib.Core.Logic.{_↔_}
 use mathlib.Core.Bool.{Bool, true, false}
 use mathlib.Core.Option.{Option, none, some}
 use mathlib.Core.List.{List, []}
-use Rattle.logic.specs.Checked.{ok, refused, _>>_}
+use Rattle.logic.specs.Checked.{Checked, ok, refused, _>>=_, _>>_}
 use Rattle.logic.specs.Grounds.{first}
 use Rattle.logic.specs.Model.{Model}
 use Rattle.logic.specs.Plan.{Plan}
-use Rattle.logic.specs.Formula.{Formula, never, prop, neg, both, does, next, gain, plan, sat}
-use Rattle.logic.specs.Verdict.{Goal, plan-goal, goal, shown, announced, verdict-by, verdict}
+use Rattle.logic.specs.Bound.{Bound}
+use Rattle.logic.specs.Formula.{Formula, sat}
+use Rattle.logic.specs.Verdict.{Goal, bound-goal, bound-of, goal, shown, announced, verdict-by, verdict}
 use Rattle.logic.specs.Limits.{limit-grounds, limits}
 use Rattle.logic.proofs.Tests.{not-true, none≢some}
-use Rattle.logic.proofs.Shown.{sat-shown}
-use Rattle.logic.proofs.Policies.{sat-policy}
+use Rattle.logic.proofs.Shown.{sets-bound, sat-shown}
+use Rattle.logic.proofs.Policies.{sat-policy, gain-policy}
 use Rattle.questions.specs.Layout.{Question}
 use Rattle.protocol.specs.Calls.{Call, judge, Held, judged, Reply, says, yields}
 use Rattle.protocol.specs.History.{after}
@@ -28,7 +29,6 @@ use Rattle.protocol.proofs.HeldAccepted.{model-accepted}
 use Rattle.protocol.proofs.Refusals.{decided-none}
 use Rattle.protocol.proofs.FirstGround.{yields-is, refuse-first}
 use Rattle.protocol.proofs.ShownPlan.{all-plans, verdict-announces}
-use Rattle.logic.proofs.OnPlan.{by-plan}
 
 -- ---- the verdict says yes exactly where the formula is true
 
@@ -45,9 +45,11 @@ says-shown m s g t (some y) h = sym (h .1 (y, refl))
 
 pub says-true : (m : Model) (s : ℕ) (φ : Formula) → says-yes (verdict m s φ) ≡ sat m φ s []
 unfolding verdict goal
-says-true m s φ =
-    by-plan (λ φ c. says-yes (verdict-by m s (sat m φ s []) c) ≡ sat m φ s []) (λ φ. says-told m s 22 (sat m φ s []))
-    (λ n ψ r p q. let g = plan-goal m s n ψ r p q in says-shown m s g (sat m (plan n ψ r p q) s []) (shown m s g) (sat-shown m s n ψ r p q [])) φ
+says-true m s φ = by (bound-of m s φ) refl
+  where
+    by : (c : Checked Bound) → bound-of m s φ ≡ c → says-yes (verdict-by m s (sat m φ s []) (c >>= λ b. ok (bound-goal m s b))) ≡ sat m φ s []
+    by (ok b) e = let g = bound-goal m s b in says-shown m s g (sat m φ s []) (shown m s g) (sat-shown (sets-bound m s φ b e) [])
+    by (refused k) e = says-told m s k (sat m φ s [])
 
 -- ---- judging by what is held
 
@@ -77,7 +79,11 @@ demand-2 h s reply yielding =
             said = verdict m (q .start) (q .root);
             answers = ap (λ r. r .answer) (yielding judge) ∙ judge-yields h m q e f l;
             as-true = says-true m (q .start) (q .root);
-            published = λ t i n φ r p d steps. sat-policy (model-accepted s m e) n t i φ r p d steps;
+            published =
+                record {
+                  by-measure = λ t i n φ r p d steps. sat-policy (model-accepted s m e) n t i φ r p d steps;
+                  by-gain = λ t i n l u r p d steps. gain-policy (model-accepted s m e) n t i l u r p d steps;
+                };
             all-plans = all-plans m;
             on-plans = λ g a. verdict-announces m (q .start) g (q .root) a;
             on-others = λ k a. ap (verdict-by m (q .start) (sat m (q .root) (q .start) [])) a;

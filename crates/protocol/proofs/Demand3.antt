@@ -1,7 +1,7 @@
 -- Demand 3 for every session whose replies are those that document 01 describes by the history. A sheet with no ground but 11 is decided
 -- by the comparison of two weights (`check-answer`); the verdict on the held question says yes exactly with the shown plan, which meets
 -- the bound if any plan does (`Shown`); the bytes written of a plan are read back as its sheet, so what is written is accepted.
-use Prim.Native.Nat.{ℕ, _≤_}
+use Prim.Native.Nat.{ℕ, _+_, _*_, _^_, _≤_, _<_}
 use native.Mathlib.Omega.{arith}
 use native.Mathlib.Nat.{le-antisymm, le-refl}
 use mathlib.Core.Path.{_≡_, refl, sym, ap, ap₂, subst, _∙_}
@@ -13,12 +13,14 @@ use lib.Dec.{T, leb, le→leb, leb→le}
 use lib.IntN.{ℤ, pos, negsuc}
 use lib.ListN.{length, take, drop, length-append, length-drop}
 use lib.Seq.{take-at, drop-at}
-use lib.Signed.{leZ}
+use lib.Signed.{mag, leZ}
 use Rattle.logic.specs.Checked.{Checked, ok, refused, _>>=_, _>>_, guard}
 use Rattle.logic.specs.promises.Refusal.{held, refusal}
 use Rattle.logic.specs.Lists.{all}
-use Rattle.logic.specs.Plan.{Plan, plans, choices}
-use Rattle.logic.specs.Formula.{sat}
+use Rattle.logic.specs.Quantity.{integers, sum}
+use Rattle.logic.specs.Plan.{Plan, plans, choices, paths, weight}
+use Rattle.logic.specs.Bound.{gain-between}
+use Rattle.logic.specs.Formula.{Formula, sat, W}
 use Rattle.logic.specs.Model.{Model}
 use Rattle.logic.specs.Verdict.{Goal, goal, Denial, Shown-plan, Verdict, no, yes-plan, shown, plan-record, announced, verdict-by, verdict}
 use Rattle.logic.specs.Limits.{limit-grounds, limits}
@@ -27,17 +29,20 @@ use Rattle.logic.proofs.Tests.{T→true, true→T, and-left, and-right}
 use Rattle.logic.proofs.Checked.{not-ok, ok-same, bind-ok, guard-ok}
 use Rattle.logic.proofs.Reading.{plan-of-sound, plan-of-complete}
 use Rattle.logic.proofs.Shown.{goal-led, shown-there, shown-meets}
-use Rattle.blocks.specs.Bytes.{Bytes, All-bytes}
+use Rattle.blocks.specs.Bytes.{Bytes, All-bytes, signed}
+use Rattle.blocks.proofs.TwosComplement.{signed-natural}
+use Rattle.blocks.proofs.NumberReadBack.{number-small}
 use Rattle.questions.specs.Layout.{Question}
-use Rattle.sheets.specs.Layout.{Sheet, sheet-of}
+use Rattle.sheets.specs.Layout.{Sheet, weight-of, total-of, sheet-of}
 use Rattle.sheets.specs.Grounds.{sheet-grounds, read-sheet}
 use Rattle.protocol.specs.Calls.{Call, judge, query, write, check, Held, Report, Answer, judged, written, accepted, refuse, Reply, says, written-bytes, same, reported, yields}
-use Rattle.protocol.specs.Demand3.{Plan-question, total, meets-bound, Claims, Accepts, Differs, Meeting-sheet, Says-yes, Writes-shown, Demand-3}
+use Rattle.protocol.specs.Demand3.{Plan-question, On-condition, On-gain, total, meets-bound, Claims, Accepts, Differs, Meeting-sheet, Says-yes, Writes-shown, Demand-3}
 use Rattle.protocol.specs.promises.Chains.{sheet-shown, do-write, check-on, do-check, answered, by-chain}
 use Rattle.protocol.proofs.AfterEachCall.{Sound, sound}
-use Rattle.protocol.proofs.Refusals.{first-passes, decided-none, decided-first, plan-only}
+use Rattle.protocol.proofs.Refusals.{first-passes, decided-none, decided-first, decided-value, plan-only}
 use Rattle.protocol.proofs.FirstGround.{yields-is}
 use Rattle.protocol.proofs.Demand2.{judge-yields}
+use Rattle.protocol.proofs.TotalsByRoot.{Root, root-of}
 
 -- ---- equality of weights by its test
 
@@ -239,7 +244,40 @@ module _ {h : Held} (reply : Call → Reply) (yielding : (c : Call) → reply c 
       ap (λ r. r .answer) (yielding judge)
       ∙ judge-yields h (x .model) (x .question) (x .held-model) (x .held-question) (x .within-limits) ∙ ap judged verdict-is
 
-  module _ (sound : Sound h) (back : (π : Plan n) → List·Memᴰ π (plans (x .model) n s) → Reads-back (x .question) g (record { weight = g .total π; choices = choices n π })) where
+  -- ---- what the totals are
+
+  root : Root (x .model) s (x .question .root) g
+  root = root-of (x .model) s (x .question .root) g (x .plan-root)
+
+  two-kinds : ((φ : Formula) × On-condition reply x φ) ⊎ ((l : ℕ) × (u : ℕ) × On-gain reply x l u)
+  two-kinds =
+      ⊎-elim (λ w. inl (w .0, record { relation = w .1 .0; p = w .1 .1; q = w .1 .2; root = w .1 .3 }))
+      (λ w. inr (w .0, w .1, record { relation = w .2 .0; p = w .2 .1; q = w .2 .2; root = w .2 .3 })) (root .kinds)
+
+  total-is-W : (φ : Formula) → On-condition reply x φ → (π : Plan n) → total reply x π ≡ pos (W (x .model) φ n s π)
+  total-is-W φ w = root .weights φ (w .relation, w .p, w .q, w .root)
+
+  total-is-gain : (l u : ℕ) → On-gain reply x l u → (π : Plan n)
+      → total reply x π ≡ sum integers (λ ρ. integers .times (weight ρ) (gain-between l u ρ)) (paths (x .model) n s π)
+  total-is-gain l u w = root .gains l u (w .relation, w .p, w .q, w .root)
+
+  -- A sheet claims what its eight bytes hold.
+  claimed-total : (sheet : Bytes) (w : ℤ) (π : Plan n) → Claims reply x sheet w π → signed 63 (weight-of sheet 0) ≡ w
+  unfolding read-sheet sheet-of total-of
+  claimed-total sheet w π c = ap (λ z. z .weight) (decided-value (sheet-of sheet) (sheet-grounds n s sheet) (c .reads))
+
+  module _ (sound : Sound h) (back : (π : Plan n) → List·Memᴰ π (plans (x .model) n s) → Reads-back (x .question) g (record { weight = g .total π; choices = choices n π }))
+      (small : (π : Plan n) → List·Memᴰ π (plans (x .model) n s) → mag (g .total π) < 2 ^ 63) where
+    check-unsigned : (φ : Formula) → On-condition reply x φ → (sheet : Bytes) → All-bytes sheet → (w : ℤ) (π : Plan n) → Claims reply x sheet w π
+        → ((r : Report) × Accepts reply x sheet r) ↔ (weight-of sheet 0 ≡ W (x .model) φ n s π)
+    unfolding weight-of
+    check-unsigned φ o sheet bytes w π c =
+        let e = total-is-W φ o π in
+        let same = signed-natural 63 (weight-of sheet 0) (W (x .model) φ n s π) (number-small sheet bytes (512 * 0 + 8)) (subst (λ z. mag z < 2 ^ 63) e (small π (c .is-plan))) in (
+          λ a. same .0 (claimed-total sheet w π c ∙ check-exact sheet w π c .0 a ∙ e),
+          λ i. check-exact sheet w π c .1 (sym (claimed-total sheet w π c) ∙ same .1 i ∙ sym e),
+        )
+
     sheet-for : Plan n → Bytes
     sheet-for π = written-bytes (x .question) g (record { weight = g .total π; choices = choices n π })
 
@@ -320,7 +358,11 @@ module _ {h : Held} (reply : Call → Reply) (yielding : (c : Call) → reply c 
     pub demand-3 : Demand-3 reply x
     demand-3 =
         record {
+          two-kinds = two-kinds;
+          total-is-W = total-is-W;
+          total-is-gain = total-is-gain;
           check-exact = check-exact;
+          check-unsigned = check-unsigned;
           check-differs = check-differs;
           claims-exact = claims-exact;
           check-says = check-says;

@@ -6,5 +6,6 @@ pub mod OneWordRefused
 pub mod Lists
 pub mod ShownPlan
 pub mod Demand2
+pub mod TotalsByRoot
 pub mod Demand3
 pub mod SheetsReadBack

@@ -12,9 +12,10 @@ use Rattle.logic.specs.Lists.{all, any, is-empty}
 use Rattle.logic.specs.Grounds.{Ground, first, decided}
 use Rattle.logic.specs.Model.{Model, enabled, outcomes}
 use Rattle.logic.specs.Formula.{Formula}
-use Rattle.logic.specs.Verdict.{Goal, goal}
+use Rattle.logic.specs.Verdict.{bound-goal, bound-of, goal}
 use Rattle.logic.specs.Choices.{read-each, read-plan, plan-of}
 use Rattle.logic.proofs.Tests.{and-both, none≢some, some-same}
+use Rattle.logic.proofs.Checked.{not-ok, ok-same}
 use Rattle.logic.proofs.OnPlan.{by-plan}
 
 module _ {A : Type 0} where
@@ -54,6 +55,15 @@ module _ {A : Type 0} (a : A) where
       by : (t : Bool) → (decided gs a ≡ refused k → first gs ≡ some k) → (guard (g .number) t >> decided gs a) ≡ refused k → cond t (first gs) (some (g .number)) ≡ some k
       by true h e = h e
       by false h e = ap some (refused-same e)
+
+  -- What is accepted is the value.
+  pub decided-value : (gs : List Ground) {b : A} → decided gs a ≡ ok b → a ≡ b
+  decided-value [] e = ok-same e
+  decided-value (g ∷ gs) {b} e = by (g .passes) (λ i. decided-value gs i) e
+    where
+      by : (t : Bool) → (decided gs a ≡ ok b → a ≡ b) → (guard (g .number) t >> decided gs a) ≡ ok b → a ≡ b
+      by true h e = h e
+      by false h e = absurd (not-ok e)
 
 -- ---- one number only
 
@@ -97,5 +107,6 @@ plan-only m n s cs = only-bind (read-plan m n s cs) _ (only-read m n s cs) (λ x
 
 -- The goal of a root.
 pub goal-only : (m : Model) (s : ℕ) (φ : Formula) → Only 22 (goal m s φ)
-unfolding goal
-goal-only m s φ = by-plan (λ _ (c : Checked Goal). Only 22 c) (λ _. only-this) (λ n ψ r p q. only-value _) φ
+unfolding goal bound-of
+goal-only m s φ =
+    by-plan (λ _ c. Only 22 (c >>= λ b. ok (bound-goal m s b))) (λ _. only-this) (λ n ψ r p q. only-value _) (λ n l u r p q. only-value _) φ

@@ -1,29 +1,28 @@
 -- A plan's sheet is read back from the bytes written of it: an accepted question asks for 1 to 6 steps, a choice in an accepted model has
--- at most 4 outcomes, so that a plan has 1 to 1,365 choices; and W is at most D to the n, below 2 to the 64. The bytes are bytes: states
--- are below 32, choices below 256.
+-- at most 4 outcomes, so that a plan has 1 to 1,365 choices; and a total is at most 6,000 times D to the n, below 2 to the 63. The bytes are
+-- bytes: states are below 32, choices below 256.
 use Prim.Native.Nat.{ℕ, zero, suc, _+_, _*_, _-_, _^_, _≤_, _<_}
 use native.Mathlib.Omega.{arith}
-use native.Mathlib.Nat.{le-refl, le-trans, lt-of-le-of-lt, suc-mul, mul-le-mul-right, pow-le-pow-left, pow-le-pow-right}
+use native.Mathlib.Nat.{le-refl, le-trans, lt-of-le-of-lt, suc-mul, mul-le-mul, mul-le-mul-left, mul-le-mul-right, pow-le-pow-left, pow-le-pow-right}
 use mathlib.Core.Path.{_≡_, refl, sym, ap, subst, _∙_}
-use mathlib.Core.Bool.{Bool, true, false, cond, false≢true}
+use mathlib.Core.Bool.{Bool, true, false, false≢true}
 use mathlib.Core.Logic.{⊎-elim}
 use mathlib.Core.List.{List, [], _∷_, flatMap, List·Memᴰ, List·Memᴰ·head, List·Memᴰ·tail, List·Memᴰ·not-nil, List·Memᴰ·cases-cons, List·Memᴰ·append-cases}
 use lib.Dec.{lit<}
-use lib.IntN.{pos}
+use lib.IntN.{ℤ, pos, negsuc, natAbs}
 use lib.ListN.{length, getD, length-append}
+use lib.Signed.{mag}
 use Rattle.logic.specs.Checked.{ok}
 use Rattle.logic.specs.promises.Refusal.{refusal}
-use Rattle.logic.specs.Lists.{keep}
 use Rattle.logic.specs.Model.{Model, silent, outcomes}
-use Rattle.logic.specs.Quantity.{naturals, sum, Relation}
-use Rattle.logic.specs.Plan.{Plan, plans, choices, paths, weight, Match, ends, pair}
+use Rattle.logic.specs.Plan.{Plan, plans, choices, Match, ends, pair}
 use Rattle.logic.specs.Accepted.{Accepted}
 use Rattle.logic.specs.Order.{Is-plan}
-use Rattle.logic.specs.Formula.{Formula, never, plan, sat, W, nonnegative, on-plan}
-use Rattle.logic.specs.Verdict.{Goal, goal}
-use Rattle.logic.proofs.Checked.{not-ok, ok-same}
+use Rattle.logic.specs.Formula.{Formula, never, on-bound}
+use Rattle.logic.specs.promises.Raised.{Modest-rewards}
+use Rattle.logic.proofs.Checked.{ok-same}
 use Rattle.logic.proofs.Dictionary.{plans-are}
-use Rattle.logic.proofs.PathWeights.{path-weights}
+use Rattle.logic.proofs.TotalsSmall.{goal-small}
 use Rattle.blocks.specs.Bytes.{Bytes}
 use Rattle.models.specs.Layout.{model-of}
 use Rattle.models.specs.Grounds.{read-model}
@@ -32,9 +31,11 @@ use Rattle.models.proofs.GroundsPassed.{passed-all, read-passed}
 use Rattle.models.proofs.Readable.{readable}
 use Rattle.models.proofs.OutcomesOfCell.{outcomes-few as models-few}
 use Rattle.models.proofs.ModelOfBytes.{accepted, states-held}
+use Rattle.models.proofs.ModestRewards.{modest-rewards}
 use Rattle.questions.specs.Layout.{node-of, node-count, formulas-of, question-of}
 use Rattle.questions.specs.Grounds.{read-question}
-use Rattle.questions.specs.promises.Formed.{Formed}
+use Rattle.questions.specs.promises.Formed.{Formed, sets-bound}
+use Rattle.questions.proofs.SetsBound.{sets-which, sets-neither, bound-compares}
 use Rattle.questions.proofs.AcceptedFacts as questions
 use Rattle.logic.specs.promises.MostChoices.{most-choices}
 use Rattle.logic.proofs.MostChoices.{most-choices-6, some-choice}
@@ -46,11 +47,10 @@ use Rattle.protocol.specs.Replies.{Session}
 use Rattle.protocol.specs.Demand3.{Plan-question, Demand-3, Demand-3-always}
 use Rattle.protocol.proofs.AfterEachCall.{Sound, sound}
 use Rattle.protocol.proofs.HeldAccepted as held
+use Rattle.protocol.proofs.TotalsByRoot.{Root, root-of}
 use Rattle.protocol.proofs.Demand3.{Reads-back, demand-3}
-use Rattle.logic.proofs.OnPlan.{by-plan}
 use Rattle.logic.proofs.SilentMove.{action-below, choice-kind}
 use Rattle.questions.proofs.FormulaByOperator.{no-plan-at}
-use native.Mathlib.Decide.{ℕ-discrete}
 
 -- ---- how many choices
 
@@ -96,57 +96,37 @@ small-at [] h i = omega arith
 small-at (x ∷ l) h zero = h x (List·Memᴰ·head refl)
 small-at (x ∷ l) h (suc i) = small-at l (λ c j. h c (List·Memᴰ·tail j)) i
 
--- ---- how large W is
-
-kept-less : {A : Type 0} (w : A → ℕ) (f : A → Bool) (l : List A) → sum naturals w (keep f l) ≤ sum naturals w l
-unfolding sum keep
-kept-less w f [] = le-refl 0
-kept-less w f (x ∷ l) = by (f x) (kept-less w f l)
-  where
-    by : (t : Bool) → sum naturals w (keep f l) ≤ sum naturals w l → sum naturals w (cond t (x ∷ keep f l) (keep f l)) ≤ w x + sum naturals w l
-    by true h = omega arith
-    by false h = omega arith
-
 -- ---- the steps that an accepted question asks for
 
-is-plan : Formula → Bool
-is-plan φ = on-plan false (λ n ψ r p q. true) φ
+sets : Formula → Bool
+sets φ = on-bound false (λ n r. true) φ
 
 steps : Formula → ℕ
-steps φ = on-plan 0 (λ n ψ r p q. n) φ
+steps φ = on-bound 0 (λ n r. n) φ
 
-module _ (S A N : ℕ) (c : Bytes) (a : Formed S A N c) (i : ℕ) (h : i < node-count c) (e : is-plan (getD (formulas-of c) i never) ≡ true) where
-  plan-operator : node-of c i .operator ≡ 8
-  unfolding is-plan
-  plan-operator = go (ℕ-discrete (node-of c i .operator) 8)
+module _ (S A N : ℕ) (c : Bytes) (a : Formed S A N c) (i : ℕ) (h : i < node-count c) (e : sets (getD (formulas-of c) i never) ≡ true) where
+  bound-operator : sets-bound (node-of c i .operator) ≡ true
+  unfolding sets
+  bound-operator = go (sets-bound (node-of c i .operator)) refl
     where
-      go : Dec (node-of c i .operator ≡ 8) → node-of c i .operator ≡ 8
-      go (yes o) = o
-      go (no n) = absurd (false≢true (sym (no-plan-at c i h n false (λ n ψ r p q. true)) ∙ e))
+      go : (t : Bool) → sets-bound (node-of c i .operator) ≡ t → t ≡ true
+      go true o = refl
+      go false o = let w = sets-neither (node-of c i .operator) o in
+          absurd (false≢true (sym (no-plan-at c i h (w .0) (w .1) false (λ n ψ r p q. true) (λ n l u r p q. true)) ∙ e))
 
-  plan-steps : (1 ≤ steps (getD (formulas-of c) i never)) × (steps (getD (formulas-of c) i never) ≤ 6)
+  bound-steps : (1 ≤ steps (getD (formulas-of c) i never)) × (steps (getD (formulas-of c) i never) ≤ 6)
   unfolding steps
-  plan-steps =
-      let o = plan-operator in
-      let r = a .in-range i h .of-plan o .compares in
-      subst (λ n. (1 ≤ n) × (n ≤ 6)) (ap steps (sym (questions.at-plan S A N c a i h o))) (r .some-step, r .few-steps)
+  bound-steps =
+      let r = bound-compares (a .in-range i h) bound-operator in
+      subst (λ n. (1 ≤ n) × (n ≤ 6))
+      (⊎-elim (λ o. ap steps (sym (questions.at-plan S A N c a i h o))) (λ o. ap steps (sym (questions.at-earns S A N c a i h o))) (sets-which (node-of c i .operator) bound-operator))
+      (r .some-step, r .few-steps)
 
 -- ---- the whole
 
--- What a goal asks: its root is "plan".
-pub record Asks (m : Model) (s : ℕ) (φ : Formula) (g : Goal) : Type 0 where
-  pub condition : Formula
-  pub relation : Relation
-  pub p : ℕ
-  pub q : ℕ
-  pub root : φ ≡ plan (g .steps) condition relation p q
-  pub totals : (π : Plan (g .steps)) → g .total π ≡ pos (W m condition (g .steps) s π)
-
-asks : (m : Model) (s : ℕ) (φ : Formula) (g : Goal) → goal m s φ ≡ ok g → Asks m s φ g
-unfolding goal
-asks m s φ g =
-    by-plan (λ φ c. c ≡ ok g → Asks m s φ g) (λ _ e. absurd (not-ok e))
-    (λ n ψ r p q e. subst (Asks m s (plan n ψ r p q)) (ok-same e) (record { condition = ψ; relation = r; p = p; q = q; root = refl; totals = λ π. refl })) φ
+mag-small : (z : ℤ) → mag z ≤ natAbs z
+mag-small (pos k) = omega arith
+mag-small (negsuc k) = omega arith
 
 module _ {h : Held} (sound-held : Sound h) (x : Plan-question h) where
   abbrev s : ℕ
@@ -155,8 +135,8 @@ module _ {h : Held} (sound-held : Sound h) (x : Plan-question h) where
   abbrev n : ℕ
   n = x .asked .steps
 
-  asked-for : Asks (x .model) s (x .question .root) (x .asked)
-  asked-for = asks (x .model) s (x .question .root) (x .asked) (x .plan-root)
+  root : Root (x .model) s (x .question .root) (x .asked)
+  root = root-of (x .model) s (x .question .root) (x .asked) (x .plan-root)
 
   -- The bytes that the held model and question were read from.
   model-bytes : (b : Bytes) × (read-model b ≡ ok (x .model))
@@ -186,15 +166,16 @@ module _ {h : Held} (sound-held : Sound h) (x : Plan-question h) where
   last-node : node-count c - 1 < node-count c
   last-node = omega (arith, asked .formed .some-node)
 
-  root-plan : getD (formulas-of c) (node-count c - 1) never ≡ plan n (asked-for .condition) (asked-for .relation) (asked-for .p) (asked-for .q)
+  same-root : getD (formulas-of c) (node-count c - 1) never ≡ x .question .root
   unfolding question-of
-  root-plan = sym (ap (λ q. q .root) same-question) ∙ asked-for .root
+  same-root = sym (ap (λ q. q .root) same-question)
 
   steps-asked : (1 ≤ n) × (n ≤ 6)
-  unfolding steps is-plan
+  unfolding steps sets
   steps-asked =
-      subst (λ n. (1 ≤ n) × (n ≤ 6)) (ap steps root-plan)
-      (plan-steps (length (x .model .states)) (length (x .model .actions)) (x .model .propositions) c (asked .formed) (node-count c - 1) last-node (ap is-plan root-plan))
+      subst (λ n. (1 ≤ n) × (n ≤ 6)) (ap steps same-root ∙ root .steps)
+      (bound-steps (length (x .model .states)) (length (x .model .actions)) (x .model .propositions) c (asked .formed) (node-count c - 1) last-node
+      (ap sets same-root ∙ root .bounded))
 
   start-inside : s < length (x .model .states)
   start-inside = held.start-inside sound-held (x .model) (x .held-model) (x .question) (x .held-question)
@@ -215,6 +196,9 @@ module _ {h : Held} (sound-held : Sound h) (x : Plan-question h) where
   accepted-model : Accepted (x .model)
   accepted-model = subst Accepted (sym same-model) (accepted b (passed-all b passed))
 
+  modest : Modest-rewards (x .model)
+  modest = subst Modest-rewards (sym same-model) (modest-rewards b (passed-all b passed))
+
   module _ (π : Plan (n)) (i : List·Memᴰ π (plans (x .model) (n) s)) where
     choices-few : length (choices (n) π) ≤ 1365
     choices-few = le-trans (few-choices (x .model) outcomes-few (n) s π (plans-are (x .model) (n) s π .0 i)) (most-choices-6 (n) (steps-asked .1))
@@ -223,26 +207,22 @@ module _ {h : Held} (sound-held : Sound h) (x : Plan-question h) where
     choices-small =
         small-at (choices (n) π) (λ c j. choice-byte (x .model) (accepted-model .numbered) (n) s π (plans-are (x .model) (n) s π .0 i) j)
 
-    weight-few : W (x .model) (asked-for .condition) (n) s π < 18446744073709551616
-    unfolding W
-    weight-few =
-        let k = kept-less weight (sat (x .model) (asked-for .condition) s) (paths (x .model) (n) s π) in
-        let e = path-weights (x .model) accepted-model (n) s start-inside π i in
-        let d : x .model .denominator ^ n ≤ 100 ^ 6 = le-trans (pow-le-pow-left denominator-few (n)) (pow-le-pow-right (lit< tt) (steps-asked .1)) in
-        lt-of-le-of-lt (le-trans k (subst (λ z. z ≤ 100 ^ 6) (sym e) d)) (lit< tt)
+    total-few : mag (x .asked .total π) < 2 ^ 63
+    total-few =
+        let k = goal-small (x .model) accepted-model modest s start-inside (x .question .root) (x .asked) (x .plan-root) (steps-asked .0) π i in
+        let d : x .model .denominator ^ n ≤ 100 ^ 6 = le-trans (pow-le-pow-left denominator-few n) (pow-le-pow-right (lit< tt) (steps-asked .1)) in
+        lt-of-le-of-lt (le-trans (mag-small (x .asked .total π)) (le-trans k (mul-le-mul (mul-le-mul-left 1000 (steps-asked .1)) d))) (lit< tt)
 
     reads-whole : Reads-back (x .question) (x .asked) (record { weight = x .asked .total π; choices = choices n π })
-    unfolding nonnegative
     reads-whole =
-        let w : ℕ = W (x .model) (asked-for .condition) n s π in
-        subst (λ z. Reads-back (x .question) (x .asked) (record { weight = z; choices = choices n π })) (sym (asked-for .totals π))
-        (record {
-          sheet = reads-back n s w (choices n π) weight-few (some-choice n π (steps-asked .0)) choices-few;
+        let w : ℤ = x .asked .total π in
+        record {
+          sheet = reads-back n s w (choices n π) total-few (some-choice n π (steps-asked .0)) choices-few;
           bytes = sheet-small n s w (choices n π) (omega (arith, steps-asked .1)) start-few choices-few (record { below = choices-small }) .below;
-        })
+        }
 
   pub demand-3-held : (reply : Call → Reply) → ((c : Call) → reply c ≡ yields h c) → Demand-3 reply x
-  demand-3-held reply yielding = demand-3 reply yielding x sound-held reads-whole
+  demand-3-held reply yielding = demand-3 reply yielding x sound-held reads-whole total-few
 
 pub demand-3-always : (session : Session) → ((calls : List Call) (c : Call) → session calls c ≡ yields (after calls) c) → Demand-3-always session
 demand-3-always session yielding calls x = demand-3-held (sound calls) x (session calls) (yielding calls)

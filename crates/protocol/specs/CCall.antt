@@ -1,6 +1,6 @@
 -- The call for the arm's controller, which is in C. Document 01: "One call takes the model, question and sheet buffer as byte slices and
 -- gives 0 for no, 1 for yes, or 100 plus the refusal: it loads, puts, judges and, on yes with a "plan" root, writes, on an empty desk,
--- stopping at the first refusal. The buffer changes only in that last step."
+-- stopping at the first refusal. The buffer changes only in that last step." (An operator 9 root is like a "plan" root: document 02, A.3.)
 use Prim.Native.Nat.{ℕ, _+_}
 use mathlib.Core.List.{List, [], _∷_}
 use Rattle.logic.specs.Verdict.{Verdict, no, yes, yes-plan}

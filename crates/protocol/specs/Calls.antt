@@ -12,7 +12,6 @@ use Rattle.logic.specs.Checked.{Checked, ok, refused, got}
 use Rattle.logic.specs.Grounds.{_unless_}
 use Rattle.logic.specs.Model.{Model}
 use Rattle.logic.specs.Plan.{Plan}
-use Rattle.logic.specs.Formula.{nonnegative}
 use Rattle.logic.specs.Verdict.{Goal, goal, Verdict, no, yes, yes-plan, verdict}
 use Rattle.logic.specs.Limits.{limit-grounds}
 use Rattle.logic.specs.Choices.{plan-of}
@@ -78,9 +77,9 @@ shown-sheet (some (no x)) = none
 shown-sheet (some yes) = none
 shown-sheet (some (yes-plan x)) = some (record { weight = x .total; choices = x .choices })
 
--- The bytes that are written of it.
+-- The bytes that are written of it, its total in two's complement.
 abbrev pub written-bytes : Question → Goal → Sheet → Bytes
-written-bytes q g x = sheet-bytes (g .steps) (q .start) (nonnegative (x .weight)) (x .choices)
+written-bytes q g x = sheet-bytes (g .steps) (q .start) (x .weight) (x .choices)
 
 unfoldable pub same : ℤ → ℤ → Bool
 same a b = leZ a b && leZ b a

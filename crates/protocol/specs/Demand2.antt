@@ -9,17 +9,18 @@ use mathlib.Core.Logic.{_↔_}
 use mathlib.Core.Bool.{Bool, true, false, cond}
 use mathlib.Core.List.{List, [], List·Memᴰ}
 use mathlib.Core.Option.{none, some}
+use lib.IntN.{ℤ}
 use lib.ListN.{length}
 use Rattle.logic.specs.Checked.{ok, refused}
 use Rattle.logic.specs.Grounds.{first}
 use Rattle.logic.specs.Model.{Model, Step}
-use Rattle.logic.specs.Quantity.{Relation, naturals}
+use Rattle.logic.specs.Quantity.{Relation, naturals, integers}
 use Rattle.logic.specs.Plan.{Plan, plans, choices}
 use Rattle.logic.specs.Accepted.{Accepted}
 use Rattle.logic.specs.Order.{Before, Rising, Is-plan}
 use Rattle.logic.specs.Bound.{meets}
-use Rattle.logic.specs.Formula.{Formula, plan, sat}
-use Rattle.logic.specs.Policy.{Policy, policy-weight}
+use Rattle.logic.specs.Formula.{Formula, plan, earns, sat}
+use Rattle.logic.specs.Policy.{Policy, policy-weight, policy-gain}
 use Rattle.logic.specs.Verdict.{Goal, goal, Denial, Shown-plan, Verdict, no, yes, yes-plan}
 use Rattle.logic.specs.Limits.{limit-grounds}
 use Rattle.questions.specs.Layout.{Question}
@@ -33,12 +34,15 @@ says-yes (no x) = false
 says-yes yes = true
 says-yes (yes-plan x) = true
 
--- "the published definitions": `sat` is Definition 4 clause by clause. Its clause for "plan" speaks of plans; the published one speaks of
--- policies (Definition 2). In every state of the model, and for whatever is asked there, the two agree.
-abbrev pub As-published : Model → Type 0
-As-published m =
-    (s : ℕ) → s < length (m .states) → (n : ℕ) (φ : Formula) (r : Relation) (p q : ℕ) (steps : List Step)
-    → (sat m (plan n φ r p q) s steps ≡ true) ↔ ((π : Policy m n s) × (meets naturals m n r p q (policy-weight m φ n s π) ≡ true))
+-- "the published definitions": `sat` is Definition 4 clause by clause. Its clauses for "plan" and for operator 9 speak of plans; the published
+-- ones speak of policies (Definition 2). In every state of the model, and for whatever is asked there, the two agree.
+pub record As-published (m : Model) : Type 0 where
+  -- "plan": true exactly if the measure of some policy, over the paths on which the condition is true, meets the bound
+  pub by-measure : (s : ℕ) → s < length (m .states) → (n : ℕ) (φ : Formula) (r : Relation) (p q : ℕ) (steps : List Step)
+      → (sat m (plan n φ r p q) s steps ≡ true) ↔ ((π : Policy m n s) × (meets naturals m n r p q (policy-weight m φ n s π) ≡ true))
+  -- operator 9, document 02, A.3, "which is Definition 13 of source document 000": true exactly if some policy has such an expected gain
+  pub by-gain : (s : ℕ) → s < length (m .states) → (n l u : ℕ) (r : Relation) (p : ℤ) (q : ℕ) (steps : List Step)
+      → (sat m (earns n l u r p q) s steps ≡ true) ↔ ((π : Policy m n s) × (meets integers m n r p q (policy-gain m l u n s π) ≡ true))
 
 -- ---- the shown plan and the count
 
@@ -49,7 +53,7 @@ pub record In-order (n : ℕ) (P : Plan n → Type 0) (l : List (Plan n)) : Type
 
 module _ (m : Model) (s : ℕ) (g : Goal) where
   -- A plan from the start that meets the bound and leads: "for "greater", of the plans of greatest W ..; for "less", the same with least W;
-  -- for "equal", the first plan in that order that meets the bound".
+  -- for "equal", the first plan in that order that meets the bound". (Document 02, A.3: for an operator 9 root "its total for W".)
   pub record Candidate (π : Plan (g .steps)) : Type 0 where
     pub is-plan : Is-plan m (g .steps) s π
     pub meets-it : g .met π ≡ true

@@ -4,30 +4,35 @@
 --   for refusal, the sheet check accepts it exactly when two weights are equal: the weight claimed on it, and the summed weights of those
 --   paths that its plan allows and on which the condition is true. Judging says yes exactly when some accepted sheet meets the bound, and
 --   each write that is then not refused writes one of these, that of the shown plan."
--- The clauses stand beside the parts.
+-- Document 02, A.3: "The sheet rule now speaks of both totals. All that is said of a "plan" root holds for an operator 9 root, with its total for
+-- W." The clauses stand beside the parts.
 use Prim.Native.Nat.{ℕ}
 use mathlib.Core.Path.{_≡_}
 use mathlib.Core.Logic.{_↔_, _⊎_}
 use mathlib.Core.Bool.{Bool, true}
 use mathlib.Core.List.{List, List·Memᴰ}
 use mathlib.Core.Option.{none, some}
-use lib.IntN.{ℤ}
+use lib.IntN.{ℤ, pos}
 use lib.ListN.{length, take, drop}
 use Rattle.logic.specs.Checked.{ok}
 use Rattle.logic.specs.Grounds.{first}
 use Rattle.logic.specs.Model.{Model}
-use Rattle.logic.specs.Plan.{Plan, plans, choices}
+use Rattle.logic.specs.Quantity.{integers, sum, Relation}
+use Rattle.logic.specs.Plan.{Plan, plans, choices, paths, weight}
+use Rattle.logic.specs.Bound.{gain-between}
+use Rattle.logic.specs.Formula.{Formula, plan, earns, W}
 use Rattle.logic.specs.Verdict.{Goal, goal, shown, Shown-plan, yes-plan}
 use Rattle.logic.specs.Limits.{limit-grounds}
 use Rattle.blocks.specs.Bytes.{Bytes, All-bytes}
 use Rattle.questions.specs.Layout.{Question}
+use Rattle.sheets.specs.Layout.{weight-of}
 use Rattle.sheets.specs.Grounds.{read-sheet}
 use Rattle.protocol.specs.Calls.{Call, judge, query, write, check, Held, Report, judged, written, accepted, refuse, Reply}
 use Rattle.protocol.specs.History.{after}
 use Rattle.protocol.specs.Replies.{Session}
 
--- "for every plan question that the desk then holds with its accepted model, within the path and plan limits": its root is "plan", and
--- asks of plans what the goal says: their steps, the total of each, and whether that meets the bound.
+-- "for every plan question that the desk then holds with its accepted model, within the path and plan limits": its root is "plan" or of
+-- operator 9, and asks of plans what the goal says: their steps, the total of each, and whether that meets the bound.
 pub record Plan-question (h : Held) : Type 0 where
   pub model : Model
   pub question : Question
@@ -45,11 +50,26 @@ module _ {h : Held} (reply : Call → Reply) (x : Plan-question h) where
   abbrev pub Asked-plan : Type 0
   Asked-plan = Plan (x .asked .steps)
 
-  -- "the summed weights of those paths that its plan allows and on which the condition is true": W of `Formula`, the total of operator 8
+  -- Operator 8, a "plan": "The condition is the root's child, read at the path's start."
+  pub record On-condition (φ : Formula) : Type 0 where
+    pub relation : Relation
+    pub p : ℕ
+    pub q : ℕ
+    pub root : x .question .root ≡ plan (x .asked .steps) φ relation p q
+
+  -- Operator 9: the steps l to u earn.
+  pub record On-gain (l u : ℕ) : Type 0 where
+    pub relation : Relation
+    pub p : ℤ
+    pub q : ℕ
+    pub root : x .question .root ≡ earns (x .asked .steps) l u relation p q
+
+  -- "the summed weights of those paths that its plan allows and on which the condition is true", for operator 9 the summed "path weights times
+  -- the gains of steps l to u": `total-is-W` and `total-is-gain` below say so
   abbrev pub total : Asked-plan → ℤ
   total π = x .asked .total π
 
-  -- "A sheet meets the bound when its plan's W does."
+  -- "A sheet meets the bound when its plan's W does."; operator 9, "with its total for W"
   abbrev pub meets-bound : Asked-plan → Bool
   meets-bound π = x .asked .met π
 
@@ -93,8 +113,17 @@ module _ {h : Held} (reply : Call → Reply) (x : Plan-question h) where
     pub beyond : drop filled left ≡ drop filled buffer
 
   pub record Demand-3 : Type 0 where
+    -- Every plan question is of one of the two kinds, and this is what its plans' totals are: W of `Formula`, and the expected gain of
+    -- Definition 13 times D to the n.
+    pub two-kinds : ((φ : Formula) × On-condition φ) ⊎ ((l : ℕ) × (u : ℕ) × On-gain l u)
+    pub total-is-W : (φ : Formula) → On-condition φ → (π : Asked-plan) → total π ≡ pos (W (x .model) φ (x .asked .steps) start π)
+    pub total-is-gain : (l u : ℕ) → On-gain l u → (π : Asked-plan)
+        → total π ≡ sum integers (λ ρ. integers .times (weight ρ) (gain-between l u ρ)) (paths (x .model) (x .asked .steps) start π)
     -- "accepts it exactly when two weights are equal"
     pub check-exact : (sheet : Bytes) (w : ℤ) (π : Asked-plan) → Claims sheet w π → ((report : Report) × Accepts sheet report) ↔ (w ≡ total π)
+    -- of operator 8, where the weight claimed is document 01's u64: exactly when the number of the eight bytes, unsigned, is W
+    pub check-unsigned : (φ : Formula) → On-condition φ → (sheet : Bytes) → All-bytes sheet → (w : ℤ) (π : Asked-plan) → Claims sheet w π
+        → ((report : Report) × Accepts sheet report) ↔ (weight-of sheet 0 ≡ W (x .model) φ (x .asked .steps) start π)
     -- and refuses it with 11 when they differ
     pub check-differs : (sheet : Bytes) (w : ℤ) (π : Asked-plan) → Claims sheet w π → (w ≡ total π → ⊥) → Differs sheet
     -- "no other ground for refusal": the sheets that claim a weight for some plan are just those that check accepts or refuses with 11

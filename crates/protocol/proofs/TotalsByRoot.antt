@@ -1,0 +1,69 @@
+-- What a plan question asks of plans, by its root: of operator 8 the total is W, of operator 9 the summed path weights times gains.
+use Prim.Native.Nat.{ℕ}
+use mathlib.Core.Path.{_≡_, refl, sym, ap, ap₂, subst, _∙_}
+use mathlib.Core.Logic.{_⊎_, inl, inr}
+use mathlib.Core.Bool.{true, false, false≢true}
+use lib.IntN.{ℤ, pos}
+use Rattle.logic.specs.Checked.{ok, _>>=_}
+use Rattle.logic.specs.Model.{Model}
+use Rattle.logic.specs.Quantity.{integers, sum, Relation}
+use Rattle.logic.specs.Plan.{Plan, paths, weight}
+use Rattle.logic.specs.Bound.{total, gain-between}
+use Rattle.logic.specs.Formula.{Formula, never, plan, earns, on-plan, on-bound, W}
+use Rattle.logic.specs.Verdict.{Goal, bound-of, bound-goal, goal}
+use Rattle.logic.proofs.Checked.{not-ok, ok-same}
+use Rattle.logic.proofs.OnPlan.{by-plan}
+use Rattle.logic.proofs.WholeTotals.{condition-total}
+
+-- The two kinds of roots, for a number of steps.
+abbrev Condition : Formula → (n : ℕ) → Formula → Type 0
+Condition φ n ψ = (r : Relation) × (p : ℕ) × (q : ℕ) × (φ ≡ plan n ψ r p q)
+
+abbrev Gain : Formula → (n l u : ℕ) → Type 0
+Gain φ n l u = (r : Relation) × (p : ℤ) × (q : ℕ) × (φ ≡ earns n l u r p q)
+
+-- Parts of a root.
+child : {n k : ℕ} {φ ψ : Formula} {r v : Relation} {p q i j : ℕ} → plan n φ r p q ≡ plan k ψ v i j → φ ≡ ψ
+child e = ap (on-plan never (λ n ψ r p q. ψ) (λ n l u r p q. never)) e
+
+first-step : {n k l l′ u u′ : ℕ} {r v : Relation} {p i : ℤ} {q j : ℕ} → earns n l u r p q ≡ earns k l′ u′ v i j → l ≡ l′
+first-step e = ap (on-plan 0 (λ n ψ r p q. 0) (λ n l u r p q. l)) e
+
+last-step : {n k l l′ u u′ : ℕ} {r v : Relation} {p i : ℤ} {q j : ℕ} → earns n l u r p q ≡ earns k l′ u′ v i j → u ≡ u′
+last-step e = ap (on-plan 0 (λ n ψ r p q. 0) (λ n l u r p q. u)) e
+
+earns≢plan : {n l u k : ℕ} {φ : Formula} {r v : Relation} {p : ℤ} {q i j : ℕ} → earns n l u r p q ≡ plan k φ v i j → ⊥
+earns≢plan e = false≢true (ap (on-plan false (λ n ψ r p q. true) (λ n l u r p q. false)) e)
+
+-- What is said of a root that sets a bound, with its goal.
+pub record Root (m : Model) (s : ℕ) (φ : Formula) (g : Goal) : Type 0 where
+  pub kinds : ((ψ : Formula) × Condition φ (g .steps) ψ) ⊎ ((l : ℕ) × (u : ℕ) × Gain φ (g .steps) l u)
+  pub bounded : on-bound false (λ n r. true) φ ≡ true
+  pub steps : on-bound 0 (λ n r. n) φ ≡ g .steps
+  pub weights : (ψ : Formula) → Condition φ (g .steps) ψ → (π : Plan (g .steps)) → g .total π ≡ pos (W m ψ (g .steps) s π)
+  pub gains : (l u : ℕ) → Gain φ (g .steps) l u → (π : Plan (g .steps))
+      → g .total π ≡ sum integers (λ ρ. integers .times (weight ρ) (gain-between l u ρ)) (paths m (g .steps) s π)
+
+pub root-of : (m : Model) (s : ℕ) (φ : Formula) (g : Goal) → goal m s φ ≡ ok g → Root m s φ g
+unfolding goal bound-of total
+root-of m s φ g =
+    by-plan (λ φ c. (c >>= λ b. ok (bound-goal m s b)) ≡ ok g → Root m s φ g) (λ _ e. absurd (not-ok e))
+    (λ n ψ r p q e.
+    subst (Root m s (plan n ψ r p q)) (ok-same e)
+    (record {
+      kinds = inl (ψ, (r, p, q, refl));
+      bounded = refl;
+      steps = refl;
+      weights = λ χ w π. condition-total m ψ n s π ∙ ap (λ φ. pos (W m φ n s π)) (child (w .3));
+      gains = λ l u w. absurd (earns≢plan (sym (w .3)));
+    }))
+    (λ n l u r p q e.
+    subst (Root m s (earns n l u r p q)) (ok-same e)
+    (record {
+      kinds = inr (l, u, (r, p, q, refl));
+      bounded = refl;
+      steps = refl;
+      weights = λ χ w. absurd (earns≢plan (w .3));
+      gains = λ k v w π.
+          ap₂ (λ a b. sum integers (λ ρ. integers .times (weight ρ) (gain-between a b ρ)) (paths m n s π)) (first-step (w .3)) (last-step (w .3));
+    })) φ
