@@ -1,7 +1,10 @@
 // Bytes, numbers in bytes, and blocks of 512 bytes: what every reader and writer stands on.
 ghost use mathlib.Core.Path.{_≡_};
 ghost use Prim.Native.Nat.{_+_, _*_, _≤_, _<_, _%_};
+ghost use mathlib.Core.Bool.{true};
+ghost use lib.IntN.{pos, negsuc};
 ghost use lib.ListN.{length, take};
+ghost use lib.Signed.{ltZ};
 ghost use Rattle.blocks.specs.Bytes.{u16, u32, u64, signed, i16, i32, i64, twos-complement};
 ghost use Rattle.blocks.specs.Bytes as spec;
 ghost use Rattle.blocks.specs.Block.{whole-blocks, word-sum, sums-right, with-word-sum};
@@ -135,12 +138,21 @@ pub fn i64_at(b: &[u8], i: usize) -> i64
     -1 - (18446744073709551615 - x) as i64
 }
 
+// How far a number below 0 is below -1.
+pub fn below_minus_one(z: i64) -> u64
+    requires { ⌜ ltZ z (pos 0) ≡ true ⌝ }
+    ensures value { λ r. ⌜ z ≡ negsuc r ⌝ }
+    ensures range { λ r. ⌜ r < 9223372036854775808 ⌝ }
+{
+    (-1 - z) as u64
+}
+
 // The 64 bits of a signed number, as a number: its two's complement.
 pub fn bits_of(z: i64) -> u64
     ensures value { λ r. ⌜ r ≡ twos-complement 63 z ⌝ }
 {
     if z < 0 {
-        return 18446744073709551615 - (-1 - z) as u64;
+        return 18446744073709551615 - below_minus_one(z);
     }
     z as u64
 }

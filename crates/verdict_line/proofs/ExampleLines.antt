@@ -5,13 +5,14 @@ use mathlib.Core.Path.{_≡_, refl}
 use mathlib.Core.List.{List, [], _∷_, map, flatMap}
 use Rattle.logic.specs.Lists.{is-empty, all, any, find, keep, product, join, count-from}
 use Rattle.logic.specs.Model.{no-action, true-of, mask, prop-in, enabled-actions, deadlocked, enabled, stored, outcomes}
-use Rattle.logic.specs.Quantity.{sum, less, equal, related}
+use lib.IntN.{pos, negsuc}
+use Rattle.logic.specs.Quantity.{sum, less, equal, greater, related}
 use Rattle.logic.specs.Plan.{plans, choices, paths, weight}
-use Rattle.logic.specs.Bound.{meets}
-use Rattle.logic.specs.Formula.{Formula, never, prop, neg, next, plan, nonnegative, sat, W}
-use Rattle.logic.specs.Verdict.{leads, is-equal, goal, shown, verdict}
+use Rattle.logic.specs.Bound.{total, meets, one-if, gain-between}
+use Rattle.logic.specs.Formula.{Formula, never, prop, neg, next, plan, earns, sat}
+use Rattle.logic.specs.Verdict.{leads, is-equal, bound-of, goal, shown, verdict}
 use Rattle.logic.specs.TwoShelf.{two-shelf}
-use Rattle.verdict_line.specs.Text.{text, decimal, decimal-in}
+use Rattle.verdict_line.specs.Text.{text, decimal, decimal-in, signed-decimal}
 use Rattle.verdict_line.specs.Line.{refused-line, plain-line, no-plans-line, yes-plan-line, is-plan, verdict-line}
 
 pub record Row : Type 0 where
@@ -28,6 +29,9 @@ asked φ = verdict-line two-shelf φ (verdict two-shelf 0 φ)
 done : Formula
 done = prop 1
 
+-- Of the first step's gain "less than -1", worked out: a plan begins with grip, which earns -2 whatever comes of it, or with quick, which earns -1.
+-- All paths of two steps weigh 10 * 10 = 100 together, so the totals are -200 and -100. The bound is -1 * 100 = -100: -200 is less, and is the least.
+-- The first plan with it grips, drops in state 1, and grips again in state 0: choices 0 2 0.
 unfoldable pub table : List Row
 unfolding row asked done
 table =
@@ -35,12 +39,15 @@ table =
     ∷ row (asked (plan 2 (next (next done)) equal 50 100)) "no plans 4\n"
     ∷ row (asked (plan 1 (next done) less 0 1)) "no plans 0\n"
     ∷ row (asked (plan 1 (next done) equal 0 1)) "yes 0/10 plans 1 choices 0\n"
+    ∷ row (asked (earns 2 2 2 greater (pos 6) 1)) "yes 700/100 plans 0 choices 0 2 1\n"
+    ∷ row (asked (earns 2 2 2 greater (pos 7) 1)) "no plans 0\n"
+    ∷ row (asked (earns 2 1 1 less (negsuc 0) 1)) "yes -200/100 plans 0 choices 0 2 0\n"
     ∷ row (asked (neg done)) "yes\n"
     ∷ row (asked never) "no\n"
     ∷ row (refused-line 24) "refused 24\n"
-    ∷ row (yes-plan-line 10_000_000_000 1_000_000_000_000 65536 (7 ∷ [])) "yes 10000000000/1000000000000 plans 65536 choices 7\n"
+    ∷ row (yes-plan-line (pos 10_000_000_000) 1_000_000_000_000 65536 (7 ∷ [])) "yes 10000000000/1000000000000 plans 65536 choices 7\n"
     ∷ []
 
 pub printed-lines : map (λ r. r .line) table ≡ map (λ r. text (r .printed)) table
-unfolding table text decimal decimal-in refused-line plain-line no-plans-line yes-plan-line is-plan verdict-line nonnegative two-shelf is-empty all any find keep product join count-from flatMap no-action true-of mask prop-in enabled-actions deadlocked enabled stored outcomes plans choices paths weight sum sat W meets related leads is-equal goal shown verdict
+unfolding table text decimal decimal-in signed-decimal refused-line plain-line no-plans-line yes-plan-line is-plan verdict-line two-shelf is-empty all any find keep product join count-from flatMap no-action true-of mask prop-in enabled-actions deadlocked enabled stored outcomes plans choices paths weight sum total one-if gain-between sat meets related leads is-equal bound-of goal shown verdict
 printed-lines = refl

@@ -3,23 +3,24 @@ use Prim.Native.Nat.{ℕ, _-_, _^_}
 use mathlib.Core.Bool.{Bool, true, false, cond}
 use mathlib.Core.List.{List, [], _∷_, _++_, flatMap}
 use mathlib.Core.Option.{Option, none, some}
+use lib.IntN.{ℤ}
 use lib.ListN.{length, take, drop}
 use Rattle.logic.specs.Model.{Model}
-use Rattle.logic.specs.Formula.{Formula, on-plan, nonnegative}
+use Rattle.logic.specs.Formula.{Formula, on-bound}
 use Rattle.logic.specs.Verdict.{Verdict, no, yes, yes-plan}
 use Rattle.blocks.specs.Bytes.{Bytes, within}
 use Rattle.questions.specs.Layout.{Question}
 use Rattle.protocol.specs.Calls.{load, put, judge, Held, Answer, done, judged, written, accepted, refuse, Reply}
 use Rattle.protocol.specs.History.{after}
 use Rattle.protocol.specs.Replies.{replies-to}
-use Rattle.verdict_line.specs.Text.{text, numbered}
+use Rattle.verdict_line.specs.Text.{text, signed-decimal, numbered}
 
 -- ---- the line of each answer
 
 unfoldable pub refused-line : ℕ → List ℕ
 refused-line k = numbered "refused " k ++ text "\n"
 
--- Roots other than "plan".
+-- Roots other than "plan" and operator 9.
 unfoldable pub plain-line : Bool → List ℕ
 plain-line true = text "yes\n"
 plain-line false = text "no\n"
@@ -27,19 +28,20 @@ plain-line false = text "no\n"
 unfoldable pub no-plans-line : ℕ → List ℕ
 no-plans-line count = numbered "no plans " count ++ text "\n"
 
--- W over D to the n, unreduced, the count, and the choices.
-unfoldable pub yes-plan-line : (weight whole count : ℕ) → List ℕ → List ℕ
+-- W, for operator 9 the total, over D to the n, unreduced, the count, and the choices. A total below 0 has a minus.
+unfoldable pub yes-plan-line : (total : ℤ) (whole count : ℕ) → List ℕ → List ℕ
 yes-plan-line w t count cs =
-    numbered "yes " w ++ numbered "/" t ++ numbered " plans " count ++ text " choices" ++ flatMap (numbered " ") cs ++ text "\n"
+    text "yes " ++ signed-decimal w ++ numbered "/" t ++ numbered " plans " count ++ text " choices" ++ flatMap (numbered " ") cs ++ text "\n"
 
+-- A "plan" root, or one of operator 9.
 unfoldable pub is-plan : Formula → Bool
-is-plan φ = on-plan false (λ n ψ r p q. true) φ
+is-plan φ = on-bound false (λ n r. true) φ
 
 -- The line of a verdict on this root.
 unfoldable pub verdict-line : Model → Formula → Verdict → List ℕ
 verdict-line m φ (no x) = cond (is-plan φ) (no-plans-line (x .count)) (plain-line false)
 verdict-line m φ yes = plain-line true
-verdict-line m φ (yes-plan x) = yes-plan-line (nonnegative (x .total)) (m .denominator ^ x .steps) (x .count) (x .choices)
+verdict-line m φ (yes-plan x) = yes-plan-line (x .total) (m .denominator ^ x .steps) (x .count) (x .choices)
 
 -- ---- the line of each input
 

@@ -6,6 +6,7 @@ use mathlib.Core.Path.{_≡_}
 use mathlib.Core.Bool.{cond}
 use mathlib.Core.List.{List, [], _∷_, _++_}
 use lib.Dec.{ltb}
+use lib.IntN.{ℤ, pos, negsuc}
 use lib.ListN.{length}
 use Rattle.blocks.specs.Splice.{splice}
 
@@ -24,6 +25,11 @@ decimal-in (suc k) n = cond (ltb n 10) (digit n ∷ []) (decimal-in k (n / 10) +
 -- 20 digits are enough for 64 bits. That these are the digits that `io::decimal` writes is proved (`Decimal`).
 unfoldable pub decimal : ℕ → List ℕ
 decimal n = decimal-in 20 n
+
+-- An integer: where it is below 0, a minus and how far it is below.
+unfoldable pub signed-decimal : ℤ → List ℕ
+signed-decimal (pos n) = decimal n
+signed-decimal (negsuc n) = text "-" ++ decimal (n + 1)
 
 -- A number after a text.
 abbrev pub numbered : String → ℕ → List ℕ

@@ -2,7 +2,7 @@
 ghost use mathlib.Core.List.{_++_, flatMap};
 ghost use Prim.Native.Nat.{_+_, _*_, _≤_};
 ghost use lib.ListN.{length};
-ghost use Rattle.verdict_line.specs.Text.{decimal, numbered, Put};
+ghost use Rattle.verdict_line.specs.Text.{decimal, signed-decimal, numbered, Put};
 ghost use Rattle.verdict_line.specs.Text as texts;
 ghost use Rattle.verdict_line.specs.Line.{refused-line, plain-line, no-plans-line, yes-plan-line};
 
@@ -28,6 +28,19 @@ pub fn put_decimal(out: &mut [u8], at: usize, text: &[u8], n: u64) -> usize
     let k = io::decimal(n, &mut digits);
     let next = put_text(out, at, text);
     put_text(out, next, &digits[..k])
+}
+
+// Writes a text and a number after it, which has a minus where it is below 0.
+pub fn put_signed(out: &mut [u8], at: usize, text: &[u8], z: i64) -> usize
+    requires { ⌜ at + (length (now text) + 21) ≤ length (now out) ⌝ }
+    ensures effect { λ r. ⌜ Put (now (text .entry) ++ signed-decimal z) (now (out .entry)) (now (out .exit)) at r ⌝ }
+    ensures range { λ r. ⌜ r ≤ at + (length (now (text .entry)) + 21) ⌝ }
+{
+    if z < 0 {
+        let next = put_text(out, at, text);
+        return put_decimal(out, next, b"-", blocks::below_minus_one(z) + 1);
+    }
+    put_decimal(out, at, text, z as u64)
 }
 
 // Writes a space and the number for each choice.
@@ -62,7 +75,7 @@ pub fn refused_line(out: &mut [u8], k: u32) -> usize
     number_line(out, b"refused ", k as u64)
 }
 
-// The line of a root that is not "plan".
+// The line of a root that sets no bound on plans.
 pub fn plain_line(out: &mut [u8], yes: bool) -> usize
     requires { ⌜ 8192 ≤ length (now out) ⌝ }
     ensures effect { λ r. ⌜ Put (plain-line yes) (now (out .entry)) (now (out .exit)) 0 r ⌝ }
@@ -73,7 +86,7 @@ pub fn plain_line(out: &mut [u8], yes: bool) -> usize
     put_text(out, 0, b"no\n")
 }
 
-// The line of a no to a "plan" root.
+// The line of a no to a root that sets a bound on plans.
 pub fn no_plans_line(out: &mut [u8], count: u32) -> usize
     requires { ⌜ 8192 ≤ length (now out) ⌝ }
     ensures effect { λ r. ⌜ Put (no-plans-line count) (now (out .entry)) (now (out .exit)) 0 r ⌝ }
@@ -82,11 +95,11 @@ pub fn no_plans_line(out: &mut [u8], count: u32) -> usize
 }
 
 // The line of a yes with a plan: at most 1365 choices of at most 3 digits, so that it is shorter than 8192 bytes.
-pub fn yes_plan_line(out: &mut [u8], weight: u64, whole: u64, count: u32, choices: &[u8]) -> usize
+pub fn yes_plan_line(out: &mut [u8], total: i64, whole: u64, count: u32, choices: &[u8]) -> usize
     requires { ⌜ (8192 ≤ length (now out)) × (length (now choices) ≤ 1365) ⌝ }
-    ensures effect { λ r. ⌜ Put (yes-plan-line weight whole count (now (choices .entry))) (now (out .entry)) (now (out .exit)) 0 r ⌝ }
+    ensures effect { λ r. ⌜ Put (yes-plan-line total whole count (now (choices .entry))) (now (out .entry)) (now (out .exit)) 0 r ⌝ }
 {
-    let mut next = put_decimal(out, 0, b"yes ", weight);
+    let mut next = put_signed(out, 0, b"yes ", total);
     next = put_decimal(out, next, b"/", whole);
     next = put_decimal(out, next, b" plans ", count as u64);
     next = put_text(out, next, b" choices");

@@ -1,29 +1,33 @@
 -- Six writes, one behind the other; 1365 choices take at most 5460 bytes, so that all fit.
 use native.Mathlib.Omega.{arith}
+use mathlib.Core.Path.{subst}
+use mathlib.Core.List.{_++_}
+use mir.Syntax.{w64}
+use mir.ValLaws.{toZ-ofZ}
 use borrow.Author.Needs.{needs}
-use Rattle.verdict_line.specs.Text.{text}
+use Rattle.verdict_line.specs.Text.{text, signed-decimal, Put}
 use Rattle.verdict_line.specs.Line.{yes-plan-line}
 use Rattle.verdict_line.proofs.PutInTurn.{put-put}
 use Rattle.verdict_line.proofs.yes_plan_line.Statement.{statement}
 use Rattle.verdict_line.proofs.yes_plan_line.Tie as tie
 
+slice-aggregate-put-signed : tie.Need-slice-aggregate-put-signed
+slice-aggregate-put-signed c = search needs
+
+put-signed-requires : tie.Need-put-signed-requires
+put-signed-requires c κs = search needs
+
 slice-aggregate-put-decimal : tie.Need-slice-aggregate-put-decimal
 slice-aggregate-put-decimal c = search needs
 
 put-decimal-requires : tie.Need-put-decimal-requires
-put-decimal-requires c κs = search needs
+put-decimal-requires c κs = omega arith
 
 slice-aggregate-put-decimal-2 : tie.Need-slice-aggregate-put-decimal-2
 slice-aggregate-put-decimal-2 c = search needs
 
 put-decimal-requires-2 : tie.Need-put-decimal-requires-2
 put-decimal-requires-2 c κs = omega arith
-
-slice-aggregate-put-decimal-3 : tie.Need-slice-aggregate-put-decimal-3
-slice-aggregate-put-decimal-3 c = search needs
-
-put-decimal-requires-3 : tie.Need-put-decimal-requires-3
-put-decimal-requires-3 c κs = omega arith
 
 slice-aggregate-put-text : tie.Need-slice-aggregate-put-text
 slice-aggregate-put-text c = search needs
@@ -47,21 +51,23 @@ returns : tie.Need-returns
 unfolding yes-plan-line text
 returns c =
     let S = c .before .before .before .before .before .before .before .before .before .before .before .before .before .before .before .before .before .before .before .before .before .before .before .before .before .before .before .before .before .before .before in
-    let weight = c .before .before .before .before .before .before .before .before .before .before .before .before .before .before .before .before .before .before .before .before .before .before .before .before .before .before .put-decimal in
-    let whole = c .before .before .before .before .before .before .before .before .before .before .before .before .before .before .before .before .before .before .before .before .before .put-decimal2 in
-    let count = c .before .before .before .before .before .before .before .before .before .before .before .before .before .before .before .before .put-decimal3 in
+    let total = c .before .before .before .before .before .before .before .before .before .before .before .before .before .before .before .before .before .before .before .before .before .before .before .before .before .before .put-signed in
+    let whole = c .before .before .before .before .before .before .before .before .before .before .before .before .before .before .before .before .before .before .before .before .before .put-decimal in
+    let count = c .before .before .before .before .before .before .before .before .before .before .before .before .before .before .before .before .put-decimal2 in
     let name = c .before .before .before .before .before .before .before .before .before .before .before .put-text in
     let choices = c .before .before .before .before .before .before .before .put-choices in
     let end = c .before .before .put-text2 in
     let long = S .pre .0 in
     let few = S .pre .1 in
-    let h₁ = weight .ensures .1 in
+    let h₁ = total .ensures .1 in
     let h₂ = whole .ensures .1 in
     let h₃ = count .ensures .1 in
     let h₄ = name .ensures .next in
     let h₅ = choices .ensures .1 in
     let h₆ = end .ensures .next in
-    let share = put-put (weight .ensures .0) (whole .ensures .0) (omega arith) in
+    let same = toZ-ofZ w64 (S .args .total) (S .fits .total) in
+    let first = subst (λ z. Put (text "yes " ++ signed-decimal z) (S .args .out .now) (total .last .0) 0 (total .result)) same (total .ensures .0) in
+    let share = put-put first (whole .ensures .0) (omega arith) in
     let counted = put-put share (count .ensures .0) (omega arith) in
     let named = put-put counted (name .ensures) (omega arith) in
     let chosen = put-put named (choices .ensures .0) (omega arith) in
@@ -71,12 +77,12 @@ pub yes-plan-line-spec : {M : Type 1} → statement M
 yes-plan-line-spec =
     tie.close
     (tie.spec
+    slice-aggregate-put-signed
+    put-signed-requires
     slice-aggregate-put-decimal
     put-decimal-requires
     slice-aggregate-put-decimal-2
     put-decimal-requires-2
-    slice-aggregate-put-decimal-3
-    put-decimal-requires-3
     slice-aggregate-put-text
     put-text-requires
     put-choices-requires
