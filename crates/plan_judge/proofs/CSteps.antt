@@ -12,7 +12,7 @@ use Rattle.logic.specs.Checked.{Checked, ok, refused, _>>=_, _>>_, guard}
 use Rattle.logic.specs.promises.Refusal.{held}
 use Rattle.logic.specs.Model.{Model}
 use Rattle.logic.specs.Plan.{Plan}
-use Rattle.logic.specs.Formula.{Formula, nonnegative, sat}
+use Rattle.logic.specs.Formula.{Formula, sat}
 use Rattle.logic.specs.Limits.{limits}
 use Rattle.logic.specs.Verdict.{Goal, goal, shown, plan-record, announced, verdict-by, verdict}
 use Rattle.logic.specs.Verdict as logic
@@ -142,7 +142,7 @@ verdict-goal m s φ p e = by (goal m s φ) refl (sat m φ s []) e
 -- A shown plan is written as it is told.
 module _ (size : ℕ) (m : Model) (q : Question) (p : logic.Shown-plan) where
   abbrev sheet : ℕ → Bytes
-  sheet steps = sheet-bytes steps (q .start) (nonnegative (p .total)) (p .choices)
+  sheet steps = sheet-bytes steps (q .start) (p .total) (p .choices)
 
   abbrev fitted : ℕ → Checked Bytes
   fitted steps = guard 12 (leb (length (sheet steps)) size) >> ok (sheet steps)

@@ -1,51 +1,49 @@
 -- What check returns, at each of its returns: the grounds of the state, of the limits and of the sheet in their order, then whether the
--- weight of the plan on the sheet is the sheet's and meets the bound.
-use Prim.Native.Nat.{ℕ, _-_, _^_, _≤_}
+-- total of the plan on the sheet is the sheet's and meets the bound.
+use Prim.Native.Nat.{ℕ, _-_}
 use native.Mathlib.Omega.{arith}
 use mathlib.Core.Path.{_≡_, refl, sym, ap, ap₂, subst, _∙_}
-use mathlib.Core.Bool.{Bool, true, false, _&&_}
-use lib.Dec.{leb}
-use lib.IntN.{ℤ, pos, natAbs}
+use mathlib.Core.Bool.{true, false}
+use lib.IntN.{ℤ}
 use lib.ListN.{take, drop}
 use lib.Seq.{take-append-seam}
-use borrow.Author.Tests.{le-leb, leb-true}
 use Rattle.logic.specs.Checked.{Checked, ok, refused, _>>=_, _>>_, guard}
 use Rattle.logic.specs.promises.Refusal.{refusal}
 use Rattle.logic.specs.Model.{Model}
 use Rattle.logic.specs.Plan.{Plan}
-use Rattle.logic.specs.Quantity.{naturals}
-use Rattle.logic.specs.Bound.{meets}
-use Rattle.logic.specs.Formula.{W, relation, nonnegative}
-use Rattle.logic.specs.Verdict.{Goal, plan-goal}
+use Rattle.logic.specs.Verdict.{Goal, goal}
 use Rattle.logic.proofs.Checked.{ok-same}
+use Rattle.logic.proofs.Tests.{not-true}
 use Rattle.logic.specs.Limits.{limits}
 use Rattle.logic.specs.Choices.{plan-of}
 use Rattle.blocks.specs.Bytes.{Bytes}
-use Rattle.models.specs.Layout.{state-count, action-count, prop-count, denominator-of, model-of}
+use Rattle.models.specs.Layout.{state-count, action-count, prop-count, model-of}
 use Rattle.prepared_model.specs.promises.Rows.{model-in, Prepares}
 use mathlib.Core.List.{List}
 use Rattle.questions.specs.Layout.{Question, start-of, node-count, node-of, formulas-of, question-of}
 use Rattle.questions.specs.Grounds.{read-question}
+use Rattle.questions.specs.promises.Formed.{sets-bound}
 use Rattle.questions.proofs.AcceptedFacts.{accepted}
-use Rattle.sheets.specs.Layout.{Sheet, weight-of, sheet-of}
+use Rattle.sheets.specs.Layout.{Sheet, sheet-of}
 use Rattle.sheets.specs.Grounds.{read-sheet}
 use Rattle.sheets.specs.promises.Reader.{Blocks, Gathered}
 use Rattle.sheets.proofs.BlockTests.{sheet-passed}
 use Rattle.protocol.specs.Calls.{Report, same, reported}
 use Rattle.protocol.specs.promises.Chains.{check-on, do-check}
+use Rattle.protocol.proofs.Demand3.{same-self, same-equal}
 use Rattle.prepared_question.specs.promises.Shared.{Shared}
 use Rattle.prepared_question.proofs.SameVerdict.{same-goal, same-limits}
-use Rattle.bounds.specs.promises.Bounded.{Bounded, meets-at}
-use Rattle.plan_choices.proofs.SumIsWeight.{plan-there, weight-most}
+use Rattle.plan_choices.proofs.SumIsWeight.{plan-there}
 use Rattle.judging.specs.promises.Asked.{Served}
-use Rattle.judging.specs.promises.Announced.{Weighs}
+use Rattle.judging.specs.promises.Announced.{Spelled, Weighs}
+use Rattle.judging.specs.declared.Weighed.{Weighed}
 use Rattle.plan_judge.specs.declared.Desk.{Desk}
 use Rattle.plan_judge.specs.declared.Checking.the-variants.{Accepted, Refused}
 use Rattle.plan_judge.specs.View.{view}
 use Rattle.plan_judge.specs.promises.Values.{checking, checked-by}
 use Rattle.plan_judge.specs.promises.State.{held-goal, PlanRoot, plan-on}
 use Rattle.plan_judge.proofs.LoadPutReturn.{said-bytes}
-use Rattle.plan_judge.proofs.StateGrounds.{bind-refused, bind-passed, then-refused, limits-passed, both-asked, both-held, both-passed, goal-refused, root-node, condition, root-goal, asked-goal, goal-is}
+use Rattle.plan_judge.proofs.StateGrounds.{bind-refused, bind-passed, then-refused, limits-passed, both-asked, both-held, both-passed, goal-refused, root-node, root-goal, asked-goal, goal-is}
 
 -- ---- the plan on a sheet
 
@@ -93,19 +91,6 @@ check-for b m q g =
     limits m (q .nodes)
     >> (read-sheet (g .steps) (q .start) b >>= (λ x. plan-of m (g .steps) (q .start) (x .choices) >>= (λ π. guard 11 (same (x .weight) (g .total π)) >> ok (reported g π))))
 
-same-weight : (a b : ℕ) → a ≡ b → same (pos a) (pos b) ≡ true
-unfolding same
-same-weight a b e = ap₂ (λ x y. x && y) (le-leb a b (omega arith)) (le-leb b a (omega arith))
-
-other-weight : (a b : ℕ) → (a ≡ b → ⊥) → same (pos a) (pos b) ≡ false
-unfolding same
-other-weight a b h = by (leb a b) (leb b a) refl refl
-  where
-    by : (t u : Bool) → leb a b ≡ t → leb b a ≡ u → (leb a b && leb b a) ≡ false
-    by false u i j = ap (λ x. x && leb b a) i
-    by true false i j = ap₂ (λ x y. x && y) i j
-    by true true i j = absurd (h (omega (arith, leb-true a b i, leb-true b a j)))
-
 -- The grounds of the state, and what is left past them.
 module _ (d : Desk) (b : Bytes) where
   pub check-state : (k : ℕ) → k ≡ refusal (held-goal (view d)) → (k ≡ 0 → ⊥) → Refused k ≡ checked-by d b
@@ -116,7 +101,7 @@ module _ (d : Desk) (b : Bytes) where
   unfolding do-check check-on checked-by
   check-past e = sym (ap checking (both-passed (view d) (model-of (said-bytes d)) (question-of (d .question)) (both-held d (both-asked d e)) (λ m q. check-on m q b)))
 
--- The bytes of a model and of a question with a "plan" root.
+-- The bytes of a model and of a question that asks for a plan.
 module _ (m q : Bytes) (r : PlanRoot m q) (b : Bytes) where
   abbrev M : Model
   M = model-of m
@@ -127,13 +112,12 @@ module _ (m q : Bytes) (r : PlanRoot m q) (b : Bytes) where
   abbrev s : ℕ
   s = start-of q
 
-  -- What is reported of a sheet whose plan has this total.
-  abbrev on-total : ℕ → Report
-  on-total w = record { met = meets naturals M n (relation (root-node q .right)) (nonnegative (root-node q .p)) (root-node q .q) w }
+  abbrev g : Goal
+  g = asked-goal m q
 
-  -- What check does with the plan on a sheet that claims a weight.
-  abbrev weighed : ℤ → Plan n → Checked Report
-  weighed w π = guard 11 (same w (pos (W M (condition q) n s π))) >> ok (on-total (W M (condition q) n s π))
+  -- What check does with the plan on a sheet that claims a total.
+  abbrev decides : ℤ → Plan n → Checked Report
+  decides w π = guard 11 (same w (g .total π)) >> ok (reported g π)
 
   check-is : check-on M (question-of q) b ≡ check-for b M (question-of q) (asked-goal m q)
   unfolding check-on
@@ -147,14 +131,10 @@ module _ (m q : Bytes) (r : PlanRoot m q) (b : Bytes) where
 
   -- The model and the question prepared: the goal is the same.
   module _ {a q′ : List ℕ} (p : Prepares m a) (h : Shared (state-count a) (action-count a) (prop-count a) q q′) where
-    pub root-there : root-node q′ .operator ≡ 8
+    pub root-there : sets-bound (root-node q′ .operator) ≡ true
     root-there =
         let some = accepted _ _ _ q (r .asked) .formed .some-node in
-        ap (λ k. node-of q′ (k - 1) .operator) (h .count) ∙ h .operators (node-count q - 1) (omega arith) ∙ r .is-plan
-
-    pub root-bounded : (j : ℕ) → j ≡ node-count q′ - 1 → Bounded a q′ j
-    root-bounded j i =
-        record { prepared = p .prepared; nodes = h .nodes; node = omega (arith, h .nodes .formed .some-node); is-plan = ap (λ k. node-of q′ k .operator) i ∙ root-there }
+        ap sets-bound (ap (λ k. node-of q′ (k - 1) .operator) (h .count) ∙ h .operators (node-count q - 1) (omega arith)) ∙ r .sets
 
     pub sheet-served : refusal (limits M (question-of q .nodes)) ≡ 0 → Served a q′
     unfolding question-of
@@ -164,72 +144,64 @@ module _ (m q : Bytes) (r : PlanRoot m q) (b : Bytes) where
     unfolding question-of
     limits-there = sym (ap refusal (same-limits h (model-in a))) ∙ ap (λ M. refusal (limits M (formulas-of q))) (p .same)
 
-    abbrev there : Goal
-    there = plan-goal M (start-of q′) (root-node q′ .n) (condition q′) (relation (root-node q′ .right)) (nonnegative (root-node q′ .p)) (root-node q′ .q)
-
-    same-there : there ≡ asked-goal m q
+    goal-there : goal M (start-of q′) (question-of q′ .root) ≡ ok g
     unfolding question-of
-    same-there = ok-same (sym (root-goal (h .nodes .formed) M (start-of q′) root-there) ∙ sym (same-goal h M) ∙ goal-is m q r)
+    goal-there = sym (same-goal h M) ∙ goal-is m q r
 
-    pub steps-there : root-node q′ .n ≡ n
-    steps-there = ap (λ (g : Goal). g .steps) same-there
+    steps-there : root-node q′ .n ≡ n
+    steps-there = ap (λ (g : Goal). g .steps) (ok-same (sym (root-goal (h .nodes .formed) M (start-of q′) root-there) ∙ goal-there))
 
-    -- What the total of the plan with some choices is, and whether it meets the bound.
-    total-there : (cs : Bytes) {w : ℕ} → Weighs (model-in a) q′ cs w → (π : Plan n) → plan-of M n s cs ≡ ok π → pos w ≡ pos (W M (condition q) n s π)
-    total-there cs {w} g =
-        subst (λ (G : Goal). (π : Plan (G .steps)) → plan-of M (G .steps) s cs ≡ ok π → pos w ≡ G .total π) same-there
-        (λ π e. ap pos (subst (λ M. Weighs M q′ cs w) (p .same) g π (subst (λ s. plan-of M (root-node q′ .n) s cs ≡ ok π) (sym (h .start)) e)))
+    -- Choices of a plan are choices of one there, with the same total and the same answer to the bound.
+    module _ (cs : Bytes) (π : Plan n) (e : plan-of M n s cs ≡ ok π) where
+      read-there : plan-of M n (start-of q′) cs ≡ ok π
+      read-there = subst (λ s. plan-of M n s cs ≡ ok π) (sym (h .start)) e
 
-    met-there : (w : ℕ) {t : Bool} → t ≡ meets-at a q′ (node-count q′ - 1) w → (π : Plan n) → pos (W M (condition q) n s π) ≡ pos w → t ≡ asked-goal m q .met π
-    met-there w {t} j =
-        let bound : Model → ℕ → Bool = λ M w. meets naturals M (root-node q′ .n) (relation (root-node q′ .right)) (nonnegative (root-node q′ .p)) (root-node q′ .q) w in
-        subst (λ (G : Goal). (π : Plan (G .steps)) → G .total π ≡ pos w → t ≡ G .met π) same-there
-        (λ π e. j ∙ ap (λ M. bound M w) (p .same) ∙ ap (bound M) (sym (ap natAbs e)))
+      pub spelled-there : Spelled (model-in a) q′ cs
+      spelled-there =
+          subst (λ M. Spelled M q′ cs) (sym (p .same))
+          (subst (λ k. (π : Plan k) × (plan-of M k (start-of q′) cs ≡ ok π)) (sym steps-there) (π, read-there))
+
+      pub weighs-there : {w : Weighed} → Weighs (model-in a) q′ cs w → (w .total ≡ g .total π) × (w .met ≡ g .met π)
+      unfolding question-of
+      weighs-there {w} x = subst (λ M. Weighs M q′ cs w) (p .same) x g goal-there π read-there
 
   module _ (l : refusal (limits M (question-of q .nodes)) ≡ 0) where
     -- What is left past the limits.
-    past-limits : check-on M (question-of q) b ≡ (read-sheet n s b >>= (λ x. plan-of M n s (x .choices) >>= weighed (x .weight)))
+    past-limits : check-on M (question-of q) b ≡ (read-sheet n s b >>= (λ x. plan-of M n s (x .choices) >>= decides (x .weight)))
     unfolding question-of
-    past-limits = check-is ∙ ap (λ c. c >> (read-sheet n s b >>= (λ x. plan-of M n s (x .choices) >>= weighed (x .weight)))) (limits-passed M _ l)
+    past-limits = check-is ∙ ap (λ c. c >> (read-sheet n s b >>= (λ x. plan-of M n s (x .choices) >>= decides (x .weight)))) (limits-passed M _ l)
 
     pub check-sheet : (k : ℕ) → k ≡ refusal (plan-on M n s b) → (k ≡ 0 → ⊥) → Refused k ≡ checking (check-on M (question-of q) b)
     unfolding plan-on
     check-sheet k i h = refused-by (check-on M (question-of q) b) k (by (read-sheet n s b) i ∙ sym (ap refusal past-limits)) h
       where
         by : (c : Checked Sheet) → k ≡ refusal (c >>= (λ x. plan-of M n s (x .choices)))
-            → k ≡ refusal (c >>= (λ x. plan-of M n s (x .choices) >>= weighed (x .weight)))
+            → k ≡ refusal (c >>= (λ x. plan-of M n s (x .choices) >>= decides (x .weight)))
         by (ok x) z = bind-refused (plan-of M n s (x .choices)) _ k z h
         by (refused j) z = z
 
-    -- The weight of the plan on the sheet decides.
-    module _ (e : refusal (plan-on M n s b) ≡ 0) (w : ℕ) {a q′ : List ℕ} (p : Prepares m a) (h : Shared (state-count a) (action-count a) (prop-count a) q q′) (g : Weighs (model-in a) q′ (sheet-of b .choices) w) where
+    -- The total of the plan on the sheet decides.
+    module _ (e : refusal (plan-on M n s b) ≡ 0) (w : Weighed) {a q′ : List ℕ} (p : Prepares m a) (h : Shared (state-count a) (action-count a) (prop-count a) q q′)
+        (x : Weighs (model-in a) q′ (sheet-of b .choices) w) where
       o : OnSheet M n s b
       o = on-sheet M n s b e
 
-      weight-is : w ≡ W M (condition q) n s (o .plan)
-      weight-is = ap natAbs (total-there p h (sheet-of b .choices) g (o .plan) (o .read))
+      weighs : (w .total ≡ g .total (o .plan)) × (w .met ≡ g .met (o .plan))
+      weighs = weighs-there p h (sheet-of b .choices) (o .plan) (o .read) x
 
-      -- It is at most D to the n, so that it can be put to the bound of the root.
-      pub weight-fits : (j : ℕ) → j ≡ node-count q′ - 1 → w ≤ denominator-of a ^ (node-of q′ j .n)
-      weight-fits j i =
-          let l : w ≤ denominator-of m ^ n = omega (arith, weight-is, weight-most m (r .passed) (condition q) n s (accepted _ _ _ q (r .asked) .formed .starts) (sheet-of b .choices) (o .plan) (o .read)) in
-          rw (p .head 5 (omega arith)) (subst (λ k. w ≤ denominator-of m ^ k) (sym (steps-there p h) ∙ ap (λ k. node-of q′ k .n) (sym i)) l)
-
-      past-sheet : check-on M (question-of q) b ≡ (guard 11 (same (pos (weight-of b 0)) (pos w)) >> ok (on-total w))
-      unfolding sheet-of
+      past-sheet : check-on M (question-of q) b ≡ (guard 11 (same (sheet-of b .weight) (w .total)) >> ok (record { met = w .met }))
       past-sheet =
           past-limits
-          ∙ ap (λ c. c >>= (λ x. plan-of M n s (x .choices) >>= weighed (x .weight))) (o .sheet)
-          ∙ ap (λ c. c >>= weighed (pos (weight-of b 0))) (o .read)
-          ∙ ap (λ z. guard 11 (same (pos (weight-of b 0)) (pos z)) >> ok (on-total z)) (sym weight-is)
+          ∙ ap (λ c. c >>= (λ x. plan-of M n s (x .choices) >>= decides (x .weight))) (o .sheet)
+          ∙ ap (λ c. c >>= decides (sheet-of b .weight)) (o .read)
+          ∙ ap₂ (λ z t. guard 11 (same (sheet-of b .weight) z) >> ok (record { met = t })) (sym (weighs .0)) (sym (weighs .1))
 
-      pub check-weight : (weight-of b 0 ≡ w → ⊥) → Refused 11 ≡ checking (check-on M (question-of q) b)
-      check-weight i =
+      pub check-differs : (sheet-of b .weight ≡ w .total → ⊥) → Refused 11 ≡ checking (check-on M (question-of q) b)
+      check-differs i =
           refused-by (check-on M (question-of q) b) 11
-          (sym (ap refusal (past-sheet ∙ ap (λ t. guard 11 t >> ok (on-total w)) (other-weight (weight-of b 0) w i))))
+          (sym (ap refusal (past-sheet ∙ ap (λ t. guard 11 t >> ok (record { met = w .met })) (not-true (same (sheet-of b .weight) (w .total)) (λ t. i (same-equal (sheet-of b .weight) (w .total) t))))))
           (λ z. omega arith)
 
-      pub check-met : weight-of b 0 ≡ w → (t : Bool) → t ≡ meets-at a q′ (node-count q′ - 1) w → Accepted (record { met = t }) ≡ checking (check-on M (question-of q) b)
-      check-met i t j =
-          ap (λ t. Accepted (record { met = t })) (met-there p h w j (o .plan) (ap pos (sym weight-is)) ∙ ap (λ z. on-total z .met) (sym weight-is))
-          ∙ sym (ap checking (past-sheet ∙ ap (λ t. guard 11 t >> ok (on-total w)) (same-weight (weight-of b 0) w i)))
+      pub check-met : sheet-of b .weight ≡ w .total → Accepted (record { met = w .met }) ≡ checking (check-on M (question-of q) b)
+      check-met i =
+          sym (ap checking (past-sheet ∙ ap (λ t. guard 11 t >> ok (record { met = w .met })) (ap (same (sheet-of b .weight)) (sym i) ∙ same-self (sheet-of b .weight))))

@@ -5,19 +5,18 @@ use mathlib.Core.Path.{_≡_, refl, sym, ap, ap₂, subst, _∙_}
 use mathlib.Core.Bool.{Bool, true, false, cond}
 use mathlib.Core.List.{List, [], _∷_, _++_, append-nil, append-assoc, List·Memᴰ}
 use mathlib.Core.Option.{Option, none, some}
-use lib.IntN.{pos}
 use lib.ListN.{length, drop, replicate}
 use lib.Seq.{take-at}
 use Rattle.logic.specs.Checked.{Checked, ok, refused, _>>=_, got}
 use Rattle.logic.specs.promises.Refusal.{held}
 use Rattle.logic.specs.Model.{Model}
 use Rattle.logic.specs.Plan.{Plan, plans, choices}
-use Rattle.logic.specs.Formula.{Formula, nonnegative, sat}
+use Rattle.logic.specs.Formula.{sat}
 use Rattle.logic.specs.Verdict as logic
-use Rattle.logic.specs.Verdict.{Goal, goal, shown, plan-record, announced, verdict-by, verdict}
+use Rattle.logic.specs.Verdict.{Goal, goal, shown, announced, verdict-by, verdict}
 use Rattle.logic.specs.Choices.{read-plan}
 use Rattle.logic.specs.Limits.{limits}
-use Rattle.logic.proofs.Checked.{not-ok, ok-same, bind-ok, guard-ok}
+use Rattle.logic.proofs.Checked.{ok-same, bind-ok, guard-ok}
 use Rattle.logic.proofs.Tests.{and-left, and-right, eqb-eq}
 use Rattle.logic.proofs.Reading.{read-complete}
 use Rattle.logic.proofs.Shown.{shown-meets}
@@ -39,7 +38,6 @@ use Rattle.plan_judge.specs.View.{model-bytes, question-in, choices-in, 
 use Rattle.plan_judge.specs.promises.Values.{padded, nothing, taking, holding, loaded-by, asking, put-by, verdict-code, choices-code, settling, judging, judged-by, writing, written-by, filling, filled-by, checking, checked-by}
 use Rattle.plan_judge.specs.Said.{said-taken, said-verdict, said-judgement, said-written, said-checking}
 use Rattle.plan_judge.specs.promises.Session.{asked, step, desk-after, session}
-use Rattle.logic.proofs.OnPlan.{by-plan}
 
 -- ---- the replies
 
@@ -77,13 +75,6 @@ reply-check d b = by (do-check (view d) b)
 
 -- ---- the verdict with its choices beside it
 
--- Totals of a goal are natural numbers, so that the record's weight says them whole.
-whole-total : (m : Model) (s : ℕ) (φ : Formula) (g : Goal) → goal m s φ ≡ ok g → (π : Plan (g .steps)) → pos (nonnegative (g .total π)) ≡ g .total π
-unfolding goal nonnegative
-whole-total m s φ g =
-    by-plan (λ _ c. c ≡ ok g → (π : Plan (g .steps)) → pos (nonnegative (g .total π)) ≡ g .total π) (λ _ e. absurd (not-ok e))
-    (λ n ψ r p q e. subst (λ h. (π : Plan (h .steps)) → pos (nonnegative (h .total π)) ≡ h .total π) (ok-same e) (λ π. refl)) φ
-
 module _ (m : Model) (q : Question) where
   abbrev s : ℕ
   s = q .start
@@ -101,9 +92,7 @@ module _ (m : Model) (q : Question) where
   unfolding verdict-in verdict-code choices-code
   announced-read g e none h = refl
   announced-read g e (some x) h =
-      let p = plan-record g x in
       ap (λ c. verdict-in c (verdict-code (announced m s g (some x)))) (choices-read g e (x .1) (shown-meets m s g x h .0))
-      ∙ ap (λ w. some (logic.yes-plan (record { total = w; steps = p .steps; count = p .count; choices = p .choices }))) (whole-total m s (q .root) g e (x .1))
 
   verdict-read : verdict-on (some m) (some q) (choices-code (verdict m s (q .root))) (verdict-code (verdict m s (q .root))) ≡ some (verdict m s (q .root))
   unfolding verdict verdict-on verdict-in verdict-code

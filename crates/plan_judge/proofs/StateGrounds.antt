@@ -1,26 +1,30 @@
 -- What a desk holds where the grounds 20, 21 and 22 do not apply, and which of them applies where one does.
-use Prim.Native.Nat.{ℕ, zero, suc, _-_, _<_}
+use Prim.Native.Nat.{ℕ, zero, suc, _-_, _/_, _%_, _<_}
 use native.Mathlib.Omega.{arith}
 use mathlib.Core.Path.{_≡_, refl, sym, ap, ap₂, _∙_}
+use mathlib.Core.Logic.{⊎-elim}
 use mathlib.Core.Bool.{Bool, true, false, cond, not, _||_}
 use mathlib.Core.List.{List}
 use mathlib.Core.Option.{Option, none, some}
 use lib.Dec.{eqb, leb}
+use lib.IntN.{ℤ, pos}
 use lib.ListN.{getD}
-use borrow.Author.Tests.{eqb-true, eqb-false}
+use borrow.Author.Tests.{eq-eqb, ne-eqb}
 use Rattle.logic.specs.Checked.{Checked, ok, refused, _>>=_, _>>_, guard, got}
 use Rattle.logic.specs.promises.Refusal.{refusal, held}
-use Rattle.logic.specs.Model.{Model}
-use Rattle.logic.specs.Formula.{Formula, Node, never, relation, nonnegative}
+use Rattle.logic.specs.Model.{Model, Step}
+use Rattle.logic.specs.Bound.{Bound, one-if, gain-between}
+use Rattle.logic.specs.Formula.{Formula, Node, never, sat, relation}
 use Rattle.logic.specs.Limits.{path-total, plan-total, every-plan, limits}
-use Rattle.logic.specs.Verdict.{Goal, goal, plan-goal, is-equal}
+use Rattle.logic.specs.Verdict.{Goal, bound-of, bound-goal, goal, is-equal}
 use Rattle.blocks.specs.Bytes.{Bytes}
 use Rattle.models.specs.Layout.{state-count, action-count, prop-count, model-of}
 use Rattle.models.specs.Grounds.{read-model}
 use Rattle.questions.specs.Layout.{Question, start-of, node-count, node-of, formulas-of, question-of}
 use Rattle.questions.specs.Grounds.{read-question}
-use Rattle.questions.specs.promises.Formed.{Formed}
-use Rattle.questions.proofs.AcceptedFacts.{accepted, at-plan}
+use Rattle.questions.specs.promises.Formed.{Formed, sets-bound}
+use Rattle.questions.proofs.AcceptedFacts.{accepted, at-plan, at-earns}
+use Rattle.questions.proofs.SetsBound.{sets-which, sets-neither}
 use Rattle.limits.proofs.NodeByNode.{done}
 use Rattle.protocol.specs.Calls.{Held}
 use Rattle.plan_judge.specs.declared.Desk.{Desk}
@@ -54,6 +58,28 @@ limits-passed m fs e = by (every-plan (λ n r s. leb (path-total m n s) 1000000)
 
 -- ---- the root
 
+-- The root's node, and its condition.
+abbrev pub root-node : Bytes → Node
+root-node q = node-of q (node-count q - 1)
+
+abbrev pub condition : Bytes → Formula
+condition q = getD (formulas-of q) (root-node q .left) never
+
+-- What a path is worth to it, by whether its operator is 8.
+abbrev worth-by : Model → ℕ → Bytes → Bool → List Step → ℤ
+worth-by m s q t = cond t (λ ρ. pos (one-if (sat m (condition q) s ρ))) (gain-between (root-node q .left % 8) (root-node q .left / 8))
+
+-- The bound that it sets.
+abbrev pub root-bound : Model → ℕ → Bytes → Bound
+root-bound m s q =
+    record {
+      steps = root-node q .n;
+      worth = worth-by m s q (eqb (root-node q .operator) 8);
+      relation = relation (root-node q .right);
+      p = root-node q .p;
+      q = root-node q .q;
+    }
+
 module _ {S A N : ℕ} {b : Bytes} (a : Formed S A N b) where
   -- The number of the root.
   abbrev top : ℕ
@@ -63,16 +89,30 @@ module _ {S A N : ℕ} {b : Bytes} (a : Formed S A N b) where
   top-inside = omega (arith, a .some-node)
 
   module _ (m : Model) (s : ℕ) where
-    pub other-goal : (node-of b top .operator ≡ 8 → ⊥) → goal m s (question-of b .root) ≡ refused 22
-    unfolding goal question-of
-    other-goal h = no-plan-at b top top-inside h (refused 22) _
+    pub other-goal : sets-bound (node-of b top .operator) ≡ false → goal m s (question-of b .root) ≡ refused 22
+    unfolding goal bound-of question-of
+    other-goal e =
+        let w = sets-neither (node-of b top .operator) e in
+        ap (λ c. c >>= λ x. ok (bound-goal m s x)) (no-plan-at b top top-inside (w .0) (w .1) (refused 22) _ _)
 
-    -- The goal of a "plan" root, which has the node's steps.
-    pub root-goal : node-of b top .operator ≡ 8
-        → goal m s (question-of b .root)
-        ≡ ok (plan-goal m s (node-of b top .n) (getD (formulas-of b) (node-of b top .left) never) (relation (node-of b top .right)) (nonnegative (node-of b top .p)) (node-of b top .q))
-    unfolding goal question-of
-    root-goal o = ap (goal m s) (at-plan S A N b a top top-inside o)
+    -- The goal of a root that sets a bound, which has the node's steps.
+    abbrev made : (List Step → ℤ) → ℤ → Goal
+    made w p = bound-goal m s (record { steps = root-node b .n; worth = w; relation = relation (root-node b .right); p = p; q = root-node b .q })
+
+    of-plan : root-node b .operator ≡ 8 → goal m s (question-of b .root) ≡ ok (bound-goal m s (root-bound m s b))
+    unfolding goal bound-of question-of
+    of-plan o =
+        ap (goal m s) (at-plan S A N b a top top-inside o)
+        ∙ ap₂ (λ t p. ok (made (worth-by m s b t) p)) (sym (eq-eqb (root-node b .operator) 8 o)) (sym (a .in-range top top-inside .of-plan o .whole))
+
+    of-gain : root-node b .operator ≡ 9 → goal m s (question-of b .root) ≡ ok (bound-goal m s (root-bound m s b))
+    unfolding goal bound-of question-of
+    of-gain o =
+        ap (goal m s) (at-earns S A N b a top top-inside o)
+        ∙ ap (λ t. ok (made (worth-by m s b t) (root-node b .p))) (sym (ne-eqb (root-node b .operator) 8 (λ z. omega arith)))
+
+    pub root-goal : sets-bound (root-node b .operator) ≡ true → goal m s (question-of b .root) ≡ ok (bound-goal m s (root-bound m s b))
+    root-goal e = ⊎-elim of-plan of-gain (sets-which (root-node b .operator) e)
 
 -- ---- the model and the question
 
@@ -153,27 +193,24 @@ module _ (d : Desk) where
     unfolding held-goal question-of
     goal-held = ap (λ c. c >>= (λ x. goal (x .0) (x .1 .start) (x .1 .root))) both-held
 
-    pub no-plan : (node-of (d .question) (node-count (d .question) - 1) .operator ≡ 8 → ⊥) → 22 ≡ refusal (held-goal (view d))
+    pub no-plan : sets-bound (root-node (d .question) .operator) ≡ false → 22 ≡ refusal (held-goal (view d))
     no-plan h = sym (ap refusal (goal-held ∙ other-goal question-facts M (start-of (d .question)) h))
 
-    pub a-plan : node-of (d .question) (node-count (d .question) - 1) .operator ≡ 8 → 0 ≡ refusal (held-goal (view d))
+    pub a-plan : sets-bound (root-node (d .question) .operator) ≡ true → 0 ≡ refusal (held-goal (view d))
     a-plan o = sym (ap refusal (goal-held ∙ root-goal question-facts M (start-of (d .question)) o))
 
-  -- Both are held, and the root is a "plan", where none of 20, 21 and 22 applies.
+  -- Both are held, and the root sets a bound on plans, where none of 20, 21 and 22 applies.
   module _ (e : refusal (held-goal (view d)) ≡ 0) where
     pub both-asked : Both d
     unfolding held-goal
     both-asked = both (bind-passed (held-both (view d)) _ e)
 
     pub plan-asked : PlanRoot (said-bytes d) (d .question)
-    plan-asked = record { passed = both-asked .passed; asked = both-asked .asked; is-plan = by (eqb o 8) refl }
+    plan-asked = record { passed = both-asked .passed; asked = both-asked .asked; sets = by (sets-bound (root-node (d .question) .operator)) refl }
       where
-        o : ℕ
-        o = node-of (d .question) (node-count (d .question) - 1) .operator
-
-        by : (t : Bool) → eqb o 8 ≡ t → o ≡ 8
-        by true q = eqb-true o 8 q
-        by false q = absurd (omega (arith, no-plan both-asked (eqb-false o 8 q)))
+        by : (t : Bool) → sets-bound (root-node (d .question) .operator) ≡ t → t ≡ true
+        by true o = refl
+        by false o = absurd (omega (arith, no-plan both-asked o))
 
 -- ---- what a call does with the model and the question, and with the goal
 
@@ -208,19 +245,13 @@ module _ {B : Type 0} (h : Held) where
   pub both-passed : (m : Model) (q : Question) → held-both h ≡ ok (m, q) → (f : Model → Question → Checked B) → both-then h f ≡ f m q
   both-passed m q e f = then-by f ∙ ap (λ c. c >>= (λ x. f (x .0) (x .1))) e
 
--- The root's node, its condition, and the goal.
-abbrev pub root-node : Bytes → Node
-root-node q = node-of q (node-count q - 1)
-
-abbrev pub condition : Bytes → Formula
-condition q = getD (formulas-of q) (root-node q .left) never
-
+-- The goal of the root.
 abbrev pub asked-goal : (m q : Bytes) → Goal
-asked-goal m q = plan-goal (model-of m) (start-of q) (root-node q .n) (condition q) (relation (root-node q .right)) (nonnegative (root-node q .p)) (root-node q .q)
+asked-goal m q = bound-goal (model-of m) (start-of q) (root-bound (model-of m) (start-of q) q)
 
 pub goal-is : (m q : Bytes) → PlanRoot m q → goal (model-of m) (question-of q .start) (question-of q .root) ≡ ok (asked-goal m q)
 unfolding question-of
-goal-is m q r = root-goal (accepted _ _ _ q (r .asked) .formed) (model-of m) (start-of q) (r .is-plan)
+goal-is m q r = root-goal (accepted _ _ _ q (r .asked) .formed) (model-of m) (start-of q) (r .sets)
 
 pub goal-passed : {B : Type 0} (d : Desk) → refusal (held-goal (view d)) ≡ 0 → (f : Model → Question → Goal → Checked B)
     → goal-then (view d) f ≡ f (model-of (said-bytes d)) (question-of (d .question)) (asked-goal (said-bytes d) (d .question))

@@ -7,7 +7,6 @@ use mathlib.Core.Bool.{Bool, true, false, cond}
 use mathlib.Core.List.{List, [], _++_, append-nil}
 use mathlib.Core.Option.{Option, none, some}
 use lib.Dec.{leb}
-use lib.IntN.{pos}
 use lib.ListN.{length, take, drop, length-append}
 use lib.Seq.{take-append-seam, length-take-le}
 use borrow.Author.Tests.{le-leb, lt-leb}
@@ -15,7 +14,6 @@ use Rattle.logic.specs.Checked.{Checked, ok, refused, _>>=_, _>>_, guard}
 use Rattle.logic.specs.promises.Refusal.{refusal, held}
 use Rattle.logic.specs.Model.{Model}
 use Rattle.logic.specs.Plan.{Plan, choices}
-use Rattle.logic.specs.Formula.{nonnegative}
 use Rattle.logic.specs.Verdict.{Goal, goal}
 use Rattle.logic.specs.Verdict as logic
 use Rattle.logic.specs.Choices.{read-plan}
@@ -25,6 +23,7 @@ use Rattle.blocks.specs.Bytes.{Bytes}
 use Rattle.models.specs.Layout.{model-of}
 use Rattle.questions.specs.Layout.{Question, start-of, node-count, node-of, question-of}
 use Rattle.questions.proofs.AcceptedFacts.{accepted}
+use Rattle.questions.proofs.SetsBound.{bound-compares}
 use Rattle.sheets.specs.declared.plans.End.the-variants.{At}
 use Rattle.sheets.specs.promises.Ends.{end-of, all-read}
 use Rattle.sheets.specs.Layout.{Sheet, sheet-bytes, blocks-for}
@@ -42,7 +41,7 @@ use Rattle.plan_judge.proofs.LoadPutReturn.{said-bytes}
 use Rattle.plan_judge.proofs.StateGrounds.{root-goal, both-of, both-asked, plan-asked, goal-refused, root-node, goal-passed}
 use Rattle.logic.proofs.MostChoices.{some-choice}
 
--- ---- the choices of a "plan" root
+-- ---- the choices of a root that asks for a plan
 
 module _ (m q : Bytes) (r : PlanRoot m q) (cs : List ℕ) where
   abbrev n : ℕ
@@ -52,7 +51,7 @@ module _ (m q : Bytes) (r : PlanRoot m q) (cs : List ℕ) where
   unfolding choices-in question-of
   choices-are =
       ap (λ c. c >>= (λ g. read-plan (model-of m) (g .steps) (start-of q) cs >>= (λ x. ok (choices (g .steps) (x .0)))))
-      (root-goal (accepted _ _ _ q (r .asked) .formed) (model-of m) (start-of q) (r .is-plan))
+      (root-goal (accepted _ _ _ q (r .asked) .formed) (model-of m) (start-of q) (r .sets))
 
   pub size-choices : plan-size n (read-plan (model-of m) n (start-of q) cs) ≡ size-in (choices-in (model-of m) (question-of q) cs)
   unfolding plan-size size-in
@@ -69,7 +68,7 @@ module _ (m q : Bytes) (r : PlanRoot m q) (cs : List ℕ) where
       let w = read-sound (model-of m) n (start-of q) cs (x .0) (x .1) in
       let z : choices n (x .0 .0) ≡ l = ok-same (x .2) in
       let a = accepted _ _ _ q (r .asked) .formed in
-      let s = a .in-range (node-count q - 1) (omega (arith, a .some-node)) .of-plan (r .is-plan) .compares .some-step in
+      let s = bound-compares (a .in-range (node-count q - 1) (omega (arith, a .some-node))) (r .sets) .some-step in
       let i : cs ≡ l ++ x .0 .1 = w .1 ∙ ap (λ k. k ++ x .0 .1) z in
       (omega (arith, some-choice n (x .0 .0) s, ap length z), omega (arith, ap length i ∙ length-append l (x .0 .1)), sym (ap (take (length l)) i ∙ take-append-seam l (x .0 .1)))
 
@@ -112,7 +111,7 @@ module _ (d : Desk) (e : refusal (held-goal (view d)) ≡ 0) where
     pub none-shown : shown-size o ≡ 0 → sheet-held o ≡ refused 23
     pub few : shown-size o ≤ length (d .choices)
     pub there : (shown-size o ≡ 0 → ⊥) → found ≡ ok (take (shown-size o) (d .choices))
-    pub some-shown : (shown-size o ≡ 0 → ⊥) → sheet-held o ≡ ok (record { weight = pos (shown-weight (d .verdict)); choices = take (shown-size o) (d .choices) })
+    pub some-shown : (shown-size o ≡ 0 → ⊥) → sheet-held o ≡ ok (record { weight = shown-weight (d .verdict); choices = take (shown-size o) (d .choices) })
 
   pub shown-by : ShownBy ((view d) .verdict)
   unfolding verdict-in sheet-shown shown-size shown-weight
@@ -137,7 +136,7 @@ module _ (d : Desk) (e : refusal (held-goal (view d)) ≡ 0) where
             none-shown = λ z. absurd (omega (arith, w .0));
             few = omega (arith, w .1);
             there = λ _. k ∙ ap ok same;
-            some-shown = λ _. ap sheet-held o ∙ ap₂ (λ x z. ok (record { weight = pos x; choices = z })) (sym (ap shown-weight j)) same;
+            some-shown = λ _. ap sheet-held o ∙ ap₂ (λ x z. ok (record { weight = x; choices = z })) (sym (ap shown-weight j)) same;
           }
 
 -- Where a ground of the state applies, no plan is shown.
@@ -163,7 +162,7 @@ not-shown d h = by (d .judged) ((view d) .model) ((view d) .question) (d .verdic
 -- The sheet for a goal with these steps, or ground 12.
 abbrev sheet-for : (n s size : ℕ) → Sheet → Checked Bytes
 sheet-for n s size x =
-    guard 12 (leb (length (sheet-bytes n s (nonnegative (x .weight)) (x .choices))) size) >> ok (sheet-bytes n s (nonnegative (x .weight)) (x .choices))
+    guard 12 (leb (length (sheet-bytes n s (x .weight) (x .choices))) size) >> ok (sheet-bytes n s (x .weight) (x .choices))
 
 bind-assoc : {A B C : Type 0} (c : Checked A) (f : A → Checked B) (g : B → Checked C) → (c >>= (λ a. f a >>= g)) ≡ (c >>= f >>= g)
 bind-assoc (ok a) f g = refl
@@ -223,11 +222,10 @@ module _ (d : Desk) (a : Bytes) where
       sheet-size = sheet-length steps start (shown-weight (d .verdict)) shown ∙ ap (λ k. 512 * blocks-for k) shown-length
 
       write-by : do-write (view d) (length a) ≡ (guard 12 (leb (length sheet) (length a)) >> ok sheet)
-      unfolding nonnegative
       write-by =
           write-is
           ∙ ap (λ c. c >>= sheet-for steps start (length a)) (shown-by d e .some-shown (λ z. h (i ∙ z)))
-          ∙ ap (λ k. sheet-for steps start (length a) (record { weight = pos (shown-weight (d .verdict)); choices = take k (d .choices) })) (sym i)
+          ∙ ap (λ k. sheet-for steps start (length a) (record { weight = shown-weight (d .verdict); choices = take k (d .choices) })) (sym i)
 
       pub write-short : length a < 512 * blocks-for count → (Refused 12 ≡ written-by d (length a)) × (a ≡ filled-by d a)
       write-short l =

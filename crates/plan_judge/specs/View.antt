@@ -5,7 +5,6 @@ use Prim.Native.Nat.{ℕ, _*_}
 use mathlib.Core.Bool.{Bool, cond}
 use mathlib.Core.List.{List}
 use mathlib.Core.Option.{Option, none, some}
-use lib.IntN.{pos}
 use lib.ListN.{take}
 use Rattle.logic.specs.Checked.{Checked, ok, refused, _>>=_, got}
 use Rattle.logic.specs.Model.{Model}
@@ -38,7 +37,7 @@ choices-in m q cs = goal m (q .start) (q .root) >>= (λ g. read-plan m (g .steps
 unfoldable pub verdict-in : Checked (List ℕ) → Verdict → Option logic.Verdict
 verdict-in cs (No x) = some (logic.no (record { count = x .count }))
 verdict-in cs Yes = some logic.yes
-verdict-in (ok l) (YesPlan x) = some (logic.yes-plan (record { total = pos (x .weight); steps = x .steps; count = x .count; choices = l }))
+verdict-in (ok l) (YesPlan x) = some (logic.yes-plan (record { total = x .weight; steps = x .steps; count = x .count; choices = l }))
 verdict-in (refused k) (YesPlan x) = none
 
 -- For the model and the question that are held.

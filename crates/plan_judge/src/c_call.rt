@@ -1,4 +1,4 @@
-// The call for the arm's controller, which is in C: it loads, puts, judges and, on yes to a "plan" root, writes, on an empty desk, and
+// The call for the arm's controller, which is in C: it loads, puts, judges and, on yes to a root that asks for a plan, writes, on an empty desk, and
 // stops at the first refusal. Each function makes one call and hands the desk on.
 ghost use lib.ListN.{length};
 ghost use Rattle.plan_judge.specs.View.{view};

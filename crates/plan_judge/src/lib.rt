@@ -1,6 +1,7 @@
 // The plan judge as it is offered to callers: the desk (document 01's word for the judge's state) and its calls. No call asks anything of
 // its caller; a refusal leaves the desk, and each lent buffer, as found.
 ghost use mathlib.Core.Path.{_≡_};
+ghost use mathlib.Core.Bool.{true};
 ghost use Prim.Native.Nat.{_*_, _-_, _≤_, _<_, min};
 ghost use lib.Dec.{eqb};
 ghost use lib.ListN.{length, take};
@@ -13,11 +14,12 @@ ghost use Rattle.prepared_model.specs.promises.Rows.{model-in};
 ghost use Rattle.models.specs.Grounds.{read-model};
 ghost use Rattle.questions.specs.Layout.{start-of, node-of, node-count, question-of};
 ghost use Rattle.questions.specs.Grounds.{read-question};
+ghost use Rattle.questions.specs.promises.Formed.{sets-bound};
 ghost use Rattle.sheets.specs.Layout.{blocks-for, sheet-of};
 ghost use Rattle.sheets.specs.promises.Reader.{Blocks};
 ghost use Rattle.protocol.specs.promises.Chains.{check-on};
 ghost use Rattle.judging.specs.promises.Asked.{Served};
-ghost use Rattle.judging.specs.promises.Announced.{Weighs};
+ghost use Rattle.judging.specs.promises.Announced.{Spelled, Weighs};
 ghost use Rattle.plan_judge.specs.View.{choices-in, view};
 ghost use Rattle.plan_judge.specs.promises.State.{held-size};
 ghost use Rattle.plan_judge.specs.promises.Values.{unjudged, nothing, loaded-by, put-by, judging, judged-by, written-by, filled-by, checking, checked-by};
@@ -37,9 +39,9 @@ use sheets::GATHERED;
 // The bytes of the longest model.
 pub const MODEL_BYTES: usize = 6144;
 
-// The record of a shown plan: its total W, its steps, and its place in dictionary order for "equal", else 0.
+// The record of a shown plan: its total (W, or the expected gain times D to the n), its steps, and its place in dictionary order for "equal", else 0.
 pub struct PlanRecord {
-    pub weight: u64,
+    pub weight: i64,
     pub steps: u32,
     pub count: u32,
 }
@@ -96,7 +98,7 @@ pub enum Written {
     Refused(u32),
 }
 
-// What check reports of a sheet that it accepts: whether the sheet's weight meets the bound.
+// What check reports of a sheet that it accepts: whether the sheet's total meets the bound.
 pub struct Report {
     pub met: bool,
 }
@@ -307,7 +309,7 @@ pub fn judge(d: Desk) -> Judging
     }
 }
 
-// The ground of the desk on which write and check are refused: no model, no question, a root that is no "plan"; else 0.
+// The ground of the desk on which write and check are refused: no model, no question, a root that sets no bound on plans; else 0.
 fn plan_ground(d: Desk) -> u32
     ensures value { λ r. ⌜ r ≡ refusal (held-goal (view d)) ⌝ }
 {
@@ -333,7 +335,7 @@ fn plan_size(m: &[u8], choices: &[u8], n: usize, s: usize) -> usize
     }
 }
 
-// The same for the plan that a question with a "plan" root asks for.
+// The same for the plan that the root of a question asks for.
 fn first_size(model: &[u8], blocks: usize, q: &[u8], choices: &[u8]) -> usize
     requires { ⌜ PlanRoot (take (512 * blocks) (now model)) (now q) ⌝ }
     ensures value { λ r.
@@ -377,8 +379,8 @@ pub fn shown_choices(d: Desk) -> usize
     shown_size(d)
 }
 
-// The weight in the record of a shown plan.
-fn shown_weight(v: Verdict) -> u64
+// The total in the record of a shown plan.
+fn shown_weight(v: Verdict) -> i64
     ensures value { λ r. ⌜ r ≡ shown-weight v ⌝ }
 {
     match v {
@@ -421,7 +423,7 @@ pub fn write(d: Desk, buf: &mut [u8]) -> Written
     Written::Bytes(sheets::writer::write_sheet(buf, &m[..end], n, s, w, &cs[..count]))
 }
 
-// The first ground, 1 to 6 or 10, on which a sheet is refused for a question with a "plan" root; 0 where it has a plan.
+// The first ground, 1 to 6 or 10, on which a sheet is refused for a question that asks for a plan; 0 where it has one.
 fn sheet_ground(m: &[u8], q: &[u8], b: &[u8]) -> u32
     requires { ⌜ PlanRoot (now m) (now q) ⌝ }
     ensures value { λ r.
@@ -439,9 +441,11 @@ fn sheet_ground(m: &[u8], q: &[u8], b: &[u8]) -> u32
     sheets::plans::plan_refusal(m, &choices[..count], n, s)
 }
 
-// The total of the plan on a sheet, for a question with a "plan" root.
-fn sheet_weight(m: &[u16; MODEL], q: &[u8; QUESTION], b: &[u8]) -> u64
-    requires { ⌜ Served (now m) (now q) × (node-of (now q) (node-count (now q) - 1) .operator ≡ 8) × Blocks 6 (now b) ⌝ }
+// The total of the plan on a sheet, and whether it meets the bound of the question's root.
+fn sheet_weighed(m: &[u16; MODEL], q: &[u8; QUESTION], b: &[u8]) -> judging::Weighed
+    requires { ⌜
+        Served (now m) (now q) × (sets-bound (node-of (now q) (node-count (now q) - 1) .operator) ≡ true) × Blocks 6 (now b)
+        × Spelled (model-in (now m)) (now q) ((sheet-of (now b)) .choices) ⌝ }
     ensures value { λ r. ⌜ Weighs (model-in (now (m .entry))) (now (q .entry)) ((sheet-of (now (b .entry))) .choices) r ⌝ }
 {
     let mut choices = [0u8; GATHERED];
@@ -449,7 +453,7 @@ fn sheet_weight(m: &[u16; MODEL], q: &[u8; QUESTION], b: &[u8]) -> u64
     judging::sheet_weight(m, q, &choices[..count])
 }
 
-// Checks a sheet for a question with a "plan" root: grounds 24 and 25, those of the sheet, then 11.
+// Checks a sheet for a question that asks for a plan: grounds 24 and 25, those of the sheet, then 11.
 fn check_on(m: &[u8], q: &[u8], b: &[u8]) -> Checking
     requires { ⌜ PlanRoot (now m) (now q) ⌝ }
     ensures value { λ r. ⌜ r ≡ checking (check-on (model-of (now (m .entry))) (question-of (now (q .entry))) (now (b .entry))) ⌝ }
@@ -464,17 +468,14 @@ fn check_on(m: &[u8], q: &[u8], b: &[u8]) -> Checking
     if k != 0 {
         return Checking::Refused(k);
     }
-    let w = sheet_weight(&model, &query, b);
-    if sheets::weight_at(b, 0) != w {
+    let w = sheet_weighed(&model, &query, b);
+    if sheets::total_at(b) != w.total {
         return Checking::Refused(11);
     }
-    let j = questions::root(&query);
-    Checking::Accepted(Report {
-        met: bounds::meets(&model, &query, j, w),
-    })
+    Checking::Accepted(Report { met: w.met })
 }
 
-// Checks a sheet for the question that is held, and says whether its weight meets the bound; or refuses it by grounds 20, 21, 22, 24, 25,
+// Checks a sheet for the question that is held, and says whether its total meets the bound; or refuses it by grounds 20, 21, 22, 24, 25,
 // then 1 to 6, 10, 11.
 pub fn check(d: Desk, b: &[u8]) -> Checking
     ensures value { λ r. ⌜ r ≡ checked-by d (now (b .entry)) ⌝ }

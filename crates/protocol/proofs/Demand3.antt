@@ -46,12 +46,12 @@ use Rattle.protocol.proofs.TotalsByRoot.{Root, root-of}
 
 -- ---- equality of weights by its test
 
-same-self : (a : ℤ) → same a a ≡ true
+pub same-self : (a : ℤ) → same a a ≡ true
 unfolding same
 same-self (pos a) = ap₂ _&&_ (T→true (leb a a) (le→leb a a (le-refl a))) (T→true (leb a a) (le→leb a a (le-refl a)))
 same-self (negsuc a) = ap₂ _&&_ (T→true (leb a a) (le→leb a a (le-refl a))) (T→true (leb a a) (le→leb a a (le-refl a)))
 
-same-equal : (a b : ℤ) → same a b ≡ true → a ≡ b
+pub same-equal : (a b : ℤ) → same a b ≡ true → a ≡ b
 unfolding same
 same-equal a b e = both a b (true→T (and-left (leZ a b) (leZ b a) e)) (true→T (and-right (leZ a b) (leZ b a) e))
   where

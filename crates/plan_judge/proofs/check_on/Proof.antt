@@ -1,15 +1,21 @@
+use Prim.Native.Nat.{_^_, _<_}
 use mathlib.Core.Path.{_≡_, sym, ap, _∙_}
+use lib.IntN.{ℤ}
+use lib.Signed.{mag}
+use mir.Syntax.{w64}
+use mir.Val.{toZ, ofZ}
+use mir.ValLaws.{toZ-ofZ}
 use Rattle.logic.specs.promises.Refusal.{refusal}
 use Rattle.logic.specs.Limits.{limits}
 use Rattle.models.specs.Layout.{state-count, action-count, prop-count, model-of}
 use Rattle.prepared_model.specs.promises.Rows.{model-in}
 use Rattle.questions.specs.Layout.{start-of, question-of}
+use Rattle.sheets.specs.Layout.{sheet-of}
 use Rattle.prepared_question.specs.promises.Shared.{Shared}
 use Rattle.prepared_question.proofs.ChildrenBefore.{ordered}
-use Rattle.bounds.specs.promises.Bounded.{meets-at}
 use Rattle.plan_judge.specs.promises.State.{plan-on}
 use Rattle.plan_judge.proofs.StateGrounds.{root-node}
-use Rattle.plan_judge.proofs.CheckReturns.{on-sheet, check-limited, root-there, root-bounded, limits-there, sheet-asked, sheet-served, check-sheet, weight-fits, check-weight, check-met}
+use Rattle.plan_judge.proofs.CheckReturns.{on-sheet, check-limited, root-there, limits-there, sheet-asked, sheet-served, spelled-there, check-sheet, check-differs, check-met}
 use borrow.Author.Needs.{needs}
 use Rattle.plan_judge.proofs.check_on.Statement.{statement}
 use Rattle.plan_judge.proofs.check_on.Tie as tie
@@ -57,49 +63,36 @@ returns-2 : tie.Need-returns-2
 returns-2 c = let S = c .before .before .before .before .before .before .before .before .before .before .before in
     check-sheet (S .args .m .now) (S .args .q .now) (S .pre) (S .args .b .now) (within (c .before .before)) (c .before .sheet-ground .result) (c .before .sheet-ground .ensures) (c .if2 .taken)
 
-sheet-weight-requires : tie.Need-sheet-weight-requires
-sheet-weight-requires c κs = let S = c .before .before .before .before .before .before .before .before .before .before .before .before .before in
+sheet-weighed-requires : tie.Need-sheet-weighed-requires
+sheet-weighed-requires c κs = let S = c .before .before .before .before .before .before .before .before .before .before .before .before .before in
     let N = c .before .before .before .before .before .before .before .before in
     let m = S .args .m .now in
     let q = S .args .q .now in
     let b = S .args .b .now in
     let p = N .before .prepare-model .ensures in
-    (sheet-served m q (S .pre) b p (shared N) (within (c .before .before .before .before)), root-there m q (S .pre) b p (shared N), on-sheet (model-of m) (root-node q .n) (start-of q) b (planned (c .before .before)) .blocks)
+    let o = on-sheet (model-of m) (root-node q .n) (start-of q) b (planned (c .before .before)) in
+    (sheet-served m q (S .pre) b p (shared N) (within (c .before .before .before .before)), root-there m q (S .pre) b p (shared N), o .blocks, spelled-there m q (S .pre) b p (shared N) (sheet-of b .choices) (o .plan) (o .read))
 
-weight-at-requires : tie.Need-weight-at-requires
-weight-at-requires c κs = search needs
+total-at-requires : tie.Need-total-at-requires
+total-at-requires c κs = search needs
+
+-- The code compares the totals bit by bit, which is to compare the totals.
+same-bits : (a b : ℤ) → mag a < 2 ^ 63 → mag b < 2 ^ 63 → ofZ w64 a ≡ ofZ w64 b → a ≡ b
+same-bits a b h k e = sym (toZ-ofZ w64 a (record { sfits = h })) ∙ ap (toZ w64) e ∙ toZ-ofZ w64 b (record { sfits = k })
 
 returns-3 : tie.Need-returns-3
-returns-3 c = let S = c .before .before .before .before .before .before .before .before .before .before .before .before .before .before .before .before in
-    let N = c .before .before .before .before .before .before .before .before .before .before .before in
-    let w = c .before .before .sheet-weight in
-    check-weight (S .args .m .now) (S .args .q .now) (S .pre) (S .args .b .now) (within (c .before .before .before .before .before .before .before)) (planned (c .before .before .before .before .before)) (w .result) (N .before .prepare-model .ensures) (shared N) (w .ensures)
-    (λ z. c .if3 .taken (c .before .weight-at .ensures ∙ z))
-
-slice-aggregate-root : tie.Need-slice-aggregate-root
-slice-aggregate-root c = search needs
-
-root-requires : tie.Need-root-requires
-root-requires c κs = search needs
-
-meets-requires : tie.Need-meets-requires
-meets-requires c κs = let S = c .before .before .before .before .before .before .before .before .before .before .before .before .before .before .before .before .before .before .before .before in
-    let N = c .before .before .before .before .before .before .before .before .before .before .before .before .before .before .before in
-    let m = S .args .m .now in
-    let q = S .args .q .now in
-    let b = S .args .b .now in
-    let p = N .before .prepare-model .ensures in
-    let w = c .before .before .before .before .before .before .sheet-weight in
-    let r = c .before .before .root in
-    (root-bounded m q (S .pre) b p (shared N) (r .result) (r .ensures), weight-fits m q (S .pre) b (within (c .before .before .before .before .before .before .before .before .before .before .before)) (planned (c .before .before .before .before .before .before .before .before .before)) (w .result) p (shared N) (w .ensures) (r .result) (r .ensures))
+returns-3 c = let S = c .before .before .before .before .before .before .before .before .before .before .before .before .before .before .before .before .before .before in
+    let N = c .before .before .before .before .before .before .before .before .before .before .before .before .before in
+    let w = c .before .before .before .before .sheet-weighed in
+    check-differs (S .args .m .now) (S .args .q .now) (S .pre) (S .args .b .now) (within (c .before .before .before .before .before .before .before .before .before)) (planned (c .before .before .before .before .before .before .before)) (w .result) (N .before .prepare-model .ensures) (shared N) (w .ensures)
+    (λ z. c .if3 .taken (ap (ofZ w64) (c .before .before .before .total-at .ensures ∙ z)))
 
 returns-4 : tie.Need-returns-4
-returns-4 c = let S = c .before .before .before .before .before .before .before .before .before .before .before .before .before .before .before .before .before .before .before .before .before in
-    let N = c .before .before .before .before .before .before .before .before .before .before .before .before .before .before .before .before in
-    let w = c .before .before .before .before .before .before .before .sheet-weight in
-    check-met (S .args .m .now) (S .args .q .now) (S .pre) (S .args .b .now) (within (c .before .before .before .before .before .before .before .before .before .before .before .before)) (planned (c .before .before .before .before .before .before .before .before .before .before)) (w .result) (N .before .prepare-model .ensures) (shared N) (w .ensures)
-    (sym (c .before .before .before .before .before .before .weight-at .ensures) ∙ c .before .before .before .before .before .if3 .left) (c .meets .result)
-    (c .meets .ensures ∙ ap (λ j. meets-at (N .before .prepare-model .result) (N .prepare-question .result) j (w .result)) (c .before .before .before .root .ensures))
+returns-4 c = let S = c .before .before .before .before .before .before .before .before .before .before .before .before .before .before .before .before .before .before in
+    let N = c .before .before .before .before .before .before .before .before .before .before .before .before .before in
+    let w = c .before .before .before .before .sheet-weighed in
+    check-met (S .args .m .now) (S .args .q .now) (S .pre) (S .args .b .now) (within (c .before .before .before .before .before .before .before .before .before)) (planned (c .before .before .before .before .before .before .before)) (w .result) (N .before .prepare-model .ensures) (shared N) (w .ensures)
+    (sym (c .before .before .before .total-at .ensures) ∙ same-bits _ (w .result .total) (c .before .before .before .total-at .ok) (c .before .struct-told .given .0 .1) (c .if3 .left))
 
 pub check-on-spec : {M : Type 1} → statement M
 check-on-spec =
@@ -111,10 +104,7 @@ check-on-spec =
     returns
     sheet-ground-requires
     returns-2
-    sheet-weight-requires
-    weight-at-requires
+    sheet-weighed-requires
+    total-at-requires
     returns-3
-    slice-aggregate-root
-    root-requires
-    meets-requires
     returns-4)

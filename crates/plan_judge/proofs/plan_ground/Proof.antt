@@ -1,7 +1,6 @@
 -- A ground of the state stands; past it the question is accepted, and its root's operator decides.
 use mathlib.Core.Path.{sym, _∙_}
 use borrow.Author.Needs.{needs}
-use borrow.Author.Tests.{eqb-true, eqb-false}
 use Rattle.plan_judge.specs.View.{view}
 use Rattle.plan_judge.specs.promises.State.{held-both, held-goal}
 use Rattle.plan_judge.proofs.StateGrounds.{bind-refused, both, no-plan, a-plan}
@@ -20,11 +19,11 @@ root-is-plan-requires c κs = search needs
 
 returns-2 : tie.Need-returns-2
 returns-2 c = let d = c .before .before .before .before .before .before .before .args .t1 in
-    a-plan d (both d (sym (c .before .before .before .before .before .before .state-ground .ensures) ∙ c .before .before .before .before .before .if1 .left)) (eqb-true _ _ (sym (c .before .root-is-plan .ensures) ∙ c .if2 .taken))
+    a-plan d (both d (sym (c .before .before .before .before .before .before .state-ground .ensures) ∙ c .before .before .before .before .before .if1 .left)) (sym (c .before .root-is-plan .ensures) ∙ c .if2 .taken)
 
 returns-3 : tie.Need-returns-3
 returns-3 c = let d = c .before .before .before .before .before .before .before .args .t1 in
-    no-plan d (both d (sym (c .before .before .before .before .before .before .state-ground .ensures) ∙ c .before .before .before .before .before .if1 .left)) (eqb-false _ _ (sym (c .before .root-is-plan .ensures) ∙ c .if2 .left))
+    no-plan d (both d (sym (c .before .before .before .before .before .before .state-ground .ensures) ∙ c .before .before .before .before .before .if1 .left)) (sym (c .before .root-is-plan .ensures) ∙ c .if2 .left)
 
 pub plan-ground-spec : {M : Type 1} → statement M
 plan-ground-spec =

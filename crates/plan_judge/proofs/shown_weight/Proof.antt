@@ -1,4 +1,7 @@
--- The record's weight, or 0 where there is no record.
+-- The record's total, or 0 where there is no record.
+use mathlib.Core.Path.{sym, ap, _∙_}
+use mir.Syntax.{w64}
+use mir.ValLaws.{toZ-ofZ}
 use borrow.Author.Needs.{needs}
 use Rattle.plan_judge.specs.promises.State.{shown-weight}
 use Rattle.plan_judge.proofs.shown_weight.Statement.{statement}
@@ -15,15 +18,15 @@ enum-told-2 c = search needs
 
 returns : tie.Need-returns
 unfolding shown-weight
-returns c = search needs
+returns c = toZ-ofZ w64 (c .before .before .v .given .0 .0 .weight) (record { sfits = c .struct-told .given .0 .1 }) ∙ sym (ap shown-weight (c .before .before .v .given .1))
 
 returns-2 : tie.Need-returns-2
 unfolding shown-weight
-returns-2 c = search needs
+returns-2 c = sym (ap shown-weight (c .enum-told .given .1))
 
 returns-3 : tie.Need-returns-3
 unfolding shown-weight
-returns-3 c = search needs
+returns-3 c = sym (ap shown-weight (c .enum-told2 .given .1))
 
 pub shown-weight-spec : {M : Type 1} → statement M
 shown-weight-spec =

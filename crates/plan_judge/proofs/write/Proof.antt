@@ -5,6 +5,8 @@ use mathlib.Core.Path.{_≡_, sym, ap, ap₂, _∙_}
 use mathlib.Core.List.{_++_}
 use lib.ListN.{length, take, drop}
 use lib.Seq.{length-take-le}
+use mir.Syntax.{w64}
+use mir.ValLaws.{toZ-ofZ}
 use borrow.Author.Needs.{needs}
 use Rattle.logic.specs.promises.Refusal.{refusal}
 use Rattle.logic.specs.Choices.{read-plan}
@@ -130,6 +132,7 @@ returns-4 c = let P = c .before .before .before .before .before .before in
     write-done (S .args .t1) (S .args .buf .now) (asked (E .before .before)) (E .before .shown-size .result) (E .before .shown-size .ensures) (E .if2 .left)
     (omega (arith, P .before .before .before .before .before .before .before .before .before .before .before .before .before .sheet-size .ensures, P .before .before .before .before .before .before .before .before .before .before .before .before .if3 .left)) (sheet .result) (sheet .ensures .1) (sheet .last .0)
     (sheet .ensures .0
+    ∙ ap (λ z. sheet-bytes (n .result) (s .result) z cs ++ rest) (toZ-ofZ w64 (w .result) (record { sfits = w .ok }))
     ∙ ap₂ (λ n s. sheet-bytes n s (w .result) cs ++ rest) (n .ensures) (s .ensures)
     ∙ ap (λ w. sheet-bytes (node-of q (node-count q - 1) .n) (start-of q) w cs ++ rest) (w .ensures))
 

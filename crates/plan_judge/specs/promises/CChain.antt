@@ -7,7 +7,6 @@ use lib.Dec.{leb}
 use lib.ListN.{length, drop}
 use Rattle.logic.specs.Checked.{Checked, ok, refused, _>>=_, _>>_, guard}
 use Rattle.logic.specs.Model.{Model}
-use Rattle.logic.specs.Formula.{nonnegative}
 use Rattle.logic.specs.Limits.{limits}
 use Rattle.logic.specs.Verdict.{Verdict, no, yes, yes-plan, verdict}
 use Rattle.blocks.specs.Bytes.{Bytes}
@@ -26,8 +25,8 @@ unfoldable pub told-of : (start size : ℕ) → Verdict → Checked Told
 told-of start size (no x) = ok (record { answer = false; sheet = [] })
 told-of start size yes = ok (record { answer = true; sheet = [] })
 told-of start size (yes-plan x) = do
-  guard 12 (leb (length (sheet-bytes (x .steps) start (nonnegative (x .total)) (x .choices))) size)
-  ok (record { answer = true; sheet = sheet-bytes (x .steps) start (nonnegative (x .total)) (x .choices) })
+  guard 12 (leb (length (sheet-bytes (x .steps) start (x .total) (x .choices))) size)
+  ok (record { answer = true; sheet = sheet-bytes (x .steps) start (x .total) (x .choices) })
 
 -- A question on a model: grounds 24 and 25, then its verdict.
 unfoldable pub told-on : (size : ℕ) → Model → Question → Checked Told

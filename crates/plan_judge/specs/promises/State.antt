@@ -2,10 +2,11 @@
 -- verdict.
 use Prim.Native.Nat.{ℕ, _*_, _-_}
 use mathlib.Core.Path.{_≡_}
-use mathlib.Core.Bool.{cond}
+use mathlib.Core.Bool.{true, cond}
 use mathlib.Core.List.{List}
 use mathlib.Core.Option.{Option, none, some}
 use lib.Dec.{eqb}
+use lib.IntN.{ℤ, pos}
 use lib.ListN.{length, take}
 use Rattle.logic.specs.Checked.{Checked, ok, refused, _>>=_}
 use Rattle.logic.specs.promises.Refusal.{refusal, held}
@@ -19,6 +20,7 @@ use Rattle.models.specs.Layout.{state-count, action-count, prop-count}
 use Rattle.models.specs.Grounds.{read-model}
 use Rattle.questions.specs.Layout.{Question, node-count, node-of}
 use Rattle.questions.specs.Grounds.{read-question}
+use Rattle.questions.specs.promises.Formed.{sets-bound}
 use Rattle.sheets.specs.Grounds.{read-sheet}
 use Rattle.protocol.specs.Calls.{Held}
 use Rattle.judging.specs.declared.Outcome.{Outcome}
@@ -42,11 +44,11 @@ held-goal h = do
   x ← held-both h
   goal (x .0) (x .1 .start) (x .1 .root)
 
--- The bytes of a model that load accepts, and of a question with a "plan" root that put accepts for it.
+-- The bytes of a model that load accepts, and of a question that put accepts for it, with a root that sets a bound on plans.
 pub record PlanRoot (m q : Bytes) : Type 0 where
   pub passed : refusal (read-model m) ≡ 0
   pub asked : refusal (read-question (state-count m) (action-count m) (prop-count m) q) ≡ 0
-  pub is-plan : node-of q (node-count q - 1) .operator ≡ 8
+  pub sets : sets-bound (node-of q (node-count q - 1) .operator) ≡ true
 
 -- ---- numbers of choices; 0 where there is no plan
 
@@ -64,9 +66,9 @@ shown-size (some (logic.no x)) = 0
 shown-size (some logic.yes) = 0
 shown-size (some (logic.yes-plan x)) = length (x .choices)
 
-unfoldable pub shown-weight : Verdict → ℕ
-shown-weight (No x) = 0
-shown-weight Yes = 0
+unfoldable pub shown-weight : Verdict → ℤ
+shown-weight (No x) = pos 0
+shown-weight Yes = pos 0
 shown-weight (YesPlan x) = x .weight
 
 -- ---- the plan on a sheet: grounds 1 to 6, then 10

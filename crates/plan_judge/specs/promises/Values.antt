@@ -5,7 +5,6 @@ use mathlib.Core.List.{_++_}
 use lib.ListN.{length, drop, replicate}
 use Rattle.logic.specs.Checked.{Checked, ok, refused}
 use Rattle.logic.specs.Verdict as logic
-use Rattle.logic.specs.Formula.{nonnegative}
 use Rattle.blocks.specs.Bytes.{Bytes}
 use Rattle.models.specs.Grounds.{read-model}
 use Rattle.protocol.specs.Calls.{Report}
@@ -64,7 +63,7 @@ put-by d b = taking d (do-put (view d) b) (asking d b)
 unfoldable pub verdict-code : logic.Verdict → Verdict
 verdict-code (logic.no x) = No (record { count = x .count })
 verdict-code logic.yes = Yes
-verdict-code (logic.yes-plan x) = YesPlan (record { weight = nonnegative (x .total); steps = x .steps; count = x .count })
+verdict-code (logic.yes-plan x) = YesPlan (record { weight = x .total; steps = x .steps; count = x .count })
 
 unfoldable pub choices-code : logic.Verdict → Bytes
 choices-code (logic.no x) = replicate 1365 0

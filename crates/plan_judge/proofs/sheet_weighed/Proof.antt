@@ -5,11 +5,11 @@ use lib.ListN.{length}
 use lib.Seq.{length-take-le}
 use Rattle.sheets.specs.Layout.{sheet-of}
 use Rattle.prepared_model.specs.promises.Rows.{model-in}
-use Rattle.judging.specs.promises.Announced.{Weighs}
+use Rattle.judging.specs.promises.Announced.{Spelled, Weighs}
 use Rattle.plan_judge.proofs.CheckReturns.{gathered-are}
 use borrow.Author.Needs.{needs}
-use Rattle.plan_judge.proofs.sheet_weight.Statement.{statement}
-use Rattle.plan_judge.proofs.sheet_weight.Tie as tie
+use Rattle.plan_judge.proofs.sheet_weighed.Statement.{statement}
+use Rattle.plan_judge.proofs.sheet_weighed.Tie as tie
 
 slice-aggregate-gather : tie.Need-slice-aggregate-gather
 slice-aggregate-gather c = search needs
@@ -25,15 +25,17 @@ slice-aggregate-sheet-weight c = let l : c .before .before .gather .result ≤ l
     sym (length-take-le (c .before .before .gather .result) (c .before .before .gather .last .1 .0) l)
 
 sheet-weight-requires : tie.Need-sheet-weight-requires
-sheet-weight-requires c κs = search needs
+sheet-weight-requires c κs = let S = c .before .before .before .before .before in
+    let e = gathered-are (sheet-of (S .args .b .now) .choices) _ (c .before .before .gather .last .1 .0) (c .before .before .gather .result) (c .before .before .gather .ensures) in
+    ((S .pre .0, S .pre .1), subst (Spelled (model-in (S .args .m .now)) (S .args .q .now)) (sym e) (S .pre .3))
 
 returns : tie.Need-returns
 returns c = let S = c .before .before .before .before .before .before in
     subst (λ l. Weighs (model-in (S .args .m .now)) (S .args .q .now) l (c .sheet-weight .result))
     (gathered-are (sheet-of (S .args .b .now) .choices) _ (c .before .before .before .gather .last .1 .0) (c .before .before .before .gather .result) (c .before .before .before .gather .ensures)) (c .sheet-weight .ensures)
 
-pub sheet-weight-spec : {M : Type 1} → statement M
-sheet-weight-spec =
+pub sheet-weighed-spec : {M : Type 1} → statement M
+sheet-weighed-spec =
     tie.close
     (tie.spec
     slice-aggregate-gather
