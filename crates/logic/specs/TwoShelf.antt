@@ -82,13 +82,25 @@ table =
     ∷ row 1 (next done) less 0 1 (denies 0)
     ∷ []
 
--- Operator 9, document 02, A.3: its example, and rows worked out by hand. From state 0 a grip costs 2 and succeeds with 8 in 10, a pull costs 1
--- and succeeds with 5 in 10; from state 1 a drop earns 10 with 9 in 10 and nothing with 1.
--- Second steps, over two: after grip 80 * 9 = 720 (of the 10 in 100 the drop earns 10 * 9 = 90 in 10) ..
+-- Operator 9, document 02, A.3: its example, and rows worked out by hand. From state 0 action 0 leads to state 1 with 8 in 10 and back with 2,
+-- at -2 each; action 1 with 5 and 5, at -1. From state 1 action 2 earns 10 with 9 in 10 and 0 with 1. So over 100, the plans in their order:
+--   plan     step 1   step 2                                      both
+--   0 2 0     -200    8 * 90 + 2 * (8 * -2 + 2 * -2) = 680         480
+--   0 2 1     -200    8 * 90 + 2 * (5 * -1 + 5 * -1) = 700         500
+--   1 2 0     -100    5 * 90 + 5 * (8 * -2 + 2 * -2) = 350         250
+--   1 2 1     -100    5 * 90 + 5 * (5 * -1 + 5 * -1) = 400         300
+-- Of one step, over 10: -20 and -10.
 unfoldable pub gain-table : List Row
 unfolding gains shows denies
 gain-table =
     gains 2 2 2 greater (pos 6) 1 (shows (pos 700) 2 0 (0 ∷ 2 ∷ 1 ∷ []))
+    ∷ gains 2 1 1 less (negsuc 0) 1 (shows (negsuc 199) 2 0 (0 ∷ 2 ∷ 0 ∷ []))
+    ∷ gains 2 1 1 equal (negsuc 0) 1 (shows (negsuc 99) 2 3 (1 ∷ 2 ∷ 0 ∷ []))
+    ∷ gains 2 2 2 equal (pos 7) 2 (shows (pos 350) 2 3 (1 ∷ 2 ∷ 0 ∷ []))
+    ∷ gains 2 1 2 less (pos 3) 1 (shows (pos 250) 2 0 (1 ∷ 2 ∷ 0 ∷ []))
+    ∷ gains 2 1 2 greater (pos 5) 1 (denies 0)
+    ∷ gains 1 1 1 greater (negsuc 1) 1 (shows (negsuc 9) 1 0 (1 ∷ []))
+    ∷ gains 1 1 1 equal (pos 0) 1 (denies 2)
     ∷ []
 
 abbrev pub verdicts-of : Model → List Row → List Verdict
