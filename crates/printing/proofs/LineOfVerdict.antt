@@ -1,4 +1,4 @@
--- The line of a verdict as judge returns it is the line of the verdict: the root is a "plan" by its operator, a plan record has at most 6
+-- The line of a verdict as judge returns it is the line of the verdict: the root sets a bound on plans by its operator, a plan record has at most 6
 -- steps, and its choices are the first of those beside it.
 use Prim.Native.Nat.{ℕ, _-_, _^_, _≤_}
 use native.Mathlib.Omega.{arith}
@@ -8,17 +8,17 @@ use mathlib.Core.List.{List, []}
 use mathlib.Core.Option.{Option, none, some}
 use lib.ListN.{length, take, replicate, length-append, length-replicate}
 use lib.Seq.{take-append-seam}
-use borrow.Author.Tests.{eqb-true, eqb-false}
-use Rattle.logic.specs.Checked.{Checked, ok, refused}
+use Rattle.logic.specs.Checked.{Checked, ok, refused, _>>=_}
 use Rattle.logic.specs.Model.{Model}
 use Rattle.logic.specs.Plan.{Plan}
-use Rattle.logic.specs.Formula.{Formula, nonnegative, sat}
-use Rattle.logic.specs.Verdict.{Goal, goal, shown, announced, verdict-by, verdict}
+use Rattle.logic.specs.Formula.{Formula, sat}
+use Rattle.logic.specs.Verdict.{Goal, bound-of, bound-goal, goal, shown, announced, verdict-by, verdict}
 use Rattle.logic.specs.Verdict as logic
 use Rattle.logic.proofs.Checked.{not-ok, ok-same}
 use Rattle.blocks.specs.Bytes.{Bytes}
-use Rattle.questions.specs.Layout.{node-of, node-count, question-of}
+use Rattle.questions.specs.Layout.{node-count, question-of}
 use Rattle.questions.specs.promises.Formed.{Formed}
+use Rattle.questions.proofs.SetsBound.{bound-compares}
 use Rattle.verdict_line.specs.Line.{plain-line, no-plans-line, yes-plan-line, is-plan, verdict-line}
 use Rattle.plan_judge.specs.promises.Values.{padded, verdict-code, choices-code}
 use Rattle.plan_judge.specs.promises.State.{shown-size}
@@ -29,31 +29,33 @@ use Rattle.logic.proofs.OnPlan.{on-plans}
 -- ---- the root
 
 goal-other : (m : Model) (s : ℕ) (φ : Formula) {k : ℕ} → goal m s φ ≡ refused k → is-plan φ ≡ false
-unfolding goal is-plan
-goal-other m s φ {k} = on-plans (λ _ c t. c ≡ refused k → t ≡ false) (λ _ e. refl) (λ n ψ r p q e. absurd (not-ok (sym e))) φ
+unfolding goal bound-of is-plan
+goal-other m s φ {k} =
+    on-plans (λ _ c t. (c >>= λ b. ok (bound-goal m s b)) ≡ refused k → t ≡ false) (λ _ e. refl) (λ n ψ r p q e. absurd (not-ok (sym e)))
+    (λ n l u r p q e. absurd (not-ok (sym e))) φ
 
 goal-plan : (m : Model) (s : ℕ) (φ : Formula) {g : Goal} → goal m s φ ≡ ok g → is-plan φ ≡ true
-unfolding goal is-plan
-goal-plan m s φ {g} = on-plans (λ _ c t. c ≡ ok g → t ≡ true) (λ _ e. absurd (not-ok e)) (λ n ψ r p q e. refl) φ
+unfolding goal bound-of is-plan
+goal-plan m s φ {g} =
+    on-plans (λ _ c t. (c >>= λ b. ok (bound-goal m s b)) ≡ ok g → t ≡ true) (λ _ e. absurd (not-ok e)) (λ n ψ r p q e. refl) (λ n l u r p q e. refl) φ
 
 module _ {S A N : ℕ} {q : Bytes} (a : Formed S A N q) (m : Model) (s : ℕ) where
-  -- The root's formula is a "plan" where its operator says so.
+  -- The root's formula sets a bound where its operator says so.
   pub root-is : is-plan (question-of q .root) ≡ plan-root q
   root-is = by (plan-root q) refl
     where
       by : (t : Bool) → plan-root q ≡ t → is-plan (question-of q .root) ≡ plan-root q
-      by true e = goal-plan m s (question-of q .root) (root-goal a m s (eqb-true _ 8 e)) ∙ sym e
-      by false e = goal-other m s (question-of q .root) (other-goal a m s (eqb-false _ 8 e)) ∙ sym e
+      by true e = goal-plan m s (question-of q .root) (root-goal a m s e) ∙ sym e
+      by false e = goal-other m s (question-of q .root) (other-goal a m s e) ∙ sym e
 
   goal-steps : (g : Goal) → goal m s (question-of q .root) ≡ ok g → g .steps ≤ 6
   goal-steps g e = by (plan-root q) refl
     where
       by : (t : Bool) → plan-root q ≡ t → g .steps ≤ 6
-      by false i = absurd (not-ok (sym (other-goal a m s (eqb-false _ 8 i)) ∙ e))
+      by false i = absurd (not-ok (sym (other-goal a m s i) ∙ e))
       by true i =
-          let o = eqb-true (node-of q (node-count q - 1) .operator) 8 i in
-          let few = a .in-range (node-count q - 1) (omega (arith, a .some-node)) .of-plan o .compares .few-steps in
-          omega (arith, ap (λ h. h .steps) (ok-same (sym (root-goal a m s o) ∙ e)))
+          let few = bound-compares (a .in-range (node-count q - 1) (omega (arith, a .some-node))) i .few-steps in
+          omega (arith, ap (λ h. h .steps) (ok-same (sym (root-goal a m s i) ∙ e)))
 
   -- A shown plan has at most 6 steps.
   pub few-steps : shown-steps (verdict-code (verdict m s (question-of q .root))) ≤ 6
@@ -84,4 +86,4 @@ unfolding shown-line verdict-line verdict-code choices-code padded shown-size
 line-is m φ (logic.no x) D t d i = ap (λ u. cond u (no-plans-line (x .count)) (plain-line false)) (sym i)
 line-is m φ logic.yes D t d i = refl
 line-is m φ (logic.yes-plan x) D t d i =
-    ap₂ (λ D cs. yes-plan-line (nonnegative (x .total)) (D ^ x .steps) (x .count) cs) (sym d) (take-append-seam (x .choices) (replicate (1365 - length (x .choices)) 0))
+    ap₂ (λ D cs. yes-plan-line (x .total) (D ^ x .steps) (x .count) cs) (sym d) (take-append-seam (x .choices) (replicate (1365 - length (x .choices)) 0))

@@ -49,7 +49,7 @@ fn put_plan(out: &mut [u8], at: usize, p: PlanRecord, choices: &[u8]) -> usize
     requires { ⌜ (at + 5600 ≤ length (now out)) × (length (now choices) ≤ 1365) ⌝ }
     ensures range { λ r. ⌜ r ≤ at + 5600 ⌝ }
 {
-    let mut next = verdict_line::put_decimal(out, at, b" yes ", p.weight);
+    let mut next = verdict_line::put_signed(out, at, b" yes ", p.weight);
     next = verdict_line::put_decimal(out, next, b" ", p.steps as u64);
     next = verdict_line::put_decimal(out, next, b" ", p.count as u64);
     next = verdict_line::put_text(out, next, b" choices");

@@ -3,6 +3,8 @@ use mathlib.Core.Path.{sym, subst}
 use Prim.Native.Nat.{_≤_}
 use Rattle.verdict_line.specs.Line.{yes-plan-line}
 use Rattle.printing.specs.promises.Printed.{shown-line, shown-steps}
+use mir.Syntax.{w64}
+use mir.ValLaws.{toZ-ofZ}
 use borrow.Author.Needs.{needs}
 use Rattle.printing.proofs.verdict_line.Statement.{statement}
 use Rattle.printing.proofs.verdict_line.Tie as tie
@@ -50,7 +52,10 @@ same-length-3 c = search needs
 
 returns-3 : tie.Need-returns-3
 unfolding shown-line
-returns-3 c = rw (c .before .before .before .before .before .before .v2 .given .1, sym (c .before .before .before .whole .ensures)) (c .before .before .yes-plan-line .ensures)
+returns-3 c = let v = c .before .before .before .before .before .before .before .v2 .given in
+    let p = v .0 .0 in
+    let line = rw (toZ-ofZ w64 (p .weight) (record { sfits = c .before .before .before .struct-told .given .0 .1 })) at (c .before .before .yes-plan-line .ensures) in
+    rw (v .1, sym (c .before .before .before .before .whole .ensures)) line
 
 pub verdict-line-spec : {M : Type 1} → statement M
 verdict-line-spec =

@@ -3,7 +3,6 @@ use Prim.Native.Nat.{ℕ, _^_, _-_, _≤_}
 use mathlib.Core.Path.{_≡_}
 use mathlib.Core.Bool.{Bool, true, false, cond}
 use mathlib.Core.List.{List, [], _∷_}
-use lib.Dec.{eqb}
 use lib.ListN.{length}
 use Rattle.logic.specs.Checked.{Checked, ok, _>>=_, _>>_}
 use Rattle.logic.specs.promises.Refusal.{refusal}
@@ -14,6 +13,7 @@ use Rattle.blocks.specs.Bytes.{Bytes}
 use Rattle.models.specs.Layout.{denominator-of, model-of}
 use Rattle.models.specs.Grounds.{read-model}
 use Rattle.questions.specs.Layout.{Question, node-of, node-count}
+use Rattle.questions.specs.promises.Formed.{sets-bound}
 use Rattle.protocol.specs.Calls.{load, put, question-for}
 use Rattle.verdict_line.specs.Line.{plain-line, no-plans-line, yes-plan-line, verdict-line}
 use Rattle.plan_judge.specs.declared.Desk.{Desk}
@@ -46,9 +46,9 @@ pub record Asked (d : Desk) (m q : Bytes) : Type 0 where
 
 -- ---- a verdict as judge returns it, with its choices beside it
 
--- Whether the last node is a "plan".
+-- Whether the last node sets a bound on plans.
 abbrev pub plan-root : Bytes → Bool
-plan-root q = eqb (node-of q (node-count q - 1) .operator) 8
+plan-root q = sets-bound (node-of q (node-count q - 1) .operator)
 
 -- Its line, with the denominator D.
 unfoldable pub shown-line : (D : ℕ) → Bool → Verdict → List ℕ → List ℕ

@@ -4,8 +4,17 @@ use borrow.Author.Needs.{needs}
 use Rattle.replay.proofs.put_plan.Statement.{statement}
 use Rattle.replay.proofs.put_plan.Tie as tie
 
+slice-aggregate-put-signed : tie.Need-slice-aggregate-put-signed
+slice-aggregate-put-signed c = search needs
+
+put-signed-requires : tie.Need-put-signed-requires
+put-signed-requires c κs = search needs
+
 slice-aggregate-put-decimal : tie.Need-slice-aggregate-put-decimal
 slice-aggregate-put-decimal c = search needs
+
+cast-put-decimal : tie.Need-cast-put-decimal
+cast-put-decimal c = search needs
 
 put-decimal-requires : tie.Need-put-decimal-requires
 put-decimal-requires c κs = search needs
@@ -13,20 +22,11 @@ put-decimal-requires c κs = search needs
 slice-aggregate-put-decimal-2 : tie.Need-slice-aggregate-put-decimal-2
 slice-aggregate-put-decimal-2 c = search needs
 
-cast-put-decimal : tie.Need-cast-put-decimal
-cast-put-decimal c = search needs
-
-put-decimal-requires-2 : tie.Need-put-decimal-requires-2
-put-decimal-requires-2 c κs = search needs
-
-slice-aggregate-put-decimal-3 : tie.Need-slice-aggregate-put-decimal-3
-slice-aggregate-put-decimal-3 c = search needs
-
 cast-put-decimal-2 : tie.Need-cast-put-decimal-2
 cast-put-decimal-2 c = search needs
 
-put-decimal-requires-3 : tie.Need-put-decimal-requires-3
-put-decimal-requires-3 c κs = search needs
+put-decimal-requires-2 : tie.Need-put-decimal-requires-2
+put-decimal-requires-2 c κs = search needs
 
 slice-aggregate-put-text : tie.Need-slice-aggregate-put-text
 slice-aggregate-put-text c = search needs
@@ -41,20 +41,20 @@ same-length : tie.Need-same-length
 same-length c = search needs
 
 returns : tie.Need-returns
-returns c = omega (arith, c .before .before .put-choices .ensures .1, c .before .before .before .before .before .before .put-text .ensures .next, c .before .before .before .before .before .before .before .before .before .before .before .put-decimal3 .ensures .1, c .before .before .before .before .before .before .before .before .before .before .before .before .before .before .before .before .before .put-decimal2 .ensures .1, c .before .before .before .before .before .before .before .before .before .before .before .before .before .before .before .before .before .before .before .before .before .before .before .put-decimal .ensures .1, c .before .before .before .before .before .before .before .before .before .before .before .before .before .before .before .before .before .before .before .before .before .before .before .before .before .before .before .before .pre .1)
+returns c = omega (arith, c .before .before .put-choices .ensures .1, c .before .before .before .before .before .before .put-text .ensures .next, c .before .before .before .before .before .before .before .before .before .before .before .put-decimal2 .ensures .1, c .before .before .before .before .before .before .before .before .before .before .before .before .before .before .before .before .before .put-decimal .ensures .1, c .before .before .before .before .before .before .before .before .before .before .before .before .before .before .before .before .before .before .before .before .before .before .before .put-signed .ensures .1, c .before .before .before .before .before .before .before .before .before .before .before .before .before .before .before .before .before .before .before .before .before .before .before .before .before .before .before .before .before .pre .1)
 
 pub put-plan-spec : {M : Type 1} → statement M
 put-plan-spec =
     tie.close
     (tie.spec
+    slice-aggregate-put-signed
+    put-signed-requires
     slice-aggregate-put-decimal
+    cast-put-decimal
     put-decimal-requires
     slice-aggregate-put-decimal-2
-    cast-put-decimal
-    put-decimal-requires-2
-    slice-aggregate-put-decimal-3
     cast-put-decimal-2
-    put-decimal-requires-3
+    put-decimal-requires-2
     slice-aggregate-put-text
     put-text-requires
     put-choices-requires
