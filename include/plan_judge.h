@@ -34,16 +34,18 @@ extern "C" {
  *    5  a used field beyond its range
  *    6  a spare byte not zero
  *    7  postconditions that do not contradict, a target where its postcondition is false, weights not summing to the denominator
- *    9  the question's root is a path formula, or the child of a "plan" looks further than the plan's steps
+ *    9  the question's root is a path formula, or the child of a "plan" (operator 8) looks further than the plan's steps
  *   12  the sheet buffer is shorter than the sheet
- *   24  over 1,000,000 paths for some "plan" node and some state
- *   25  over 65,536 plans for some "plan" node with relation "equal" and some state
+ *   24  over 1,000,000 paths for some node of operator 8 or 9 and some state
+ *   25  over 65,536 plans for some such node with relation "equal" and some state
  * The model's grounds are tested before the question's, those before 24 and 25, and 12 last. */
 
-/* Judges the question on the model. On yes to a question whose root is "plan", the sheet of the shown plan fills the first blocks of
- * `sheet` (1 to 3 blocks: byte 1 of each is its number, and every block but the last holds exactly 490 choices); a buffer of
- * PLAN_JUDGE_SHEET_MAX bytes is always long enough. In every other case, and beyond the sheet, no byte of `sheet` changes. A choice
- * is the number of an action, or PLAN_JUDGE_SILENT where no action is enabled.
+/* Judges the question on the model. On yes to a question whose root asks for a plan (operator 8 by its chance, operator 9 by its
+ * expected gain), the sheet of the shown plan fills the first blocks of `sheet` (1 to 3 blocks: byte 1 of each is its number, and every
+ * block but the last holds exactly 490 choices); a buffer of PLAN_JUDGE_SHEET_MAX bytes is always long enough. In every other case, and
+ * beyond the sheet, no byte of `sheet` changes. A choice is the number of an action, or PLAN_JUDGE_SILENT where no action is enabled.
+ * Bytes 8 to 15 of each block are the plan's total over the denominator to the steps, little-endian: of operator 8 never below 0, of
+ * operator 9 in two's complement (read them as an int64_t).
  *
  * The three slices may have any length and any contents; a pointer may be null where its length is 0. `sheet` must not overlap the
  * others. Nothing is allocated, nothing is kept between calls, and calls on different buffers may run at the same time. The call uses

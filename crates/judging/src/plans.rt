@@ -88,7 +88,13 @@ fn led(
 }
 
 // "less" and "greater" of operator 9: a table by steps left and states has the best total, and the places of the plan's choices.
-fn gain_led(m: &[u16; MODEL], q: &[u8; QUESTION], places: &mut [u8; GAINS], j: u8, s: u8) -> Decision
+fn gain_led(
+    m: &[u16; MODEL],
+    q: &[u8; QUESTION],
+    places: &mut [u8; GAINS],
+    j: u8,
+    s: u8,
+) -> Decision
     requires { ⌜ Bounded (now m) (now q) j × (node-of (now q) j .operator ≡ 9) × (s < state-count (now m)) ⌝ }
     requires { ⌜ (node-of (now q) j .right ≡ 2 → ⊥) × (length (now places) ≡ 224) ⌝ }
     ensures effect { λ r.

@@ -48,10 +48,11 @@ array-read-weight c = let S = c .before .before .before .before .before in
     omega (arith, c .steps .ensures, l, S .pre .0 .2, S .pre .0 .0 .prepared .states)
 
 meets-requires : tie.Need-meets-requires
-meets-requires c κs = let S = c .before .before .before .before .before in
-    (S .pre .0 .0,
-    subst (λ (n : ℕ). getD (c .before .best-gains .result) (32 * n + S .args .s) 0 ≤ most-of (S .args .m .now) (S .args .q .now) (S .args .j)) (sym (c .steps .ensures))
-    (table-small (S .pre .0 .0) (S .pre .0 .1) (c .before .before .before .asks-less .result) (tabled (c .before)) (S .args .s) (S .pre .0 .2)))
+meets-requires c κs = let S = c .before .before .before .before .before in (
+  S .pre .0 .0,
+  subst (λ (n : ℕ). getD (c .before .best-gains .result) (32 * n + S .args .s) 0 ≤ most-of (S .args .m .now) (S .args .q .now) (S .args .j)) (sym (c .steps .ensures))
+      (table-small (S .pre .0 .0) (S .pre .0 .1) (c .before .before .before .asks-less .result) (tabled (c .before)) (S .args .s) (S .pre .0 .2)),
+)
 
 returns : tie.Need-returns
 returns c = let S = c .before .before .before .before .before .before in

@@ -75,10 +75,11 @@ inside : (c : tie.In-loop Inv-loop μ-loop) → c .before .loop .s < state-count
 inside c = omega (arith, c .before .loop .inv .0, c .loop-test .taken)
 
 meets-requires : tie.Need-meets-requires Inv-loop μ-loop
-meets-requires c κs = let S = c .before .before .before .before .before .before .before .before in
-    (bounded S,
-    subst (λ (n : ℕ). getD (c .before .before .before .before .best-gains .result) (32 * n + c .before .loop .s) 0 ≤ most-of (S .args .m .now) (S .args .q .now) (S .args .j)) (sym (c .before .before .before .steps .ensures))
-    (table-small (bounded S) (S .pre .2 .0) (c .before .before .before .before .before .before .asks-less .result) (tabled (c .before .before .before .before)) (c .before .loop .s) (inside c)))
+meets-requires c κs = let S = c .before .before .before .before .before .before .before .before in (
+  bounded S,
+  subst (λ (n : ℕ). getD (c .before .before .before .before .best-gains .result) (32 * n + c .before .loop .s) 0 ≤ most-of (S .args .m .now) (S .args .q .now) (S .args .j)) (sym (c .before .before .before .steps .ensures))
+      (table-small (bounded S) (S .pre .2 .0) (c .before .before .before .before .before .before .asks-less .result) (tabled (c .before .before .before .before)) (c .before .loop .s) (inside c)),
+)
 
 bit-requires : tie.Need-bit-requires Inv-loop μ-loop
 bit-requires c κs = tt

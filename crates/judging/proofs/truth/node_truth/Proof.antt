@@ -24,11 +24,17 @@ returns c = row-whole (c .before .before .before .before .before .before .before
 
 by-state-requires : tie.Need-by-state-requires
 by-state-requires c κs = let S = c .before .before .before .before .before .before in
-    let P = S .pre .0 in
-    ((P .0, P .1, λ o. ⊎-elim
-    (λ w. asked-equal (S .args .q .now) (S .args .j) (w .1 .ensures) (not-false _ (w .2 .left)))
-    (λ w. absurd (w .left (c .before .before .before .before .operator .ensures ∙ o)))
-    (c .before .before .before .if1 .came)), S .pre .1)
+    let P = S .pre .0 in (
+      (
+        P .0,
+        P .1,
+        λ o. ⊎-elim
+            (λ w. asked-equal (S .args .q .now) (S .args .j) (w .1 .ensures) (not-false _ (w .2 .left)))
+            (λ w. absurd (w .left (c .before .before .before .before .operator .ensures ∙ o)))
+            (c .before .before .before .if1 .came),
+      ),
+      S .pre .1,
+    )
 
 same-length : tie.Need-same-length
 same-length c = search needs
