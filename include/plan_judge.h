@@ -44,8 +44,8 @@ extern "C" {
  * expected gain), the sheet of the shown plan fills the first blocks of `sheet` (1 to 3 blocks: byte 1 of each is its number, and every
  * block but the last holds exactly 490 choices); a buffer of PLAN_JUDGE_SHEET_MAX bytes is always long enough. In every other case, and
  * beyond the sheet, no byte of `sheet` changes. A choice is the number of an action, or PLAN_JUDGE_SILENT where no action is enabled.
- * Bytes 8 to 15 of each block are the plan's total over the denominator to the steps, little-endian: of operator 8 never below 0, of
- * operator 9 in two's complement (read them as an int64_t).
+ * Bytes 8 to 15 of each block are the plan's total, a whole number, little-endian: its chance (operator 8) or its expected gain
+ * (operator 9) times the denominator to the steps. It is below 0 only for operator 9, and then in two's complement (an int64_t).
  *
  * The three slices may have any length and any contents; a pointer may be null where its length is 0. `sheet` must not overlap the
  * others. Nothing is allocated, nothing is kept between calls, and calls on different buffers may run at the same time. The call uses

@@ -24,7 +24,7 @@ use Rattle.prepared_model.proofs.ReadByPlace.{denominator-is}
 use Rattle.questions.specs.Layout.{node-of}
 use Rattle.questions.specs.promises.Formed.{Compares, EarnsRange}
 use Rattle.questions.proofs.SetsBound.{sets-which, bound-compares}
-use Rattle.bounds.specs.promises.Bounded.{Bounded, under, first-paid, last-paid, lift-of, lowered, most-of, meets-as, meets-at, Exactly}
+use Rattle.bounds.specs.promises.Bounded.{Bounded, under, span-before, span-last, lift-of, lowered, most-of, meets-as, meets-at, Exactly}
 use Rattle.bounds.proofs.Powers.{power-le}
 
 -- ---- division
@@ -72,7 +72,7 @@ module _ (m q : Bytes) (j : ℕ) (b : Bounded m q j) where
   unfolding lift-of
   lift-8 o = rw o refl
 
-  pub lift-9 : (node-of q j) .operator ≡ 9 → lift-of m q j ≡ 1000 * (last-paid q j - first-paid q j) * D
+  pub lift-9 : (node-of q j) .operator ≡ 9 → lift-of m q j ≡ 1000 * (span-last q j - span-before q j) * D
   unfolding lift-of
   lift-9 o = rw o refl
 
@@ -121,7 +121,7 @@ module _ (m q : Bytes) (j : ℕ) (b : Bounded m q j) where
       paid-9 : (node-of q j) .operator ≡ 9 → lift-of m q j ≤ 6000 * 100 ^ 6
       paid-9 o =
           let r = of-9 o in
-          let h : 1000 * (last-paid q j - first-paid q j) ≤ 6000 = omega (arith, r .within, r .compares .few-steps) in
+          let h : 1000 * (span-last q j - span-before q j) ≤ 6000 = omega (arith, r .within, r .compares .few-steps) in
           rw (lift-9 o) (mul-le-mul h whole-small)
 
       magnitude : (p : ℤ) → mag p ≤ 6000000 → (nonnegative p ≤ 6000000) × (under p ≤ 6000001)

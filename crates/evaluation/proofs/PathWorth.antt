@@ -79,7 +79,7 @@ trail-modest {m} w (move {s} {b} {t} u r) h =
     let p : Step = step-in m s (b % 32 / 4) (b % 4) in
     modest-cons p (steps-of m (p .target) t) (w .raisable s (b % 32 / 4) (b % 4) h (u .offers)) (trail-modest w r (w .inside s (b % 32 / 4) (b % 4) h (u .offers)))
 
--- Over at most six steps, a raised gain is at most 12000.
+-- A raised gain up to step d is at most 2000 d.
 pub raised-most : (a d : ℕ) (r : List Step) → All-modest r → sum naturals (λ o. raise (o .reward)) (drop a (take d r)) ≤ 2000 * d
 unfolding sum
 raised-most zero zero r h = omega arith

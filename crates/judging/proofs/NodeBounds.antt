@@ -38,7 +38,7 @@ use Rattle.questions.proofs.SetsBound.{sets-which}
 use Rattle.prepared_question.specs.promises.Nodes.{formula}
 use Rattle.evaluation.proofs.LearntInOrder.{one-if-small}
 use Rattle.evaluation.proofs.PathWorth.{raised-most}
-use Rattle.bounds.specs.promises.Bounded.{Bounded, first-paid, last-paid, lift-of, most-of}
+use Rattle.bounds.specs.promises.Bounded.{Bounded, span-before, span-last, lift-of, most-of}
 use Rattle.bounds.proofs.ProductsFit.{lift-8, lift-9, most-8, most-9}
 use Rattle.exact_plan.specs.promises.Totals.{totals}
 use Rattle.exact_plan.proofs.TotalsBounded.{up-totals}
@@ -112,7 +112,7 @@ module _ {m q : Bytes} {j : ℕ} (b : Bounded m q j) where
     unfolding raised-at
     raised-8 o = rw o refl
 
-    pub raised-9 : x .operator ≡ 9 → raised-at m q j s ≡ raised (first-paid q j) (last-paid q j)
+    pub raised-9 : x .operator ≡ 9 → raised-at m q j s ≡ raised (span-before q j) (span-last q j)
     unfolding raised-at
     raised-9 o = rw o refl
 
@@ -150,11 +150,11 @@ module _ {m q : Bytes} {j : ℕ} (b : Bounded m q j) where
           by-9 : x .operator ≡ 9 → Raises M s (x .n) (worth-at m q j s) (raised-at m q j s) (lift-of m q j)
           by-9 o =
               let r = earned o .range in
-              let e : suc (first-paid q j) ≡ x .left % 8 = omega (arith, r .from-one) in
+              let e : suc (span-before q j) ≡ x .left % 8 = omega (arith, r .from-one) in
               rw (worth-9 o, raised-9 o, lift-9 m q j b o)
-              (subst (λ l. Raises M s (x .n) (gain-between l (last-paid q j)) (raised (first-paid q j) (last-paid q j)) (1000 * (last-paid q j - first-paid q j) * denominator-of m ^ x .n)) e
-              (subst (λ d. Raises M s (x .n) (gain-between (suc (first-paid q j)) (last-paid q j)) (raised (first-paid q j) (last-paid q j)) (1000 * (last-paid q j - first-paid q j) * d ^ x .n)) (denominator-is m)
-              (raises-gain M (b .prepared .accepted) (modest-rewards (b .prepared)) (x .n) s (first-paid q j) (last-paid q j) inside (r .within))))
+              (subst (λ l. Raises M s (x .n) (gain-between l (span-last q j)) (raised (span-before q j) (span-last q j)) (1000 * (span-last q j - span-before q j) * denominator-of m ^ x .n)) e
+              (subst (λ d. Raises M s (x .n) (gain-between (suc (span-before q j)) (span-last q j)) (raised (span-before q j) (span-last q j)) (1000 * (span-last q j - span-before q j) * d ^ x .n)) (denominator-is m)
+              (raises-gain M (b .prepared .accepted) (modest-rewards (b .prepared)) (x .n) s (span-before q j) (span-last q j) inside (r .within))))
 
       -- The raised total of every plan is at most this.
       pub total-most : (π : Plan (x .n)) → List·Memᴰ π (plans M (x .n) s) → total naturals M (x .n) s π (raised-at m q j s) ≤ most-of m q j
@@ -173,7 +173,7 @@ module _ {m q : Bytes} {j : ℕ} (b : Bounded m q j) where
           by-9 o =
               let z = earned o .range in
               rw (raised-9 o, most-9 m q j b o)
-              (up (raised (first-paid q j) (last-paid q j)) 12000 (λ r g. raised-small (first-paid q j) (last-paid q j) r g (omega (arith, z .within, z .compares .few-steps))))
+              (up (raised (span-before q j) (span-last q j)) 12000 (λ r g. raised-small (span-before q j) (span-last q j) r g (omega (arith, z .within, z .compares .few-steps))))
 
       -- So is the best.
       pub best-most : (least : Bool) → greatest (weights (order least)) M (x .n) s (raised-at m q j s) ≤ most-of m q j

@@ -37,7 +37,7 @@ use Rattle.prepared_question.specs.promises.Nodes.{formula, depth-in}
 use Rattle.evaluation.specs.promises.Reached.{Cone, root-of, Ready}
 use Rattle.evaluation.specs.promises.Worth.{worth-of}
 use Rattle.evaluation.proofs.PathWorth.{ready-none, worth-condition, worth-gain}
-use Rattle.bounds.specs.promises.Bounded.{Bounded, first-paid, last-paid, lowered, most-of, meets-at, Exactly}
+use Rattle.bounds.specs.promises.Bounded.{Bounded, span-before, span-last, lowered, most-of, meets-at, Exactly}
 use Rattle.bounds.proofs.ProductsFit.{small, compares, most-8}
 use Rattle.bounds.proofs.Powers.{power-le}
 use Rattle.best_gain.proofs.TableRows.{zeros}
@@ -183,7 +183,7 @@ module _ {m q : Bytes} {truth : List ℕ} {j s : ℕ} (given : Given m q) (posed
 
     pub found-led : {after : List ℕ} {r : Found} {w d : ℕ} {t : Bool} → Searched m q c s least after r → Lengthened m q j (r .value) w
         → t ≡ meets-at m q j (lowered m q j w) → d ≡ depth (condition q j)
-        → Led m q j s after (replicate 224 0) (record { met = t; weight = w; place = 0; given = d })
+        → Led m q j s after (replicate 224 0) (record { met = t; raised = w; place = 0; given = d })
     found-led {after} {r} f l e g =
         record {
           weighs = best-lengthened b o (posed .state) (eqb ((node-of q j) .right) 1) (f .value ∙ total-there) l;
@@ -277,7 +277,7 @@ module _ {m q : Bytes} {truth : List ℕ} {j s : ℕ} (given : Given m q) (posed
 
   module _ {whole : Bool} {x all : ℕ} (exact : Exactly m q j whole x) (count : all ≡ plan-total (model-in m) ((node-of q j) .n) s) where
     -- No total meets the bound.
-    pub placed-never : whole ≡ false → decided.Placed m q j s (record { met = false; weight = x; place = all; given = 0 })
+    pub placed-never : whole ≡ false → decided.Placed m q j s (record { met = false; raised = x; place = all; given = 0 })
     placed-never e =
         record {
           first = subst (decided.First m q j s x) (sym count) (never-led u s (posed .state) (exact .none e) x);
@@ -287,7 +287,7 @@ module _ {m q : Bytes} {truth : List ℕ} {j s : ℕ} (given : Given m q) (posed
 
     pub placed-at : {k r : ℕ} {nodes : List ℕ} {n a d : ℕ} → whole ≡ true → k ≡ (node-of q j) .n → (l : Looks q j nodes n a d)
         → listing.First (totals (model-in m) k s (worth-of m q s a d (take n nodes))) x r
-        → decided.Placed m q j s (record { met = ltb r all; weight = x; place = r; given = 0 })
+        → decided.Placed m q j s (record { met = ltb r all; raised = x; place = r; given = 0 })
     unfolding totals
     placed-at {k} {r} e steps l f =
         let g : listing.First (all-totals u s (posed .state)) x r =

@@ -55,27 +55,27 @@ use Rattle.judging.proofs.SearchHanded.{handed-worth}
 -- ---- telling
 
 pub announces-plan : {v : Verdict} {w : ℤ} {n k i : ℕ} {cs l after : List ℕ} {x : Outcome} (before : List ℕ) → v ≡ shows w n k cs → i ≡ n → l ≡ cs
-    → x ≡ record { yes = true; plan = true; weight = w; steps = i; count = k } → after ≡ splice before 0 l → Announces v x before after
+    → x ≡ record { yes = true; plan = true; total = w; steps = i; count = k } → after ≡ splice before 0 l → Announces v x before after
 unfolding told shown-choices
 announces-plan {w = w} {k = k} before e f same g h = (
-  g ∙ ap (λ i. record { yes = true; plan = true; weight = w; steps = i; count = k }) f ∙ ap told (sym e),
+  g ∙ ap (λ i. record { yes = true; plan = true; total = w; steps = i; count = k }) f ∙ ap told (sym e),
   h ∙ ap (splice before 0) same ∙ ap (λ u. splice before 0 (shown-choices u)) (sym e),
 )
 
 pub announces-no : {v : Verdict} {k : ℕ} {x : Outcome} (before : List ℕ) → v ≡ denies k
-    → x ≡ record { yes = false; plan = false; weight = pos 0; steps = 0; count = k } → Announces v x before before
+    → x ≡ record { yes = false; plan = false; total = pos 0; steps = 0; count = k } → Announces v x before before
 unfolding told shown-choices
 announces-no before e f = (f ∙ ap told (sym e), sym (splice-none before 0) ∙ ap (λ u. splice before 0 (shown-choices u)) (sym e))
 
 pub announces-truth : {v : Verdict} {y : ℕ} {x : Outcome} (t : Bool) (before : List ℕ) → v ≡ cond t verdicts.yes (denies 0) → y ≡ one-if t
-    → x ≡ record { yes = eqb y 1; plan = false; weight = pos 0; steps = 0; count = 0 } → Announces v x before before
+    → x ≡ record { yes = eqb y 1; plan = false; total = pos 0; steps = 0; count = 0 } → Announces v x before before
 unfolding told shown-choices one-if
 announces-truth true before e f g = (
-  g ∙ ap (λ y. record { yes = eqb y 1; plan = false; weight = pos 0; steps = 0; count = 0 }) f ∙ ap told (sym e),
+  g ∙ ap (λ y. record { yes = eqb y 1; plan = false; total = pos 0; steps = 0; count = 0 }) f ∙ ap told (sym e),
   sym (splice-none before 0) ∙ ap (λ u. splice before 0 (shown-choices u)) (sym e),
 )
 announces-truth false before e f g =
-    announces-no before e (g ∙ ap (λ y. record { yes = eqb y 1; plan = false; weight = pos 0; steps = 0; count = 0 }) f)
+    announces-no before e (g ∙ ap (λ y. record { yes = eqb y 1; plan = false; total = pos 0; steps = 0; count = 0 }) f)
 
 -- ---- the verdict on a node that sets a bound
 
@@ -90,12 +90,12 @@ module _ {m q : Bytes} {counts : List ℕ} (asked : Asked m q counts) {j : ℕ} 
 
   pub equal-verdict : (node-of q j) .right ≡ 2 → r .met ≡ true
       → verdict (model-in m) s (formula q j)
-      ≡ shows (lowered m q j (r .weight)) ((node-of q j) .n) (1 + r .place) (choices ((node-of q j) .n) (plan-at (model-in m) ((node-of q j) .n) s (r .place)))
+      ≡ shows (lowered m q j (r .raised)) ((node-of q j) .n) (1 + r .place) (choices ((node-of q j) .n) (plan-at (model-in m) ((node-of q j) .n) s (r .place)))
   equal-verdict e t = equal-yes b s here e (x .placed e .first) (equal-inside e t)
 
   pub led-verdict : ((node-of q j) .right ≡ 2 → ⊥) → r .met ≡ true
       → verdict (model-in m) s (formula q j)
-      ≡ shows (lowered m q j (r .weight)) ((node-of q j) .n) 0 (choices ((node-of q j) .n) (best-node m q j s (eqb ((node-of q j) .right) 1)))
+      ≡ shows (lowered m q j (r .raised)) ((node-of q j) .n) 0 (choices ((node-of q j) .n) (best-node m q j s (eqb ((node-of q j) .right) 1)))
   led-verdict e t =
       let p = x .led e in
       led-yes b s here e (sym (ap (λ w. meets-at m q j (lowered m q j w)) (p .weighs)) ∙ sym (p .bounds) ∙ t)
@@ -121,10 +121,10 @@ module _ {m q : Bytes} {counts : List ℕ} (asked : Asked m q counts) {j : ℕ} 
       go (no e) = omega (arith, x .led e .unplaced)
 
   -- The total found is small, where it is one.
-  pub weight-small : r .met ≡ true → r .weight ≤ 12000 * 100 ^ 6
-  weight-small t = le-trans (go (ℕ-discrete ((node-of q j) .right) 2)) (most-small m q j b)
+  pub total-small : r .met ≡ true → r .raised ≤ 12000 * 100 ^ 6
+  total-small t = le-trans (go (ℕ-discrete ((node-of q j) .right) 2)) (most-small m q j b)
     where
-      go : Dec ((node-of q j) .right ≡ 2) → r .weight ≤ most-of m q j
+      go : Dec ((node-of q j) .right ≡ 2) → r .raised ≤ most-of m q j
       go (yes e) =
           let n : ℕ = (node-of q j) .n in
           let l = equal-inside e t in

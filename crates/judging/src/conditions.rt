@@ -72,7 +72,7 @@ pub fn peel(q: &[u8; QUESTION], truth: &[u8; TRUTHS], c: u8, s: u8) -> Peeled
     r
 }
 
-// Searches for the plan of greatest weight, or of least, as deep as condition c looks.
+// Searches for the plan of greatest total, or of least, as deep as condition c looks.
 pub fn searched(
     m: &[u16; MODEL],
     q: &[u8; QUESTION],

@@ -53,37 +53,37 @@ use relevance::needed;
 // The numbers of a table of best totals: by condition and state, the greatest and the least.
 const BESTS: usize = 2560;
 
-// What judging came to. `plan`: the root sets a bound on plans and is true, and then weight, steps and count are the shown plan's; on no, count is
+// What judging came to. `plan`: the root sets a bound on plans and is true, and then total, steps and count are the shown plan's; on no, count is
 // the number of all plans for "equal", else 0.
 pub struct Outcome {
     pub yes: bool,
     pub plan: bool,
-    pub weight: i64,
+    pub total: i64,
     pub steps: u32,
     pub count: u32,
 }
 
 // An outcome without a plan.
 fn plain(yes: bool, count: u32) -> Outcome
-    ensures value { λ r. ⌜ r ≡ record { yes = yes; plan = false; weight = pos 0; steps = 0; count = count } ⌝ }
+    ensures value { λ r. ⌜ r ≡ record { yes = yes; plan = false; total = pos 0; steps = 0; count = count } ⌝ }
 {
     Outcome {
         yes: yes,
         plan: false,
-        weight: 0,
+        total: 0,
         steps: 0,
         count: count,
     }
 }
 
 // An outcome with a plan: yes.
-fn with_plan(weight: i64, steps: u8, count: u32) -> Outcome
-    ensures value { λ r. ⌜ r ≡ record { yes = true; plan = true; weight = weight; steps = steps; count = count } ⌝ }
+fn with_plan(total: i64, steps: u8, count: u32) -> Outcome
+    ensures value { λ r. ⌜ r ≡ record { yes = true; plan = true; total = total; steps = steps; count = count } ⌝ }
 {
     Outcome {
         yes: true,
         plan: true,
-        weight: weight,
+        total: total,
         steps: steps as u32,
         count: count,
     }
@@ -119,7 +119,7 @@ fn show(
         ⌜ Announces (verdict (model-in m) s (formula q j)) x choices choices′ ⌝ }
 {
     let n = steps(q, j);
-    let total = lowered(m, q, j, r.weight);
+    let total = lowered(m, q, j, r.raised);
     let place = r.place;
     if asks_equal(q, j) {
         nth(m, counts, choices, s, n, place as u64);
@@ -174,8 +174,8 @@ pub fn judged(m: &[u16; MODEL], q: &[u8; QUESTION], choices: &mut [u8]) -> Outco
     at_node(m, q, &counts, &truth, choices, j, start(q))
 }
 
-// The total of the plan with these choices, by the tables.
-fn root_weight(m: &[u16; MODEL], q: &[u8; QUESTION], truth: &[u8; TRUTHS], choices: &[u8]) -> u64
+// The raised total of the plan with these choices, by the tables.
+fn root_total(m: &[u16; MODEL], q: &[u8; QUESTION], truth: &[u8; TRUTHS], choices: &[u8]) -> u64
     requires { ⌜ Given (now m) (now q) ⌝ }
     requires { ⌜ Posed (now m) (now q) (now truth) (root (now q)) (start-of (now q)) ⌝ }
     ensures value { λ r. ⌜ Sums (now (m .entry)) (now (q .entry)) (now (choices .entry)) r ⌝ }
@@ -203,15 +203,15 @@ pub struct Weighed {
     pub met: bool,
 }
 
-// The total of the plan with these choices, for the root, which sets a bound on plans.
-pub fn sheet_weight(m: &[u16; MODEL], q: &[u8; QUESTION], choices: &[u8]) -> Weighed
+// The total of the plan with these choices, for the root, which sets a bound on plans, and whether it meets that.
+pub fn sheet_total(m: &[u16; MODEL], q: &[u8; QUESTION], choices: &[u8]) -> Weighed
     requires { ⌜ Served (now m) (now q) × (sets-bound (node-of (now q) (root (now q)) .operator) ≡ true) ⌝ }
     requires { ⌜ Spelled (model-in (now m)) (now q) (now choices) ⌝ }
     ensures value { λ r. ⌜ Weighs (model-in (now (m .entry))) (now (q .entry)) (now (choices .entry)) r ⌝ }
 {
     let counts = plan_totals(m);
     let truth = root_truth(m, q, &counts);
-    let x = root_weight(m, q, &truth, choices);
+    let x = root_total(m, q, &truth, choices);
     let j = count(q) - 1;
     Weighed {
         total: lowered(m, q, j, x),

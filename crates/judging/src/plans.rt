@@ -47,7 +47,7 @@ use questions::NODES;
 // all plans if there is none), and how many steps of that plan the scratch has.
 pub struct Decision {
     pub met: bool,
-    pub weight: u64,
+    pub raised: u64,
     pub place: usize,
     pub given: u8,
 }
@@ -62,7 +62,7 @@ fn over_all_steps(m: &[u16; MODEL], q: &[u8; QUESTION], j: u8, value: u64) -> u6
     power(denominator(m), steps(q, j) - d) * value
 }
 
-// "less" and "greater" of a "plan": the plan of least or of greatest weight decides, and a search as deep as the condition looks finds it.
+// "less" and "greater" of a "plan": the plan of least or of greatest total decides, and a search as deep as the condition looks finds it.
 // Beyond that the plan has first choices, at place 0.
 fn led(
     m: &[u16; MODEL],
@@ -78,10 +78,10 @@ fn led(
 {
     let c = left(q, j);
     let r = searched(m, q, truth, scratch, c, s, asks_less(q, j));
-    let weight = over_all_steps(m, q, j, r.value);
+    let raised = over_all_steps(m, q, j, r.value);
     Decision {
-        met: meets(m, q, j, weight),
-        weight: weight,
+        met: meets(m, q, j, raised),
+        raised: raised,
         place: 0,
         given: depth(q, c),
     }
@@ -103,10 +103,10 @@ fn gain_led(
 {
     let w = window(m, q, j);
     let best = best_gains(m, w, asks_less(q, j), places);
-    let weight = best[STATES * steps(q, j) as usize + s as usize];
+    let raised = best[STATES * steps(q, j) as usize + s as usize];
     Decision {
-        met: meets(m, q, j, weight),
-        weight: weight,
+        met: meets(m, q, j, raised),
+        raised: raised,
         place: 0,
         given: 0,
     }
@@ -157,7 +157,7 @@ fn first(
     if !x.whole {
         return Decision {
             met: false,
-            weight: total,
+            raised: total,
             place: all,
             given: 0,
         };
@@ -178,7 +178,7 @@ fn first(
     );
     Decision {
         met: place < all,
-        weight: total,
+        raised: total,
         place: place,
         given: 0,
     }

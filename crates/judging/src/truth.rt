@@ -172,7 +172,7 @@ fn by_table(m: &[u16; MODEL], q: &[u8; QUESTION], truth: &mut [u8; TRUTHS], j: u
     }
 }
 
-// The truth of node j, where it is needed.
+// The truth of node j: in all states by one table, or where it is needed.
 fn node_truth(
     m: &[u16; MODEL],
     q: &[u8; QUESTION],

@@ -3,7 +3,7 @@ ghost use mathlib.Core.Path.{_≡_};
 ghost use Prim.Native.Nat.{_-_, _/_, _%_, _<_};
 ghost use lib.ListN.{length};
 ghost use Rattle.questions.specs.Layout.{node-of};
-ghost use Rattle.bounds.specs.promises.Bounded.{Bounded, first-paid, last-paid};
+ghost use Rattle.bounds.specs.promises.Bounded.{Bounded, span-before, span-last};
 ghost use Rattle.best_gain.specs.promises.Tabled.{Window-right};
 ghost use Rattle.judging.specs.promises.Worths.{Looks};
 use best_gain::Window;
@@ -30,7 +30,7 @@ pub fn window(m: &[u16; MODEL], q: &[u8; QUESTION], j: u8) -> Window
     requires { ⌜ Bounded (now m) (now q) j × (node-of (now q) j .operator ≡ 9) ⌝ }
     ensures value { λ r.
         let q = now (q .entry) in
-        ⌜ (r ≡ record { steps = node-of q j .n; before = first-paid q j; last = last-paid q j }) × Window-right r ⌝ }
+        ⌜ (r ≡ record { steps = node-of q j .n; before = span-before q j; last = span-last q j }) × Window-right r ⌝ }
 {
     let span = left(q, j);
     Window {

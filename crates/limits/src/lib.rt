@@ -209,7 +209,7 @@ fn nodes_fit(m: &[u16; MODEL], q: &[u8; QUESTION], plans: bool) -> bool
     right
 }
 
-// The test of ground 24: no "plan" node has too many paths.
+// The test of ground 24: no node that sets a bound on plans has too many paths.
 pub fn paths_fit(m: &[u16; MODEL], q: &[u8; QUESTION]) -> bool
     requires { ⌜ Prepared (now m) × Nodes (state-count (now m)) (action-count (now m)) (prop-count (now m)) (now q) ⌝ }
     ensures value { λ r.
@@ -219,7 +219,7 @@ pub fn paths_fit(m: &[u16; MODEL], q: &[u8; QUESTION]) -> bool
     nodes_fit(m, q, false)
 }
 
-// The test of ground 25: no "plan" node whose relation is "equal" has too many plans.
+// The test of ground 25: no such node whose relation is "equal" has too many plans.
 pub fn plans_fit(m: &[u16; MODEL], q: &[u8; QUESTION]) -> bool
     requires { ⌜ Prepared (now m) × Nodes (state-count (now m)) (action-count (now m)) (prop-count (now m)) (now q) ⌝ }
     ensures value { λ r.

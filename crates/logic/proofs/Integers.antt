@@ -19,25 +19,6 @@ times-plus zero a b = zero-*ℤ (a +ℤ b) ∙ sym (ap₂ _+ℤ_ (zero-*ℤ a) (
 times-plus (suc k) a b =
     sucℤ-*ℤ (pos k) (a +ℤ b) ∙ ap (λ z. z +ℤ (a +ℤ b)) (times-plus k a b) ∙ swap (pos k *ℤ a) (pos k *ℤ b) a b ∙ sym (ap₂ _+ℤ_ (sucℤ-*ℤ (pos k) a) (sucℤ-*ℤ (pos k) b))
 
-plus-times : (j k : ℕ) (a : ℤ) → pos (j + k) *ℤ a ≡ pos j *ℤ a +ℤ pos k *ℤ a
-plus-times zero k a = ap (λ z. pos z *ℤ a) (native.Mathlib.Nat.zero-add k) ∙ sym (ap (λ z. z +ℤ pos k *ℤ a) (zero-*ℤ a) ∙ +ℤ-idl (pos k *ℤ a))
-plus-times (suc j) k a =
-    ap (λ z. pos z *ℤ a) (native.Mathlib.Nat.suc-add j k) ∙ sucℤ-*ℤ (pos (j + k)) a ∙ ap (λ z. z +ℤ a) (plus-times j k a)
-    ∙ +ℤ-assoc (pos j *ℤ a) (pos k *ℤ a) a ∙ ap (λ z. pos j *ℤ a +ℤ z) (+ℤ-comm (pos k *ℤ a) a) ∙ sym (+ℤ-assoc (pos j *ℤ a) a (pos k *ℤ a)) ∙ ap (λ z. z +ℤ pos k *ℤ a) (sym (sucℤ-*ℤ (pos j) a))
-
-times-times : (j k : ℕ) (a : ℤ) → pos (j * k) *ℤ a ≡ pos j *ℤ (pos k *ℤ a)
-times-times zero k a = ap (λ z. pos z *ℤ a) (native.Mathlib.Nat.zero-mul k) ∙ zero-*ℤ a ∙ sym (zero-*ℤ (pos k *ℤ a))
-times-times (suc j) k a =
-    ap (λ z. pos z *ℤ a) (suc-mul j k) ∙ plus-times (j * k) k a ∙ ap (λ z. z +ℤ pos k *ℤ a) (times-times j k a) ∙ sym (sucℤ-*ℤ (pos j) (pos k *ℤ a))
-
-one-times : (a : ℤ) → pos 1 *ℤ a ≡ a
-unfolding one
-one-times a = *ℤ-comm (pos 1) a ∙ *ℤ-one a
-
-pub integers-additive : Additive integers
-integers-additive =
-    record { none-plus = +ℤ-idl; plus-none = +ℤ-idr; plus-assoc = +ℤ-assoc; times-none = λ k. *ℤ-zero (pos k); times-plus = times-plus; times-times = times-times; one-times = one-times }
-
 -- ---- the order: b is a and something more
 
 pub subℕ-ge : (a b : ℕ) → b ≤ a → subℕ a b ≡ pos (a - b)

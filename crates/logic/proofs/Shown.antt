@@ -136,10 +136,10 @@ module _ {m : Model} {s : ℕ} {φ : Formula} {b : Bound} (x : Sets m s φ b) wh
   unfolding goal
   sets-goal = ap (λ c. c >>= λ b. ok (bound-goal m s b)) (x .asks)
 
--- Every formula that sets a bound is of one of the two kinds.
-pub sets-bound : (m : Model) (s : ℕ) (φ : Formula) (b : Bound) → bound-of m s φ ≡ ok b → Sets m s φ b
+-- A root's bound is set by its formula.
+pub bound-set : (m : Model) (s : ℕ) (φ : Formula) (b : Bound) → bound-of m s φ ≡ ok b → Sets m s φ b
 unfolding bound-of
-sets-bound m s φ b =
+bound-set m s φ b =
     by-plan (λ φ c. c ≡ ok b → Sets m s φ b) (λ _ e. absurd (not-ok e))
     (λ n ψ r p q e. subst (Sets m s (plan n ψ r p q)) (ok-same e) (sets-plan m s n ψ r p q))
     (λ n l u r p q e. subst (Sets m s (earns n l u r p q)) (ok-same e) (sets-gain m s n l u r p q)) φ

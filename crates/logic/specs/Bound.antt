@@ -10,9 +10,13 @@ use Rattle.logic.specs.Model.{Model, Step}
 use Rattle.logic.specs.Quantity.{Quantity, integers, sum, Relation, related}
 use Rattle.logic.specs.Plan.{Plan, paths, weight}
 
--- Over the paths that a plan allows from a state: weight times value, summed.
+-- Over some paths: weight times value, summed.
+abbrev pub weighed : (Q : Quantity) → (List Step → Q .Value) → List (List Step) → Q .Value
+weighed Q f ps = sum Q (λ r. Q .times (weight r) (f r)) ps
+
+-- Over the paths that a plan allows from a state.
 unfoldable pub total : (Q : Quantity) → Model → (n : ℕ) → ℕ → Plan n → (List Step → Q .Value) → Q .Value
-total Q m n s π f = sum Q (λ r. Q .times (weight r) (f r)) (paths m n s π)
+total Q m n s π f = weighed Q f (paths m n s π)
 
 -- A total w of an n-step plan, times q, stands in the relation to p times D to the n.
 unfoldable pub meets : (Q : Quantity) → Model → ℕ → Relation → Q .Value → ℕ → Q .Value → Bool
@@ -30,7 +34,7 @@ one-if true = 1
 one-if false = 0
 
 -- Operator 8: a path is worth 1 where the condition is true, else 0. So the total is document 01's W, the summed weights of the paths on
--- which the condition is true (proved: `W-total`).
+-- which the condition is true (proved: `condition-total`).
 abbrev pub chance : ℕ → (List Step → Bool) → Relation → (p q : ℕ) → Bound
 chance n holds r p q = record { steps = n; worth = λ ρ. pos (one-if (holds ρ)); relation = r; p = pos p; q = q }
 

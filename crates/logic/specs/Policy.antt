@@ -7,7 +7,7 @@ use Rattle.logic.specs.Lists.{keep}
 use Rattle.logic.specs.Model.{Model, Step, enabled, outcomes}
 use Rattle.logic.specs.Quantity.{naturals, integers, sum}
 use Rattle.logic.specs.Plan.{weight}
-use Rattle.logic.specs.Bound.{gain-between}
+use Rattle.logic.specs.Bound.{weighed, gain-between}
 use Rattle.logic.specs.Formula.{Formula, sat}
 
 -- The last state of the history s h.
@@ -33,4 +33,4 @@ policy-weight m φ n s π = sum naturals weight (keep (sat m φ s) (policy-paths
 
 -- Over the paths of a policy: weight times the gain of steps l to u, summed. Definition 13's expected reward, times the denominator to the n.
 unfoldable pub policy-gain : (m : Model) → (l u n s : ℕ) → Policy m n s → ℤ
-policy-gain m l u n s π = sum integers (λ r. integers .times (weight r) (gain-between l u r)) (policy-paths m (π .act) n (s ∷ []) s)
+policy-gain m l u n s π = weighed integers (gain-between l u) (policy-paths m (π .act) n (s ∷ []) s)

@@ -1,4 +1,4 @@
--- The numbers that paths are valued in: weights are summed in ℕ, rewards in ℤ. One definition of sums and bounds serves both.
+-- The numbers that paths are valued in: weights are summed in ℕ, rewards and totals in ℤ. One definition of sums and bounds serves both.
 use Prim.Native.Nat.{ℕ, _+_, _*_}
 use mathlib.Core.Bool.{Bool, not, _&&_}
 use mathlib.Core.List.{List, [], _∷_}

@@ -1,4 +1,4 @@
--- The two-shelf model, and the verdicts of document 01 that are marked *.
+-- The two-shelf model, the verdicts of document 01 that are marked *, and verdicts by expected gain, of document 02, A.3, and by hand.
 use Prim.Native.Nat.{ℕ}
 use mathlib.Core.Path.{_≡_, refl}
 use mathlib.Core.List.{List, [], _∷_, map, flatMap}

@@ -60,7 +60,7 @@ shown m s g = find (λ π. g .met π && g .lead π) 1 (plans m (g .steps) s)
 pub record Denial : Type 0 where
   pub count : ℕ
 
--- What goes with a yes to a "plan" root: "a plan record (W, n and the count; its choices stand beside the verdict)".
+-- What goes with a yes to a root that sets a bound, its total for W: "a plan record (W, n and the count; its choices stand beside the verdict)".
 pub record Shown-plan : Type 0 where
   pub total : ℤ
   pub steps : ℕ
@@ -95,6 +95,6 @@ abbrev pub verdict-by : Model → ℕ → Bool → Checked Goal → Verdict
 verdict-by m s t (ok g) = announced m s g (shown m s g)
 verdict-by m s t (refused k) = cond t yes (no (record { count = 0 }))
 
--- The verdict on a root in a start state. That a "plan" root is true exactly where it has a shown plan is proved (`Shown`).
+-- The verdict on a root in a start state. That a root that sets a bound is true exactly where it has a shown plan is proved (`Shown`).
 unfoldable pub verdict : Model → ℕ → Formula → Verdict
 verdict m s φ = verdict-by m s (sat m φ s []) (goal m s φ)

@@ -1,5 +1,7 @@
 -- The two-shelf model without its wait action, as document 02, A.1, allows it: in state 2, where the pack is delivered, the work is over. Its
--- verdicts from state 0 over three steps, in which a pack that is delivered with the second step makes the silent move with the third.
+-- verdicts from state 0 over three steps, in which a pack that is delivered with the second step makes the silent move with the third. The last
+-- row is operator 9's, by hand: with 1, 2 and 3 steps left the most that state 1 earns is 90, 990 and so on, state 0 -10 by action 1, then
+-- 8 * (-20 + 90) + 2 * (-20 - 10) = 500 and 8 * (-200 + 990) + 2 * (-200 + 500) = 6920 by action 0.
 use mathlib.Core.Path.{_≡_, refl}
 use mathlib.Core.List.{List, [], _∷_, map, flatMap}
 use lib.IntN.{pos, negsuc}
@@ -7,10 +9,10 @@ use Rattle.logic.specs.Lists.{is-empty, all, any, find, keep, product, j
 use Rattle.logic.specs.Model.{Model, no-action, true-of, mask, prop-in, enabled-actions, deadlocked, enabled, stored, outcomes}
 use Rattle.logic.specs.Quantity.{sum, equal, greater, related}
 use Rattle.logic.specs.Plan.{plans, choices, paths, weight}
-use Rattle.logic.specs.Bound.{total, meets, one-if}
+use Rattle.logic.specs.Bound.{total, meets, one-if, gain-between}
 use Rattle.logic.specs.Formula.{Formula, neg, both, does, next, gain, sat}
 use Rattle.logic.specs.Verdict.{leads, is-equal, bound-of, goal, shown, verdict}
-use Rattle.logic.specs.TwoShelf.{needs, lit, to, Row, row, shows, denies, done, verdicts-of}
+use Rattle.logic.specs.TwoShelf.{needs, lit, to, Row, row, gains, shows, denies, done, verdicts-of}
 
 unfoldable pub without-wait : Model
 unfolding needs lit to
@@ -40,7 +42,7 @@ unfoldable pub idle : Formula
 idle = both (neg (does 0)) (both (neg (does 1)) (neg (does 2)))
 
 unfoldable pub table : List Row
-unfolding row shows denies done then idle
+unfolding row gains shows denies done then idle
 table =
     row 3 (then (next done)) greater 9 10 (shows (pos 936) 3 0 (0 ∷ 2 ∷ 255 ∷ 2 ∷ 0 ∷ 2 ∷ 0 ∷ []))
     ∷ row 3 (then (next done)) equal 720 1000 (shows (pos 720) 3 7 (1 ∷ 2 ∷ 255 ∷ 2 ∷ 1 ∷ 2 ∷ 0 ∷ []))
@@ -48,8 +50,9 @@ table =
     ∷ row 3 (then (does 2)) greater 0 1 (shows (pos 450) 3 0 (1 ∷ 2 ∷ 255 ∷ 2 ∷ 0 ∷ 2 ∷ 0 ∷ []))
     ∷ row 3 (then idle) greater 7 10 (shows (pos 720) 3 0 (0 ∷ 2 ∷ 255 ∷ 2 ∷ 0 ∷ 2 ∷ 0 ∷ []))
     ∷ row 3 (gain 3 equal (pos 8)) greater 7 10 (shows (pos 792) 3 0 (0 ∷ 2 ∷ 255 ∷ 2 ∷ 0 ∷ 2 ∷ 0 ∷ []))
+    ∷ gains 3 1 3 greater (pos 6) 1 (shows (pos 6920) 3 0 (0 ∷ 2 ∷ 255 ∷ 2 ∷ 0 ∷ 2 ∷ 1 ∷ []))
     ∷ []
 
 pub without-wait-verdicts : verdicts-of without-wait table ≡ map (λ r. r .answer) table
-unfolding without-wait table is-empty all any find keep product join count-from flatMap no-action true-of mask prop-in enabled-actions deadlocked enabled stored outcomes plans choices paths weight sum total one-if sat meets related leads is-equal bound-of goal shown verdict
+unfolding without-wait table is-empty all any find keep product join count-from flatMap no-action true-of mask prop-in enabled-actions deadlocked enabled stored outcomes plans choices paths weight sum total one-if gain-between sat meets related leads is-equal bound-of goal shown verdict
 without-wait-verdicts = refl

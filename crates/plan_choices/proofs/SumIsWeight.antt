@@ -1,5 +1,4 @@
--- The sum over the choices of a plan is its total, by the first step as the choices are read; and of a condition, which is 0 or 1 on each path,
--- it is at most D to the n.
+-- The sum over the choices of a plan is its total, by the first step as the choices are read.
 use Prim.Native.Nat.{ℕ, zero, suc, _+_, _*_, _^_, _≤_, _<_}
 use native.Mathlib.Omega.{arith}
 use native.Mathlib.Nat.{le-trans, mul-le-mul-left}
@@ -109,19 +108,3 @@ read-there M (suc n) s (a ∷ cs) e =
 pub plan-there : (M : Model) (n s : ℕ) (cs : List ℕ) → refusal (plan-of M n s cs) ≡ 0 → (π : Plan n) × (plan-of M n s cs ≡ ok π)
 unfolding There plan-of
 plan-there M n s cs = bind-there (read-plan M n s cs) _ (read-there M n s cs) (λ x. guard-there 9 (is-empty (x .1)) (ok (x .0)) (λ _. (x .0, refl)))
-
--- ---- how much a plan weighs
-
-pub W-most : (M : Model) → Accepted M → (φ : Formula) (n s : ℕ) → s < length (M .states) → (π : Plan n) → List·Memᴰ π (plans M n s) → W M φ n s π ≤ M .denominator ^ n
-unfolding total
-W-most M A φ n s k π i =
-    rw (W-total M φ n s π)
-    (le-trans (sum-le (λ r. weight r * value-of M φ s r) (λ r. weight r * 1) (paths M n s π) (λ r. mul-le-mul-left (weight r) (one-if-small _)))
-    (omega (arith, total-ones M A n s k π i)))
-
--- The weight of the plan that choices spell, of an accepted model, is at most D to the n.
-pub weight-most : (m : Bytes) → refusal (read-model m) ≡ 0 → (φ : Formula) (n s : ℕ) → s < state-count m → (cs : List ℕ) (π : Plan n)
-    → plan-of (model-of m) n s cs ≡ ok π → W (model-of m) φ n s π ≤ denominator-of m ^ n
-weight-most m e φ n s k cs π p =
-    subst (λ d. W (model-of m) φ n s π ≤ d ^ n) (denominator-held m)
-    (W-most (model-of m) (accepted m (passed-all m e)) φ n s (subst (λ c. s < c) (sym (states-held m)) k) π (plan-of-sound (model-of m) n s cs π p .0))

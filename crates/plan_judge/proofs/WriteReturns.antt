@@ -36,7 +36,7 @@ use Rattle.plan_judge.specs.declared.Verdict.the-variants.{No, Yes, YesP
 use Rattle.plan_judge.specs.declared.Written.the-variants.{Bytes as Filled, Refused}
 use Rattle.plan_judge.specs.View.{choices-in, verdict-in, verdict-on, view}
 use Rattle.plan_judge.specs.promises.Values.{writing, written-by, filling, filled-by}
-use Rattle.plan_judge.specs.promises.State.{held-both, held-goal, PlanRoot, plan-size, size-in, shown-size, shown-weight}
+use Rattle.plan_judge.specs.promises.State.{held-both, held-goal, PlanRoot, plan-size, size-in, shown-size, shown-total}
 use Rattle.plan_judge.proofs.LoadPutReturn.{said-bytes}
 use Rattle.plan_judge.proofs.StateGrounds.{root-goal, both-of, both-asked, plan-asked, goal-refused, root-node, goal-passed}
 use Rattle.logic.proofs.MostChoices.{some-choice}
@@ -111,10 +111,10 @@ module _ (d : Desk) (e : refusal (held-goal (view d)) ≡ 0) where
     pub none-shown : shown-size o ≡ 0 → sheet-held o ≡ refused 23
     pub few : shown-size o ≤ length (d .choices)
     pub there : (shown-size o ≡ 0 → ⊥) → found ≡ ok (take (shown-size o) (d .choices))
-    pub some-shown : (shown-size o ≡ 0 → ⊥) → sheet-held o ≡ ok (record { weight = shown-weight (d .verdict); choices = take (shown-size o) (d .choices) })
+    pub some-shown : (shown-size o ≡ 0 → ⊥) → sheet-held o ≡ ok (record { weight = shown-total (d .verdict); choices = take (shown-size o) (d .choices) })
 
   pub shown-by : ShownBy ((view d) .verdict)
-  unfolding verdict-in sheet-shown shown-size shown-weight
+  unfolding verdict-in sheet-shown shown-size shown-total
   shown-by = by (d .judged) (d .verdict) found refl refl refl
     where
       nothing : (o : Option logic.Verdict) → (view d) .verdict ≡ o → shown-size o ≡ 0 → sheet-held o ≡ refused 23 → ShownBy ((view d) .verdict)
@@ -136,7 +136,7 @@ module _ (d : Desk) (e : refusal (held-goal (view d)) ≡ 0) where
             none-shown = λ z. absurd (omega (arith, w .0));
             few = omega (arith, w .1);
             there = λ _. k ∙ ap ok same;
-            some-shown = λ _. ap sheet-held o ∙ ap₂ (λ x z. ok (record { weight = x; choices = z })) (sym (ap shown-weight j)) same;
+            some-shown = λ _. ap sheet-held o ∙ ap₂ (λ x z. ok (record { weight = x; choices = z })) (sym (ap shown-total j)) same;
           }
 
 -- Where a ground of the state applies, no plan is shown.
@@ -207,7 +207,7 @@ module _ (d : Desk) (a : Bytes) where
       shown = take count (d .choices)
 
       abbrev sheet : Bytes
-      sheet = sheet-bytes steps start (shown-weight (d .verdict)) shown
+      sheet = sheet-bytes steps start (shown-total (d .verdict)) shown
 
       pub found-shown : found d e ≡ ok shown
       found-shown = shown-by d e .there (λ z. h (i ∙ z)) ∙ ap (λ k. ok (take k (d .choices))) (sym i)
@@ -219,13 +219,13 @@ module _ (d : Desk) (a : Bytes) where
       shown-length = length-take-le count (d .choices) count-few
 
       sheet-size : length sheet ≡ 512 * blocks-for count
-      sheet-size = sheet-length steps start (shown-weight (d .verdict)) shown ∙ ap (λ k. 512 * blocks-for k) shown-length
+      sheet-size = sheet-length steps start (shown-total (d .verdict)) shown ∙ ap (λ k. 512 * blocks-for k) shown-length
 
       write-by : do-write (view d) (length a) ≡ (guard 12 (leb (length sheet) (length a)) >> ok sheet)
       write-by =
           write-is
           ∙ ap (λ c. c >>= sheet-for steps start (length a)) (shown-by d e .some-shown (λ z. h (i ∙ z)))
-          ∙ ap (λ k. sheet-for steps start (length a) (record { weight = shown-weight (d .verdict); choices = take k (d .choices) })) (sym i)
+          ∙ ap (λ k. sheet-for steps start (length a) (record { weight = shown-total (d .verdict); choices = take k (d .choices) })) (sym i)
 
       pub write-short : length a < 512 * blocks-for count → (Refused 12 ≡ written-by d (length a)) × (a ≡ filled-by d a)
       write-short l =
@@ -237,6 +237,6 @@ module _ (d : Desk) (a : Bytes) where
           → (Filled r ≡ written-by d (length a)) × (a′ ≡ filled-by d a)
       unfolding written-by filled-by
       write-done l r j a′ k =
-          let y : r ≡ length sheet = j ∙ sym (sheet-length steps start (shown-weight (d .verdict)) shown) in
+          let y : r ≡ length sheet = j ∙ sym (sheet-length steps start (shown-total (d .verdict)) shown) in
           let w : do-write (view d) (length a) ≡ ok sheet = write-by ∙ ap (λ t. guard 12 t >> ok sheet) (le-leb (length sheet) (length a) (omega (arith, sheet-size))) in
           (ap Filled y ∙ sym (ap writing w), k ∙ ap (λ x. sheet ++ drop x a) y ∙ sym (ap (filling a) w))

@@ -23,7 +23,7 @@ ghost use Rattle.judging.specs.promises.Announced.{Spelled, Weighs};
 ghost use Rattle.plan_judge.specs.View.{choices-in, view};
 ghost use Rattle.plan_judge.specs.promises.State.{held-size};
 ghost use Rattle.plan_judge.specs.promises.Values.{unjudged, nothing, loaded-by, put-by, judging, judged-by, written-by, filled-by, checking, checked-by};
-ghost use Rattle.plan_judge.specs.promises.State.{held-both, held-goal, plan-size, size-in, shown-size, shown-weight, PlanRoot, plan-on, verdict-from};
+ghost use Rattle.plan_judge.specs.promises.State.{held-both, held-goal, plan-size, size-in, shown-size, shown-total, PlanRoot, plan-on, verdict-from};
 
 pub mod c_call;
 
@@ -256,7 +256,7 @@ fn verdict_of(o: judging::Outcome) -> Verdict
         return Verdict::Yes;
     }
     Verdict::YesPlan(PlanRecord {
-        weight: o.weight,
+        weight: o.total,
         steps: o.steps,
         count: o.count,
     })
@@ -380,8 +380,8 @@ pub fn shown_choices(d: Desk) -> usize
 }
 
 // The total in the record of a shown plan.
-fn shown_weight(v: Verdict) -> i64
-    ensures value { λ r. ⌜ r ≡ shown-weight v ⌝ }
+fn shown_total(v: Verdict) -> i64
+    ensures value { λ r. ⌜ r ≡ shown-total v ⌝ }
 {
     match v {
         Verdict::YesPlan(p) => p.weight,
@@ -416,7 +416,7 @@ pub fn write(d: Desk, buf: &mut [u8]) -> Written
     }
     let n = questions::root_steps(&d.question);
     let s = questions::start(&d.question);
-    let w = shown_weight(d.verdict);
+    let w = shown_total(d.verdict);
     let m = d.model;
     let cs = d.choices;
     let end = blocks_end(MODEL_BYTES, d.blocks);
@@ -450,7 +450,7 @@ fn sheet_weighed(m: &[u16; MODEL], q: &[u8; QUESTION], b: &[u8]) -> judging::Wei
 {
     let mut choices = [0u8; GATHERED];
     let count = sheets::gather(b, &mut choices);
-    judging::sheet_weight(m, q, &choices[..count])
+    judging::sheet_total(m, q, &choices[..count])
 }
 
 // Checks a sheet for a question that asks for a plan: grounds 24 and 25, those of the sheet, then 11.

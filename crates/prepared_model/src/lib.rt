@@ -185,14 +185,6 @@ pub fn sum(m: &[u16; MODEL], s: usize, i: usize, y: usize) -> u64
 
 // ---- a choice by its byte
 
-// The choice that stands first.
-pub fn first_choice(m: &[u16; MODEL], s: usize) -> u8
-    requires { ⌜ Prepared (now m) × (s < state-count (now m)) ⌝ }
-    ensures value { λ r. ⌜ r ≡ first-choice (model-in (now (m .entry))) s ⌝ }
-{
-    choice(m, s, 0)
-}
-
 // Where the outcomes of a choice stand, and how many they are.
 pub struct Row {
     pub at: usize,

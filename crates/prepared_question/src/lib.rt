@@ -65,7 +65,7 @@ fn cell(q: &[u8; QUESTION], j: u8, k: usize) -> u8
     q[NODES_AT + NODE_SIZE * j as usize + k]
 }
 
-// The n of "gain" or "plan".
+// The n of "gain", "plan" or operator 9.
 pub fn steps(q: &[u8; QUESTION], j: u8) -> u8
     requires { ⌜ j < 40 ⌝ }
     ensures value { λ r. ⌜ r ≡ node-of (now (q .entry)) j .n ⌝ }
@@ -87,7 +87,7 @@ pub fn right(q: &[u8; QUESTION], j: u8) -> u8
     cell(q, j, RIGHT_AT)
 }
 
-// The bound of "gain", or the p of the bound of "plan".
+// The bound of "gain", or the p of the bound that "plan" or operator 9 sets.
 pub fn bound(q: &[u8; QUESTION], j: u8) -> i32
     requires { ⌜ j < 40 ⌝ }
     ensures value { λ r. ⌜ r ≡ node-of (now (q .entry)) j .p ⌝ }
@@ -95,7 +95,7 @@ pub fn bound(q: &[u8; QUESTION], j: u8) -> i32
     blocks::i32_at(q, NODES_AT + NODE_SIZE * j as usize + P_AT)
 }
 
-// The q of the bound of "plan".
+// The q of that bound.
 pub fn parts(q: &[u8; QUESTION], j: u8) -> u32
     requires { ⌜ j < 40 ⌝ }
     ensures value { λ r. ⌜ r ≡ node-of (now (q .entry)) j .q ⌝ }
@@ -110,7 +110,7 @@ pub fn depth(q: &[u8; QUESTION], j: u8) -> u8
     q[DEPTHS + j as usize]
 }
 
-// Whether node j, a "gain" or a "plan", asks for less than its bound.
+// Whether node j, of "gain", "plan" or operator 9, asks for less than its bound.
 pub fn asks_less(q: &[u8; QUESTION], j: u8) -> bool
     requires { ⌜ j < 40 ⌝ }
     ensures value { λ r. ⌜ r ≡ eqb (node-of (now (q .entry)) j .right) 1 ⌝ }

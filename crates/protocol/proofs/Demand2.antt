@@ -16,7 +16,7 @@ use Rattle.logic.specs.Formula.{Formula, sat}
 use Rattle.logic.specs.Verdict.{Goal, bound-goal, bound-of, goal, shown, announced, verdict-by, verdict}
 use Rattle.logic.specs.Limits.{limit-grounds, limits}
 use Rattle.logic.proofs.Tests.{not-true, none≢some}
-use Rattle.logic.proofs.Shown.{sets-bound, sat-shown}
+use Rattle.logic.proofs.Shown.{bound-set, sat-shown}
 use Rattle.logic.proofs.Policies.{sat-policy, gain-policy}
 use Rattle.questions.specs.Layout.{Question}
 use Rattle.protocol.specs.Calls.{Call, judge, Held, judged, Reply, says, yields}

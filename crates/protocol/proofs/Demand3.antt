@@ -33,7 +33,7 @@ use Rattle.blocks.specs.Bytes.{Bytes, All-bytes, signed}
 use Rattle.blocks.proofs.TwosComplement.{signed-natural}
 use Rattle.blocks.proofs.NumberReadBack.{number-small}
 use Rattle.questions.specs.Layout.{Question}
-use Rattle.sheets.specs.Layout.{Sheet, weight-of, total-of, sheet-of}
+use Rattle.sheets.specs.Layout.{Sheet, weight-of, claimed-total, sheet-of}
 use Rattle.sheets.specs.Grounds.{sheet-grounds, read-sheet}
 use Rattle.protocol.specs.Calls.{Call, judge, query, write, check, Held, Report, Answer, judged, written, accepted, refuse, Reply, says, written-bytes, same, reported, yields}
 use Rattle.protocol.specs.Demand3.{Plan-question, On-condition, On-gain, total, meets-bound, Claims, Accepts, Differs, Meeting-sheet, Says-yes, Writes-shown, Demand-3}
@@ -258,13 +258,13 @@ module _ {h : Held} (reply : Call → Reply) (yielding : (c : Call) → reply c 
   total-is-W φ w = root .weights φ (w .relation, w .p, w .q, w .root)
 
   total-is-gain : (l u : ℕ) → On-gain reply x l u → (π : Plan n)
-      → total reply x π ≡ sum integers (λ ρ. integers .times (weight ρ) (gain-between l u ρ)) (paths (x .model) n s π)
+      → total reply x π ≡ weighed integers (gain-between l u) (paths (x .model) n s π)
   total-is-gain l u w = root .gains l u (w .relation, w .p, w .q, w .root)
 
   -- A sheet claims what its eight bytes hold.
-  claimed-total : (sheet : Bytes) (w : ℤ) (π : Plan n) → Claims reply x sheet w π → signed 63 (weight-of sheet 0) ≡ w
-  unfolding read-sheet sheet-of total-of
-  claimed-total sheet w π c = ap (λ z. z .weight) (decided-value (sheet-of sheet) (sheet-grounds n s sheet) (c .reads))
+  claimed-is : (sheet : Bytes) (w : ℤ) (π : Plan n) → Claims reply x sheet w π → signed 63 (weight-of sheet 0) ≡ w
+  unfolding read-sheet sheet-of claimed-total
+  claimed-is sheet w π c = ap (λ z. z .weight) (decided-value (sheet-of sheet) (sheet-grounds n s sheet) (c .reads))
 
   module _ (sound : Sound h) (back : (π : Plan n) → List·Memᴰ π (plans (x .model) n s) → Reads-back (x .question) g (record { weight = g .total π; choices = choices n π }))
       (small : (π : Plan n) → List·Memᴰ π (plans (x .model) n s) → mag (g .total π) < 2 ^ 63) where
@@ -274,8 +274,8 @@ module _ {h : Held} (reply : Call → Reply) (yielding : (c : Call) → reply c 
     check-unsigned φ o sheet bytes w π c =
         let e = total-is-W φ o π in
         let same = signed-natural 63 (weight-of sheet 0) (W (x .model) φ n s π) (number-small sheet bytes (512 * 0 + 8)) (subst (λ z. mag z < 2 ^ 63) e (small π (c .is-plan))) in (
-          λ a. same .0 (claimed-total sheet w π c ∙ check-exact sheet w π c .0 a ∙ e),
-          λ i. check-exact sheet w π c .1 (sym (claimed-total sheet w π c) ∙ same .1 i ∙ sym e),
+          λ a. same .0 (claimed-is sheet w π c ∙ check-exact sheet w π c .0 a ∙ e),
+          λ i. check-exact sheet w π c .1 (sym (claimed-is sheet w π c) ∙ same .1 i ∙ sym e),
         )
 
     sheet-for : Plan n → Bytes
@@ -361,6 +361,8 @@ module _ {h : Held} (reply : Call → Reply) (yielding : (c : Call) → reply c 
           two-kinds = two-kinds;
           total-is-W = total-is-W;
           total-is-gain = total-is-gain;
+          met-by-W = λ φ w. root .weight-met φ (w .relation, w .p, w .q, w .root);
+          met-by-gain = λ l u w. root .gain-met l u (w .relation, w .p, w .q, w .root);
           check-exact = check-exact;
           check-unsigned = check-unsigned;
           check-differs = check-differs;

@@ -6,14 +6,14 @@ use mathlib.Core.Bool.{true, false, false≢true}
 use lib.IntN.{ℤ, pos}
 use Rattle.logic.specs.Checked.{ok, _>>=_}
 use Rattle.logic.specs.Model.{Model}
-use Rattle.logic.specs.Quantity.{integers, sum, Relation}
-use Rattle.logic.specs.Plan.{Plan, paths, weight}
-use Rattle.logic.specs.Bound.{total, gain-between}
+use Rattle.logic.specs.Quantity.{naturals, integers, Relation}
+use Rattle.logic.specs.Plan.{Plan, paths}
+use Rattle.logic.specs.Bound.{weighed, total, meets, gain-between}
 use Rattle.logic.specs.Formula.{Formula, never, plan, earns, on-plan, on-bound, W}
 use Rattle.logic.specs.Verdict.{Goal, bound-of, bound-goal, goal}
 use Rattle.logic.proofs.Checked.{not-ok, ok-same}
 use Rattle.logic.proofs.OnPlan.{by-plan}
-use Rattle.logic.proofs.WholeTotals.{condition-total}
+use Rattle.logic.proofs.WholeTotals.{condition-total, met-condition}
 
 -- The two kinds of roots, for a number of steps.
 abbrev Condition : Formula → (n : ℕ) → Formula → Type 0
@@ -42,7 +42,10 @@ pub record Root (m : Model) (s : ℕ) (φ : Formula) (g : Goal) : Type 0 where
   pub steps : on-bound 0 (λ n r. n) φ ≡ g .steps
   pub weights : (ψ : Formula) → Condition φ (g .steps) ψ → (π : Plan (g .steps)) → g .total π ≡ pos (W m ψ (g .steps) s π)
   pub gains : (l u : ℕ) → Gain φ (g .steps) l u → (π : Plan (g .steps))
-      → g .total π ≡ sum integers (λ ρ. integers .times (weight ρ) (gain-between l u ρ)) (paths m (g .steps) s π)
+      → g .total π ≡ weighed integers (gain-between l u) (paths m (g .steps) s π)
+  pub weight-met : (ψ : Formula) (w : Condition φ (g .steps) ψ) (π : Plan (g .steps))
+      → g .met π ≡ meets naturals m (g .steps) (w .0) (w .1) (w .2) (W m ψ (g .steps) s π)
+  pub gain-met : (l u : ℕ) (w : Gain φ (g .steps) l u) (π : Plan (g .steps)) → g .met π ≡ meets integers m (g .steps) (w .0) (w .1) (w .2) (g .total π)
 
 pub root-of : (m : Model) (s : ℕ) (φ : Formula) (g : Goal) → goal m s φ ≡ ok g → Root m s φ g
 unfolding goal bound-of total
@@ -56,6 +59,10 @@ root-of m s φ g =
       steps = refl;
       weights = λ χ w π. condition-total m ψ n s π ∙ ap (λ φ. pos (W m φ n s π)) (child (w .3));
       gains = λ l u w. absurd (earns≢plan (sym (w .3)));
+      weight-met = λ χ w π.
+          met-condition m s n ψ r p q π
+          ∙ ap (on-plan false (λ k χ r p q. meets naturals m n r p q (W m χ n s π)) (λ k l u r p q. false)) (w .3);
+      gain-met = λ l u w. absurd (earns≢plan (sym (w .3)));
     }))
     (λ n l u r p q e.
     subst (Root m s (earns n l u r p q)) (ok-same e)
@@ -65,5 +72,8 @@ root-of m s φ g =
       steps = refl;
       weights = λ χ w. absurd (earns≢plan (w .3));
       gains = λ k v w π.
-          ap₂ (λ a b. sum integers (λ ρ. integers .times (weight ρ) (gain-between a b ρ)) (paths m n s π)) (first-step (w .3)) (last-step (w .3));
+          ap₂ (λ a b. weighed integers (gain-between a b) (paths m n s π)) (first-step (w .3)) (last-step (w .3));
+      weight-met = λ χ w. absurd (earns≢plan (w .3));
+      gain-met = λ k v w π.
+          ap (on-plan false (λ k χ r p q. false) (λ k a b r p q. meets integers m n r p q (total integers m n s π (gain-between l u)))) (w .3);
     })) φ

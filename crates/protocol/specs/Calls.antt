@@ -47,7 +47,7 @@ pub record Held : Type 0 where
   pub question : Option Question
   pub verdict : Option Verdict
 
--- What check reports of a sheet that it accepts: whether the sheet's weight meets the bound.
+-- What check reports of a sheet that it accepts: whether the sheet's total meets the bound.
 pub record Report : Type 0 where
   pub met : Bool
 

@@ -34,8 +34,9 @@ says-yes (no x) = false
 says-yes yes = true
 says-yes (yes-plan x) = true
 
--- "the published definitions": `sat` is Definition 4 clause by clause. Its clauses for "plan" and for operator 9 speak of plans; the published
--- ones speak of policies (Definition 2). In every state of the model, and for whatever is asked there, the two agree.
+-- "the published definitions": `sat` is Definition 4 clause by clause, with Definition 13 of the r-PLBP thesis for operator 9. Its clauses for
+-- "plan" and for operator 9 speak of plans; the published ones speak of policies (Definition 2; Definition 9 of the thesis). In every state of
+-- the model, and for whatever is asked there, the two agree.
 pub record As-published (m : Model) : Type 0 where
   -- "plan": true exactly if the measure of some policy, over the paths on which the condition is true, meets the bound
   pub by-measure : (s : ℕ) → s < length (m .states) → (n : ℕ) (φ : Formula) (r : Relation) (p q : ℕ) (steps : List Step)

@@ -17,9 +17,9 @@ use lib.ListN.{length, take, drop}
 use Rattle.logic.specs.Checked.{ok}
 use Rattle.logic.specs.Grounds.{first}
 use Rattle.logic.specs.Model.{Model}
-use Rattle.logic.specs.Quantity.{integers, sum, Relation}
-use Rattle.logic.specs.Plan.{Plan, plans, choices, paths, weight}
-use Rattle.logic.specs.Bound.{gain-between}
+use Rattle.logic.specs.Quantity.{naturals, integers, Relation}
+use Rattle.logic.specs.Plan.{Plan, plans, choices, paths}
+use Rattle.logic.specs.Bound.{weighed, meets, gain-between}
 use Rattle.logic.specs.Formula.{Formula, plan, earns, W}
 use Rattle.logic.specs.Verdict.{Goal, goal, shown, Shown-plan, yes-plan}
 use Rattle.logic.specs.Limits.{limit-grounds}
@@ -73,7 +73,7 @@ module _ {h : Held} (reply : Call → Reply) (x : Plan-question h) where
   abbrev pub meets-bound : Asked-plan → Bool
   meets-bound π = x .asked .met π
 
-  -- "if it has no other ground for refusal" than 11: none of 1 to 6, and its choices are those of a plan, so not 10. It claims the weight
+  -- "if it has no other ground for refusal" than 11: none of 1 to 6, and its choices are those of a plan, so not 10. It claims the total
   -- w for the plan π.
   pub record Claims (sheet : Bytes) (w : ℤ) (π : Asked-plan) : Type 0 where
     pub reads : read-sheet (x .asked .steps) start sheet ≡ ok (record { weight = w; choices = choices (x .asked .steps) π })
@@ -118,7 +118,12 @@ module _ {h : Held} (reply : Call → Reply) (x : Plan-question h) where
     pub two-kinds : ((φ : Formula) × On-condition φ) ⊎ ((l : ℕ) × (u : ℕ) × On-gain l u)
     pub total-is-W : (φ : Formula) → On-condition φ → (π : Asked-plan) → total π ≡ pos (W (x .model) φ (x .asked .steps) start π)
     pub total-is-gain : (l u : ℕ) → On-gain l u → (π : Asked-plan)
-        → total π ≡ sum integers (λ ρ. integers .times (weight ρ) (gain-between l u ρ)) (paths (x .model) (x .asked .steps) start π)
+        → total π ≡ weighed integers (gain-between l u) (paths (x .model) (x .asked .steps) start π)
+    -- and this is when they meet the bound
+    pub met-by-W : (φ : Formula) (c : On-condition φ) (π : Asked-plan)
+        → meets-bound π ≡ meets naturals (x .model) (x .asked .steps) (c .relation) (c .p) (c .q) (W (x .model) φ (x .asked .steps) start π)
+    pub met-by-gain : (l u : ℕ) (c : On-gain l u) (π : Asked-plan)
+        → meets-bound π ≡ meets integers (x .model) (x .asked .steps) (c .relation) (c .p) (c .q) (total π)
     -- "accepts it exactly when two weights are equal"
     pub check-exact : (sheet : Bytes) (w : ℤ) (π : Asked-plan) → Claims sheet w π → ((report : Report) × Accepts sheet report) ↔ (w ≡ total π)
     -- of operator 8, where the weight claimed is document 01's u64: exactly when the number of the eight bytes, unsigned, is W
@@ -126,9 +131,9 @@ module _ {h : Held} (reply : Call → Reply) (x : Plan-question h) where
         → ((report : Report) × Accepts sheet report) ↔ (weight-of sheet 0 ≡ W (x .model) φ (x .asked .steps) start π)
     -- and refuses it with 11 when they differ
     pub check-differs : (sheet : Bytes) (w : ℤ) (π : Asked-plan) → Claims sheet w π → (w ≡ total π → ⊥) → Differs sheet
-    -- "no other ground for refusal": the sheets that claim a weight for some plan are just those that check accepts or refuses with 11
+    -- "no other ground for refusal": the sheets that claim a total for some plan are just those that check accepts or refuses with 11
     pub claims-exact : (sheet : Bytes) → ((w : ℤ) × (π : Asked-plan) × Claims sheet w π) ↔ (((report : Report) × Accepts sheet report) ⊎ Differs sheet)
-    -- What it reports on accepting is whether the sheet's weight meets the bound.
+    -- What it reports on accepting is whether the sheet's total meets the bound.
     pub check-says : (sheet : Bytes) (w : ℤ) (π : Asked-plan) → Claims sheet w π → (report : Report) → Accepts sheet report → report .met ≡ meets-bound π
     -- "Judging says yes exactly when some accepted sheet meets the bound"
     pub yes-exact : Says-yes ↔ ((sheet : Bytes) × (π : Asked-plan) × Meeting-sheet sheet π)

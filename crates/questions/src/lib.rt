@@ -128,7 +128,7 @@ fn cell(b: &[u8], i: u8, at: usize) -> u8
     blocks::byte(b, node_at(i) + at)
 }
 
-// The n of "gain" or "plan".
+// The n of "gain", "plan" or operator 9.
 pub fn steps(b: &[u8], i: u8) -> u8
     ensures value { λ r. ⌜ r ≡ node-of (now (b .entry)) i .n ⌝ }
 {
@@ -177,7 +177,7 @@ pub fn sets_bound(operator: u8) -> bool
     (operator == PLAN) | (operator == EARNS)
 }
 
-// Whether the root's does.
+// Whether the root's operator sets a bound on plans.
 pub fn root_is_plan(q: &[u8]) -> bool
     ensures value { λ r. ⌜ r ≡ sets-bound (node-of (now (q .entry)) (node-count (now (q .entry)) - 1) .operator) ⌝ }
 {
@@ -201,7 +201,7 @@ fn relation_in_range(relation: u8) -> bool
     }
 }
 
-// Whether the steps and the relation of node i, a "gain" or a "plan", are in range.
+// Whether the steps and the relation of node i, a "gain", a "plan" or of operator 9, are in range.
 fn compares(b: &[u8], i: u8) -> bool
     ensures value { λ r. ⌜ r ≡ spec.compares (node-of (now (b .entry)) i) ⌝ }
 {
@@ -229,7 +229,7 @@ fn plan_in_range(b: &[u8], i: u8) -> bool
     compares(b, i) & (left(b, i) < i) & plan_bound(p(b, i), q(b, i))
 }
 
-// Whether the steps that earn are l to u, of n, by a left byte.
+// Whether a left byte l + 8 u has 1 ≤ l ≤ u ≤ n.
 fn span(left: u8, n: u8) -> bool
     ensures value { λ r. ⌜ r ≡ spec.span left n ⌝ }
 {

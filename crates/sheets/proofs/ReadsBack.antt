@@ -17,7 +17,7 @@ use Rattle.logic.specs.Checked.{ok}
 use Rattle.logic.proofs.Tests.{every-intro}
 use Rattle.blocks.specs.Bytes.{Bytes, zeros, within, signed, twos-complement, little-endian}
 use Rattle.blocks.specs.Block.{block-count, whole-blocks, sums-right, word-sum, headed, with-word-sum}
-use Rattle.sheets.specs.Layout.{weight-of, count-of, choices-of, total-of, sheet-of, sheet-block, blocks-for, sheet-bytes}
+use Rattle.sheets.specs.Layout.{weight-of, count-of, choices-of, claimed-total, sheet-of, sheet-block, blocks-for, sheet-bytes}
 use Rattle.sheets.specs.Grounds.{head-right, count-right, weight-right, spare-right, read-sheet}
 use Rattle.blocks.proofs.TwosComplement.{signed-twos, twos-small}
 use Rattle.blocks.proofs.NumberReadBack.{reads-16, reads-64}
@@ -159,8 +159,8 @@ module _ (n start : ℕ) (z : ℤ) (cs : List ℕ) where
         pieces-same (choices-of bytes) chunk (block-count bytes) part-at ∙ ap (pieces chunk) counted ∙ parts cs 490 (blocks-for (length cs))
         ∙ take-all (490 * blocks-for (length cs)) cs (omega arith)
 
-    total-back : total-of bytes ≡ z
-    unfolding total-of blocks-for
+    total-back : claimed-total bytes ≡ z
+    unfolding claimed-total blocks-for
     total-back = ap (signed 63) (weight-at 0 (omega (arith, counted))) ∙ signed-twos 63 z small
 
     pub reads-back : read-sheet n start (sheet-bytes n start z cs) ≡ ok (record { weight = z; choices = cs })

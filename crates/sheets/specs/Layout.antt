@@ -27,11 +27,11 @@ choices-of b k = take (count-of b k) (drop (512 * k + 18) b)
 -- operator 8 root document 01 has an unsigned number there. Both read alike: such a root's total, W, is never below 0 and is below 2 to the
 -- 63, where the two are one number; eight bytes from 2 to the 63 up are no plan's W in either, so they are refused with 11 (proved:
 -- `signed-natural`, and `check-unsigned` of demand 3).
-unfoldable pub total-of : Bytes → ℤ
-total-of b = signed 63 (weight-of b 0)
+unfoldable pub claimed-total : Bytes → ℤ
+claimed-total b = signed 63 (weight-of b 0)
 
 unfoldable pub sheet-of : Bytes → Sheet
-sheet-of b = record { weight = total-of b; choices = flatMap (choices-of b) (count-from 0 (block-count b)) }
+sheet-of b = record { weight = claimed-total b; choices = flatMap (choices-of b) (count-from 0 (block-count b)) }
 
 -- ---- what is written
 

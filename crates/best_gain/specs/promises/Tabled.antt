@@ -49,7 +49,7 @@ last-left w k = w .last - (w .steps - k)
 abbrev pub best-left : Bool → Model → Window → (k s : ℕ) → ℕ
 best-left least M w k s = greatest (weights (order least)) M k s (raised (before-left w k) (last-left w k))
 
--- The first k numbers of the table are right: its totals, and from one step on the places of the choices.
+-- The first `end` numbers of the table are right: its totals, and from one step on the places of the choices.
 pub record Filled (least : Bool) (m : Bytes) (w : Window) (best places : List ℕ) (end : ℕ) : Type 0 where
   pub totals : (k s : ℕ) → s < state-count m → 32 * k + s < end → getD best (32 * k + s) 0 ≡ best-left least (model-in m) w k s
   pub choices : (k s : ℕ) → s < state-count m → 32 * suc k + s < end

@@ -7,7 +7,7 @@ use Rattle.questions.specs.Layout.{node-of}
 use Rattle.questions.specs.promises.Formed.{EarnsRange}
 use Rattle.questions.proofs.SetsBound.{sets-which}
 use Rattle.models.specs.Layout.{denominator-of}
-use Rattle.bounds.specs.promises.Bounded.{lift-of, first-paid, last-paid}
+use Rattle.bounds.specs.promises.Bounded.{lift-of, span-before, span-last}
 use Rattle.bounds.proofs.ProductsFit.{few, of-9, lift-8, lift-9, sizes}
 use borrow.Author.Needs.{needs}
 use Rattle.bounds.proofs.lift.Statement.{statement}

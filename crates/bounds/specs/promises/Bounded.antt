@@ -28,15 +28,15 @@ under (pos k) = 0
 under (negsuc k) = suc k
 
 -- The steps of operator 9 before those that earn, and the last that does.
-abbrev pub first-paid : Bytes → ℕ → ℕ
-first-paid q j = (node-of q j) .left % 8 - 1
+abbrev pub span-before : Bytes → ℕ → ℕ
+span-before q j = (node-of q j) .left % 8 - 1
 
-abbrev pub last-paid : Bytes → ℕ → ℕ
-last-paid q j = (node-of q j) .left / 8
+abbrev pub span-last : Bytes → ℕ → ℕ
+span-last q j = (node-of q j) .left / 8
 
 -- How much the totals of node j are raised.
 unfoldable pub lift-of : (m q : Bytes) (j : ℕ) → ℕ
-lift-of m q j = cond (eqb ((node-of q j) .operator) 9) (1000 * (last-paid q j - first-paid q j) * denominator-of m ^ (node-of q j) .n) 0
+lift-of m q j = cond (eqb ((node-of q j) .operator) 9) (1000 * (span-last q j - span-before q j) * denominator-of m ^ (node-of q j) .n) 0
 
 -- The total that is x when raised.
 abbrev pub lowered : (m q : Bytes) (j x : ℕ) → ℤ

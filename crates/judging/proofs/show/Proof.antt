@@ -13,7 +13,7 @@ use Rattle.bounds.proofs.ProductsFit.{compares}
 use Rattle.judging.specs.promises.Decided.{best-node, plan-at}
 use Rattle.judging.proofs.SearchHanded.{asked-equal, asked-other}
 use Rattle.judging.proofs.SearchDecides.{shows}
-use Rattle.judging.proofs.VerdictShown.{announces-plan, equal-few, equal-inside, equal-verdict, place-few, weight-small, led-verdict}
+use Rattle.judging.proofs.VerdictShown.{announces-plan, equal-few, equal-inside, equal-verdict, place-few, total-small, led-verdict}
 use mir.Syntax.{w64}
 use mir.ValLaws.{toZ-ofZ}
 use mir.Val.{toZ, ofZ}
@@ -33,10 +33,10 @@ steps-requires c κs = search needs
 lowered-requires : tie.Need-lowered-requires
 lowered-requires c κs = let S = c .before .before .before in
     let P = S .pre .0 in
-    (P .1, weight-small (P .0) (P .1) (S .args .s) (S .pre .1 .0) (P .2) (P .3))
+    (P .1, total-small (P .0) (P .1) (S .args .s) (S .pre .1 .0) (P .2) (P .3))
 
 -- The total, as it is stored.
-total-is : (c : tie.After-lowered) → toZ w64 (ofZ w64 (c .lowered .result)) ≡ lowered (c .before .before .before .before .args .m .now) (c .before .before .before .before .args .q .now) (c .before .before .before .before .args .j) (c .before .before .before .before .args .r .weight)
+total-is : (c : tie.After-lowered) → toZ w64 (ofZ w64 (c .lowered .result)) ≡ lowered (c .before .before .before .before .args .m .now) (c .before .before .before .before .args .q .now) (c .before .before .before .before .args .j) (c .before .before .before .before .args .r .raised)
 total-is c = toZ-ofZ w64 (c .lowered .result) (record { sfits = c .lowered .ok }) ∙ c .lowered .ensures
 
 asks-equal-requires : tie.Need-asks-equal-requires

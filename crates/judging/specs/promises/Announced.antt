@@ -29,9 +29,9 @@ abbrev pub root-verdict : Model → Bytes → Verdict
 root-verdict M q = verdict M (start-of q) (formula q (root q))
 
 unfoldable pub told : Verdict → Outcome
-told (no x) = record { yes = false; plan = false; weight = pos 0; steps = 0; count = x .count }
-told yes = record { yes = true; plan = false; weight = pos 0; steps = 0; count = 0 }
-told (yes-plan x) = record { yes = true; plan = true; weight = x .total; steps = x .steps; count = x .count }
+told (no x) = record { yes = false; plan = false; total = pos 0; steps = 0; count = x .count }
+told yes = record { yes = true; plan = false; total = pos 0; steps = 0; count = 0 }
+told (yes-plan x) = record { yes = true; plan = true; total = x .total; steps = x .steps; count = x .count }
 
 unfoldable pub shown-choices : Verdict → List ℕ
 shown-choices (no x) = []

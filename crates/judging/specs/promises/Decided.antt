@@ -26,7 +26,7 @@ use Rattle.prepared_model.specs.promises.Rows.{model-in}
 use Rattle.questions.specs.Layout.{node-count, node-of}
 use Rattle.questions.specs.promises.Formed.{sets-bound}
 use Rattle.prepared_question.specs.promises.Nodes.{formula}
-use Rattle.bounds.specs.promises.Bounded.{first-paid, last-paid, lowered, most-of, meets-at}
+use Rattle.bounds.specs.promises.Bounded.{span-before, span-last, lowered, most-of, meets-at}
 use Rattle.plan_choices.specs.promises.Extended.{extend, by-place}
 use Rattle.plan_choices.specs.promises.Extended as extended
 use Rattle.judging.specs.promises.Truth.{Told}
@@ -45,7 +45,7 @@ worth-at m q j s =
 
 -- Raised.
 unfoldable pub raised-at : (m q : Bytes) (j s : ℕ) → List Step → ℕ
-raised-at m q j s = cond (eqb ((node-of q j) .operator) 9) (raised (first-paid q j) (last-paid q j)) (value-of (model-in m) (condition q j) s)
+raised-at m q j s = cond (eqb ((node-of q j) .operator) 9) (raised (span-before q j) (span-last q j)) (value-of (model-in m) (condition q j) s)
 
 -- The bound that the node sets, were this its relation.
 abbrev pub bound-as : Relation → (m q : Bytes) (j s : ℕ) → Bound
@@ -78,8 +78,8 @@ pub record Lengthened (m q : Bytes) (j : ℕ) (value r : ℕ) : Type 0 where
 
 -- The best total, whether it meets the bound, and the choices of the plan that has it: the first steps' are given, the others' by a table.
 pub record Led (m q : Bytes) (j s : ℕ) (scratch places : List ℕ) (r : Decision) : Type 0 where
-  pub weighs : r .weight ≡ best-raised m q j s (eqb ((node-of q j) .right) 1)
-  pub bounds : r .met ≡ meets-at m q j (lowered m q j (r .weight))
+  pub weighs : r .raised ≡ best-raised m q j s (eqb ((node-of q j) .right) 1)
+  pub bounds : r .met ≡ meets-at m q j (lowered m q j (r .raised))
   pub unplaced : r .place ≡ 0
   pub table : extended.Placed m places ((node-of q j) .n)
   pub chosen : extend (model-in m) (by-place m places) (r .given) ((node-of q j) .n) s scratch .0
@@ -101,7 +101,7 @@ pub record First (m q : Bytes) (j s x r : ℕ) : Type 0 where
 
 -- The search among all plans: the place of the first that meets the bound, or their number.
 pub record Placed (m q : Bytes) (j s : ℕ) (r : Decision) : Type 0 where
-  pub first : First m q j s (r .weight) (r .place)
+  pub first : First m q j s (r .raised) (r .place)
   pub within : r .place ≤ plan-total (model-in m) ((node-of q j) .n) s
   pub bounds : r .met ≡ ltb (r .place) (plan-total (model-in m) ((node-of q j) .n) s)
 

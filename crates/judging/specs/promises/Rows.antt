@@ -27,7 +27,7 @@ pub record Rows (m q need truth scratch memo : List ℕ) (j : ℕ) : Type 0 wher
   pub room : length scratch ≡ 4095
   pub remembers : Remembers m q memo
 
--- The first n states of node j's row are right, and no other place has changed.
+-- The first n states of node j's row are right, and nothing before the row has changed.
 pub record Row-told (m q : Bytes) (j : ℕ) (before after : List ℕ) (n : ℕ) : Type 0 where
   pub size : length after ≡ length before
   pub told : (s : ℕ) → s < n → getD after (32 * j + s) 0 ≡ value-of (model-in m) (formula q j) s []

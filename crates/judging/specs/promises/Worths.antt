@@ -9,7 +9,7 @@ use Rattle.blocks.specs.Bytes.{Bytes}
 use Rattle.questions.specs.Layout.{node-of}
 use Rattle.prepared_question.specs.promises.Nodes.{formula}
 use Rattle.evaluation.specs.promises.Reached.{Cone, root-of}
-use Rattle.bounds.specs.promises.Bounded.{first-paid, last-paid}
+use Rattle.bounds.specs.promises.Bounded.{span-before, span-last}
 
 pub record Looks (q : Bytes) (j : ℕ) (nodes : List ℕ) (count before last : ℕ) : Type 0 where
   pub few : count ≤ 40
@@ -17,4 +17,4 @@ pub record Looks (q : Bytes) (j : ℕ) (nodes : List ℕ) (count before last : �
   pub of-plan : (node-of q j) .operator ≡ 8
       → Cone q (take count nodes) × (root-of (take count nodes) ≡ (node-of q j) .left) × (0 < length (take count nodes)) × (before ≡ 0)
       × (last ≡ depth (formula q ((node-of q j) .left)))
-  pub of-earns : (node-of q j) .operator ≡ 9 → (count ≡ 0) × (before ≡ first-paid q j) × (last ≡ last-paid q j)
+  pub of-earns : (node-of q j) .operator ≡ 9 → (count ≡ 0) × (before ≡ span-before q j) × (last ≡ span-last q j)

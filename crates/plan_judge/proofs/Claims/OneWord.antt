@@ -20,6 +20,6 @@ pub record One-word-refused : Type 0 where
   -- the desk holds a model: not 20
   pub of-put : {b c : Bytes} {d e : Desk} {r : Reply} {m : Model} → Corrupted b c → whole-blocks 1 1 c ≡ true → (view d) .model ≡ some m
       → Answered d (put c) r e → r .answer ≡ refuse 2
-  -- the desk holds a model and a "plan" question within the limits: not 20, 21, 22, 24 or 25
+  -- the desk holds a model and a plan question within the limits: not 20, 21, 22, 24 or 25
   pub of-check : {b c : Bytes} {d e : Desk} {r : Reply} → Corrupted b c → whole-blocks 1 3 c ≡ true → Plan-question (view d)
       → Answered d (query (check c)) r e → r .answer ≡ refuse 2

@@ -20,19 +20,19 @@ gather-requires c κs = search needs
 array-share-prefix-choices : tie.Need-array-share-prefix-choices
 array-share-prefix-choices c = search needs
 
-slice-aggregate-sheet-weight : tie.Need-slice-aggregate-sheet-weight
-slice-aggregate-sheet-weight c = let l : c .before .before .gather .result ≤ length (c .before .before .gather .last .1 .0) = search needs in
+slice-aggregate-sheet-total : tie.Need-slice-aggregate-sheet-total
+slice-aggregate-sheet-total c = let l : c .before .before .gather .result ≤ length (c .before .before .gather .last .1 .0) = search needs in
     sym (length-take-le (c .before .before .gather .result) (c .before .before .gather .last .1 .0) l)
 
-sheet-weight-requires : tie.Need-sheet-weight-requires
-sheet-weight-requires c κs = let S = c .before .before .before .before .before in
+sheet-total-requires : tie.Need-sheet-total-requires
+sheet-total-requires c κs = let S = c .before .before .before .before .before in
     let e = gathered-are (sheet-of (S .args .b .now) .choices) _ (c .before .before .gather .last .1 .0) (c .before .before .gather .result) (c .before .before .gather .ensures) in
     ((S .pre .0, S .pre .1), subst (Spelled (model-in (S .args .m .now)) (S .args .q .now)) (sym e) (S .pre .3))
 
 returns : tie.Need-returns
 returns c = let S = c .before .before .before .before .before .before in
-    subst (λ l. Weighs (model-in (S .args .m .now)) (S .args .q .now) l (c .sheet-weight .result))
-    (gathered-are (sheet-of (S .args .b .now) .choices) _ (c .before .before .before .gather .last .1 .0) (c .before .before .before .gather .result) (c .before .before .before .gather .ensures)) (c .sheet-weight .ensures)
+    subst (λ l. Weighs (model-in (S .args .m .now)) (S .args .q .now) l (c .sheet-total .result))
+    (gathered-are (sheet-of (S .args .b .now) .choices) _ (c .before .before .before .gather .last .1 .0) (c .before .before .before .gather .result) (c .before .before .before .gather .ensures)) (c .sheet-total .ensures)
 
 pub sheet-weighed-spec : {M : Type 1} → statement M
 sheet-weighed-spec =
@@ -41,6 +41,6 @@ sheet-weighed-spec =
     slice-aggregate-gather
     gather-requires
     array-share-prefix-choices
-    slice-aggregate-sheet-weight
-    sheet-weight-requires
+    slice-aggregate-sheet-total
+    sheet-total-requires
     returns)

@@ -18,7 +18,7 @@ returns-2 c = rw (not-false (c .before .before .before .before .args .o .yes) (c
 returns-3 : tie.Need-returns-3
 unfolding verdict-from
 returns-3 c = let o = c .before .before .before .before .before .args .o in
-    rw (toZ-ofZ w64 (o .weight) (record { sfits = c .struct-told .given .1 .1 .0 .1 }), not-false (o .yes) (c .before .before .before .if1 .left), not-false (o .plan) (c .before .if2 .left)) refl
+    rw (toZ-ofZ w64 (o .total) (record { sfits = c .struct-told .given .1 .1 .0 .1 }), not-false (o .yes) (c .before .before .before .if1 .left), not-false (o .plan) (c .before .if2 .left)) refl
 
 pub verdict-of-spec : {M : Type 1} → statement M
 verdict-of-spec = tie.close (tie.spec returns returns-2 returns-3)

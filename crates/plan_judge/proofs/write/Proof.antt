@@ -75,8 +75,8 @@ root-steps-requires c κs = search needs
 start-requires : tie.Need-start-requires
 start-requires c κs = search needs
 
-shown-weight-requires : tie.Need-shown-weight-requires
-shown-weight-requires c κs = search needs
+shown-total-requires : tie.Need-shown-total-requires
+shown-total-requires c κs = search needs
 
 blocks-end-requires : tie.Need-blocks-end-requires
 blocks-end-requires c κs = search needs
@@ -126,7 +126,7 @@ returns-4 c = let P = c .before .before .before .before .before .before in
     let cs = take (E .before .shown-size .result) (S .args .t1 .choices) in
     let n = P .before .before .before .before .before .before .before .before .root-steps in
     let s = P .before .before .before .before .start in
-    let w = P .before .before .before .shown-weight in
+    let w = P .before .before .before .shown-total in
     let sheet = c .before .before .write-sheet in
     let rest = drop (sheet .result) (S .args .buf .now) in
     write-done (S .args .t1) (S .args .buf .now) (asked (E .before .before)) (E .before .shown-size .result) (E .before .shown-size .ensures) (E .if2 .left)
@@ -148,7 +148,7 @@ write-spec =
     returns-3
     root-steps-requires
     start-requires
-    shown-weight-requires
+    shown-total-requires
     blocks-end-requires
     array-share-prefix-m
     slice-aggregate-write-sheet

@@ -66,10 +66,10 @@ shown-size (some (logic.no x)) = 0
 shown-size (some logic.yes) = 0
 shown-size (some (logic.yes-plan x)) = length (x .choices)
 
-unfoldable pub shown-weight : Verdict → ℤ
-shown-weight (No x) = pos 0
-shown-weight Yes = pos 0
-shown-weight (YesPlan x) = x .weight
+unfoldable pub shown-total : Verdict → ℤ
+shown-total (No x) = pos 0
+shown-total Yes = pos 0
+shown-total (YesPlan x) = x .weight
 
 -- ---- the plan on a sheet: grounds 1 to 6, then 10
 
@@ -81,4 +81,4 @@ plan-on m n start b = do
 -- ---- the verdict that an outcome of judging tells
 
 unfoldable pub verdict-from : Outcome → Verdict
-verdict-from o = cond (o .yes) (cond (o .plan) (YesPlan (record { weight = o .weight; steps = o .steps; count = o .count })) Yes) (No (record { count = o .count }))
+verdict-from o = cond (o .yes) (cond (o .plan) (YesPlan (record { weight = o .total; steps = o .steps; count = o .count })) Yes) (No (record { count = o .count }))

@@ -4,7 +4,7 @@ use mir.Syntax.{w64}
 use mir.ValLaws.{toZ-ofZ}
 use borrow.Author.Needs.{needs}
 use Rattle.blocks.specs.Bytes.{i64}
-use Rattle.sheets.specs.Layout.{weight-of, total-of, sheet-of}
+use Rattle.sheets.specs.Layout.{weight-of, claimed-total, sheet-of}
 use Rattle.sheets.proofs.total_at.Statement.{statement}
 use Rattle.sheets.proofs.total_at.Tie as tie
 
@@ -12,7 +12,7 @@ i64-at-requires : tie.Need-i64-at-requires
 i64-at-requires c κs = search needs
 
 returns : tie.Need-returns
-unfolding sheet-of total-of weight-of i64
+unfolding sheet-of claimed-total weight-of i64
 returns c = toZ-ofZ w64 (c .i64-at .result) (record { sfits = c .i64-at .ok }) ∙ c .i64-at .ensures
 
 pub total-at-spec : {M : Type 1} → statement M

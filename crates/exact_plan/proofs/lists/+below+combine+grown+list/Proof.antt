@@ -321,7 +321,7 @@ module _ (t : ℕ) where
 
   -- ---- the choices of a state
 
-  -- Where the condition is not decided, a step is left; and the turn has a choice.
+  -- Where a path's worth is not known yet, a step is left; and the turn has a choice.
   on : (c : list-lts.At-loop (list-claims t) (list-begins t) list.Post list-Inv list-μ) → let k = c .before .before .before .before .before .before .before .args .spot .k in k ≡ suc (k - 1)
   on c = omega (arith, c .before .before .before .before .before .before .before .pre .1 .1 .0 .deep, c .loop .inv .1)
 

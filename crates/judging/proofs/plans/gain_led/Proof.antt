@@ -30,20 +30,20 @@ tabled c = let S = c .before .before .before .before in
 steps-requires : tie.Need-steps-requires
 steps-requires c κs = let S = c .before .before .before .before in few (S .args .m .now) (S .args .q .now) (S .args .j) (S .pre .0 .0)
 
-cast-weight : tie.Need-cast-weight
-cast-weight c = search needs
+cast-raised : tie.Need-cast-raised
+cast-raised c = search needs
 
-mul-weight : tie.Need-mul-weight
-mul-weight c = search needs
+mul-raised : tie.Need-mul-raised
+mul-raised c = search needs
 
-add-weight : tie.Need-add-weight
-add-weight c = search needs
+add-raised : tie.Need-add-raised
+add-raised c = search needs
 
-mul-weight-2 : tie.Need-mul-weight-2
-mul-weight-2 c = search needs
+mul-raised-2 : tie.Need-mul-raised-2
+mul-raised-2 c = search needs
 
-array-read-weight : tie.Need-array-read-weight
-array-read-weight c = let S = c .before .before .before .before .before in
+array-read-raised : tie.Need-array-read-raised
+array-read-raised c = let S = c .before .before .before .before .before in
     let l = compares (S .args .m .now) (S .args .q .now) (S .args .j) (S .pre .0 .0) .few-steps in
     omega (arith, c .steps .ensures, l, S .pre .0 .2, S .pre .0 .0 .prepared .states)
 
@@ -67,10 +67,10 @@ gain-led-spec =
     asks-less-requires
     best-gains-requires
     steps-requires
-    cast-weight
-    mul-weight
-    add-weight
-    mul-weight-2
-    array-read-weight
+    cast-raised
+    mul-raised
+    add-raised
+    mul-raised-2
+    array-read-raised
     meets-requires
     returns)

@@ -12,8 +12,8 @@ use Rattle.judging.proofs.VerdictShown.{asked-at, root-posed, spelled-m
 use mir.Syntax.{w64}
 use mir.ValLaws.{toZ-ofZ}
 use borrow.Author.Needs.{needs}
-use Rattle.judging.proofs.sheet_weight.Statement.{statement}
-use Rattle.judging.proofs.sheet_weight.Tie as tie
+use Rattle.judging.proofs.sheet_total.Statement.{statement}
+use Rattle.judging.proofs.sheet_total.Tie as tie
 
 given : (S : tie.Start) → Given (S .args .m .now) (S .args .q .now)
 given S = record { prepared = S .pre .0 .0 .prepared; nodes = S .pre .0 .0 .nodes }
@@ -31,8 +31,8 @@ posed c = root-posed (given (c .before .before .before .before)) (c .root-truth 
 bounded : (c : tie.After-root-truth) → Bounded (c .before .before .before .before .args .m .now) (c .before .before .before .before .args .q .now) (root (c .before .before .before .before .args .q .now))
 bounded c = bounded-at (given (c .before .before .before .before)) (posed c)
 
-root-weight-requires : tie.Need-root-weight-requires
-root-weight-requires c κs = (given (c .before .before .before .before .before), posed (c .before))
+root-total-requires : tie.Need-root-total-requires
+root-total-requires c κs = (given (c .before .before .before .before .before), posed (c .before))
 
 count-requires : tie.Need-count-requires
 count-requires c κs = search needs
@@ -47,31 +47,31 @@ bounded-here : (c : tie.After-count) → Bounded (c .before .before .before .bef
 bounded-here c = subst (λ (j : ℕ). Bounded (c .before .before .before .before .before .before .before .args .m .now) (c .before .before .before .before .before .before .before .args .q .now) j) (sym (at-root c)) (bounded (c .before .before .before))
 
 lowered-requires : tie.Need-lowered-requires
-lowered-requires c κs = (bounded-here c, c .before .root-weight .ensures .1)
+lowered-requires c κs = (bounded-here c, c .before .root-total .ensures .1)
 
 meets-requires : tie.Need-meets-requires
 meets-requires c κs = let S = c .before .before .before .before .before .before .before .before in (
   bounded-here (c .before),
-  subst (λ (j : ℕ). c .before .before .root-weight .result ≤ most-of (S .args .m .now) (S .args .q .now) j) (sym (at-root (c .before)))
-      (spelled-most (given S) (S .args .choices .now) (bounded (c .before .before .before .before)) (S .pre .1) (c .before .before .root-weight .ensures .0)),
+  subst (λ (j : ℕ). c .before .before .root-total .result ≤ most-of (S .args .m .now) (S .args .q .now) j) (sym (at-root (c .before)))
+      (spelled-most (given S) (S .args .choices .now) (bounded (c .before .before .before .before)) (S .pre .1) (c .before .before .root-total .ensures .0)),
 )
 
 returns : tie.Need-returns
 returns c = let S = c .before .before .before .before .before .before .before .before .before in
     let m = S .args .m .now in
     let q = S .args .q .now in
-    let x = c .before .before .before .root-weight .result in
-    weighs (given S) (S .args .choices .now) (bounded (c .before .before .before .before .before)) (c .before .before .before .root-weight .ensures .0)
+    let x = c .before .before .before .root-total .result in
+    weighs (given S) (S .args .choices .now) (bounded (c .before .before .before .before .before)) (c .before .before .before .root-total .ensures .0)
     (toZ-ofZ w64 (c .before .lowered .result) (record { sfits = c .before .lowered .ok }) ∙ c .before .lowered .ensures ∙ ap (λ (j : ℕ). lowered m q j x) (at-root (c .before .before)))
     (c .meets .ensures ∙ ap (λ (j : ℕ). meets-at m q j (lowered m q j x)) (at-root (c .before .before)))
 
-pub sheet-weight-spec : {M : Type 1} → statement M
-sheet-weight-spec =
+pub sheet-total-spec : {M : Type 1} → statement M
+sheet-total-spec =
     tie.close
     (tie.spec
     plan-totals-requires
     root-truth-requires
-    root-weight-requires
+    root-total-requires
     count-requires
     sub-j
     lowered-requires

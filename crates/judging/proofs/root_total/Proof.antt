@@ -14,8 +14,8 @@ use Rattle.judging.specs.promises.Worths.{Looks}
 use Rattle.judging.proofs.SearchHanded.{bounded-at, handed-ready, handed-looks, handed-from, handed-within}
 use Rattle.judging.proofs.VerdictShown.{root-sums}
 use borrow.Author.Needs.{needs}
-use Rattle.judging.proofs.root_weight.Statement.{statement}
-use Rattle.judging.proofs.root_weight.Tie as tie
+use Rattle.judging.proofs.root_total.Statement.{statement}
+use Rattle.judging.proofs.root_total.Tie as tie
 
 at-root : (c : tie.After-count) → c .count .result - 1 ≡ root (c .before .before .args .q .now)
 at-root c = ap (λ (n : ℕ). n - 1) (c .count .ensures)
@@ -70,8 +70,8 @@ returns : tie.Need-returns
 returns c = let S = c .before .before .before .before .before .before .before .before in
     (root-sums (S .pre .0) (S .args .choices .now) (S .pre .1) (looks (c .before .before .before .before)) (steps-at (c .before .before .before .before .before .before) (c .before .steps .ensures)) (c .before .before .start .ensures) (c .plan-weight .ensures .0), c .plan-weight .ensures .1)
 
-pub root-weight-spec : {M : Type 1} → statement M
-root-weight-spec =
+pub root-total-spec : {M : Type 1} → statement M
+root-total-spec =
     tie.close
     (tie.spec
     count-requires
