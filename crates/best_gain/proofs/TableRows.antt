@@ -1,20 +1,19 @@
 -- A row of the table from the row below it: what a choice is worth, the first of the best choices tried so far, and the cells filled so far.
-use Prim.Native.Nat.{ℕ, zero, suc, _+_, _*_, _-_, _/_, _%_, _^_, _≤_, _<_}
+use Prim.Native.Nat.{ℕ, zero, suc, _+_, _*_, _-_, _%_, _^_, _≤_, _<_}
 use native.Mathlib.Omega.{arith}
-use native.Mathlib.Nat.{mul-le-mul, mul-le-mul-left, mul-assoc, le-refl, le-trans, add-mul}
+use native.Mathlib.Nat.{mul-le-mul, mul-le-mul-left, mul-assoc, le-refl, add-mul}
 use native.Mathlib.Numerals.{add-one}
-use native.Mathlib.Decide.{ℕ-discrete, decLt}
-use mathlib.Core.Path.{_≡_, refl, sym, ap, ap₂, subst, _∙_, fun-ext}
+use native.Mathlib.Decide.{ℕ-discrete}
+use mathlib.Core.Path.{_≡_, refl, sym, ap, ap₂, subst, _∙_}
 use mathlib.Core.Bool.{Bool, true, false, not, cond}
-use mathlib.Core.List.{List, [], _∷_, _++_, List·Memᴰ}
+use mathlib.Core.List.{List, List·Memᴰ}
 use lib.ListN.{getD, set, length, replicate}
 use lib.Seq.{getD-set-same, getD-set-other}
 use Rattle.logic.specs.Lists.{tabulate, count-from}
-use Rattle.logic.specs.Model.{Model, Step, enabled, outcomes}
+use Rattle.logic.specs.Model.{Model, enabled, outcomes}
 use Rattle.logic.specs.Quantity.{naturals, sum}
-use Rattle.logic.specs.Accepted.{Executable}
 use Rattle.logic.specs.promises.Orders.{weights, order}
-use Rattle.logic.specs.promises.Raised.{raise, raised, pay, gain-worth, gain-choice, Modest-rewards}
+use Rattle.logic.specs.promises.Raised.{raise, raised, pay, gain-worth, gain-choice}
 use Rattle.logic.specs.promises.Recursion.{first-best, best-choice, greatest}
 use Rattle.logic.proofs.Tests.{tabulate-more}
 use Rattle.logic.proofs.FirstBest.{ordered, better, first-best-more}
@@ -26,7 +25,7 @@ use Rattle.models.specs.Layout.{state-count, denominator-of}
 use Rattle.models.proofs.ModelOfBytes.{sum-tabulate}
 use Rattle.bounds.proofs.Powers.{power-le}
 use Rattle.prepared_model.specs.promises.Rows.{choices-in, choice-in, outcomes-in, step-in, Offers, model-in, Prepared}
-use Rattle.prepared_model.proofs.ReadByPlace.{states-are, denominator-is, some-choice, weights-sum, choice-enabled, executable, modest-rewards}
+use Rattle.prepared_model.proofs.ReadByPlace.{states-are, denominator-is, some-choice, weights-sum, choice-enabled, modest-rewards}
 use Rattle.best_gain.specs.declared.Window.{Window}
 use Rattle.best_gain.specs.promises.Tabled.{worth-by, Low, Picks, Window-right, before-left, last-left, best-left, Filled}
 

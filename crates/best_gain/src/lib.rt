@@ -1,12 +1,12 @@
 // Plans by expected gain, for "less" and "greater". A gain is a sum over steps, so the best plan from a state does not depend on how the state was
 // reached: a table by steps left and states has the best totals, from the last step back, and the place of the first choice that has each.
 ghost use mathlib.Core.Path.{_≡_};
-ghost use Prim.Native.Nat.{ℕ, _+_, _*_, _-_, _^_, _≤_, _<_};
+ghost use Prim.Native.Nat.{_+_, _*_, _-_, _^_, _≤_, _<_};
 ghost use lib.ListN.{getD, length};
 ghost use Rattle.logic.specs.Model.{outcomes};
 ghost use Rattle.logic.specs.promises.Raised.{raise, pay, Modest};
 ghost use Rattle.models.specs.Layout.{state-count, denominator-of};
-ghost use Rattle.prepared_model.specs.promises.Rows.{choices-in, choice-in, step-in, model-in, Offers, Prepared};
+ghost use Rattle.prepared_model.specs.promises.Rows.{choices-in, choice-in, step-in, Offers, Prepared};
 ghost use Rattle.best_gain.specs.promises.Tabled.{worth-by, Low, Picks, Window-right, Tabled};
 use bounds::exceeds;
 use bounds::power;

@@ -20,7 +20,6 @@ use Rattle.evaluation.specs.promises.Learnt.{known}
 use Rattle.evaluation.specs.promises.Known.{Offered, Stepped, Back}
 use Rattle.evaluation.proofs.StepUndone.{back-same, knows-back, state-back, step-back}
 use Rattle.evaluation.proofs.StepTaken.{state-reached, leaf-value, state-stepped, whole-stepped, path-stepped}
-use Rattle.logic.specs.promises.MostChoices.{most-choices}
 use Rattle.best_plan.specs.promises.Greatest.{best-choices}
 use Rattle.best_plan.specs.promises.Buffers.{Wrote, Setting, Picked}
 use Rattle.best_plan.specs.declared.Best.{Best}

@@ -6,7 +6,6 @@ ghost use mathlib.Core.List.{_++_};
 ghost use Prim.Native.Nat.{_+_, _*_, _<_, _≤_, _^_};
 ghost use lib.ListN.{length, take, drop};
 ghost use Rattle.logic.specs.Formula.{depth};
-ghost use Rattle.logic.specs.promises.Orders.{order};
 ghost use Rattle.models.specs.Layout.{state-count, denominator-of};
 ghost use Rattle.prepared_model.specs.promises.Rows.{choices-in, row-in, Prepared};
 ghost use Rattle.prepared_question.specs.promises.Nodes.{formula};

@@ -1,24 +1,22 @@
 -- A node that sets a bound on plans, operator 8 or 9: the bound is that of its formula, what a path is worth to it is a natural number when raised,
 -- and its raised totals are small. All that is decided of such nodes follows from these.
-use Prim.Native.Nat.{ℕ, zero, suc, _+_, _*_, _-_, _/_, _%_, _^_, _≤_, _<_}
+use Prim.Native.Nat.{ℕ, suc, _+_, _*_, _-_, _/_, _%_, _^_, _≤_, _<_}
 use native.Mathlib.Omega.{arith}
-use native.Mathlib.Nat.{le-trans, mul-le-mul-right, one-mul}
-use mathlib.Core.Path.{_≡_, refl, sym, ap, ap₂, subst, _∙_}
+use native.Mathlib.Nat.{le-trans}
+use mathlib.Core.Path.{_≡_, refl, sym, ap, subst, _∙_}
 use mathlib.Core.Logic.{⊎-elim}
-use mathlib.Core.Bool.{Bool, true, false}
+use mathlib.Core.Bool.{Bool}
 use mathlib.Core.List.{List, [], _∷_, List·Memᴰ}
-use lib.Dec.{eqb}
 use lib.IntN.{ℤ, pos}
-use lib.ListN.{length, take, drop}
+use lib.ListN.{length}
 use Rattle.logic.specs.Model.{Model, Step}
 use Rattle.logic.specs.Quantity.{naturals, sum}
-use Rattle.logic.specs.Bound.{Bound, total, one-if, gain-between, chance, expected}
+use Rattle.logic.specs.Bound.{total, one-if, gain-between}
 use Rattle.logic.specs.Plan.{Plan, plans, paths}
 use Rattle.logic.specs.Formula.{Formula, plan, earns, Node, sat, depth, relation, nonnegative}
-use Rattle.logic.specs.Accepted.{Accepted}
 use Rattle.logic.specs.promises.Orders.{weights, order}
 use Rattle.logic.specs.promises.Total.{value-of}
-use Rattle.logic.specs.promises.Raised.{raise, raised}
+use Rattle.logic.specs.promises.Raised.{raised}
 use Rattle.logic.specs.promises.Recursion.{greatest, best-plan}
 use Rattle.logic.proofs.FirstBest.{ordered, additive}
 use Rattle.logic.proofs.Best.{best-member}
@@ -31,7 +29,7 @@ use Rattle.blocks.specs.Bytes.{Bytes}
 use Rattle.models.specs.Layout.{state-count, action-count, prop-count, denominator-of}
 use Rattle.prepared_model.specs.promises.Rows.{model-in}
 use Rattle.prepared_model.proofs.ReadByPlace.{states-are, denominator-is, modest-rewards}
-use Rattle.questions.specs.Layout.{node-count, node-of}
+use Rattle.questions.specs.Layout.{node-of}
 use Rattle.questions.specs.promises.Formed.{PlanRange, EarnsRange}
 use Rattle.questions.proofs.AcceptedFacts as questions
 use Rattle.questions.proofs.SetsBound.{sets-which}

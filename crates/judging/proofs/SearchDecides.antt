@@ -14,9 +14,9 @@ use borrow.Author.Tests.{eq-eqb, ne-eqb, leb-true, ltb-true, ltb-false}
 use Rattle.logic.specs.Lists.{every}
 use Rattle.logic.specs.promises.Refusal.{refusal}
 use Rattle.logic.specs.Model.{Model, Step}
-use Rattle.logic.specs.Quantity.{naturals, integers, Relation, less, equal, greater}
+use Rattle.logic.specs.Quantity.{naturals, integers, equal}
 use Rattle.logic.specs.Plan.{Plan, plans, choices}
-use Rattle.logic.specs.Bound.{Bound, total, meets, total-of}
+use Rattle.logic.specs.Bound.{Bound, total, meets}
 use Rattle.logic.specs.Formula.{Formula, Node, sat, relation}
 use Rattle.logic.specs.promises.Extension.{first-plan}
 use Rattle.logic.specs.Verdict.{bound-goal, bound-of, goal, shown, Verdict, announced, verdict, yes, no, yes-plan, is-equal, verdict-by}
@@ -43,8 +43,7 @@ use Rattle.bounds.specs.promises.Bounded.{Bounded, lowered, meets-as, meets-at}
 use Rattle.bounds.proofs.ProductsFit.{compares}
 use Rattle.relevance.specs.promises.Need.{Given}
 use Rattle.judging.specs.promises.Asked.{Asked}
-use Rattle.judging.specs.promises.Decided.{worth-at, raised-at, bound-as, best-raised, best-node, plan-at, First, Led}
-use Rattle.judging.specs.declared.plans.Decision.{Decision}
+use Rattle.judging.specs.promises.Decided.{worth-at, raised-at, bound-as, best-raised, best-node, plan-at, First}
 use Rattle.judging.proofs.NodeBounds.{sets-at, raises-at, inside}
 
 -- ---- verdicts by their parts

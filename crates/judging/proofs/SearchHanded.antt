@@ -1,6 +1,6 @@
 -- What the searches are handed for a node that sets a bound on plans, and that what they give decides it. A "plan": the nodes of its condition, whose
 -- depth is at most the steps, and a table that is right where they read it. Operator 9: no node, and the steps that earn.
-use Prim.Native.Nat.{ℕ, zero, suc, _+_, _*_, _-_, _^_, _≤_, _<_}
+use Prim.Native.Nat.{ℕ, suc, _+_, _*_, _-_, _^_, _≤_, _<_}
 use native.Mathlib.Omega.{arith}
 use native.Mathlib.Nat.{le-trans, le-of-eq, le-refl, mul-le-mul-left, mul-zero}
 use mathlib.Core.Path.{_≡_, refl, sym, ap, ap₂, subst, _∙_}
@@ -10,9 +10,8 @@ use lib.Dec.{eqb, ltb}
 use lib.ListN.{getD, length, take, drop, replicate, take-append-drop}
 use lib.Pow.{pow-add}
 use borrow.Author.Tests.{le-ltb, eqb-true, eqb-false}
-use Rattle.logic.specs.Model.{Model}
 use Rattle.logic.specs.Formula.{depth, sat}
-use Rattle.logic.specs.Plan.{Plan, choices}
+use Rattle.logic.specs.Plan.{choices}
 use Rattle.logic.specs.Order.{Is-plan}
 use Rattle.logic.specs.Limits.{plan-total}
 use Rattle.logic.specs.Bound.{total}
@@ -37,8 +36,8 @@ use Rattle.prepared_question.specs.promises.Nodes.{formula, depth-in}
 use Rattle.evaluation.specs.promises.Reached.{Cone, root-of, Ready}
 use Rattle.evaluation.specs.promises.Worth.{worth-of}
 use Rattle.evaluation.proofs.PathWorth.{ready-none, worth-condition, worth-gain}
-use Rattle.bounds.specs.promises.Bounded.{Bounded, span-before, span-last, lowered, most-of, meets-at, Exactly}
-use Rattle.bounds.proofs.ProductsFit.{small, compares, most-8}
+use Rattle.bounds.specs.promises.Bounded.{Bounded, lowered, most-of, meets-at, Exactly}
+use Rattle.bounds.proofs.ProductsFit.{small, most-8}
 use Rattle.bounds.proofs.Powers.{power-le}
 use Rattle.best_gain.proofs.TableRows.{zeros}
 use Rattle.best_plan.specs.declared.Found.{Found}
@@ -47,15 +46,14 @@ use Rattle.exact_plan.specs.promises.Listing as listing
 use Rattle.plan_choices.specs.promises.Extended.{extend, by-place, Placed}
 use Rattle.plan_choices.proofs.ExtendedChoices.{extend-choices}
 use Rattle.relevance.specs.promises.Need.{Given}
-use Rattle.judging.specs.promises.Asked.{Asked}
-use Rattle.judging.specs.promises.Truth.{Told, Supplied}
+use Rattle.judging.specs.promises.Truth.{Supplied}
 use Rattle.judging.specs.promises.Worths.{Looks}
 use Rattle.judging.specs.declared.plans.Decision.{Decision}
 use Rattle.judging.specs.declared.conditions.Peeled.{Peeled}
 use Rattle.judging.specs.promises.Decided as decided
 use Rattle.judging.specs.promises.Decided.{condition, raised-at, best-raised, best-node, best, Posed, Lengthened, Led}
 use Rattle.judging.specs.promises.Conditions.{Stands, Same, Peels, best-total, Searched}
-use Rattle.judging.proofs.NodeBounds.{Planned, planned, earned, either, raised-8, raised-9, inside, best-most}
+use Rattle.judging.proofs.NodeBounds.{Planned, planned, earned, either, raised-8, raised-9, inside}
 use Rattle.judging.proofs.SearchDecides.{all-totals, totals-count, first-led, never-led, led-truth, equal-truth}
 use Rattle.judging.proofs.BestTotals.{same-best, never-best, best-small}
 use Rattle.judging.proofs.BestTotals as remembering

@@ -24,10 +24,9 @@ use Rattle.prepared_question.specs.promises.Nodes.{formula}
 use Rattle.bounds.specs.promises.Bounded.{Bounded, span-before, span-last, lowered, most-of, meets-at}
 use Rattle.best_gain.specs.declared.Window.{Window}
 use Rattle.best_gain.specs.promises.Tabled.{Filled}
-use Rattle.plan_choices.specs.promises.Extended.{extend, by-place, Placed}
+use Rattle.plan_choices.specs.promises.Extended.{by-place, Placed}
 use Rattle.plan_choices.proofs.ExtendedChoices.{extend-table}
 use Rattle.judging.specs.promises.Decided.{best-raised, best-node, Led}
-use Rattle.judging.specs.declared.plans.Decision.{Decision}
 use Rattle.judging.proofs.NodeBounds.{earned, raised-9, inside, best-most}
 use Rattle.judging.proofs.SearchDecides.{led-truth}
 

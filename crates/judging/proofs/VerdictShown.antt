@@ -2,9 +2,9 @@
 -- is the shown plan. And what is told of a sheet's plan.
 use Prim.Native.Nat.{ℕ, _+_, _*_, _^_, _≤_, _<_}
 use native.Mathlib.Omega.{arith}
-use native.Mathlib.Nat.{le-antisymm, le-trans, mul-le-mul-left}
+use native.Mathlib.Nat.{le-antisymm, le-trans}
 use native.Mathlib.Decide.{ℕ-discrete}
-use mathlib.Core.Path.{_≡_, refl, sym, ap, ap₂, subst, _∙_}
+use mathlib.Core.Path.{_≡_, sym, ap, ap₂, subst, _∙_}
 use mathlib.Core.Bool.{Bool, true, false, cond}
 use mathlib.Core.List.{List, List·Memᴰ}
 use lib.Dec.{eqb}
@@ -13,13 +13,13 @@ use lib.ListN.{take}
 use borrow.Author.Tests.{ltb-true, ltb-false}
 use Rattle.logic.specs.Checked.{ok}
 use Rattle.logic.specs.Quantity.{naturals}
-use Rattle.logic.specs.Bound.{Bound, total, one-if, total-of, met-by}
+use Rattle.logic.specs.Bound.{Bound, total, one-if}
 use Rattle.logic.specs.Plan.{Plan, plans, choices}
 use Rattle.logic.specs.Choices.{plan-of}
 use Rattle.logic.specs.Formula.{depth, relation}
 use Rattle.logic.specs.promises.Extension.{first-plan}
 use Rattle.logic.specs.Limits.{plan-total}
-use Rattle.logic.specs.Verdict.{Goal, bound-goal, goal, Verdict, verdict}
+use Rattle.logic.specs.Verdict.{Verdict, verdict}
 use Rattle.logic.specs.Verdict as verdicts
 use Rattle.logic.proofs.Checked.{ok-same}
 use Rattle.logic.proofs.Depth.{state-depth}
@@ -41,14 +41,13 @@ use Rattle.bounds.specs.promises.Bounded.{Bounded, lowered, most-of, meets-at}
 use Rattle.bounds.proofs.ProductsFit.{most-small}
 use Rattle.relevance.specs.promises.Need.{Given}
 use Rattle.judging.specs.declared.Outcome.{Outcome}
-use Rattle.judging.specs.declared.Weighed.{Weighed}
 use Rattle.judging.specs.declared.plans.Decision.{Decision}
 use Rattle.judging.specs.promises.Asked.{Asked, Served}
 use Rattle.judging.specs.promises.Truth.{Supplied}
 use Rattle.judging.specs.promises.Worths.{Looks}
 use Rattle.judging.specs.promises.Decided.{raised-at, bound-as, best-node, plan-at, Posed, Decided}
 use Rattle.judging.specs.promises.Announced.{root, root-verdict, told, shown-choices, Announces, Sums, Spelled, Weighs}
-use Rattle.judging.proofs.NodeBounds.{sets-at, raises-at, total-most, best-most, inside}
+use Rattle.judging.proofs.NodeBounds.{sets-at, raises-at, total-most, best-most}
 use Rattle.judging.proofs.SearchDecides.{shows, denies, led-yes, led-no, equal-yes, equal-no, few-plans}
 use Rattle.judging.proofs.SearchHanded.{handed-worth}
 

@@ -8,7 +8,7 @@ ghost use Rattle.logic.specs.Formula as formulas;
 ghost use lib.ListN.{length, replicate};
 ghost use Rattle.models.specs.Layout.{state-count, denominator-of};
 ghost use Rattle.prepared_model.specs.promises.Rows.{model-in};
-ghost use Rattle.questions.specs.Layout.{node-count, node-of};
+ghost use Rattle.questions.specs.Layout.{node-of};
 ghost use Rattle.prepared_question.specs.promises.Nodes.{formula};
 ghost use Rattle.relevance.specs.promises.Need.{Given};
 ghost use Rattle.bounds.specs.promises.Bounded.{Bounded};

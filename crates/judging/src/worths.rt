@@ -1,6 +1,6 @@
 // What a path is worth to a node that sets a bound on plans: of a "plan" by the nodes of its condition, of operator 9 by the steps that earn.
 ghost use mathlib.Core.Path.{_≡_};
-ghost use Prim.Native.Nat.{_-_, _/_, _%_, _<_};
+ghost use Prim.Native.Nat.{_-_, _/_, _%_};
 ghost use lib.ListN.{length};
 ghost use Rattle.questions.specs.Layout.{node-of};
 ghost use Rattle.bounds.specs.promises.Bounded.{Bounded, span-before, span-last};

@@ -4,16 +4,15 @@
 -- kept in it is the first of the best.
 use Prim.Native.Nat.{ℕ, zero, suc, _+_, _*_, _-_, _^_, _≤_, _<_}
 use native.Mathlib.Omega.{arith}
-use native.Mathlib.Nat.{mul-comm, mul-assoc, mul-left-comm, mul-add, pow-suc, pow-zero, one-mul, mul-le-mul-left, mul-le-mul-right, le-trans, add-le-add}
+use native.Mathlib.Nat.{mul-comm, mul-assoc, mul-add, pow-suc, pow-zero, one-mul, mul-le-mul-left}
 use mathlib.Core.Path.{_≡_, refl, sym, ap, ap₂, subst, _∙_, fun-ext}
-use mathlib.Core.Bool.{Bool, true, false, cond}
+use mathlib.Core.Bool.{Bool, true, false}
 use mathlib.Core.List.{List, [], _∷_, map, List·Memᴰ, List·Memᴰ·head, List·Memᴰ·tail}
 use lib.Dec.{leb, leb→le, le→leb}
 use lib.ListN.{length, take, drop}
 use lib.Seq.{drop-nil}
 use Rattle.logic.specs.Model.{Model, Step, enabled, outcomes}
 use Rattle.logic.specs.Quantity.{naturals, sum}
-use Rattle.logic.specs.Plan.{Plan}
 use Rattle.logic.specs.Accepted.{Accepted, Executable}
 use Rattle.logic.specs.promises.Orders.{weights, order}
 use Rattle.logic.specs.promises.Raised.{raise, raised, pay, gain-worth, gain-choice, Modest-rewards}

@@ -1,15 +1,13 @@
 -- The integers obey the laws that totals and their order want.
 use Prim.Native.Nat.{ℕ, zero, suc, _+_, _*_, _-_, _<_, _≤_}
 use native.Mathlib.Omega.{arith}
-use native.Mathlib.Nat.{suc-mul, mul-suc, le-refl, le-trans, add-comm, add-zero, add-suc}
 use mathlib.Core.Path.{_≡_, refl, sym, ap, ap₂, subst, _∙_}
 use mathlib.Core.Bool.{Bool, true, false, not, cond}
-use lib.Dec.{T, leb, ltb, leb→le, le→leb, ltb→lt, nleb→lt, nltb→le, lt→ltb, not-T, T-not}
-use lib.IntN.{ℤ, pos, negsuc, sucℤ, negℤ, subℕ, _+ℤ_, _*ℤ_, one, +ℤ-idl, +ℤ-idr, +ℤ-assoc, +ℤ-comm, +ℤ-one, +ℤ-invl, +ℤ-sucℤ, sucℤ-+ℤ, *ℤ-zero, zero-*ℤ, *ℤ-one, *ℤ-comm, sucℤ-*ℤ, pos-*ℤ-pos}
+use lib.Dec.{T, ltb, leb→le, le→leb, ltb→lt, nleb→lt, nltb→le, not-T}
+use lib.IntN.{ℤ, pos, negsuc, sucℤ, subℕ, _+ℤ_, _*ℤ_, +ℤ-idr, +ℤ-assoc, +ℤ-comm, +ℤ-one, +ℤ-sucℤ, sucℤ-+ℤ, zero-*ℤ, sucℤ-*ℤ}
 use lib.Signed.{leZ}
 use Rattle.logic.specs.Quantity.{integers}
-use Rattle.logic.proofs.Sums.{Additive}
-use Rattle.logic.proofs.Best.{Ordered, Le, Lt}
+use Rattle.logic.proofs.Best.{Ordered}
 
 pub swap : (a b c d : ℤ) → (a +ℤ b) +ℤ (c +ℤ d) ≡ (a +ℤ c) +ℤ (b +ℤ d)
 swap a b c d = +ℤ-assoc a b (c +ℤ d) ∙ ap (λ z. a +ℤ z) (sym (+ℤ-assoc b c d) ∙ ap (λ z. z +ℤ d) (+ℤ-comm b c) ∙ +ℤ-assoc c b d) ∙ sym (+ℤ-assoc a c (b +ℤ d))

@@ -1,15 +1,14 @@
 -- A value that looks at the first d steps only: over n steps its greatest total is that over d steps, times D to the n - d, and the plan of
 -- first-best choices is the one of d steps, continued with first choices. Beyond d every enabled choice is worth the same, since a
 -- choice's weights sum to D. The same for the least total: the order is any that does not mind a factor.
-use Prim.Native.Nat.{ℕ, zero, suc, _+_, _*_, _-_, _^_, _<_, _≤_}
+use Prim.Native.Nat.{ℕ, zero, suc, _*_, _-_, _^_, _<_, _≤_}
 use native.Mathlib.Omega.{arith}
 use native.Mathlib.Nat.{le-of-suc-le-suc, not-suc-le-zero, mul-assoc, mul-left-comm, mul-comm, one-mul, pow-zero, pow-suc, mul-pos, le-refl, mul-le-mul-left, le-of-mul-le-mul-left}
 use mathlib.Core.Path.{_≡_, refl, sym, ap, ap₂, subst, _∙_}
-use mathlib.Core.Bool.{Bool, true, false, cond}
-use mathlib.Core.List.{List, [], _∷_, map, List·Memᴰ, List·Memᴰ·head, List·Memᴰ·tail}
+use mathlib.Core.Bool.{Bool, true, false}
+use mathlib.Core.List.{List, [], _∷_, map, List·Memᴰ}
 use lib.Dec.{leb, leb→le, le→leb}
 use lib.ListN.{length, getD, take}
-use Rattle.logic.specs.Lists.{join}
 use Rattle.logic.specs.Model.{Model, Step, enabled, outcomes}
 use Rattle.logic.specs.Plan.{Plan}
 use Rattle.logic.specs.Quantity.{naturals, sum}
@@ -17,7 +16,7 @@ use Rattle.logic.specs.promises.Orders.{weights, order}
 use Rattle.logic.specs.Bound.{one-if}
 use Rattle.logic.specs.promises.Total.{value-of}
 use Rattle.logic.specs.Formula.{Formula, depth}
-use Rattle.logic.specs.promises.Recursion.{first-best, best-choice, greatest, best-plan}
+use Rattle.logic.specs.promises.Recursion.{best-choice, greatest, best-plan}
 use Rattle.logic.specs.promises.Extension.{first-choice, first-plan, extended}
 use Rattle.logic.specs.Accepted.{Accepted, Executable}
 use Rattle.logic.proofs.Tests.{T→true, true→T, same-test}

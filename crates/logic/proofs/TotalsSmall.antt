@@ -13,12 +13,12 @@ use lib.Signed.{mag}
 use borrow.Author.Tests.{ltb-true, ltb-false}
 use Rattle.logic.specs.Checked.{ok}
 use Rattle.logic.specs.Model.{Model, Step}
-use Rattle.logic.specs.Quantity.{naturals, integers, sum, Relation}
+use Rattle.logic.specs.Quantity.{naturals, integers, sum}
 use Rattle.logic.specs.Plan.{Plan, plans, paths, weight}
 use Rattle.logic.specs.Accepted.{Accepted}
-use Rattle.logic.specs.Bound.{Bound, total, one-if, chance, expected, gain-between}
+use Rattle.logic.specs.Bound.{Bound, total, one-if, gain-between}
 use Rattle.logic.specs.Formula.{Formula, sat}
-use Rattle.logic.specs.Verdict.{Goal, bound-of, bound-goal, goal}
+use Rattle.logic.specs.Verdict.{Goal, bound-of, goal}
 use Rattle.logic.specs.promises.Raised.{raise, Modest, Modest-rewards}
 use Rattle.logic.proofs.Integers.{subℕ-ge, subℕ-lt}
 use Rattle.logic.proofs.Checked.{not-ok, ok-same}

@@ -1,20 +1,20 @@
 -- Totals in ℤ and in ℕ. Where every path's worth, raised by one number, is a natural number, a plan's total is that of these numbers, lowered by
 -- that number times the denominator to the n: the weights of all paths sum to it. So W is the total of operator 8, and expected gains are
 -- searched in natural numbers.
-use Prim.Native.Nat.{ℕ, zero, suc, _+_, _*_, _-_, _^_, _≤_, _<_, min}
+use Prim.Native.Nat.{ℕ, zero, suc, _+_, _*_, _-_, _^_, _≤_, _<_}
 use native.Mathlib.Omega.{arith}
-use native.Mathlib.Nat.{mul-add, mul-comm, mul-one, zero-mul}
+use native.Mathlib.Nat.{mul-add, mul-comm, zero-mul}
 use mathlib.Core.Path.{_≡_, refl, sym, ap, ap₂, subst, _∙_}
-use mathlib.Core.Bool.{Bool, true, false, not, cond, _&&_}
+use mathlib.Core.Bool.{true, not, _&&_}
 use mathlib.Core.Logic.{⊎-elim}
 use mathlib.Core.List.{List, [], _∷_, map, List·Memᴰ, List·Memᴰ·head, List·Memᴰ·tail, List·Memᴰ·not-nil, List·Memᴰ·eq-of-singleton, List·Memᴰ·cases-cons, List·Memᴰ·append-cases}
-use lib.Dec.{T, leb, leb→le}
-use lib.IntN.{ℤ, pos, negsuc, subℕ, _+ℤ_, _*ℤ_, +ℤ-idr, +ℤ-idl, +ℤ-assoc, +ℤ-comm, pos-+ℤ-pos, pos-*ℤ-pos}
+use lib.Dec.{T, leb→le}
+use lib.IntN.{ℤ, pos, negsuc, _+ℤ_, _*ℤ_, +ℤ-idr, pos-+ℤ-pos, pos-*ℤ-pos}
 use lib.ListN.{length, take, drop}
 use lib.Seq.{length-take-le}
 use lib.Signed.{leZ}
 use Rattle.logic.specs.Lists.{join}
-use Rattle.logic.specs.Model.{Model, Step, outcomes}
+use Rattle.logic.specs.Model.{Model, Step}
 use Rattle.logic.specs.Quantity.{naturals, integers, sum, Relation, less, equal, greater, related}
 use Rattle.logic.specs.Plan.{Plan, plans, paths, weight, Match, ends, pair}
 use Rattle.logic.specs.Bound.{total, meets, one-if, chance, gain-between, met-by}

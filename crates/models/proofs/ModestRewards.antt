@@ -8,7 +8,7 @@ use mathlib.Core.List.{List·Memᴰ}
 use lib.Dec.{ltb}
 use lib.IntN.{pos, negsuc}
 use lib.Signed.{leZ}
-use Rattle.logic.specs.Model.{Step, silent, silent-step, enabled-actions, deadlocked, outcomes}
+use Rattle.logic.specs.Model.{Step, silent, enabled-actions, deadlocked, outcomes}
 use Rattle.logic.specs.promises.Raised.{Modest, Modest-rewards}
 use Rattle.logic.proofs.Tests.{and-both}
 use Rattle.logic.proofs.SilentMove.{choice-kind, one-outcome, action-outcomes}

@@ -1,5 +1,5 @@
 -- Runs in a buffer: what two runs write, one behind the other, is what they write together, and each turn of the loops adds a run.
-use Prim.Native.Nat.{ℕ, zero, suc, _+_, _*_, _-_, _≤_, _<_, min, zero-le}
+use Prim.Native.Nat.{ℕ, zero, suc, _+_, _*_, _-_, _≤_, _<_, min}
 use native.Mathlib.Omega.{arith}
 use native.Mathlib.Numerals.{add-one}
 use native.Mathlib.Nat.{suc-mul, mul-le-mul-right, le-refl, min-le-left, min-eq-left}

@@ -1,35 +1,21 @@
 -- The sum over the choices of a plan is its total, by the first step as the choices are read.
-use Prim.Native.Nat.{ℕ, zero, suc, _+_, _*_, _^_, _≤_, _<_}
+use Prim.Native.Nat.{ℕ, zero, suc, _+_, _*_}
 use native.Mathlib.Omega.{arith}
-use native.Mathlib.Nat.{le-trans, mul-le-mul-left}
 use mathlib.Core.Path.{_≡_, refl, sym, ap, subst, _∙_}
 use mathlib.Core.Bool.{Bool, true, false}
-use mathlib.Core.List.{List, [], _∷_, List·Memᴰ}
+use mathlib.Core.List.{List, [], _∷_}
 use lib.Dec.{eqb}
-use lib.ListN.{length}
 use Rattle.logic.specs.Lists.{any, is-empty}
 use Rattle.logic.specs.Checked.{Checked, ok, refused, _>>=_, _>>_, guard}
 use Rattle.logic.specs.promises.Refusal.{refusal}
 use Rattle.logic.specs.Model.{Model, Step, enabled, outcomes}
 use Rattle.logic.specs.Quantity.{naturals}
-use Rattle.logic.specs.Plan.{Plan, plans, paths, weight}
+use Rattle.logic.specs.Plan.{Plan, weight}
 use Rattle.logic.specs.Choices.{read-each, read-plan, plan-of}
-use Rattle.logic.specs.Formula.{Formula, W}
 use Rattle.logic.specs.Bound.{total}
-use Rattle.logic.specs.promises.Total.{value-of}
-use Rattle.logic.specs.Accepted.{Accepted}
 use Rattle.logic.proofs.Checked.{not-ok, ok-same, bind-ok, guard-ok}
 use Rattle.logic.proofs.Sums.{naturals-additive, sum-pairs, total-zero, total-step}
-use Rattle.logic.proofs.PathWeights.{total-ones, W-total}
-use Rattle.logic.proofs.Reading.{plan-of-sound}
-use Rattle.blocks.specs.Bytes.{Bytes}
-use Rattle.models.specs.Layout.{state-count, denominator-of, model-of}
-use Rattle.models.specs.Grounds.{read-model}
-use Rattle.models.proofs.GroundsPassed.{passed-all}
-use Rattle.models.proofs.ModelOfBytes.{accepted, states-held, denominator-held}
-use Rattle.evaluation.proofs.LearntInOrder.{one-if-small}
 use Rattle.plan_choices.specs.promises.PlanSum.{Run, each, weigh}
-use Rattle.logic.proofs.Naturals.{sum-le}
 
 -- ---- a plan read
 

@@ -5,9 +5,8 @@ ghost use lib.ListN.{length, getD};
 ghost use Rattle.logic.specs.promises.Refusal.{refusal};
 ghost use Rattle.models.specs.Grounds.{read-model};
 ghost use Rattle.logic.specs.Model.{prop-in};
-ghost use Rattle.logic.specs.promises.Extension.{first-choice};
 ghost use Rattle.blocks.specs.Bytes as bytes;
-ghost use Rattle.models.specs.Layout.{state-count, prop-count, denominator-of, state-mask};
+ghost use Rattle.models.specs.Layout.{state-count, denominator-of, state-mask};
 ghost use Rattle.prepared_model.specs.promises.Rows.{choices-in, choice-in, outcomes-in, step-in, sum-in, model-in, Prepared, Prepares, Row-of};
 
 mod rows;

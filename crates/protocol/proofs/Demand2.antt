@@ -48,7 +48,7 @@ unfolding verdict goal
 says-true m s φ = by (bound-of m s φ) refl
   where
     by : (c : Checked Bound) → bound-of m s φ ≡ c → says-yes (verdict-by m s (sat m φ s []) (c >>= λ b. ok (bound-goal m s b))) ≡ sat m φ s []
-    by (ok b) e = let g = bound-goal m s b in says-shown m s g (sat m φ s []) (shown m s g) (sat-shown (sets-bound m s φ b e) [])
+    by (ok b) e = let g = bound-goal m s b in says-shown m s g (sat m φ s []) (shown m s g) (sat-shown (bound-set m s φ b e) [])
     by (refused k) e = says-told m s k (sat m φ s [])
 
 -- ---- judging by what is held

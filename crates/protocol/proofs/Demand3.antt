@@ -17,9 +17,9 @@ use lib.Signed.{mag, leZ}
 use Rattle.logic.specs.Checked.{Checked, ok, refused, _>>=_, _>>_, guard}
 use Rattle.logic.specs.promises.Refusal.{held, refusal}
 use Rattle.logic.specs.Lists.{all}
-use Rattle.logic.specs.Quantity.{integers, sum}
+use Rattle.logic.specs.Quantity.{integers}
 use Rattle.logic.specs.Plan.{Plan, plans, choices, paths, weight}
-use Rattle.logic.specs.Bound.{gain-between}
+use Rattle.logic.specs.Bound.{weighed, gain-between}
 use Rattle.logic.specs.Formula.{Formula, sat, W}
 use Rattle.logic.specs.Model.{Model}
 use Rattle.logic.specs.Verdict.{Goal, goal, Denial, Shown-plan, Verdict, no, yes-plan, shown, plan-record, announced, verdict-by, verdict}

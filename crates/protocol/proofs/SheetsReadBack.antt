@@ -1,7 +1,7 @@
 -- A plan's sheet is read back from the bytes written of it: an accepted question asks for 1 to 6 steps, a choice in an accepted model has
 -- at most 4 outcomes, so that a plan has 1 to 1,365 choices; and a total is at most 6,000 times D to the n, below 2 to the 63. The bytes are
 -- bytes: states are below 32, choices below 256.
-use Prim.Native.Nat.{ℕ, zero, suc, _+_, _*_, _-_, _^_, _≤_, _<_}
+use Prim.Native.Nat.{ℕ, zero, suc, _*_, _-_, _^_, _≤_, _<_}
 use native.Mathlib.Omega.{arith}
 use native.Mathlib.Nat.{le-refl, le-trans, lt-of-le-of-lt, suc-mul, mul-le-mul, mul-le-mul-left, mul-le-mul-right, pow-le-pow-left, pow-le-pow-right}
 use mathlib.Core.Path.{_≡_, refl, sym, ap, subst, _∙_}

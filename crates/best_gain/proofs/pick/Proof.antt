@@ -1,7 +1,7 @@
 -- `pick`: the first of the best of the choices tried so far. The measure is what is left of the choices.
-use Prim.Native.Nat.{ℕ, _-_, _≤_, _<_}
+use Prim.Native.Nat.{_-_, _≤_}
 use native.Mathlib.Omega.{arith}
-use mathlib.Core.Path.{_≡_, sym, ap, subst, _∙_}
+use mathlib.Core.Path.{_≡_, sym, subst, _∙_}
 use mathlib.Core.Logic.{⊎-elim}
 use Rattle.prepared_model.specs.promises.Rows.{choices-in}
 use Rattle.prepared_model.proofs.ReadByPlace.{some-choice}

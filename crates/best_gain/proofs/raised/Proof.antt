@@ -1,8 +1,7 @@
 -- `raised`: a reward from -1000 to 1000 is no less than 0 with 1000 more.
-use Prim.Native.Nat.{_≤_, _^_, _<_}
 use native.Mathlib.Omega.{arith}
-use mathlib.Core.Path.{_≡_, refl, sym, ap, subst, _∙_}
-use lib.IntN.{ℤ, pos, natAbs, _+ℤ_}
+use mathlib.Core.Path.{_≡_, refl, sym, ap, _∙_}
+use lib.IntN.{ℤ, pos, _+ℤ_}
 use mir.Syntax.{w16, w64}
 use mir.Val.{toZ, ofZ, SFits}
 use mir.ValLaws.{toZ-ofZ}

@@ -1,7 +1,7 @@
 -- `unit_of`: the next step earns where the steps behind are no fewer than those before the first that earns, and fewer than those up to the last.
 use Prim.Native.Nat.{ℕ, zero, suc, _*_, _-_, _^_, _≤_, _<_}
 use native.Mathlib.Omega.{arith}
-use mathlib.Core.Path.{_≡_, refl, sym, ap, ap₂, subst, _∙_}
+use mathlib.Core.Path.{_≡_, refl, sym, ap, subst, _∙_}
 use Rattle.logic.specs.promises.Raised.{pay}
 use Rattle.models.specs.Layout.{denominator-of}
 use Rattle.bounds.proofs.Powers.{power-le}

@@ -1,8 +1,7 @@
 -- `exact_total`: what is left of the bound when the part below 0 is taken off, divided by q; where that part is larger, no total meets it.
 use Prim.Native.Nat.{_+_, _*_, _^_, _<_, _≤_}
 use native.Mathlib.Omega.{arith}
-use mathlib.Core.Path.{_≡_, sym, ap, ap₂, _∙_}
-use lib.IntN.{ℤ}
+use mathlib.Core.Path.{_≡_, ap, ap₂, _∙_}
 use mir.Syntax.{w32}
 use mir.Val.{toZ, ofZ}
 use Rattle.logic.specs.Formula.{nonnegative}

@@ -1,13 +1,12 @@
 -- `lift`: operator 9 has at most six steps that earn.
-use Prim.Native.Nat.{_+_, _*_, _-_, _/_, _%_, _^_, _≤_}
+use Prim.Native.Nat.{_*_, _-_, _/_, _%_, _^_, _≤_}
 use native.Mathlib.Omega.{arith}
-use mathlib.Core.Path.{_≡_, refl, sym, ap, ap₂, subst, _∙_}
+use mathlib.Core.Path.{_≡_, sym, ap₂, subst, _∙_}
 use mathlib.Core.Logic.{⊎-elim}
 use Rattle.questions.specs.Layout.{node-of}
 use Rattle.questions.specs.promises.Formed.{EarnsRange}
 use Rattle.questions.proofs.SetsBound.{sets-which}
-use Rattle.models.specs.Layout.{denominator-of}
-use Rattle.bounds.specs.promises.Bounded.{lift-of, span-before, span-last}
+use Rattle.bounds.specs.promises.Bounded.{lift-of}
 use Rattle.bounds.proofs.ProductsFit.{few, of-9, lift-8, lift-9, sizes}
 use borrow.Author.Needs.{needs}
 use Rattle.bounds.proofs.lift.Statement.{statement}

@@ -1,7 +1,7 @@
 -- `whole`: the denominator is at most 100 and the steps at most 6.
 use Prim.Native.Nat.{_^_, _≤_}
 use native.Mathlib.Omega.{arith}
-use mathlib.Core.Path.{_≡_, sym, ap₂, subst, _∙_}
+use mathlib.Core.Path.{sym, ap₂, subst, _∙_}
 use Rattle.bounds.proofs.ProductsFit.{small, compares, few, whole-small}
 use borrow.Author.Needs.{needs}
 use Rattle.bounds.proofs.whole.Statement.{statement}

@@ -1,6 +1,6 @@
 -- The bound of a node of operator 8 or 9 on the totals of plans. A search has totals as natural numbers, all raised alike: those of operator 9
 -- by 1000 for each step that earns, times D to the n.
-use Prim.Native.Nat.{ℕ, suc, _*_, _-_, _/_, _%_, _^_, _<_, _≤_}
+use Prim.Native.Nat.{ℕ, suc, _*_, _-_, _/_, _%_, _^_, _<_}
 use mathlib.Core.Path.{_≡_}
 use mathlib.Core.Bool.{Bool, true, false, cond}
 use lib.Dec.{eqb}

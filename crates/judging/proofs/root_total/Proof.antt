@@ -5,7 +5,7 @@ use mathlib.Core.Path.{_≡_, refl, sym, ap, subst, _∙_}
 use mathlib.Core.List.{List}
 use lib.ListN.{take}
 use lib.Seq.{length-take-le}
-use Rattle.questions.specs.Layout.{node-count, node-of}
+use Rattle.questions.specs.Layout.{node-of}
 use Rattle.evaluation.specs.promises.Reached.{Ready}
 use Rattle.bounds.specs.promises.Bounded.{Bounded}
 use Rattle.bounds.proofs.ProductsFit.{compares}

@@ -4,7 +4,6 @@ use mathlib.Core.Path.{_≡_}
 use mathlib.Core.Bool.{Bool, true, false}
 use mathlib.Core.List.{List}
 use lib.ListN.{getD, length, take}
-use Rattle.logic.specs.promises.Refusal.{refusal}
 use Rattle.logic.specs.Model.{Step}
 use Rattle.logic.specs.promises.Orders.{weights, order}
 use Rattle.logic.specs.Plan.{choices}

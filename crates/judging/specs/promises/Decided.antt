@@ -26,7 +26,7 @@ use Rattle.prepared_model.specs.promises.Rows.{model-in}
 use Rattle.questions.specs.Layout.{node-count, node-of}
 use Rattle.questions.specs.promises.Formed.{sets-bound}
 use Rattle.prepared_question.specs.promises.Nodes.{formula}
-use Rattle.bounds.specs.promises.Bounded.{span-before, span-last, lowered, most-of, meets-at}
+use Rattle.bounds.specs.promises.Bounded.{span-before, span-last, lowered, meets-at}
 use Rattle.plan_choices.specs.promises.Extended.{extend, by-place}
 use Rattle.plan_choices.specs.promises.Extended as extended
 use Rattle.judging.specs.promises.Truth.{Told}

@@ -1,7 +1,7 @@
 -- The cone's root is the condition, and the search goes as deep as it looks.
 use Prim.Native.Nat.{ℕ}
 use native.Mathlib.Omega.{arith}
-use mathlib.Core.Path.{refl, sym, ap, _∙_}
+use mathlib.Core.Path.{sym, ap, _∙_}
 use lib.Seq.{length-take-le}
 use Rattle.logic.specs.Formula.{depth}
 use Rattle.prepared_question.specs.promises.Nodes.{formula}
@@ -9,11 +9,6 @@ use Rattle.judging.proofs.BestTotals.{looks, ready, finds}
 use borrow.Author.Needs.{needs}
 use Rattle.judging.proofs.conditions.searched.Statement.{statement}
 use Rattle.judging.proofs.conditions.searched.Tie as tie
-use Rattle.judging.proofs.conditions.searched.Reads as reads
-use Rattle.judging.proofs.conditions.searched.Lts as lts
-use Rattle.prepared_question.proofs.depth.Reads as depth-reads
-use Rattle.best_plan.proofs.find.Reads as find-reads
-use Rattle.relevance.proofs.cone.Reads as cone-reads
 
 depth-requires : tie.Need-depth-requires
 depth-requires c κs = search needs

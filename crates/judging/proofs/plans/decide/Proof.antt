@@ -1,9 +1,8 @@
 -- By the relation and the operator, one search or another.
 use mathlib.Core.Path.{_≡_, sym, ap, subst, _∙_}
-use lib.ListN.{length, replicate, length-replicate}
+use lib.ListN.{length, length-replicate}
 use Prim.Native.Nat.{ℕ}
 use mathlib.Core.List.{List}
-use Rattle.questions.specs.Layout.{node-of}
 use Rattle.judging.specs.promises.Decided.{Led}
 use Rattle.judging.proofs.NodeBounds.{either}
 use Rattle.judging.proofs.SearchHanded.{bounded-at, asked-equal, asked-other}

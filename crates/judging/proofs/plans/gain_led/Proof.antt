@@ -1,12 +1,11 @@
 -- `gain_led`: the table's total of all steps is the node's best, and its places spell the first plan that has it (`TableHanded`).
-use Prim.Native.Nat.{ℕ, suc, _+_, _*_, _≤_, _<_}
+use Prim.Native.Nat.{ℕ, _+_, _*_, _≤_}
 use native.Mathlib.Omega.{arith}
-use mathlib.Core.Path.{_≡_, refl, sym, ap, ap₂, subst, _∙_}
+use mathlib.Core.Path.{sym, ap, subst}
 use lib.ListN.{getD}
-use Rattle.questions.specs.Layout.{node-of}
 use Rattle.bounds.specs.promises.Bounded.{most-of}
 use Rattle.bounds.proofs.ProductsFit.{few, compares}
-use Rattle.best_gain.specs.promises.Tabled.{Tabled, Filled}
+use Rattle.best_gain.specs.promises.Tabled.{Tabled}
 use Rattle.judging.proofs.TableHanded.{window-of, table-small, table-led}
 use borrow.Author.Needs.{needs}
 use Rattle.judging.proofs.plans.gain_led.Statement.{statement}

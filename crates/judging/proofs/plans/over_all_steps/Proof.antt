@@ -7,13 +7,6 @@ use Rattle.judging.proofs.SearchHanded.{before, condition-depth, power-
 use borrow.Author.Needs.{needs}
 use Rattle.judging.proofs.plans.over_all_steps.Statement.{statement}
 use Rattle.judging.proofs.plans.over_all_steps.Tie as tie
-use Rattle.judging.proofs.plans.over_all_steps.Reads as reads
-use Rattle.judging.proofs.plans.over_all_steps.Lts as lts
-use Rattle.bounds.proofs.power.Reads as power-reads
-use Rattle.prepared_question.proofs.depth.Reads as depth-reads
-use Rattle.prepared_question.proofs.left.Reads as left-reads
-use Rattle.prepared_question.proofs.steps.Reads as steps-reads
-use Rattle.prepared_model.proofs.denominator.Reads as denominator-reads
 
 left-requires : tie.Need-left-requires
 left-requires c κs = search needs

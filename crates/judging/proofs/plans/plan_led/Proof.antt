@@ -4,14 +4,6 @@ use Rattle.judging.proofs.SearchHanded.{bounded-at, lengthened-most, fa
 use borrow.Author.Needs.{needs}
 use Rattle.judging.proofs.plans.plan_led.Statement.{statement}
 use Rattle.judging.proofs.plans.plan_led.Tie as tie
-use Rattle.judging.proofs.plans.plan_led.Reads as reads
-use Rattle.judging.proofs.plans.plan_led.Lts as lts
-use Rattle.bounds.proofs.meets.Reads as meets-reads
-use Rattle.judging.proofs.conditions.best_value.Reads as best-value-reads
-use Rattle.judging.proofs.conditions.peel.Reads as peel-reads
-use Rattle.judging.proofs.plans.over_all_steps.Reads as over-all-steps-reads
-use Rattle.prepared_question.proofs.asks_less.Reads as asks-less-reads
-use Rattle.prepared_question.proofs.left.Reads as left-reads
 
 left-requires : tie.Need-left-requires
 left-requires c κs = search needs

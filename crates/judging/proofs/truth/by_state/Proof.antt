@@ -4,7 +4,7 @@ use native.Mathlib.Omega.{arith}
 use mathlib.Core.Path.{_≡_, sym, subst, _∙_}
 use lib.ListN.{length, length-set}
 use Rattle.judging.specs.promises.Truth.{Right}
-use Rattle.judging.specs.promises.Rows.{By-state, Rows}
+use Rattle.judging.specs.promises.Rows.{By-state}
 use Rattle.judging.specs.promises.Conditions.{Remembers}
 use Rattle.judging.proofs.TruthByOperator.{right-more}
 use Rattle.judging.proofs.truth.by_state.Statement.{statement}

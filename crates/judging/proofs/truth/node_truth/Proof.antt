@@ -1,5 +1,5 @@
 -- One table for all states, or each state by itself.
-use mathlib.Core.Path.{_≡_, sym, _∙_}
+use mathlib.Core.Path.{sym, _∙_}
 use mathlib.Core.Logic.{⊎-elim}
 use borrow.Author.Tests.{not-true, not-false}
 use Rattle.judging.proofs.SearchHanded.{asked-equal, asked-other}

@@ -11,14 +11,6 @@ use Rattle.judging.proofs.TruthByOperator.{truth-prop, truth-not, truth
 use borrow.Author.Needs.{needs}
 use Rattle.judging.proofs.truth.plain_truth.Statement.{statement}
 use Rattle.judging.proofs.truth.plain_truth.Tie as tie
-use Rattle.judging.proofs.truth.plain_truth.Reads as reads
-use Rattle.judging.proofs.truth.plain_truth.Lts as lts
-use Rattle.evaluation.proofs.bit.Reads as bit-reads
-use Rattle.judging.proofs.truth.found.Reads as found-reads
-use Rattle.prepared_question.proofs.left.Reads as left-reads
-use Rattle.prepared_question.proofs.operator.Reads as operator-reads
-use Rattle.prepared_question.proofs.right.Reads as right-reads
-use Rattle.prepared_model.proofs.holds.Reads as holds-reads
 
 -- The truth at the place of a child in s.
 abbrev child-at : tie.Start → ℕ → ℕ

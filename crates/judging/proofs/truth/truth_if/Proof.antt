@@ -1,6 +1,5 @@
 -- All that a needed pair turns on is needed and stands before it.
 use native.Mathlib.Omega.{arith}
-use mathlib.Core.Path.{sym, _∙_}
 use borrow.Author.Needs.{needs}
 use Rattle.judging.proofs.TruthByOperator.{supplied}
 use Rattle.judging.proofs.truth.truth_if.Statement.{statement}

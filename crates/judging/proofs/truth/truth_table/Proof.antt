@@ -1,7 +1,7 @@
 -- The invariant: the rows of the nodes passed are right where they are needed.
-use Prim.Native.Nat.{ℕ, _*_, _-_, _≤_}
+use Prim.Native.Nat.{_*_, _-_, _≤_}
 use native.Mathlib.Omega.{arith}
-use mathlib.Core.Path.{_≡_, sym, ap, subst, _∙_}
+use mathlib.Core.Path.{_≡_, sym, subst}
 use Rattle.questions.specs.Layout.{node-count}
 use Rattle.judging.specs.promises.Truth.{Right}
 use Rattle.judging.specs.promises.Rows.{Rows}

@@ -1,6 +1,6 @@
 -- `window`: ground 5 leaves a step that earns, and none beyond the node's.
 use native.Mathlib.Omega.{arith}
-use mathlib.Core.Path.{_≡_, refl, sym, ap, ap₂, subst, _∙_}
+use mathlib.Core.Path.{_≡_, sym, ap₂, subst}
 use Prim.Native.Nat.{ℕ, _-_, _/_, _%_}
 use Rattle.questions.specs.Layout.{node-of}
 use Rattle.questions.specs.promises.Formed.{EarnsRange}
@@ -9,7 +9,6 @@ use Rattle.best_gain.specs.promises.Tabled.{Window-right}
 use Rattle.bounds.proofs.ProductsFit.{few}
 use Rattle.judging.proofs.NodeBounds.{earned}
 use Rattle.judging.proofs.TableHanded.{window-of}
-use borrow.Author.Needs.{needs}
 use Rattle.judging.proofs.worths.window.Statement.{statement}
 use Rattle.judging.proofs.worths.window.Tie as tie
 

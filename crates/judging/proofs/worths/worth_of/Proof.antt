@@ -2,13 +2,10 @@
 use native.Mathlib.Omega.{arith}
 use Prim.Native.Nat.{ℕ}
 use mathlib.Core.Path.{_≡_, refl, sym, ap, _∙_}
-use lib.ListN.{length}
 use Rattle.bounds.proofs.ProductsFit.{few}
 use Rattle.questions.specs.Layout.{node-of}
-use Rattle.judging.specs.promises.Worths.{Looks}
 use Rattle.judging.proofs.NodeBounds.{either}
 use Rattle.judging.proofs.SearchHanded.{before, condition-depth}
-use borrow.Author.Needs.{needs}
 use Rattle.judging.proofs.worths.worth_of.Statement.{statement}
 use Rattle.judging.proofs.worths.worth_of.Tie as tie
 
