@@ -8,6 +8,7 @@ use mathlib.Core.Logic.{_↔_}
 use mathlib.Core.Bool.{Bool, true, false, _&&_}
 use mathlib.Core.List.{List, [], _∷_}
 use lib.Dec.{eqb, ltb}
+use lib.Pow.{pow-pos}
 use lib.IntN.{ℤ, pos, negsuc, _-ℤ_}
 use lib.ListN.{length, getD}
 use lib.Signed.{mag}
@@ -84,11 +85,27 @@ module _ (w : Width) (x : ℕ) (h : x < 2 ^ hbits w) where
       go zero = refl
       go (suc n) = let f : suc (0 + n) ≡ suc n = omega arith in ap negsuc f
 
-  pub minus-fits : SFits w (negsuc 0 -ℤ toZ w x)
+  minus-fits : SFits w (negsuc 0 -ℤ toZ w x)
   minus-fits = subst (SFits w) (sym minus) (record { sfits = h })
 
-  pub minus-reads : toZ w (ofZ w (negsuc 0 -ℤ toZ w x)) ≡ negsuc x
+  minus-reads : toZ w (ofZ w (negsuc 0 -ℤ toZ w x)) ≡ negsuc x
   minus-reads = toZ-ofZ w (negsuc 0 -ℤ toZ w x) minus-fits ∙ minus
+
+-- A number x of a width's bits, read as a signed one: itself where the highest bit is not set, else from -1 down by what is between x and the
+-- greatest.
+module _ (w : Width) (x : ℕ) where
+  pub low-reads : x < 2 ^ hbits w → toZ w x ≡ signed (hbits w) x
+  low-reads h = toZ-pos w x h ∙ sym (signed-low (hbits w) x h)
+
+  module _ (h : 2 ^ hbits w ≤ x) where
+    little : 2 ^ (hbits w + 1) - 1 - x < 2 ^ hbits w
+    little = omega (arith, doubled (hbits w), pow-pos (hbits w))
+
+    pub high-fits : SFits w (negsuc 0 -ℤ toZ w (2 ^ (hbits w + 1) - 1 - x))
+    high-fits = minus-fits w (2 ^ (hbits w + 1) - 1 - x) little
+
+    pub high-reads : toZ w (ofZ w (negsuc 0 -ℤ toZ w (2 ^ (hbits w + 1) - 1 - x))) ≡ signed (hbits w) x
+    high-reads = minus-reads w (2 ^ (hbits w + 1) - 1 - x) little ∙ sym (signed-high (hbits w) x h)
 
 -- A sum of two numbers is 0 exactly when both are.
 pub sum-zero : (x y : ℕ) → eqb (x + y) 0 ≡ (eqb x 0 && eqb y 0)

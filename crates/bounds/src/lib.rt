@@ -9,7 +9,7 @@ ghost use Rattle.logic.specs.Quantity as quantity;
 ghost use Rattle.models.specs.Layout.{denominator-of};
 ghost use Rattle.questions.specs.Layout.{node-of};
 ghost use Rattle.bounds.specs.promises.Bounded as spec;
-ghost use Rattle.bounds.specs.promises.Bounded.{Bounded, Exactly, under, lift-of, lowered, most-of, meets-at};
+ghost use Rattle.bounds.specs.promises.Bounded.{Bounded, Sided, Exactly, under, lift-of, lowered, most-of, meets-at};
 use prepared_model::MODEL;
 use prepared_model::denominator;
 use prepared_question::QUESTION;
@@ -99,7 +99,29 @@ pub fn lift(m: &[u16; MODEL], q: &[u8; QUESTION], j: u8) -> u64
     RAISE * paid as u64 * whole(m, q, j)
 }
 
-// Whether a raised total meets the bound of node j: q times it, and p times D to the n, each with what makes nothing negative.
+// The bound of node j on a raised total x, with nothing negative on either side: `parts` times x and `down` against `up`.
+struct Against {
+    parts: u64,
+    up: u64,
+    down: u64,
+}
+
+// D to the n times what p is above 0, with q times the lift; and D to the n times what p is below 0.
+fn sides(m: &[u16; MODEL], q: &[u8; QUESTION], j: u8) -> Against
+    requires { ⌜ Bounded (now m) (now q) j ⌝ }
+    ensures value { λ r. ⌜ Sided (now (m .entry)) (now (q .entry)) j (r .parts) (r .up) (r .down) ⌝ }
+{
+    let d = whole(m, q, j);
+    let parts = prepared_question::parts(q, j) as u64;
+    let p = prepared_question::bound(q, j);
+    Against {
+        parts: parts,
+        up: d * above(p) + parts * lift(m, q, j),
+        down: d * below(p),
+    }
+}
+
+// Whether a raised total meets the bound of node j.
 pub fn meets(m: &[u16; MODEL], q: &[u8; QUESTION], j: u8, x: u64) -> bool
     requires { ⌜ Bounded (now m) (now q) j ⌝ }
     requires { ⌜ x ≤ most-of (now m) (now q) j ⌝ }
@@ -107,14 +129,8 @@ pub fn meets(m: &[u16; MODEL], q: &[u8; QUESTION], j: u8, x: u64) -> bool
         let m = now (m .entry) in let q = now (q .entry) in
         ⌜ r ≡ meets-at m q j (lowered m q j x) ⌝ }
 {
-    let d = whole(m, q, j);
-    let parts = prepared_question::parts(q, j) as u64;
-    let p = prepared_question::bound(q, j);
-    related(
-        prepared_question::right(q, j),
-        parts * x + d * below(p),
-        d * above(p) + parts * lift(m, q, j),
-    )
+    let s = sides(m, q, j);
+    related(prepared_question::right(q, j), s.parts * x + s.down, s.up)
 }
 
 // The one raised total that meets "equal", if there is one.
@@ -128,21 +144,17 @@ pub fn exact_total(m: &[u16; MODEL], q: &[u8; QUESTION], j: u8) -> Exact
     requires { ⌜ Bounded (now m) (now q) j ⌝ }
     ensures value { λ r. ⌜ Exactly (now (m .entry)) (now (q .entry)) j (r .whole) (r .total) ⌝ }
 {
-    let d = whole(m, q, j);
-    let parts = prepared_question::parts(q, j) as u64;
-    let p = prepared_question::bound(q, j);
-    let up = d * above(p) + parts * lift(m, q, j);
-    let down = d * below(p);
-    if up < down {
+    let s = sides(m, q, j);
+    if s.up < s.down {
         return Exact {
             whole: false,
             total: 0,
         };
     }
-    let all = up - down;
+    let all = s.up - s.down;
     Exact {
-        whole: all % parts == 0,
-        total: all / parts,
+        whole: all % s.parts == 0,
+        total: all / s.parts,
     }
 }
 

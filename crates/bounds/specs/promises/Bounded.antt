@@ -1,13 +1,13 @@
 -- The bound of a node of operator 8 or 9 on the totals of plans. A search has totals as natural numbers, all raised alike: those of operator 9
 -- by 1000 for each step that earns, times D to the n.
-use Prim.Native.Nat.{ℕ, suc, _*_, _-_, _/_, _%_, _^_, _<_}
+use Prim.Native.Nat.{ℕ, suc, _+_, _*_, _-_, _/_, _%_, _^_, _<_, _≤_}
 use mathlib.Core.Path.{_≡_}
 use mathlib.Core.Bool.{Bool, true, false, cond}
 use lib.Dec.{eqb}
 use lib.IntN.{ℤ, pos, negsuc, subℕ}
 use Rattle.logic.specs.Quantity.{integers, Relation, equal}
 use Rattle.logic.specs.Bound.{meets}
-use Rattle.logic.specs.Formula.{relation}
+use Rattle.logic.specs.Formula.{relation, nonnegative}
 use Rattle.blocks.specs.Bytes.{Bytes}
 use Rattle.models.specs.Layout.{state-count, action-count, prop-count, denominator-of}
 use Rattle.prepared_model.specs.promises.Rows.{model-in, Prepared}
@@ -45,6 +45,14 @@ lowered m q j x = subℕ x (lift-of m q j)
 -- The raised totals of node j are at most this: 1 a path for operator 8, 2000 a step for operator 9.
 unfoldable pub most-of : (m q : Bytes) (j : ℕ) → ℕ
 most-of m q j = cond (eqb ((node-of q j) .operator) 9) 12000 1 * denominator-of m ^ (node-of q j) .n
+
+-- The bound of node j with nothing negative on either side: its q, what stands right of the relation, and what is added left of it.
+pub record Sided (m q : Bytes) (j parts up down : ℕ) : Type 0 where
+  pub its-parts : parts ≡ (node-of q j) .q
+  pub its-up : up ≡ denominator-of m ^ (node-of q j) .n * nonnegative ((node-of q j) .p) + (node-of q j) .q * lift-of m q j
+  pub its-down : down ≡ denominator-of m ^ (node-of q j) .n * under ((node-of q j) .p)
+  pub up-small : up ≤ 100 ^ 6 * 12000001
+  pub down-small : down ≤ 100 ^ 6 * 6000001
 
 -- Whether a total meets the bound of node j, were this its relation.
 abbrev pub meets-as : Relation → (m q : Bytes) (j : ℕ) → ℤ → Bool
