@@ -12,6 +12,8 @@ use bounds::exceeds;
 use bounds::power;
 use models::STATES;
 use prepared_model::MODEL;
+use prepared_model::RAISE;
+use prepared_model::STAGES;
 use prepared_model::choices;
 use prepared_model::denominator;
 use prepared_model::outcomes;
@@ -19,12 +21,6 @@ use prepared_model::reward;
 use prepared_model::states;
 use prepared_model::target;
 use prepared_model::weight;
-
-// The numbers of a table: 0 to 6 steps left, 32 states each.
-pub const GAINS: usize = 224;
-
-// How much a reward is raised: no reward is below -1000.
-const RAISE: i64 = 1000;
 
 // The steps of a plan, those before the first that earns, and the last that does.
 pub struct Window {
@@ -45,14 +41,14 @@ fn raised(r: i16) -> u64
     ensures value { λ x. ⌜ x ≡ raise r ⌝ }
     ensures range { λ x. ⌜ x ≤ 2000 ⌝ }
 {
-    (r as i64 + RAISE) as u64
+    (r as i64 + RAISE as i64) as u64
 }
 
 // What a path earns on its first step and at best below it, by the outcome o of the choice at place i: `unit` for each point of the raised
 // reward, and what the table has from `at` on for the state reached.
 fn outcome_worth(
     m: &[u16; MODEL],
-    best: &[u64; GAINS],
+    best: &[u64; STAGES],
     at: usize,
     unit: u64,
     s: usize,
@@ -71,7 +67,7 @@ fn outcome_worth(
 // What the choice at place i is worth.
 fn choice_worth(
     m: &[u16; MODEL],
-    best: &[u64; GAINS],
+    best: &[u64; STAGES],
     at: usize,
     unit: u64,
     s: usize,
@@ -95,7 +91,7 @@ fn choice_worth(
 // The first of the best choices of a state.
 fn pick(
     m: &[u16; MODEL],
-    best: &[u64; GAINS],
+    best: &[u64; STAGES],
     at: usize,
     unit: u64,
     s: usize,
@@ -146,14 +142,14 @@ pub fn best_gains(
     m: &[u16; MODEL],
     window: Window,
     least: bool,
-    places: &mut [u8; GAINS],
-) -> [u64; GAINS]
+    places: &mut [u8; STAGES],
+) -> [u64; STAGES]
     requires { ⌜ Prepared (now m) × Window-right window × (length (now places) ≡ 224) ⌝ }
     ensures effect { λ r. ⌜ Tabled least (now (m .entry)) window r (now (places .exit)) ⌝ }
 {
     let count = states(m);
     let end = STATES * (window.steps as usize + 1);
-    let mut best = [0u64; GAINS];
+    let mut best = [0u64; STAGES];
     let mut k: usize = STATES;
     while k < end {
         let left = (k / STATES) as u8;

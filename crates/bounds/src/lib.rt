@@ -11,15 +11,13 @@ ghost use Rattle.questions.specs.Layout.{node-of};
 ghost use Rattle.bounds.specs.promises.Bounded as spec;
 ghost use Rattle.bounds.specs.promises.Bounded.{Bounded, Sided, Exactly, under, lift-of, lowered, most-of, meets-at};
 use prepared_model::MODEL;
+use prepared_model::RAISE;
 use prepared_model::denominator;
 use prepared_question::QUESTION;
 use questions::EARNS;
 use questions::EQUAL;
 use questions::LESS;
 use questions::SPAN_BASE;
-
-// How much a reward is raised: no reward is below -1000.
-const RAISE: u64 = 1000;
 
 // The denominator to the number of steps.
 pub fn power(d: usize, k: u8) -> u64
@@ -96,7 +94,7 @@ pub fn lift(m: &[u16; MODEL], q: &[u8; QUESTION], j: u8) -> u64
     }
     let span = prepared_question::left(q, j);
     let paid = span / SPAN_BASE - (span % SPAN_BASE - 1);
-    RAISE * paid as u64 * whole(m, q, j)
+    RAISE as u64 * paid as u64 * whole(m, q, j)
 }
 
 // The bound of node j on a raised total x, with nothing negative on either side: `parts` times x and `down` against `up`.

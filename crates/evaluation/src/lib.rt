@@ -1,4 +1,5 @@
-// The values of a condition's nodes along a path, each computed once, with the step that makes it known.
+// The values of a condition's nodes along a path, each computed once, with the step that makes it known; and what a path is worth to a node
+// that sets a bound on plans.
 ghost use mathlib.Core.Path.{_≡_};
 ghost use Prim.Native.Nat.{_^_, _<_};
 ghost use lib.IntN.{pos, _-ℤ_};
@@ -17,6 +18,7 @@ ghost use Rattle.questions.specs.Layout.{node-of};
 use blocks::byte;
 use models::STATES;
 use prepared_model::MODEL;
+use prepared_model::RAISE;
 use prepared_model::choice;
 use prepared_model::reward;
 use prepared_model::target;
@@ -194,7 +196,7 @@ pub fn worth(cone: &[u8], gains: &[i32; PLACES], v: &[u8; VALUES], a: u8, d: u8)
 {
     let n = cone.len();
     if n == 0 {
-        let up = 1000 * (d - a) as u16;
+        let up = RAISE * (d - a) as u16;
         return (gain_between(gains, a, d) + up as i64) as u64;
     }
     known(v, cone[n - 1], 0) as u64

@@ -29,7 +29,6 @@ use crate::plans::decide;
 use crate::truth::plain_truth;
 use crate::truth::truth_table;
 use crate::worths::worth_of;
-use best_gain::GAINS;
 use best_plan::STACK;
 use bounds::lowered;
 use bounds::meets;
@@ -40,6 +39,7 @@ use plan_choices::extending::extend;
 use plan_choices::ranking::nth;
 use plan_choices::weighing::plan_weight;
 use prepared_model::MODEL;
+use prepared_model::STAGES;
 use prepared_question::QUESTION;
 use prepared_question::asks_equal;
 use prepared_question::count;
@@ -104,7 +104,7 @@ fn show(
     q: &[u8; QUESTION],
     counts: &[u64; COUNTS],
     scratch: &[u8],
-    places: &[u8; GAINS],
+    places: &[u8; STAGES],
     choices: &mut [u8],
     j: u8,
     s: u8,
@@ -148,7 +148,7 @@ fn at_node(
 {
     if sets_bound(operator(q, j)) {
         let mut scratch = [0u8; STACK];
-        let mut places = [0u8; GAINS];
+        let mut places = [0u8; STAGES];
         let r = decide(m, q, counts, truth, &mut scratch, &mut places, j, s);
         let place = r.place;
         if r.met {

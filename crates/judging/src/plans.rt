@@ -21,7 +21,6 @@ use crate::conditions::peel;
 use crate::conditions::searched;
 use crate::worths::window;
 use crate::worths::worth_of;
-use best_gain::GAINS;
 use best_gain::best_gains;
 use bounds::exact_total;
 use bounds::meets;
@@ -32,6 +31,7 @@ use limits::COUNTS;
 use limits::plans_counted;
 use models::STATES;
 use prepared_model::MODEL;
+use prepared_model::STAGES;
 use prepared_model::denominator;
 use prepared_question::QUESTION;
 use prepared_question::asks_equal;
@@ -91,7 +91,7 @@ fn led(
 fn gain_led(
     m: &[u16; MODEL],
     q: &[u8; QUESTION],
-    places: &mut [u8; GAINS],
+    places: &mut [u8; STAGES],
     j: u8,
     s: u8,
 ) -> Decision
@@ -191,7 +191,7 @@ pub fn decide(
     counts: &[u64; COUNTS],
     truth: &[u8; TRUTHS],
     scratch: &mut [u8],
-    places: &mut [u8; GAINS],
+    places: &mut [u8; STAGES],
     j: u8,
     s: u8,
 ) -> Decision

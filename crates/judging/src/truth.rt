@@ -19,7 +19,6 @@ ghost use Rattle.judging.specs.promises.Conditions.{Remembers};
 use crate::BESTS;
 use crate::plans::plan_true;
 use crate::worths::window;
-use best_gain::GAINS;
 use best_gain::best_gains;
 use best_plan::STACK;
 use bounds::meets;
@@ -28,6 +27,7 @@ use evaluation::bit;
 use limits::COUNTS;
 use models::STATES;
 use prepared_model::MODEL;
+use prepared_model::STAGES;
 use prepared_model::holds;
 use prepared_model::states;
 use prepared_question::QUESTION;
@@ -161,7 +161,7 @@ fn by_table(m: &[u16; MODEL], q: &[u8; QUESTION], truth: &mut [u8; TRUTHS], j: u
     requires { ⌜ Given (now m) (now q) × (j < question.node-count (now q)) × By-table (now q) j × (length (now truth) ≡ 1280) ⌝ }
     ensures frame { λ _. ⌜ Row-told (now (m .entry)) (now (q .entry)) j (now (truth .entry)) (now (truth .exit)) (state-count (now (m .entry))) ⌝ }
 {
-    let mut places = [0u8; GAINS];
+    let mut places = [0u8; STAGES];
     let best = best_gains(m, window(m, q, j), asks_less(q, j), &mut places);
     let at = STATES * steps(q, j) as usize;
     let count = states(m);

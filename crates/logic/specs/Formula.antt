@@ -40,9 +40,9 @@ on-plan other f g (earns n l u r p q) = g n l u r p q
 abbrev pub on-bound : {A : Type 0} → (other : A) → (ℕ → Relation → A) → Formula → A
 on-bound other f φ = on-plan other (λ n ψ r p q. f n r) (λ n l u r p q. f n r) φ
 
--- The formula is true at the state s of a path, of which the steps r are left: Definition 4; `earns`: Definition 13 of the thesis. A state formula is read in s and does not
--- look at r. "do" and "next" with no step left are false, "gain" with fewer than n steps left sums those; depth keeps that from
--- being asked.
+-- The formula is true at the state s of a path, of which the steps r are left: Definition 4, and for `earns` Definition 13 of the thesis. A
+-- state formula is read in s and does not look at r. "do" and "next" with no step left are false, "gain" with fewer than n steps left sums
+-- those; depth keeps that from being asked.
 unfoldable pub sat : Model → Formula → ℕ → List Step → Bool
 sat m never s r = false
 sat m (prop i) s r = prop-in m s i

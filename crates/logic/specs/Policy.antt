@@ -1,4 +1,5 @@
--- Bounded policies as published: Definition 2 of the PLBP paper (Definitions 9 to 11 and 13 of the r-PLBP thesis); docs/PAPERS.md says which these are.
+-- Bounded policies as published: Definition 2 of the PLBP paper (Definitions 9 to 11 and 13 of the r-PLBP thesis); docs/PAPERS.md says which
+-- these are.
 use Prim.Native.Nat.{ℕ, zero, suc, _<_}
 use mathlib.Core.List.{List, [], _∷_, _++_, map, flatMap, List·Memᴰ}
 use lib.ListN.{length}

@@ -65,8 +65,17 @@ held = prop 0
 unfoldable pub done : Formula
 done = prop 1
 
+-- The rows of operator 9 are document 02's example, A.3, and others worked out by hand. From state 0 action 0 leads to state 1 with 8 in 10 and
+-- back with 2, at -2 each; action 1 with 5 and 5, at -1. From state 1 action 2 earns 10 with 9 in 10 and 0 with 1. So over 100, the plans in
+-- their order:
+--   plan     step 1   step 2                                      both
+--   0 2 0     -200    8 * 90 + 2 * (8 * -2 + 2 * -2) = 680         480
+--   0 2 1     -200    8 * 90 + 2 * (5 * -1 + 5 * -1) = 700         500
+--   1 2 0     -100    5 * 90 + 5 * (8 * -2 + 2 * -2) = 350         250
+--   1 2 1     -100    5 * 90 + 5 * (5 * -1 + 5 * -1) = 400         300
+-- Of one step, over 10: -20 and -10.
 unfoldable pub table : List Row
-unfolding row shows denies held done
+unfolding row gains shows denies held done
 table =
     row 1 (next held) greater 7 10 (shows (pos 8) 1 0 (0 ∷ []))
     ∷ row 1 (next held) greater 8 10 (denies 0)
@@ -80,20 +89,7 @@ table =
     ∷ row 2 (both (does 1) (neg (next (does 1)))) greater 9 10 (shows (pos 100) 2 0 (1 ∷ 2 ∷ 0 ∷ []))
     ∷ row 1 (next done) equal 0 1 (shows (pos 0) 1 1 (0 ∷ []))
     ∷ row 1 (next done) less 0 1 (denies 0)
-    ∷ []
-
--- Operator 9, document 02, A.3: its example, and rows worked out by hand. From state 0 action 0 leads to state 1 with 8 in 10 and back with 2,
--- at -2 each; action 1 with 5 and 5, at -1. From state 1 action 2 earns 10 with 9 in 10 and 0 with 1. So over 100, the plans in their order:
---   plan     step 1   step 2                                      both
---   0 2 0     -200    8 * 90 + 2 * (8 * -2 + 2 * -2) = 680         480
---   0 2 1     -200    8 * 90 + 2 * (5 * -1 + 5 * -1) = 700         500
---   1 2 0     -100    5 * 90 + 5 * (8 * -2 + 2 * -2) = 350         250
---   1 2 1     -100    5 * 90 + 5 * (5 * -1 + 5 * -1) = 400         300
--- Of one step, over 10: -20 and -10.
-unfoldable pub gain-table : List Row
-unfolding gains shows denies
-gain-table =
-    gains 2 2 2 greater (pos 6) 1 (shows (pos 700) 2 0 (0 ∷ 2 ∷ 1 ∷ []))
+    ∷ gains 2 2 2 greater (pos 6) 1 (shows (pos 700) 2 0 (0 ∷ 2 ∷ 1 ∷ []))
     ∷ gains 2 1 1 less (negsuc 0) 1 (shows (negsuc 199) 2 0 (0 ∷ 2 ∷ 0 ∷ []))
     ∷ gains 2 1 1 equal (negsuc 0) 1 (shows (negsuc 99) 2 3 (1 ∷ 2 ∷ 0 ∷ []))
     ∷ gains 2 2 2 equal (pos 7) 2 (shows (pos 350) 2 3 (1 ∷ 2 ∷ 0 ∷ []))
@@ -107,9 +103,5 @@ abbrev pub verdicts-of : Model → List Row → List Verdict
 verdicts-of m rows = map (λ r. verdict m 0 (r .root)) rows
 
 pub two-shelf-verdicts : verdicts-of two-shelf table ≡ map (λ r. r .answer) table
-unfolding two-shelf table is-empty all any find keep product join count-from flatMap no-action true-of mask prop-in enabled-actions deadlocked enabled stored outcomes plans choices paths weight sum total one-if sat meets related leads is-equal bound-of goal shown verdict
+unfolding two-shelf table is-empty all any find keep product join count-from flatMap no-action true-of mask prop-in enabled-actions deadlocked enabled stored outcomes plans choices paths weight sum total one-if gain-between sat meets related leads is-equal bound-of goal shown verdict
 two-shelf-verdicts = refl
-
-pub two-shelf-gains : verdicts-of two-shelf gain-table ≡ map (λ r. r .answer) gain-table
-unfolding two-shelf gain-table is-empty all any find keep product join count-from flatMap no-action true-of mask prop-in enabled-actions deadlocked enabled stored outcomes plans choices paths weight sum total gain-between sat meets related leads is-equal bound-of goal shown verdict
-two-shelf-gains = refl

@@ -1,7 +1,8 @@
 -- The two-shelf model without its wait action, as document 02, A.1, allows it: in state 2, where the pack is delivered, the work is over. Its
 -- verdicts from state 0 over three steps, in which a pack that is delivered with the second step makes the silent move with the third. The last
--- row is operator 9's, by hand: with 1, 2 and 3 steps left the most that state 1 earns is 90, 990 and so on, state 0 -10 by action 1, then
--- 8 * (-20 + 90) + 2 * (-20 - 10) = 500 and 8 * (-200 + 990) + 2 * (-200 + 500) = 6920 by action 0.
+-- row is operator 9's, by hand. State 1 earns 90 over 10 with one step left, and with two 9 * 100 + 1 * 90 = 990 over 100: delivered, a pack
+-- earns no more. State 0 earns at most -10 over 10 with one step left, by action 1; by action 0 8 * (-20 + 90) + 2 * (-20 - 10) = 500 over 100
+-- with two, and 8 * (-200 + 990) + 2 * (-200 + 500) = 6920 over 1000 with three.
 use mathlib.Core.Path.{_≡_, refl}
 use mathlib.Core.List.{List, [], _∷_, map, flatMap}
 use lib.IntN.{pos, negsuc}

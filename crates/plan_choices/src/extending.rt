@@ -12,9 +12,7 @@ ghost use Rattle.plan_choices.specs.promises.Extended as spec;
 use blocks::byte;
 use models::STATES;
 use prepared_model::MODEL;
-
-// The numbers of a table of places: 0 to 6 steps left, 32 states each.
-pub const PLANNED: usize = 224;
+use prepared_model::STAGES;
 
 // Where to read on, and where to write on.
 pub struct Cursor {
@@ -25,7 +23,7 @@ pub struct Cursor {
 // The choice at a history with n steps left, of which d are given by `src`.
 fn choice(
     m: &[u16; MODEL],
-    places: &[u8; PLANNED],
+    places: &[u8; STAGES],
     src: &[u8],
     from: usize,
     s: usize,
@@ -52,7 +50,7 @@ fn taken(d: usize) -> usize
 // apart: side by side they are handed on as one word right after its halves were written, and the processor waits for that.
 fn extend_from(
     m: &[u16; MODEL],
-    places: &[u8; PLANNED],
+    places: &[u8; STAGES],
     src: &[u8],
     from: usize,
     dst: &mut [u8],
@@ -91,7 +89,7 @@ fn extend_from(
 // Writes the choices of the n-step plan that extends the d-step plan whose choices `src` begins with; gives their number.
 pub fn extend(
     m: &[u16; MODEL],
-    places: &[u8; PLANNED],
+    places: &[u8; STAGES],
     src: &[u8],
     dst: &mut [u8],
     s: usize,

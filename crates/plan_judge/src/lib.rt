@@ -316,7 +316,7 @@ fn plan_ground(d: Desk) -> u32
     if k != 0 {
         return k;
     }
-    if questions::root_is_plan(&d.question) {
+    if questions::root_sets_bound(&d.question) {
         return 0;
     }
     22

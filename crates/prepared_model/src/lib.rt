@@ -22,6 +22,12 @@ use models::state_count;
 // The numbers of a prepared model: the head block, and a row for each state.
 pub const MODEL: usize = 8704;
 
+// The numbers of a table by steps left, 0 to 6, and states.
+pub const STAGES: usize = 224;
+
+// How much a reward is raised where a search has natural numbers: no reward is below -1000.
+pub const RAISE: u16 = 1000;
+
 // Where the upper 16 bits of the states' masks begin.
 const UPPER_HALVES_AT: usize = MASKS_AT + 2;
 

@@ -19,7 +19,7 @@ use Rattle.blocks.specs.Bytes.{Bytes}
 use Rattle.questions.specs.Layout.{node-count, question-of}
 use Rattle.questions.specs.promises.Formed.{Formed}
 use Rattle.questions.proofs.SetsBound.{bound-compares}
-use Rattle.verdict_line.specs.Line.{plain-line, no-plans-line, yes-plan-line, is-plan, verdict-line}
+use Rattle.verdict_line.specs.Line.{plain-line, no-plans-line, yes-plan-line, bounds-plans, verdict-line}
 use Rattle.plan_judge.specs.promises.Values.{padded, verdict-code, choices-code}
 use Rattle.plan_judge.specs.promises.State.{shown-size}
 use Rattle.plan_judge.proofs.StateGrounds.{other-goal, root-goal}
@@ -28,23 +28,23 @@ use Rattle.logic.proofs.OnPlan.{on-plans}
 
 -- ---- the root
 
-goal-other : (m : Model) (s : ℕ) (φ : Formula) {k : ℕ} → goal m s φ ≡ refused k → is-plan φ ≡ false
-unfolding goal bound-of is-plan
+goal-other : (m : Model) (s : ℕ) (φ : Formula) {k : ℕ} → goal m s φ ≡ refused k → bounds-plans φ ≡ false
+unfolding goal bound-of bounds-plans
 goal-other m s φ {k} =
     on-plans (λ _ c t. (c >>= λ b. ok (bound-goal m s b)) ≡ refused k → t ≡ false) (λ _ e. refl) (λ n ψ r p q e. absurd (not-ok (sym e)))
     (λ n l u r p q e. absurd (not-ok (sym e))) φ
 
-goal-plan : (m : Model) (s : ℕ) (φ : Formula) {g : Goal} → goal m s φ ≡ ok g → is-plan φ ≡ true
-unfolding goal bound-of is-plan
+goal-plan : (m : Model) (s : ℕ) (φ : Formula) {g : Goal} → goal m s φ ≡ ok g → bounds-plans φ ≡ true
+unfolding goal bound-of bounds-plans
 goal-plan m s φ {g} =
     on-plans (λ _ c t. (c >>= λ b. ok (bound-goal m s b)) ≡ ok g → t ≡ true) (λ _ e. absurd (not-ok e)) (λ n ψ r p q e. refl) (λ n l u r p q e. refl) φ
 
 module _ {S A N : ℕ} {q : Bytes} (a : Formed S A N q) (m : Model) (s : ℕ) where
   -- The root's formula sets a bound where its operator says so.
-  pub root-is : is-plan (question-of q .root) ≡ plan-root q
+  pub root-is : bounds-plans (question-of q .root) ≡ plan-root q
   root-is = by (plan-root q) refl
     where
-      by : (t : Bool) → plan-root q ≡ t → is-plan (question-of q .root) ≡ plan-root q
+      by : (t : Bool) → plan-root q ≡ t → bounds-plans (question-of q .root) ≡ plan-root q
       by true e = goal-plan m s (question-of q .root) (root-goal a m s e) ∙ sym e
       by false e = goal-other m s (question-of q .root) (other-goal a m s e) ∙ sym e
 
@@ -80,7 +80,7 @@ few-choices (logic.no x) e = omega arith
 few-choices logic.yes e = omega arith
 few-choices (logic.yes-plan x) e = let cs : List ℕ = x .choices in omega (arith, length-append cs (replicate (1365 - length cs) 0), length-replicate {A = ℕ} (1365 - length cs) 0)
 
-pub line-is : (m : Model) (φ : Formula) (v : logic.Verdict) (D : ℕ) (t : Bool) → m .denominator ≡ D → is-plan φ ≡ t
+pub line-is : (m : Model) (φ : Formula) (v : logic.Verdict) (D : ℕ) (t : Bool) → m .denominator ≡ D → bounds-plans φ ≡ t
     → shown-line D t (verdict-code v) (take (shown-size (some v)) (choices-code v)) ≡ verdict-line m φ v
 unfolding shown-line verdict-line verdict-code choices-code padded shown-size
 line-is m φ (logic.no x) D t d i = ap (λ u. cond u (no-plans-line (x .count)) (plain-line false)) (sym i)

@@ -26,7 +26,7 @@ fn no_line(out: &mut [u8], q: &[u8], count: u32) -> usize
         let out′ = now (out .exit) in let q = now (q .entry) in let out = now (out .entry) in
         ⌜ Put (cond (plan-root q) (no-plans-line count) (plain-line false)) out out′ 0 r ⌝ }
 {
-    if questions::root_is_plan(q) {
+    if questions::root_sets_bound(q) {
         return verdict_line::no_plans_line(out, count);
     }
     verdict_line::plain_line(out, false)

@@ -178,7 +178,7 @@ pub fn sets_bound(operator: u8) -> bool
 }
 
 // Whether the root's operator sets a bound on plans.
-pub fn root_is_plan(q: &[u8]) -> bool
+pub fn root_sets_bound(q: &[u8]) -> bool
     ensures value { λ r. ⌜ r ≡ sets-bound (node-of (now (q .entry)) (node-count (now (q .entry)) - 1) .operator) ⌝ }
 {
     sets_bound(operator(q, root(q)))

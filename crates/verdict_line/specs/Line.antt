@@ -34,12 +34,12 @@ yes-plan-line w t count cs =
     text "yes " ++ signed-decimal w ++ numbered "/" t ++ numbered " plans " count ++ text " choices" ++ flatMap (numbered " ") cs ++ text "\n"
 
 -- A "plan" root, or one of operator 9.
-unfoldable pub is-plan : Formula → Bool
-is-plan φ = on-bound false (λ n r. true) φ
+unfoldable pub bounds-plans : Formula → Bool
+bounds-plans φ = on-bound false (λ n r. true) φ
 
 -- The line of a verdict on this root.
 unfoldable pub verdict-line : Model → Formula → Verdict → List ℕ
-verdict-line m φ (no x) = cond (is-plan φ) (no-plans-line (x .count)) (plain-line false)
+verdict-line m φ (no x) = cond (bounds-plans φ) (no-plans-line (x .count)) (plain-line false)
 verdict-line m φ yes = plain-line true
 verdict-line m φ (yes-plan x) = yes-plan-line (x .total) (m .denominator ^ x .steps) (x .count) (x .choices)
 

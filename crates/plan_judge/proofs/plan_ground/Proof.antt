@@ -14,18 +14,18 @@ returns : tie.Need-returns
 unfolding held-goal
 returns c = bind-refused (held-both (view (c .before .before .args .t1))) _ _ (c .before .state-ground .ensures) (c .if1 .taken)
 
-root-is-plan-requires : tie.Need-root-is-plan-requires
-root-is-plan-requires c κs = search needs
+root-sets-bound-requires : tie.Need-root-sets-bound-requires
+root-sets-bound-requires c κs = search needs
 
 returns-2 : tie.Need-returns-2
 returns-2 c = let d = c .before .before .before .before .before .before .before .args .t1 in
-    a-plan d (both d (sym (c .before .before .before .before .before .before .state-ground .ensures) ∙ c .before .before .before .before .before .if1 .left)) (sym (c .before .root-is-plan .ensures) ∙ c .if2 .taken)
+    a-plan d (both d (sym (c .before .before .before .before .before .before .state-ground .ensures) ∙ c .before .before .before .before .before .if1 .left)) (sym (c .before .root-sets-bound .ensures) ∙ c .if2 .taken)
 
 returns-3 : tie.Need-returns-3
 returns-3 c = let d = c .before .before .before .before .before .before .before .args .t1 in
-    no-plan d (both d (sym (c .before .before .before .before .before .before .state-ground .ensures) ∙ c .before .before .before .before .before .if1 .left)) (sym (c .before .root-is-plan .ensures) ∙ c .if2 .left)
+    no-plan d (both d (sym (c .before .before .before .before .before .before .state-ground .ensures) ∙ c .before .before .before .before .before .if1 .left)) (sym (c .before .root-sets-bound .ensures) ∙ c .if2 .left)
 
 pub plan-ground-spec : {M : Type 1} → statement M
 plan-ground-spec =
     tie.close
-    (tie.spec state-ground-requires returns root-is-plan-requires returns-2 returns-3)
+    (tie.spec state-ground-requires returns root-sets-bound-requires returns-2 returns-3)

@@ -5,8 +5,8 @@ use borrow.Author.Needs.{needs}
 use Rattle.printing.proofs.no_line.Statement.{statement}
 use Rattle.printing.proofs.no_line.Tie as tie
 
-root-is-plan-requires : tie.Need-root-is-plan-requires
-root-is-plan-requires c κs = search needs
+root-sets-bound-requires : tie.Need-root-sets-bound-requires
+root-sets-bound-requires c κs = search needs
 
 no-plans-line-requires : tie.Need-no-plans-line-requires
 no-plans-line-requires c κs = search needs
@@ -15,7 +15,7 @@ same-length : tie.Need-same-length
 same-length c = search needs
 
 returns : tie.Need-returns
-returns c = rw (sym (c .before .before .before .before .before .root-is-plan .ensures) ∙ c .before .before .before .before .if1 .taken) (c .before .before .no-plans-line .ensures)
+returns c = rw (sym (c .before .before .before .before .before .root-sets-bound .ensures) ∙ c .before .before .before .before .if1 .taken) (c .before .before .no-plans-line .ensures)
 
 plain-line-requires : tie.Need-plain-line-requires
 plain-line-requires c κs = search needs
@@ -24,13 +24,13 @@ same-length-2 : tie.Need-same-length-2
 same-length-2 c = search needs
 
 returns-2 : tie.Need-returns-2
-returns-2 c = rw (sym (c .before .before .before .before .before .root-is-plan .ensures) ∙ c .before .before .before .before .if1 .left) (c .before .before .plain-line .ensures)
+returns-2 c = rw (sym (c .before .before .before .before .before .root-sets-bound .ensures) ∙ c .before .before .before .before .if1 .left) (c .before .before .plain-line .ensures)
 
 pub no-line-spec : {M : Type 1} → statement M
 no-line-spec =
     tie.close
     (tie.spec
-    root-is-plan-requires
+    root-sets-bound-requires
     no-plans-line-requires
     same-length
     returns

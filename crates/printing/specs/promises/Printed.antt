@@ -52,9 +52,9 @@ plan-root q = sets-bound (node-of q (node-count q - 1) .operator)
 
 -- Its line, with the denominator D.
 unfoldable pub shown-line : (D : ℕ) → Bool → Verdict → List ℕ → List ℕ
-shown-line D is-plan (No x) cs = cond is-plan (no-plans-line (x .count)) (plain-line false)
-shown-line D is-plan Yes cs = plain-line true
-shown-line D is-plan (YesPlan x) cs = yes-plan-line (x .weight) (D ^ x .steps) (x .count) cs
+shown-line D bounded (No x) cs = cond bounded (no-plans-line (x .count)) (plain-line false)
+shown-line D bounded Yes cs = plain-line true
+shown-line D bounded (YesPlan x) cs = yes-plan-line (x .weight) (D ^ x .steps) (x .count) cs
 
 -- The steps of the plan record; 0 where there is none.
 unfoldable pub shown-steps : Verdict → ℕ

@@ -3,8 +3,8 @@ use mathlib.Core.Path.{ap, _∙_}
 use borrow.Author.Needs.{needs}
 use Rattle.questions.specs.Layout.{node-of}
 use Rattle.questions.specs.promises.Formed.{sets-bound}
-use Rattle.questions.proofs.root_is_plan.Statement.{statement}
-use Rattle.questions.proofs.root_is_plan.Tie as tie
+use Rattle.questions.proofs.root_sets_bound.Statement.{statement}
+use Rattle.questions.proofs.root_sets_bound.Tie as tie
 
 root-requires : tie.Need-root-requires
 root-requires c κs = search needs
@@ -19,5 +19,5 @@ returns : tie.Need-returns
 returns c = let q = c .before .before .before .before .args .q .now in
     c .sets-bound .ensures ∙ ap sets-bound (c .before .operator .ensures ∙ ap (λ i. node-of q i .operator) (c .before .before .root .ensures))
 
-pub root-is-plan-spec : {M : Type 1} → statement M
-root-is-plan-spec = tie.close (tie.spec root-requires operator-requires sets-bound-requires returns)
+pub root-sets-bound-spec : {M : Type 1} → statement M
+root-sets-bound-spec = tie.close (tie.spec root-requires operator-requires sets-bound-requires returns)
