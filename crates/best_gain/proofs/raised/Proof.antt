@@ -6,6 +6,7 @@ use mir.Syntax.{w16, w64}
 use mir.Val.{toZ, ofZ, SFits}
 use mir.ValLaws.{toZ-ofZ}
 use Rattle.logic.specs.promises.Raised.{raise}
+use borrow.Author.Needs.{needs}
 use Rattle.best_gain.proofs.raised.Statement.{statement}
 use Rattle.best_gain.proofs.raised.Tie as tie
 
@@ -25,14 +26,17 @@ fits S = record { sfits = omega (arith, S .pre .small) }
 cast-result : tie.Need-cast-result
 cast-result c = rw (same c) (record { sfits = omega (arith, c .fits .r .sfits) })
 
+cast-result-2 : tie.Need-cast-result-2
+cast-result-2 c = search needs
+
 add-result : tie.Need-add-result
 add-result c = rw (up c) (fits c)
 
-cast-result-2 : tie.Need-cast-result-2
-cast-result-2 c = rw (up c, toZ-ofZ w64 (pos (raise (c .args .r))) (fits c)) (tt, record { fits = omega (arith, c .pre .small) })
+cast-result-3 : tie.Need-cast-result-3
+cast-result-3 c = rw (up c, toZ-ofZ w64 (pos (raise (c .args .r))) (fits c)) (tt, record { fits = omega (arith, c .pre .small) })
 
 returns : tie.Need-returns
 returns c = rw (up c, toZ-ofZ w64 (pos (raise (c .args .r))) (fits c)) (refl, c .pre .small)
 
 pub raised-spec : {M : Type 1} → statement M
-raised-spec = tie.close (tie.spec cast-result add-result cast-result-2 returns)
+raised-spec = tie.close (tie.spec cast-result cast-result-2 add-result cast-result-3 returns)

@@ -42,6 +42,9 @@ sub-paid-2 c = rw (c .left .ensures) (omega (arith, range c .rising))
 cast-result : tie.Need-cast-result
 cast-result c = search needs
 
+cast-result-2 : tie.Need-cast-result-2
+cast-result-2 c = search needs
+
 mul-result : tie.Need-mul-result
 mul-result c = search needs
 
@@ -74,6 +77,7 @@ lift-spec =
     sub-paid
     sub-paid-2
     cast-result
+    cast-result-2
     mul-result
     whole-requires
     mul-result-2
