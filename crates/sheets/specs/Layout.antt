@@ -8,7 +8,7 @@ use Rattle.logic.specs.Lists.{count-from}
 use Rattle.blocks.specs.Bytes.{Bytes, u16, u64, signed, twos-complement, little-endian}
 use Rattle.blocks.specs.Block.{block-count, with-word-sum}
 
--- What a sheet says.
+-- What a sheet says: the total that is claimed, by document 01's word the weight, and the choices.
 pub record Sheet : Type 0 where
   pub weight : ℤ
   pub choices : List ℕ
