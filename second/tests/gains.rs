@@ -330,7 +330,7 @@ const VERDICTS: [(&str, &str, usize); 15] = [
     (
         "judge",
         "yes with plan, counted: operator 9 equal, total below 0",
-        20,
+        10,
     ),
     ("judge", "no: operator 9 less", 50),
     ("judge", "no: operator 9 greater", 50),

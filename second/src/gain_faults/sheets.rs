@@ -50,11 +50,8 @@ pub(super) fn wrong_checks(
     if gains_root(question).is_some() {
         found.push((Fault::RootRefused, "check"));
     }
-    if right == Err(Ground::Range) {
-        let desk = Desk::holding(model.clone(), question.clone());
-        if desk.check(&with_one_sign(bytes)) != right {
-            found.push((Fault::BlocksUnsigned, "check"));
-        }
+    if right == Err(Ground::Range) && blind_to_signs(model, question, bytes) != right {
+        found.push((Fault::BlocksUnsigned, "check"));
     }
     let (Some(root), Ok(_) | Err(Ground::Total)) = (question.root_plan(), right) else {
         return found;
@@ -84,9 +81,9 @@ pub(super) fn wrong_checks(
     found
 }
 
-/// The blocks with the top bit of the first one's total in all of them, and the
-/// other bits as they are.
-fn with_one_sign(bytes: &[u8]) -> Vec<u8> {
+/// The answer to the blocks with the top bit of the first one's total in all of
+/// them, and the other bits as they are.
+fn blind_to_signs(model: &Model, question: &Question, bytes: &[u8]) -> Result<bool, Ground> {
     const HIGH_AT: usize = 15;
     let sign = u8_at(bytes, HIGH_AT) & 0x80;
     let mut changed = bytes.to_vec();
@@ -95,7 +92,7 @@ fn with_one_sign(bytes: &[u8]) -> Vec<u8> {
         put(block, HIGH_AT, &[high]);
     }
     fix_word_sums(&mut changed);
-    changed
+    Desk::holding(model.clone(), question.clone()).check(&changed)
 }
 
 /// A plan with the eight bytes that its sheet has for its total.

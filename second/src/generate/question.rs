@@ -29,11 +29,11 @@ pub fn random_question(rng: &mut Rng, model: &Model, totals: &Totals, scale: Sca
         },
     };
     let silent = (0..model.states()).any(|state| model.is_silent(state as u8));
-    let root = match drawer.rng.below(20) {
-        0..=4 if drawer.rng.once_in(12) => drawer.left_of_an_and(),
-        0..=4 => drawer.gains_root(),
-        5..=6 if drawer.rng.once_in(3) => drawer.one_window(),
-        5..=6 => drawer.about_gains(),
+    let root = match drawer.rng.below(40) {
+        0..=9 => drawer.gains_root(),
+        10..=13 => drawer.about_gains(),
+        14..=15 => drawer.one_window(),
+        16 => drawer.left_of_an_and(),
         _ if silent && drawer.rng.once_in(3) => drawer.about_silent_steps(),
         _ => drawer.any_root(),
     };

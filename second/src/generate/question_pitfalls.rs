@@ -52,7 +52,9 @@ impl Drawer<'_> {
     /// A number below a left byte: mostly one that is the left byte of another
     /// window, if there is one.
     fn another_window(&mut self, left: u8) -> u8 {
-        let windows: Vec<u8> = (9..left).filter(|n| (1..=n / 8).contains(&(n % 8))).collect();
+        let windows: Vec<u8> = (9..left)
+            .filter(|n| (1..=n / 8).contains(&(n % 8)))
+            .collect();
         let any = self.rng.below(left.into()) as u8;
         match self.rng.once_in(4) {
             true => any,

@@ -139,7 +139,7 @@ pub fn judges(rng: &mut Rng, count: usize) -> Vec<Call> {
             let packed = QuestionImage::from(&question).pack();
             calls.extend([Call::Put(packed), Call::Judge]);
         }
-        if rng.once_in(20) {
+        if rng.once_in(16) {
             calls.extend(pitfalls(rng));
         }
     }
