@@ -337,7 +337,7 @@ const VERDICTS: [(&str, &str, usize); 15] = [
     ("judge", "no, plans counted: operator 9 equal", 50),
     ("judge", "yes: by operator 9 below the root", 20),
     ("judge", "no: by operator 9 below the root", 40),
-    ("judge", "yes with plan: by operator 9 below the root", 20),
+    ("judge", "yes with plan: by operator 9 below the root", 10),
     (
         "judge",
         "yes with plan, counted: by operator 9 below the root",
@@ -346,7 +346,7 @@ const VERDICTS: [(&str, &str, usize); 15] = [
     (
         "judge",
         "no, plans counted: by operator 9 below the root",
-        3,
+        2,
     ),
     ("judge", "yes with plan: operator 8 greater", 100),
 ];

@@ -34,7 +34,7 @@ pub fn random_question(rng: &mut Rng, model: &Model, totals: &Totals, scale: Sca
         10..=13 => drawer.about_gains(),
         14..=15 => drawer.one_window(),
         16 => drawer.left_of_an_and(),
-        _ if silent && drawer.rng.once_in(3) => drawer.about_silent_steps(),
+        _ if silent && drawer.rng.below(8) < 3 => drawer.about_silent_steps(),
         _ => drawer.any_root(),
     };
     drawer.question.nodes.push(root);
