@@ -58,12 +58,14 @@ fn published_mary_questions() {
     check_questions("mary-published", 12);
 }
 
-/// Document 02, A.3: expected gains on the two-shelf model, and at the ends of
-/// what can be gained.
+/// Document 02, A.3: expected gains on the two-shelf model, at the ends of what
+/// can be gained, by plans that look at the history, on sheets of two blocks.
 #[test]
 fn expected_gain_questions() {
-    check_questions("two-shelf-gains", 42);
-    check_questions("toll", 10);
+    check_questions("two-shelf-gains", 48);
+    check_questions("toll", 15);
+    check_questions("coin", 5);
+    check_questions("spread", 2);
 }
 
 /// Source document 000, Example 10.
@@ -150,6 +152,7 @@ fn sheets() {
         "two-shelf-silent",
         "two-shelf-gains",
         "toll",
+        "spread",
         "robot",
         "silent",
         "mary",
@@ -162,7 +165,7 @@ fn sheets() {
         .iter()
         .flat_map(|folder| files(folder, "sheet"))
         .collect();
-    assert!(sheets.len() >= 75);
+    assert!(sheets.len() >= 81);
     for file in sheets {
         check_sheet(&file);
     }

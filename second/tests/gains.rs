@@ -330,14 +330,14 @@ const VERDICTS: [(&str, &str, usize); 15] = [
     (
         "judge",
         "yes with plan, counted: operator 9 equal, total below 0",
-        20,
+        15,
     ),
     ("judge", "no: operator 9 less", 50),
     ("judge", "no: operator 9 greater", 50),
     ("judge", "no, plans counted: operator 9 equal", 50),
     ("judge", "yes: by operator 9 below the root", 20),
     ("judge", "no: by operator 9 below the root", 40),
-    ("judge", "yes with plan: by operator 9 below the root", 20),
+    ("judge", "yes with plan: by operator 9 below the root", 15),
     (
         "judge",
         "yes with plan, counted: by operator 9 below the root",

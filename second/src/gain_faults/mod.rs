@@ -3,6 +3,7 @@
 //! does. A stream in which they answer all alike cannot tell them from it.
 
 mod fields;
+mod misread;
 mod sheets;
 mod sums;
 mod verdicts;
@@ -30,6 +31,18 @@ pub enum Fault {
     BoundTurnedOver,
     /// p times D to the n is divided by q first, towards 0, and then compared.
     BoundTruncated,
+    /// Both sides are raised, so that they are not below 0, and are compared in
+    /// 64 bits with a sign.
+    SidesSigned,
+    /// The sides are compared by their difference, in 64 bits with a sign.
+    DifferenceSigned,
+    /// When doubled "and"s are pointed past, the left byte is taken for a child.
+    LeftPointedPast,
+    /// Best totals are kept for a window and a relation, and n is forgotten.
+    WindowRemembered,
+    /// "Equal" looks only at plans that choose by the steps left and the state.
+    /// Where one of them meets the bound, the right plan is shown.
+    EqualByState,
     /// The least total is taken for the greatest and the greatest for the least.
     WrongEnd,
     /// Of the plans with the best total the last is shown.
@@ -90,6 +103,8 @@ pub enum Fault {
     TotalUnsigned,
     /// The total is written and asked for in its low 32 bits.
     TotalCut,
+    /// The totals of a sheet's blocks are compared without their top bits.
+    BlocksUnsigned,
     /// The top bit of operator 8's weight is not looked at.
     TopBitDropped,
     /// Operator 8's weight is read in two's complement. No call tells this: a
@@ -97,7 +112,7 @@ pub enum Fault {
     WeightSigned,
 }
 
-pub const ALL: [Fault; 40] = [
+pub const ALL: [Fault; 46] = [
     Fault::StepsFromZero,
     Fault::UpToTheEnd,
     Fault::FromTheStart,
@@ -106,6 +121,11 @@ pub const ALL: [Fault; 40] = [
     Fault::BoundUnsigned,
     Fault::BoundTurnedOver,
     Fault::BoundTruncated,
+    Fault::SidesSigned,
+    Fault::DifferenceSigned,
+    Fault::LeftPointedPast,
+    Fault::WindowRemembered,
+    Fault::EqualByState,
     Fault::WrongEnd,
     Fault::LastAmongEquals,
     Fault::FirstThatMeets,
@@ -136,6 +156,7 @@ pub const ALL: [Fault; 40] = [
     Fault::RootRefused,
     Fault::TotalUnsigned,
     Fault::TotalCut,
+    Fault::BlocksUnsigned,
     Fault::TopBitDropped,
     Fault::WeightSigned,
 ];

@@ -1,10 +1,12 @@
 //! What judges with faults write, and what they answer to sheets.
 
+use super::misread::misread;
 use super::sums::{meets, Sums};
 use super::verdicts::wrong_below;
 use super::{gains_root, Fault, ALL};
-use crate::blocks::Sheet;
-use crate::desk::stored;
+use crate::blocks::{fix_word_sums, Sheet, BLOCK};
+use crate::bytes::{put, u8_at};
+use crate::desk::{stored, Desk};
 use crate::ground::Ground;
 use crate::logic::{fast, Model, Plan, PlanNode, Question, Totals};
 
@@ -48,6 +50,9 @@ pub(super) fn wrong_checks(
     if gains_root(question).is_some() {
         found.push((Fault::RootRefused, "check"));
     }
+    if right == Err(Ground::Range) && blind_to_signs(model, question, bytes) != right {
+        found.push((Fault::BlocksUnsigned, "check"));
+    }
     let (Some(root), Ok(_) | Err(Ground::Total)) = (question.root_plan(), right) else {
         return found;
     };
@@ -63,7 +68,7 @@ pub(super) fn wrong_checks(
         whole: model.whole(root.steps()),
     };
     let answers: Vec<(Fault, Result<bool, Ground>)> = match root.sums_gains() {
-        true => claim.gains(model),
+        true => claim.gains(model, question),
         false => claim.weight(model, question),
     };
     let differing = answers.into_iter().filter(|(_, answer)| *answer != right);
@@ -76,6 +81,20 @@ pub(super) fn wrong_checks(
     found
 }
 
+/// The answer to the blocks with the top bit of the first one's total in all of
+/// them, and the other bits as they are.
+fn blind_to_signs(model: &Model, question: &Question, bytes: &[u8]) -> Result<bool, Ground> {
+    const HIGH_AT: usize = 15;
+    let sign = u8_at(bytes, HIGH_AT) & 0x80;
+    let mut changed = bytes.to_vec();
+    for block in changed.chunks_mut(BLOCK) {
+        let high = u8_at(block, HIGH_AT) & 0x7F | sign;
+        put(block, HIGH_AT, &[high]);
+    }
+    fix_word_sums(&mut changed);
+    Desk::holding(model.clone(), question.clone()).check(&changed)
+}
+
 /// A plan with the eight bytes that its sheet has for its total.
 struct Claim {
     root: PlanNode,
@@ -86,10 +105,15 @@ struct Claim {
 
 impl Claim {
     /// What judges with faults answer where gains are summed.
-    fn gains(&self, model: &Model) -> Vec<(Fault, Result<bool, Ground>)> {
+    fn gains(&self, model: &Model, question: &Question) -> Vec<(Fault, Result<bool, Ground>)> {
         let sums = Sums::of(model, &self.root, &self.plan);
+        let pointed_past = misread(Fault::LeftPointedPast, question, question.root());
+        let by_left = pointed_past.map(|node| Sums::of(model, &node, &self.plan));
         let answer = |fault: Fault| {
-            let total = sums.by(fault);
+            let total = match (fault, &by_left) {
+                (Fault::LeftPointedPast, Some(sums)) => sums.by(fault),
+                _ => sums.by(fault),
+            };
             match written(fault, total) == self.stored {
                 true => Ok(meets(fault, &self.root, total, self.whole)),
                 false => Err(Ground::Total),

@@ -1,8 +1,10 @@
 //! The totals of all plans, rightly and wrongly summed, and how judges with
 //! faults compare them.
 
-use super::Fault;
-use crate::logic::{Model, Path, Plan, PlanNode, Relation, Summed, Totals};
+use super::misread::misread;
+use super::{Fault, ALL};
+use crate::logic::{Model, Node, Path, Plan, PlanNode, Question, Relation, Summed, Totals};
+use std::collections::BTreeMap;
 
 /// Totals of more (plan, path) pairs than this are not worked out.
 const AFFORDABLE: u64 = 20_000;
@@ -15,6 +17,8 @@ pub(super) struct Sums {
     up_to_the_end: i128,
     from_the_start: i128,
     unweighted: i128,
+    /// Whether the plan chooses by the steps left and the state.
+    by_state: bool,
 }
 
 impl Sums {
@@ -23,7 +27,10 @@ impl Sums {
         let Summed::Gains { first, last } = node.summed else {
             return Sums::default();
         };
-        let mut sums = Sums::default();
+        let mut sums = Sums {
+            by_state: chooses_by_state(model, plan),
+            ..Sums::default()
+        };
         for path in plan.paths(model) {
             let weight = i128::from(path.weight);
             let gain = |path: &Path, first, last| i128::from(path.gain_of_steps(first, last));
@@ -48,9 +55,105 @@ impl Sums {
     }
 }
 
+/// Whether a plan makes one choice in each state that it can be in with some
+/// steps left, whatever the states before.
+fn chooses_by_state(model: &Model, plan: &Plan) -> bool {
+    let mut level = vec![plan];
+    while !level.is_empty() {
+        let mut chosen: BTreeMap<u8, u8> = BTreeMap::new();
+        for plan in &level {
+            let action = plan.chosen(model).map_or(0, |entry| entry.action);
+            if *chosen.entry(plan.state()).or_insert(action) != action {
+                return false;
+            }
+        }
+        level = level.iter().flat_map(|plan| plan.below()).collect();
+    }
+    true
+}
+
+/// The sums of all plans of a node from a state, as judges take them.
+pub(super) struct Reading {
+    node: PlanNode,
+    whole: u64,
+    right: Vec<Sums>,
+    /// Those of another node, where a judge with the fault takes them for these.
+    misread: BTreeMap<Fault, Vec<Sums>>,
+}
+
+impl Reading {
+    /// None if there are too many plans.
+    pub(super) fn of(
+        model: &Model,
+        question: &Question,
+        number: usize,
+        state: u8,
+    ) -> Option<Reading> {
+        let Some(Node::Plan(node)) = question.nodes.get(number) else {
+            return None;
+        };
+        let others = ALL.into_iter().filter_map(|fault| {
+            let other = misread(fault, question, number)?;
+            Some((fault, all_sums(model, &other, state)?))
+        });
+        Some(Reading {
+            node: *node,
+            whole: model.whole(node.steps()),
+            right: all_sums(model, node, state)?,
+            misread: others.collect(),
+        })
+    }
+
+    /// How many plans there are.
+    pub(super) fn count(&self) -> usize {
+        self.right.len()
+    }
+
+    /// The place and the total of the plan that a judge with the fault shows.
+    pub(super) fn shown(&self, fault: Fault) -> Option<(usize, i128)> {
+        let misread = self.misread.get(&fault);
+        let found = self.best(fault, misread.unwrap_or(&self.right))?;
+        match misread {
+            // The total is remembered, the plan is not.
+            Some(_) if fault == Fault::WindowRemembered => {
+                let (place, _) = self.extreme(fault, &self.right)?;
+                Some((place, found.1))
+            }
+            _ => Some(found),
+        }
+    }
+
+    /// The same among these sums.
+    fn best(&self, fault: Fault, sums: &[Sums]) -> Option<(usize, i128)> {
+        let meeting = |total: i128| meets(fault, &self.node, total, self.whole);
+        let equal = self.node.relation == Relation::Equal;
+        if equal || fault == Fault::FirstThatMeets {
+            let by_state = |sums: &Sums| sums.by_state && meeting(sums.right);
+            let looked = !equal || fault != Fault::EqualByState || sums.iter().any(by_state);
+            let mut totals = sums.iter().map(|sums| sums.by(fault)).enumerate();
+            return totals.find(|(_, total)| looked && meeting(*total));
+        }
+        let best = self.extreme(fault, sums);
+        best.filter(|(_, total)| meeting(*total))
+    }
+
+    /// The first greatest or least total, as the relation asks for it.
+    fn extreme(&self, fault: Fault, sums: &[Sums]) -> Option<(usize, i128)> {
+        let wrong_end = fault == Fault::WrongEnd;
+        let greatest = (self.node.relation == Relation::Greater) != wrong_end;
+        let mut best: Option<(usize, i128)> = None;
+        for (place, total) in sums.iter().map(|sums| sums.by(fault)).enumerate() {
+            if best.is_none_or(|(_, so_far)| replaces(fault, greatest, total, so_far)) {
+                best = Some((place, total));
+            }
+        }
+        best
+    }
+}
+
 /// The sums of all plans from a state in dictionary order; none if they are too
 /// many.
-pub(super) fn all_sums(model: &Model, node: &PlanNode, state: u8) -> Option<Vec<Sums>> {
+fn all_sums(model: &Model, node: &PlanNode, state: u8) -> Option<Vec<Sums>> {
     let totals = Totals::of(model);
     let (plans, paths) = (
         totals.plans(node.steps(), state),
@@ -80,31 +183,30 @@ pub(super) fn meets(fault: Fault, node: &PlanNode, total: i128, whole: u64) -> b
         Fault::BoundUnsigned => relates(total * q, p.abs() * whole),
         Fault::BoundTurnedOver => relates(total * p, q * whole),
         Fault::BoundTruncated => relates(total, p * whole / q),
+        Fault::SidesSigned => {
+            let (left, right) = raised(node, total, whole);
+            node.relation.relates(left as i64, right as i64)
+        }
+        Fault::DifferenceSigned => {
+            let difference = (total * q - p * whole) as i64;
+            node.relation.relates(difference, 0)
+        }
         _ => relates(total * q, p * whole),
     }
 }
 
-/// The place and the total of the plan that a judge with the fault shows.
-pub(super) fn shown(
-    fault: Fault,
-    node: &PlanNode,
-    sums: &[Sums],
-    whole: u64,
-) -> Option<(usize, i128)> {
-    let totals = || sums.iter().map(|sums| sums.by(fault)).enumerate();
-    let meeting = |total: i128| meets(fault, node, total, whole);
-    if node.relation == Relation::Equal || fault == Fault::FirstThatMeets {
-        return totals().find(|(_, total)| meeting(*total));
-    }
-    let wrong_end = fault == Fault::WrongEnd;
-    let greatest = (node.relation == Relation::Greater) != wrong_end;
-    let mut best: Option<(usize, i128)> = None;
-    for (place, total) in totals() {
-        if best.is_none_or(|(_, so_far)| replaces(fault, greatest, total, so_far)) {
-            best = Some((place, total));
-        }
-    }
-    best.filter(|(_, total)| meeting(*total))
+/// The two sides with the same added to both, so that neither is below 0: the
+/// most that can be lost, and p times D to the n where that is below 0. They can
+/// reach 18 * 10^18, which 64 bits without a sign hold.
+fn raised(node: &PlanNode, total: i128, whole: i128) -> (i128, i128) {
+    let (p, q) = (i128::from(node.bound.p), i128::from(node.bound.q));
+    let steps = match node.summed {
+        Summed::Gains { first, last } => i128::from(last + 1 - first),
+        Summed::Weights { .. } => 0,
+    };
+    let lost = 1000 * steps * whole;
+    let owed = (-p).max(0) * whole;
+    ((total + lost) * q + owed, p * whole + lost * q + owed)
 }
 
 /// Whether a total is shown rather than the best so far.

@@ -1,7 +1,7 @@
 //! Verdicts of judges with faults: of a root of operator 9, and of other roots
 //! with such nodes below them.
 
-use super::sums::{all_sums, shown, Sums};
+use super::sums::Reading;
 use super::{gains_root, is_gains, Fault, ALL};
 use crate::desk::Desk;
 use crate::logic::{Judged, Model, Node, Plan, PlanNode, PlanRecord, Question};
@@ -14,7 +14,8 @@ pub(super) fn wrong(
     right: &Judged,
 ) -> Vec<(Fault, &'static str)> {
     if let Some(root) = gains_root(question) {
-        let Some(sums) = all_sums(model, &root, question.start) else {
+        let sums = Reading::of(model, question, question.root(), question.start);
+        let Some(sums) = sums else {
             return Vec::new();
         };
         let differs = |fault: &Fault| judged(*fault, model, question, &root, &sums) != *right;
@@ -33,15 +34,15 @@ fn judged(
     model: &Model,
     question: &Question,
     root: &PlanNode,
-    sums: &[Sums],
+    sums: &Reading,
 ) -> Judged {
     let counted = |count: usize| match root.relation {
         Relation::Equal if fault != Fault::NotCounted => count as u64,
         _ => 0,
     };
-    let Some((place, total)) = shown(fault, root, sums, model.whole(root.steps())) else {
+    let Some((place, total)) = sums.shown(fault) else {
         return Judged::plain(Verdict::No {
-            count: counted(sums.len()),
+            count: counted(sums.count()),
         });
     };
     if fault == Fault::NoPlanShown {
@@ -76,32 +77,25 @@ fn choices_at(model: &Model, question: &Question, root: &PlanNode, place: usize)
 /// its own; none if the model has too few left.
 pub(super) fn wrong_below(model: &Model, question: &Question) -> Vec<(Fault, Desk)> {
     let numbered = question.nodes.iter().enumerate();
-    let below: Vec<(usize, PlanNode)> = numbered
+    let below: Vec<usize> = numbered
         .filter(|(number, node)| is_gains(node) && *number != question.root())
-        .filter_map(|(number, node)| match node {
-            Node::Plan(plan) => Some((number, *plan)),
-            _ => None,
-        })
+        .map(|(number, _)| number)
         .collect();
     let room = 32 - usize::from(model.propositions);
     if below.is_empty() || below.len() > room {
         return Vec::new();
     }
-    let Some(truths) = below
-        .iter()
-        .map(|(_, node)| Truths::of(model, node))
-        .collect()
-    else {
+    let truths = below.iter().map(|own| Truths::of(model, question, *own));
+    let Some(truths) = truths.collect::<Option<Vec<Truths>>>() else {
         return Vec::new();
     };
-    let truths: Vec<Truths> = truths;
     let differing = ALL.into_iter().filter(|fault| {
         let mut nodes = truths.iter();
         nodes.any(|node| node.by(*fault) != node.by(Fault::WeightSigned))
     });
     let desk = |fault: Fault| {
         let (mut told, mut asked) = (model.clone(), question.clone());
-        for (bit, ((number, _), truths)) in (model.propositions..).zip(below.iter().zip(&truths)) {
+        for (bit, (number, truths)) in (model.propositions..).zip(below.iter().zip(&truths)) {
             asked.nodes[*number] = Node::Proposition(bit);
             for (state, mask) in told.valuation.iter_mut().enumerate() {
                 *mask |= u32::from(truths.by(fault)[state]) << bit;
@@ -113,27 +107,18 @@ pub(super) fn wrong_below(model: &Model, question: &Question) -> Vec<(Fault, Des
 }
 
 /// The sums of all plans of a node, for each state.
-struct Truths {
-    node: PlanNode,
-    sums: Vec<Vec<Sums>>,
-    whole: u64,
-}
+struct Truths(Vec<Reading>);
 
 impl Truths {
-    fn of(model: &Model, node: &PlanNode) -> Option<Truths> {
+    fn of(model: &Model, question: &Question, number: usize) -> Option<Truths> {
         let states = 0..u8::try_from(model.states()).unwrap_or(u8::MAX);
-        let sums = states.map(|state| all_sums(model, node, state));
-        Some(Truths {
-            node: *node,
-            sums: sums.collect::<Option<_>>()?,
-            whole: model.whole(node.steps()),
-        })
+        let sums = states.map(|state| Reading::of(model, question, number, state));
+        sums.collect::<Option<_>>().map(Truths)
     }
 
     /// In which states a judge with the fault takes the node for true.
     fn by(&self, fault: Fault) -> Vec<bool> {
-        let sums = self.sums.iter();
-        let found = sums.map(|sums| shown(fault, &self.node, sums, self.whole));
+        let found = self.0.iter().map(|sums| sums.shown(fault));
         found.map(|found| found.is_some()).collect()
     }
 }

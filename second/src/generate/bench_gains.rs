@@ -35,19 +35,22 @@ pub(super) fn nested() -> Vec<String> {
     after_steps(nodes, 2)
 }
 
-/// 12 nodes of operator 9 with "equal", none of which is to be true.
+/// 19 nodes of operator 9 with "equal", all of which are to be true. None is:
+/// moves are certain, so that every plan gains a whole number of points, and
+/// half a point more is asked for, a whole total over D to the 6. A judge that
+/// works out each node in each state looks at all plans, each time; a "not" over
+/// each, so that none can be passed over, would leave room for 12 only.
 pub(super) fn nested_equal() -> Vec<String> {
     let mut nodes: Vec<String> = Vec::new();
-    for own in 0..12 {
+    for own in 0..19 {
         let (first, p) = (1 + own % 6, 2 * own + 1);
         nodes.push(format!("plan gain {first} to 6 steps 6 equal {p}/2"));
-        nodes.push(format!("not {}", nodes.len() - 1));
         if own > 0 {
             let last = nodes.len() - 1;
-            nodes.push(format!("and {} {last}", last - 2));
+            nodes.push(format!("and {} {last}", last - 1));
         }
     }
-    after_steps(nodes, 3)
+    after_steps(nodes, 2)
 }
 
 /// The last node, read after so many steps of some plan.
@@ -61,7 +64,9 @@ fn after_steps(mut nodes: Vec<String>, steps: usize) -> Vec<String> {
 }
 
 /// A model of 32 states with six certain moves in each, so that every state has
-/// 6 to the 6, that is 46,656, plans of six steps.
+/// 6 to the 6, that is 46,656, plans of six steps. The moves of state s lead to
+/// the six states from 6s + 3 on, round the 32, so that the 36 plans of two steps
+/// come to 36 states in a row: to all of them.
 pub(super) fn six_ways() -> Vec<u8> {
     let mut text = String::from("model D 10 N 5\n");
     for state in 0..32usize {
@@ -74,7 +79,7 @@ pub(super) fn six_ways() -> Vec<u8> {
     }
     for state in 0..32usize {
         for action in 0..6usize {
-            let target = (5 * state + 7 * action + 3) % 32;
+            let target = (6 * state + action + 3) % 32;
             let reward = (13 * state + 7 * action * action) as i32 % 41 - 20;
             text += &format!("outcome {state} {action}: {target} weight 10 reward {reward}\n");
         }
@@ -87,7 +92,7 @@ mod tests {
     use super::*;
     use crate::blocks::{read_model, read_question};
     use crate::generate::bench_cases;
-    use crate::logic::{Model, Totals};
+    use crate::logic::{fast, Model, Node, Question, Totals, Verdict};
 
     /// The states that can be met after just so many steps from state 0.
     fn met_after(model: &Model, steps: usize) -> Vec<u8> {
@@ -111,21 +116,44 @@ mod tests {
         assert!((0..32).all(|state| totals.paths(6, state) == 46_656));
     }
 
-    /// The nested nodes are needed in all states, and are as many as is said.
+    fn case(name: &str) -> (Model, Question) {
+        let case = bench_cases().into_iter().find(|case| case.name == name);
+        let case = case.expect(name);
+        let model = read_model(&case.model).expect("an accepted model");
+        let question = read_question(&case.question, &model).expect("accepted");
+        (model, question)
+    }
+
+    /// The nested nodes are needed in all states, and there is room for no more.
     #[test]
     fn needed_everywhere() {
-        let wanted = [
-            ("expected-nested-19", 2, 19),
-            ("expected-nested-equal", 3, 12),
-        ];
-        for (name, steps, count) in wanted {
-            let case = bench_cases().into_iter().find(|case| case.name == name);
-            let case = case.expect(name);
-            let model = read_model(&case.model).expect("an accepted model");
-            assert_eq!(met_after(&model, steps).len(), 32, "{name}");
-            let question = read_question(&case.question, &model).expect("accepted");
+        for name in ["expected-nested-19", "expected-nested-equal"] {
+            let (model, question) = case(name);
+            assert_eq!(met_after(&model, 2).len(), 32, "{name}");
             let gains = question.plan_nodes().filter(|(_, plan)| plan.sums_gains());
-            assert_eq!(gains.count(), count, "{name}");
+            assert_eq!(gains.count(), 19, "{name}");
+            assert_eq!(question.nodes.len(), 40, "{name}");
+        }
+    }
+
+    /// No plan has a total that "equal" asks for, in any state, though it is a
+    /// whole number: no search ends before the last plan.
+    #[test]
+    fn no_plan_is_equal() {
+        let (model, question) = case("expected-nested-equal");
+        let whole = i128::from(model.whole(6));
+        let gains = question.plan_nodes().filter(|(_, plan)| plan.sums_gains());
+        for (number, node) in gains {
+            let (p, q) = (i128::from(node.bound.p), i128::from(node.bound.q));
+            assert_eq!(p * whole % q, 0, "node {number}");
+            for start in 0..32 {
+                let asked = Question {
+                    start,
+                    nodes: vec![Node::Plan(node)],
+                };
+                let judged = fast::judge(&model, &asked, &Totals::of(&model));
+                assert_eq!(judged.verdict, Verdict::No { count: 46_656 }, "{number}");
+            }
         }
     }
 }

@@ -29,10 +29,12 @@ pub fn random_question(rng: &mut Rng, model: &Model, totals: &Totals, scale: Sca
         },
     };
     let silent = (0..model.states()).any(|state| model.is_silent(state as u8));
-    let root = match drawer.rng.below(20) {
-        0..=4 => drawer.gains_root(),
-        5..=6 => drawer.about_gains(),
-        _ if silent && drawer.rng.once_in(3) => drawer.about_silent_steps(),
+    let root = match drawer.rng.below(40) {
+        0..=9 => drawer.gains_root(),
+        10..=13 => drawer.about_gains(),
+        14..=15 => drawer.one_window(),
+        16 => drawer.left_of_an_and(),
+        _ if silent && drawer.rng.below(8) < 3 => drawer.about_silent_steps(),
         _ => drawer.any_root(),
     };
     drawer.question.nodes.push(root);

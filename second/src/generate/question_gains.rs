@@ -4,6 +4,17 @@
 use super::question::Drawer;
 use crate::logic::{Bound, Node, PlanNode, Summed};
 
+/// The left byte of a node that sums gains.
+pub(super) fn window(node: &Node) -> Option<u8> {
+    match node {
+        Node::Plan(PlanNode {
+            summed: Summed::Gains { first, last },
+            ..
+        }) => Some(first + 8 * last),
+        _ => None,
+    }
+}
+
 impl Drawer<'_> {
     /// A root that sums gains, by a window that mostly tells plans apart; now
     /// and then after some nodes that nobody uses.

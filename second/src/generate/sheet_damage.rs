@@ -85,6 +85,8 @@ pub(super) const HARMS: &[Harm] = &[
     total,
     total_form,
     total_form,
+    top_bit_of_a_block,
+    top_bit_of_a_block,
     any_byte,
 ];
 
@@ -128,6 +130,14 @@ fn total_form(rng: &mut Rng, draft: &mut Draft) {
         u64::MAX,
     ];
     draft.sheet.total = rng.pick_or(&forms, right);
+}
+
+/// The top bit of one block's total turned over: in a sheet of one block the
+/// total is wrong, in others it is another than in the other blocks, by its sign
+/// alone.
+fn top_bit_of_a_block(rng: &mut Rng, draft: &mut Draft) {
+    let [.., high] = draft.sheet.total.to_le_bytes();
+    draft.patches.set(draft.block(rng) + 15, high ^ 0x80);
 }
 
 /// A choice byte beyond the last block's count.

@@ -2,12 +2,14 @@
 
 use super::cases::{self, Ends};
 use super::model::{random_model, Size};
+use super::pitfalls::pitfalls;
 use super::question::{random_choices, random_question, Scale};
 use super::rng::Rng;
 use super::{model_damage, question_damage, sheet_damage};
 use crate::blocks::{read_model, read_question, QuestionImage, Sheet, BLOCK};
 use crate::desk::{stored, Call};
-use crate::logic::{fast, plain, Model, Move, Node, Plan, PlanNode, Question, Totals};
+use crate::logic::{check_limits, fast, plain, Model, Move, Node, Plan, PlanNode};
+use crate::logic::{Question, Totals};
 
 /// Random questions whose judging takes about a microsecond to a millisecond.
 const SMALL: Scale = Scale {
@@ -136,6 +138,9 @@ pub fn judges(rng: &mut Rng, count: usize) -> Vec<Call> {
             let question = judged_question(rng, &model, &totals);
             let packed = QuestionImage::from(&question).pack();
             calls.extend([Call::Put(packed), Call::Judge]);
+        }
+        if rng.once_in(16) {
+            calls.extend(pitfalls(rng));
         }
     }
     calls
@@ -339,16 +344,11 @@ pub(super) fn any_sheet(
     };
     if let Some(root) = question.root_plan() {
         sheet.steps = root.steps;
-        if rng.once_in(10) {
-            let offered = silent_everywhere(model);
-            fill_sheet(
-                rng,
-                &offered,
-                question,
-                &root,
-                &Totals::of(&offered),
-                &mut sheet,
-            );
+        let offered = silent_everywhere(model);
+        let more = Totals::of(&offered);
+        // A further choice in every state can make far too many plans.
+        if rng.once_in(10) && check_limits(question, &more).is_ok() {
+            fill_sheet(rng, &offered, question, &root, &more, &mut sheet);
             return sheet.pack();
         }
         fill_sheet(rng, model, question, &root, totals, &mut sheet);
@@ -356,6 +356,26 @@ pub(super) fn any_sheet(
     let mut draft = sheet_damage::Draft::of(sheet);
     harmed(rng, &mut draft, sheet_damage::HARMS, turn);
     draft.pack()
+}
+
+/// The sheet of a random plan for the question's root.
+pub(super) fn right_sheet(
+    rng: &mut Rng,
+    model: &Model,
+    question: &Question,
+    totals: &Totals,
+) -> Sheet {
+    let mut sheet = Sheet {
+        steps: 1,
+        start: question.start,
+        total: 0,
+        choices: vec![0],
+    };
+    if let Some(root) = question.root_plan() {
+        sheet.steps = root.steps;
+        fill_sheet(rng, model, question, &root, totals, &mut sheet);
+    }
+    sheet
 }
 
 /// Gives a sheet the choices of a random plan, and its total.
@@ -389,7 +409,8 @@ fn silent_everywhere(model: &Model) -> Model {
 /// Questions that the plain judge looks at no more nodes than this for.
 pub const AFFORDABLE: u128 = 200_000;
 
-/// Judges of questions that the plain judge can afford, and writes of what they show.
+/// Judges of questions that the plain judge can afford, and writes of what they
+/// show; now and then checks.
 pub fn small(rng: &mut Rng, count: usize) -> Vec<Call> {
     let mut calls = Vec::new();
     while calls.len() < count {
@@ -405,6 +426,9 @@ pub fn small(rng: &mut Rng, count: usize) -> Vec<Call> {
                 calls.push(Call::Judge);
                 calls.push(Call::Write(vec![0; 3 * BLOCK]));
             }
+        }
+        if rng.once_in(12) {
+            calls.extend(pitfalls(rng));
         }
     }
     calls

@@ -37,6 +37,11 @@ impl Plan {
         plan
     }
 
+    /// The state in which the plan begins.
+    pub fn state(&self) -> u8 {
+        self.state
+    }
+
     /// The move that the plan makes first.
     pub fn chosen<'a>(&self, model: &'a Model) -> Option<&'a Move> {
         model.moves(self.state).get(self.option)

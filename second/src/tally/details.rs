@@ -10,8 +10,10 @@ use crate::logic::{Question, Relation, Summed, Totals, Verdict};
 /// What there is to tell of an answer beside itself. `desk` is as it was after
 /// the call.
 pub(super) fn details(call: &Call, answer: &Answer, desk: &Desk) -> Vec<String> {
-    if let (Call::Put(bytes), Answer::Put(Err(Ground::Range))) = (call, answer) {
-        return wrong_fields(bytes);
+    match (call, answer) {
+        (Call::Put(bytes), Answer::Put(Err(Ground::Range))) => return wrong_fields(bytes),
+        (Call::Put(bytes), Answer::Put(Err(Ground::Formula))) => return asked_for_gains(bytes),
+        _ => {}
     }
     let (Ok(model), Ok(question)) = (desk.model(), desk.question()) else {
         return Vec::new();
@@ -24,6 +26,7 @@ pub(super) fn details(call: &Call, answer: &Answer, desk: &Desk) -> Vec<String> 
         (Call::Judge, Answer::Judge(Ok(judged))) => {
             let mut found = about(shown_total(judged));
             found.extend(inner_words(model, question));
+            found.extend(root.and_then(|root| far_words(model, &root)));
             found
         }
         (Call::Judge, Answer::Judge(Err(ground))) => limit_words(model, question, *ground),
@@ -33,7 +36,12 @@ pub(super) fn details(call: &Call, answer: &Answer, desk: &Desk) -> Vec<String> 
         (Call::Check(bytes), Answer::Check(Ok(_) | Err(Ground::Total))) => {
             about(claimed(root, bytes))
         }
-        (Call::Check(_), Answer::Check(Err(ground))) => limit_words(model, question, *ground),
+        (Call::Write(_), Answer::Write(Err(ground), _))
+        | (Call::Check(_), Answer::Check(Err(ground))) => match ground {
+            Ground::RootNotPlan => below_words(question),
+            Ground::TooManyPaths | Ground::TooManyPlans => limit_words(model, question, *ground),
+            _ => about(None),
+        },
         _ => Vec::new(),
     }
 }
@@ -46,6 +54,35 @@ fn root_words(root: &PlanNode, total: Option<i128>) -> String {
     };
     let (operator, relation) = (root.summed.operator(), root.relation.word());
     format!("operator {operator} {relation}{sign}")
+}
+
+/// `operator 9 less, far bound`: what is compared, totals times q and p times D
+/// to the n, can lie 2^63 apart or more.
+fn far_words(model: &Model, root: &PlanNode) -> Option<String> {
+    let Summed::Gains { first, last } = root.summed else {
+        return None;
+    };
+    let (p, q) = (i128::from(root.bound.p), i128::from(root.bound.q));
+    let gained = 1000 * i128::from(last + 1 - first);
+    let apart = (gained * q + p.abs()) * i128::from(model.whole(root.steps()));
+    (apart >= 1 << 63).then(|| root_words(root, None) + ", far bound")
+}
+
+/// Whether nodes of operator 9 stand below a root of another kind.
+fn below_words(question: &Question) -> Vec<String> {
+    match question.nodes.iter().any(is_gains) {
+        true => vec!["operator 9 below the root".to_string()],
+        false => Vec::new(),
+    }
+}
+
+/// Whether a question that is no formula has nodes of operator 9.
+fn asked_for_gains(bytes: &[u8]) -> Vec<String> {
+    let image = QuestionImage::unpack(bytes);
+    match image.counted().iter().any(|node| node.operator == 9) {
+        true => vec!["operator 9 in the question".to_string()],
+        false => Vec::new(),
+    }
 }
 
 fn shown_total(judged: &Judged) -> Option<i128> {
