@@ -84,7 +84,7 @@ fn whole(m: &[u16; MODEL], q: &[u8; QUESTION], j: u8) -> u64
 }
 
 // How much the totals of node j are raised, so that a search has natural numbers.
-pub fn lift(m: &[u16; MODEL], q: &[u8; QUESTION], j: u8) -> u64
+fn lift(m: &[u16; MODEL], q: &[u8; QUESTION], j: u8) -> u64
     requires { ⌜ Bounded (now m) (now q) j ⌝ }
     ensures value { λ r. ⌜ r ≡ lift-of (now (m .entry)) (now (q .entry)) j ⌝ }
     ensures range { λ r. ⌜ r ≤ 6000 * 100 ^ 6 ⌝ }
@@ -97,22 +97,22 @@ pub fn lift(m: &[u16; MODEL], q: &[u8; QUESTION], j: u8) -> u64
     RAISE as u64 * paid as u64 * whole(m, q, j)
 }
 
-// The bound of node j on a raised total x, with nothing negative on either side: `parts` times x and `down` against `up`.
-struct Against {
+// The two sides of a bound on a raised total x, with nothing negative on either: `parts` times x and `down`, and `up`.
+struct Sides {
     parts: u64,
     up: u64,
     down: u64,
 }
 
-// D to the n times what p is above 0, with q times the lift; and D to the n times what p is below 0.
-fn sides(m: &[u16; MODEL], q: &[u8; QUESTION], j: u8) -> Against
+// The bound of node j: its q; D to the n times what p is above 0, with q times the lift; D to the n times what p is below 0.
+fn raised_bound(m: &[u16; MODEL], q: &[u8; QUESTION], j: u8) -> Sides
     requires { ⌜ Bounded (now m) (now q) j ⌝ }
     ensures value { λ r. ⌜ Sided (now (m .entry)) (now (q .entry)) j (r .parts) (r .up) (r .down) ⌝ }
 {
     let d = whole(m, q, j);
     let parts = prepared_question::parts(q, j) as u64;
     let p = prepared_question::bound(q, j);
-    Against {
+    Sides {
         parts: parts,
         up: d * above(p) + parts * lift(m, q, j),
         down: d * below(p),
@@ -127,7 +127,7 @@ pub fn meets(m: &[u16; MODEL], q: &[u8; QUESTION], j: u8, x: u64) -> bool
         let m = now (m .entry) in let q = now (q .entry) in
         ⌜ r ≡ meets-at m q j (lowered m q j x) ⌝ }
 {
-    let s = sides(m, q, j);
+    let s = raised_bound(m, q, j);
     related(prepared_question::right(q, j), s.parts * x + s.down, s.up)
 }
 
@@ -142,7 +142,7 @@ pub fn exact_total(m: &[u16; MODEL], q: &[u8; QUESTION], j: u8) -> Exact
     requires { ⌜ Bounded (now m) (now q) j ⌝ }
     ensures value { λ r. ⌜ Exactly (now (m .entry)) (now (q .entry)) j (r .whole) (r .total) ⌝ }
 {
-    let s = sides(m, q, j);
+    let s = raised_bound(m, q, j);
     if s.up < s.down {
         return Exact {
             whole: false,

@@ -1,4 +1,4 @@
--- `sides`: every product fits.
+-- `raised_bound`: every product fits.
 use Prim.Native.Nat.{_+_, _*_, _^_, _≤_}
 use native.Mathlib.Omega.{arith}
 use mathlib.Core.Path.{_≡_, ap, ap₂, _∙_}
@@ -9,8 +9,8 @@ use Rattle.questions.specs.Layout.{node-of}
 use Rattle.bounds.specs.promises.Bounded.{under}
 use Rattle.bounds.proofs.ProductsFit.{few, up-small, down-small, lift-small}
 use borrow.Author.Needs.{needs}
-use Rattle.bounds.proofs.sides.Statement.{statement}
-use Rattle.bounds.proofs.sides.Tie as tie
+use Rattle.bounds.proofs.raised_bound.Statement.{statement}
+use Rattle.bounds.proofs.raised_bound.Tie as tie
 
 whole-requires : tie.Need-whole-requires
 whole-requires c κs = search needs
@@ -79,8 +79,8 @@ returns c =
       down-small = down-fits c;
     }
 
-pub sides-spec : {M : Type 1} → statement M
-sides-spec =
+pub raised-bound-spec : {M : Type 1} → statement M
+raised-bound-spec =
     tie.close
     (tie.spec
     whole-requires
