@@ -10,6 +10,7 @@ pub mod Steps
 pub mod Counting
 pub mod Best
 pub mod Integers
+pub mod Lamps
 pub mod Lowered
 pub mod Recursion
 pub mod Reading

@@ -16,7 +16,7 @@ use Rattle.logic.specs.Quantity.{Quantity, naturals, integers, Relation,
 use Rattle.logic.specs.Bound.{Bound, total, meets}
 use Rattle.logic.specs.promises.Orders.{reversed, weights, order}
 use Rattle.logic.specs.promises.Recursion.{greatest, best-plan}
-use Rattle.logic.specs.Verdict.{leads, bound-goal, shown}
+use Rattle.logic.specs.Verdict.{leads, bound-goal, shown, leader}
 use Rattle.logic.specs.Accepted.{Accepted}
 use Rattle.logic.proofs.Tests.{find-at, find-nowhere}
 use Rattle.logic.proofs.Sums.{naturals-additive, reversed-additive, sum-reversed}
@@ -24,7 +24,7 @@ use Rattle.logic.proofs.Best.{Best, here, later, naturals-ordered, reve
 use Rattle.logic.proofs.Integers.{integers-ordered}
 use Rattle.logic.proofs.Lowered.{lowered-order}
 use Rattle.logic.proofs.Recursion.{best-plan-first, best-plan-total}
-use Rattle.logic.proofs.Shown.{best-found, best-missed}
+use Rattle.logic.proofs.Shown.{best-leads, best-found, best-missed}
 
 -- The best by one value is the best by another that has the same order.
 best-as : (Q R : Quantity) {A : Type 0} (v : A → Q .Value) (u : A → R .Value) {l : List A} {x : A}
@@ -52,9 +52,10 @@ module _ (m : Model) (s n : ℕ) (g : List Step → ℤ) (p : ℤ) (q : ℕ) whe
   abbrev pub bound : Relation → Bound
   bound r = record { steps = n; worth = g; relation = r; p = p; q = q }
 
-  -- The plan π, of the total w, decides: where w meets the bound π is the shown plan, and where not there is none.
+  -- The plan π, of the total w, is the first that leads, and decides: where w meets the bound π is the shown plan, and where not there is none.
   pub record Decides (r : Relation) (w : ℤ) (π : Plan n) : Type 0 where
     pub weighs : total integers m n s π g ≡ w
+    pub first : (k : ℕ) × (leader m s (bound-goal m s (bound r)) ≡ some (k, π))
     pub met : meets integers m n r p q w ≡ true → (k : ℕ) × (shown m s (bound-goal m s (bound r)) ≡ some (k, π))
     pub missed : meets integers m n r p q w ≡ false → shown m s (bound-goal m s (bound r)) ≡ none
 
@@ -90,12 +91,13 @@ module _ (m : Model) (s n : ℕ) (g : List Step → ℤ) (p : ℤ) (q : ℕ) whe
         (sym (forwards (best-plan (reversed naturals) m n s f)) ∙ best-plan-total (reversed naturals) (reversed-additive naturals naturals-additive) m n s f)
 
     pub best-decides : (least : Bool) → Decides (extreme least) (subℕ (greatest (weights (order least)) m n s f) c) (best-plan (weights (order least)) m n s f)
-    unfolding shown leads meets related
+    unfolding shown leader leads meets related
     best-decides false =
         let t : Plan n → ℤ = λ π. total integers m n s π g in
         let e = best-lowered false in
         record {
           weighs = e;
+          first = best-leads integers integers-ordered t (plans m n s) most-first;
           met = λ h. best-found integers integers-ordered m n p q t (plans m n s) most-first (ap (meets integers m n greater p q) e ∙ h);
           missed = λ h. best-missed integers integers-ordered m n p q t (plans m n s) most-first (ap (meets integers m n greater p q) e ∙ h);
         }
@@ -105,6 +107,7 @@ module _ (m : Model) (s n : ℕ) (g : List Step → ℤ) (p : ℤ) (q : ℕ) whe
         let e = best-lowered true in
         record {
           weighs = e;
+          first = best-leads (reversed integers) O t (plans m n s) fewest-first;
           met = λ h. best-found (reversed integers) O m n p q t (plans m n s) fewest-first (ap (meets integers m n less p q) e ∙ h);
           missed = λ h. best-missed (reversed integers) O m n p q t (plans m n s) fewest-first (ap (meets integers m n less p q) e ∙ h);
         }

@@ -1,4 +1,4 @@
--- The verdict on a question. Document 01, "Which plan".
+-- The verdict on a question. Document 01, "Which plan", and document 02, A.4, for the lamp.
 use Prim.Native.Nat.{ℕ}
 use mathlib.Core.Bool.{Bool, true, false, cond, _&&_}
 use mathlib.Core.List.{List, []}
@@ -10,7 +10,7 @@ use Rattle.logic.specs.Checked.{Checked, ok, refused, _>>=_}
 use Rattle.logic.specs.Model.{Model}
 use Rattle.logic.specs.Quantity.{Quantity, integers, Relation, less, equal, greater}
 use Rattle.logic.specs.Plan.{Plan, plans, choices}
-use Rattle.logic.specs.Bound.{Bound, chance, expected, total-of, met-by}
+use Rattle.logic.specs.Bound.{Bound, Lamp, chance, expected, total-of, met-by, lamp-by}
 use Rattle.logic.specs.Formula.{Formula, on-plan, sat}
 
 -- For "greater" no plan has a greater total, for "less" none has a smaller one.
@@ -24,11 +24,13 @@ is-equal less = false
 is-equal equal = true
 is-equal greater = false
 
--- What a root asks of plans: their steps, a plan's total, whether it meets the bound, whether it leads, and whether plans are counted.
+-- What a root asks of plans: their steps, a plan's total, whether it meets the bound and its lamp, whether it leads, and whether plans are
+-- counted.
 pub record Goal : Type 0 where
   pub steps : ℕ
   pub total : Plan steps → ℤ
   pub met : Plan steps → Bool
+  pub lamp : Plan steps → Lamp
   pub lead : Plan steps → Bool
   pub counts : Bool
 
@@ -39,6 +41,7 @@ bound-goal m s b =
       steps = b .steps;
       total = total-of m s b;
       met = met-by m s b;
+      lamp = lamp-by m s b;
       lead = leads integers (total-of m s b) (b .relation) (plans m (b .steps) s);
       counts = is-equal (b .relation);
     }
@@ -56,13 +59,20 @@ goal m s φ = bound-of m s φ >>= λ b. ok (bound-goal m s b)
 unfoldable pub shown : Model → ℕ → (g : Goal) → Option (ℕ × Plan (g .steps))
 shown m s g = find (λ π. g .met π && g .lead π) 1 (plans m (g .steps) s)
 
--- What goes with a no: the count.
+-- The first plan in dictionary order that leads, with its place: of greatest total, for "less" of least. It may meet the bound or not.
+unfoldable pub leader : Model → ℕ → (g : Goal) → Option (ℕ × Plan (g .steps))
+leader m s g = find (g .lead) 1 (plans m (g .steps) s)
+
+-- What goes with a no: the count, and the lamp if it has one.
 pub record Denial : Type 0 where
   pub count : ℕ
+  pub lamp : Option Lamp
 
--- What goes with a yes to a root that sets a bound, its total for W: "a plan record (W, n and the count; its choices stand beside the verdict)".
+-- What goes with a yes to a root that sets a bound, its total for W: "a plan record (W, n and the count; its choices stand beside the verdict)",
+-- and the lamp.
 pub record Shown-plan : Type 0 where
   pub total : ℤ
+  pub lamp : Lamp
   pub steps : ℕ
   pub count : ℕ
   pub choices : List ℕ
@@ -73,14 +83,20 @@ pub data Verdict : Type 0 where
   yes : Verdict
   yes-plan : Shown-plan → Verdict
 
--- What goes with a no to a goal, and with a yes, by the shown plan with its place.
+-- The lamp of a plan, if there is one.
+abbrev pub lamp-of : (g : Goal) → Option (ℕ × Plan (g .steps)) → Option Lamp
+lamp-of g none = none
+lamp-of g (some x) = some (g .lamp (x .1))
+
+-- What goes with a no to a goal, and with a yes, by the shown plan with its place. "A no to "equal" has no lamp."
 abbrev pub denial : Model → ℕ → Goal → Denial
-denial m s g = record { count = cond (g .counts) (length (plans m (g .steps) s)) 0 }
+denial m s g = record { count = cond (g .counts) (length (plans m (g .steps) s)) 0; lamp = cond (g .counts) none (lamp-of g (leader m s g)) }
 
 abbrev pub plan-record : (g : Goal) → ℕ × Plan (g .steps) → Shown-plan
 plan-record g x =
     record {
       total = g .total (x .1);
+      lamp = g .lamp (x .1);
       steps = g .steps;
       count = cond (g .counts) (x .0) 0;
       choices = choices (g .steps) (x .1);
@@ -93,7 +109,7 @@ announced m s g (some x) = yes-plan (plan-record g x)
 
 abbrev pub verdict-by : Model → ℕ → Bool → Checked Goal → Verdict
 verdict-by m s t (ok g) = announced m s g (shown m s g)
-verdict-by m s t (refused k) = cond t yes (no (record { count = 0 }))
+verdict-by m s t (refused k) = cond t yes (no (record { count = 0; lamp = none }))
 
 -- The verdict on a root in a start state. That a root that sets a bound is true exactly where it has a shown plan is proved (`Shown`).
 unfoldable pub verdict : Model → ℕ → Formula → Verdict

@@ -5,14 +5,15 @@
 -- with two, and 8 * (-200 + 990) + 2 * (-200 + 500) = 6920 over 1000 with three.
 use mathlib.Core.Path.{_≡_, refl}
 use mathlib.Core.List.{List, [], _∷_, map, flatMap}
+use mathlib.Core.Option.{none}
 use lib.IntN.{pos, negsuc}
 use Rattle.logic.specs.Lists.{is-empty, all, any, find, keep, product, join, count-from}
 use Rattle.logic.specs.Model.{Model, no-action, true-of, mask, prop-in, enabled-actions, deadlocked, enabled, stored, outcomes}
 use Rattle.logic.specs.Quantity.{sum, equal, greater, related}
 use Rattle.logic.specs.Plan.{plans, choices, paths, weight}
-use Rattle.logic.specs.Bound.{total, meets, one-if, gain-between}
+use Rattle.logic.specs.Bound.{total, meets, at, above, compared, lamp, one-if, gain-between}
 use Rattle.logic.specs.Formula.{Formula, neg, both, does, next, gain, sat}
-use Rattle.logic.specs.Verdict.{leads, is-equal, bound-of, goal, shown, verdict}
+use Rattle.logic.specs.Verdict.{leads, is-equal, bound-of, goal, shown, leader, verdict}
 use Rattle.logic.specs.TwoShelf.{needs, lit, to, Row, row, gains, shows, denies, done, verdicts-of}
 
 unfoldable pub without-wait : Model
@@ -45,15 +46,15 @@ idle = both (neg (does 0)) (both (neg (does 1)) (neg (does 2)))
 unfoldable pub table : List Row
 unfolding row gains shows denies done then idle
 table =
-    row 3 (then (next done)) greater 9 10 (shows (pos 936) 3 0 (0 ∷ 2 ∷ 255 ∷ 2 ∷ 0 ∷ 2 ∷ 0 ∷ []))
-    ∷ row 3 (then (next done)) equal 720 1000 (shows (pos 720) 3 7 (1 ∷ 2 ∷ 255 ∷ 2 ∷ 1 ∷ 2 ∷ 0 ∷ []))
-    ∷ row 3 (then (next done)) equal 9 10 (denies 8)
-    ∷ row 3 (then (does 2)) greater 0 1 (shows (pos 450) 3 0 (1 ∷ 2 ∷ 255 ∷ 2 ∷ 0 ∷ 2 ∷ 0 ∷ []))
-    ∷ row 3 (then idle) greater 7 10 (shows (pos 720) 3 0 (0 ∷ 2 ∷ 255 ∷ 2 ∷ 0 ∷ 2 ∷ 0 ∷ []))
-    ∷ row 3 (gain 3 equal (pos 8)) greater 7 10 (shows (pos 792) 3 0 (0 ∷ 2 ∷ 255 ∷ 2 ∷ 0 ∷ 2 ∷ 0 ∷ []))
-    ∷ gains 3 1 3 greater (pos 6) 1 (shows (pos 6920) 3 0 (0 ∷ 2 ∷ 255 ∷ 2 ∷ 0 ∷ 2 ∷ 1 ∷ []))
+    row 3 (then (next done)) greater 9 10 (shows (pos 936) above 3 0 (0 ∷ 2 ∷ 255 ∷ 2 ∷ 0 ∷ 2 ∷ 0 ∷ []))
+    ∷ row 3 (then (next done)) equal 720 1000 (shows (pos 720) at 3 7 (1 ∷ 2 ∷ 255 ∷ 2 ∷ 1 ∷ 2 ∷ 0 ∷ []))
+    ∷ row 3 (then (next done)) equal 9 10 (denies 8 none)
+    ∷ row 3 (then (does 2)) greater 0 1 (shows (pos 450) above 3 0 (1 ∷ 2 ∷ 255 ∷ 2 ∷ 0 ∷ 2 ∷ 0 ∷ []))
+    ∷ row 3 (then idle) greater 7 10 (shows (pos 720) above 3 0 (0 ∷ 2 ∷ 255 ∷ 2 ∷ 0 ∷ 2 ∷ 0 ∷ []))
+    ∷ row 3 (gain 3 equal (pos 8)) greater 7 10 (shows (pos 792) above 3 0 (0 ∷ 2 ∷ 255 ∷ 2 ∷ 0 ∷ 2 ∷ 0 ∷ []))
+    ∷ gains 3 1 3 greater (pos 6) 1 (shows (pos 6920) above 3 0 (0 ∷ 2 ∷ 255 ∷ 2 ∷ 0 ∷ 2 ∷ 1 ∷ []))
     ∷ []
 
 pub without-wait-verdicts : verdicts-of without-wait table ≡ map (λ r. r .answer) table
-unfolding without-wait table is-empty all any find keep product join count-from flatMap no-action true-of mask prop-in enabled-actions deadlocked enabled stored outcomes plans choices paths weight sum total one-if gain-between sat meets related leads is-equal bound-of goal shown verdict
+unfolding without-wait table is-empty all any find keep product join count-from flatMap no-action true-of mask prop-in enabled-actions deadlocked enabled stored outcomes plans choices paths weight sum total one-if gain-between sat meets compared lamp related leads is-equal bound-of goal shown leader verdict
 without-wait-verdicts = refl

@@ -4,6 +4,7 @@ pub mod Recursion
 pub mod Total
 pub mod Raised
 pub mod Orders
+pub mod Lamps
 pub mod Paths
 pub mod Follows
 pub mod Refusal
