@@ -11,12 +11,14 @@ use lib.IntN.{ℤ, pos, negsuc, subℕ}
 use lib.Signed.{mag}
 use borrow.Author.Tests.{eq-eqb, ne-eqb, eqb-true, eqb-false}
 use Rattle.logic.specs.Quantity.{naturals, integers, Relation, related, equal}
-use Rattle.logic.specs.Bound.{meets}
+use Rattle.logic.specs.Bound.{meets, lamp, compared}
 use Rattle.logic.specs.Formula.{relation, nonnegative}
 use Rattle.logic.proofs.Tests.{same-test}
-use Rattle.logic.proofs.Lowered.{meets-raised}
+use Rattle.logic.proofs.Lowered.{meets-raised, lamp-raised}
 use Rattle.logic.proofs.Integers.{subℕ-ge, subℕ-lt}
 use Rattle.logic.proofs.Naturals.{eqb-leb}
+use Rattle.lamp.specs.declared.Lamp.{Lamp}
+use Rattle.lamp.specs.promises.Codes.{lamp-code}
 use Rattle.blocks.specs.Bytes.{Bytes}
 use Rattle.models.specs.Layout.{denominator-of}
 use Rattle.prepared_model.specs.promises.Rows.{model-in}
@@ -24,7 +26,7 @@ use Rattle.prepared_model.proofs.ReadByPlace.{denominator-is}
 use Rattle.questions.specs.Layout.{node-of}
 use Rattle.questions.specs.promises.Formed.{Compares, EarnsRange}
 use Rattle.questions.proofs.SetsBound.{sets-which, bound-compares}
-use Rattle.bounds.specs.promises.Bounded.{Bounded, under, span-before, span-last, lift-of, lowered, most-of, meets-as, meets-at, Exactly}
+use Rattle.bounds.specs.promises.Bounded.{Bounded, under, span-before, span-last, lift-of, lowered, most-of, meets-as, lamp-at, Exactly}
 use Rattle.bounds.proofs.Powers.{power-le}
 
 -- ---- division
@@ -171,9 +173,16 @@ module _ (m q : Bytes) (j : ℕ) (b : Bounded m q j) where
       ∙ ap (λ d. related naturals r ((node-of q j) .q * x + d ^ (node-of q j) .n * under ((node-of q j) .p)) (d ^ (node-of q j) .n * nonnegative ((node-of q j) .p) + (node-of q j) .q * lift-of m q j))
       (denominator-is m)
 
-  pub meets-by : (x : ℕ) {k a b : ℕ} {r : Bool} → r ≡ related naturals (relation k) a b → k ≡ (node-of q j) .right → a ≡ raised-left x → b ≡ raised-right
-      → r ≡ meets-at m q j (lowered m q j x)
-  meets-by x e f g h = e ∙ rw (f, g, h) refl ∙ sym (meets-sides (relation ((node-of q j) .right)) x)
+  lamp-sides : (x : ℕ) → lamp-at m q j (lowered m q j x) ≡ compared naturals (raised-left x) raised-right
+  lamp-sides x =
+      ap (λ p. lamp integers (model-in m) ((node-of q j) .n) p ((node-of q j) .q) (lowered m q j x)) (p-split ((node-of q j) .p))
+      ∙ lamp-raised (model-in m) ((node-of q j) .n) (nonnegative ((node-of q j) .p)) (under ((node-of q j) .p)) ((node-of q j) .q) x (lift-of m q j)
+      ∙ ap (λ d. compared naturals ((node-of q j) .q * x + d ^ (node-of q j) .n * under ((node-of q j) .p)) (d ^ (node-of q j) .n * nonnegative ((node-of q j) .p) + (node-of q j) .q * lift-of m q j))
+      (denominator-is m)
+
+  pub lamp-by : (x : ℕ) {a b : ℕ} {r : Lamp} → r ≡ lamp-code (compared naturals a b) → a ≡ raised-left x → b ≡ raised-right
+      → r ≡ lamp-code (lamp-at m q j (lowered m q j x))
+  lamp-by x e g h = e ∙ rw (g, h) refl ∙ sym (ap lamp-code (lamp-sides x))
 
   met : (x : ℕ) → meets-as equal m q j (lowered m q j x) ≡ eqb (raised-left x) raised-right
   unfolding related

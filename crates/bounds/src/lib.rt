@@ -1,21 +1,26 @@
-// Bounds: powers of the denominator, and a total against the bound of a node of operator 8 or 9, the total times q against p times D to the n.
+// Bounds: powers of the denominator, and how a total stands to the bound of a node of operator 8 or 9, the total times q beside p times D to the
+// n. Whether it meets the bound follows from that and the node's relation.
 ghost use mathlib.Core.Path.{_≡_};
 ghost use mathlib.Core.Bool.{not};
 ghost use Prim.Native.Nat.{_*_, _^_, _≤_};
 ghost use Rattle.logic.specs.Formula.{relation, nonnegative};
 ghost use Rattle.logic.specs.promises.Orders.{order};
-ghost use Rattle.logic.specs.Quantity.{naturals};
-ghost use Rattle.logic.specs.Quantity as quantity;
+ghost use Rattle.logic.specs.promises.Lamps as lamps;
+ghost use Rattle.lamp.specs.Said.{said-lamp};
+ghost use Rattle.lamp.specs.promises.Codes.{lamp-code};
 ghost use Rattle.models.specs.Layout.{denominator-of};
 ghost use Rattle.questions.specs.Layout.{node-of};
 ghost use Rattle.bounds.specs.promises.Bounded as spec;
-ghost use Rattle.bounds.specs.promises.Bounded.{Bounded, Sided, Exactly, under, lift-of, lowered, most-of, meets-at};
+ghost use Rattle.bounds.specs.promises.Bounded.{Bounded, Sided, Exactly, under, lift-of, lowered, most-of, meets-at, lamp-at};
+use lamp::Lamp;
+use lamp::compared;
 use prepared_model::MODEL;
 use prepared_model::RAISE;
 use prepared_model::denominator;
 use prepared_question::QUESTION;
 use questions::EARNS;
 use questions::EQUAL;
+use questions::GREATER;
 use questions::LESS;
 use questions::SPAN_BASE;
 
@@ -33,14 +38,15 @@ pub fn power(d: usize, k: u8) -> u64
     x
 }
 
-// Whether a number stands in the relation of this number to another.
-fn related(kind: u8, a: u64, b: u64) -> bool
-    ensures value { λ r. ⌜ r ≡ quantity.related naturals (relation kind) a b ⌝ }
+// Whether the relation of this number is the one that a lamp tells of.
+fn allows(kind: u8, lamp: Lamp) -> bool
+    requires { ⌜ (1 ≤ kind) × (kind ≤ 3) ⌝ }
+    ensures value { λ r. ⌜ r ≡ lamps.allows (relation kind) (said-lamp lamp) ⌝ }
 {
-    match kind {
-        LESS => a < b,
-        0 | EQUAL => a == b,
-        _ => a > b,
+    match lamp {
+        Lamp::Below => kind == LESS,
+        Lamp::At => kind == EQUAL,
+        Lamp::Above => kind == GREATER,
     }
 }
 
@@ -119,6 +125,18 @@ fn raised_bound(m: &[u16; MODEL], q: &[u8; QUESTION], j: u8) -> Sides
     }
 }
 
+// How a raised total stands to the bound of node j.
+pub fn lamp_of(m: &[u16; MODEL], q: &[u8; QUESTION], j: u8, x: u64) -> Lamp
+    requires { ⌜ Bounded (now m) (now q) j ⌝ }
+    requires { ⌜ x ≤ most-of (now m) (now q) j ⌝ }
+    ensures value { λ r.
+        let m = now (m .entry) in let q = now (q .entry) in
+        ⌜ r ≡ lamp-code (lamp-at m q j (lowered m q j x)) ⌝ }
+{
+    let s = raised_bound(m, q, j);
+    compared(s.parts * x + s.down, s.up)
+}
+
 // Whether a raised total meets the bound of node j.
 pub fn meets(m: &[u16; MODEL], q: &[u8; QUESTION], j: u8, x: u64) -> bool
     requires { ⌜ Bounded (now m) (now q) j ⌝ }
@@ -127,8 +145,8 @@ pub fn meets(m: &[u16; MODEL], q: &[u8; QUESTION], j: u8, x: u64) -> bool
         let m = now (m .entry) in let q = now (q .entry) in
         ⌜ r ≡ meets-at m q j (lowered m q j x) ⌝ }
 {
-    let s = raised_bound(m, q, j);
-    related(prepared_question::right(q, j), s.parts * x + s.down, s.up)
+    let l = lamp_of(m, q, j, x);
+    allows(prepared_question::right(q, j), l)
 }
 
 // The one raised total that meets "equal", if there is one.

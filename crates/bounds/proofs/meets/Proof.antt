@@ -1,38 +1,43 @@
--- `meets`: with both sides raised alike nothing is negative, every product fits, and the bound is met just where it is in integers.
-use Prim.Native.Nat.{_+_, _*_, _^_, _≤_}
+-- `meets`: a bound is met just where its relation is the one that the lamp tells of.
+use Prim.Native.Nat.{ℕ}
 use native.Mathlib.Omega.{arith}
-use mathlib.Core.Path.{ap, ap₂}
-use Rattle.bounds.proofs.ProductsFit.{few, total-small, meets-by}
+use mathlib.Core.Path.{_≡_, sym, ap, ap₂, _∙_}
+use Rattle.logic.specs.Quantity.{integers}
+use Rattle.logic.specs.Formula.{relation}
+use Rattle.logic.specs.promises.Lamps.{allows}
+use Rattle.logic.proofs.Integers.{integers-ordered}
+use Rattle.logic.proofs.Lamps.{meets-allowed}
+use Rattle.lamp.specs.Said.{said-lamp}
+use Rattle.lamp.proofs.Coded.{lamp-said}
+use Rattle.prepared_model.specs.promises.Rows.{model-in}
+use Rattle.questions.specs.Layout.{node-of}
+use Rattle.bounds.specs.promises.Bounded.{lowered, lamp-at}
+use Rattle.bounds.proofs.ProductsFit.{few, compares}
 use borrow.Author.Needs.{needs}
 use Rattle.bounds.proofs.meets.Statement.{statement}
 use Rattle.bounds.proofs.meets.Tie as tie
 
-raised-bound-requires : tie.Need-raised-bound-requires
-raised-bound-requires c κs = search needs
+lamp-of-requires : tie.Need-lamp-of-requires
+lamp-of-requires c κs = search needs
 
 right-requires : tie.Need-right-requires
 right-requires c κs = let S = c .before in few (S .args .m .now) (S .args .q .now) (S .args .j) (S .pre .0)
 
-total-fits : (c : tie.After-right) → c .before .raised-bound .result .parts * c .before .before .args .x ≤ 1000 * (12000 * 100 ^ 6)
-total-fits c = let S = c .before .before in
-    total-small (S .args .m .now) (S .args .q .now) (S .args .j) (S .pre .0) (c .before .raised-bound .ensures .its-parts) (S .pre .1)
-
-mul-related : tie.Need-mul-related
-mul-related c = record { fits = omega (arith, total-fits (c .before)) }
-
-add-related : tie.Need-add-related
-add-related c = record { fits = omega (arith, total-fits (c .before .before), c .before .before .before .raised-bound .ensures .down-small) }
-
-related-requires : tie.Need-related-requires
-related-requires c κs = search needs
+allows-requires : tie.Need-allows-requires
+allows-requires c κs = let S = c .before .before in
+    let r = compares (S .args .m .now) (S .args .q .now) (S .args .j) (S .pre .0) in
+    (omega (arith, c .right .ensures, r .relation-from), omega (arith, c .right .ensures, r .relation-to))
 
 returns : tie.Need-returns
 returns c =
-    let L = c .before .before .before in
-    let S = L .before .before in
-    let s = L .before .raised-bound .ensures in
-    let left = ap₂ _+_ (ap (λ k. k * S .args .x) (s .its-parts)) (s .its-down) in
-    meets-by (S .args .m .now) (S .args .q .now) (S .args .j) (S .pre .0) (S .args .x) (c .related .ensures) (L .right .ensures) left (s .its-up)
+    let S = c .before .before .before in
+    let m = S .args .m .now in
+    let q = S .args .q .now in
+    let j = S .args .j in
+    let w = lowered m q j (S .args .x) in
+    c .allows .ensures
+    ∙ ap₂ (λ (k : ℕ) l. allows (relation k) l) (c .before .right .ensures) (ap said-lamp (c .before .before .lamp-of .ensures) ∙ lamp-said (lamp-at m q j w))
+    ∙ sym (meets-allowed integers (model-in m) ((node-of q j) .n) ((node-of q j) .p) ((node-of q j) .q) w integers-ordered (relation ((node-of q j) .right)))
 
 pub meets-spec : {M : Type 1} → statement M
-meets-spec = tie.close (tie.spec raised-bound-requires right-requires mul-related add-related related-requires returns)
+meets-spec = tie.close (tie.spec lamp-of-requires right-requires allows-requires returns)

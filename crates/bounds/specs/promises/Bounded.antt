@@ -6,7 +6,7 @@ use mathlib.Core.Bool.{Bool, true, false, cond}
 use lib.Dec.{eqb}
 use lib.IntN.{ℤ, pos, negsuc, subℕ}
 use Rattle.logic.specs.Quantity.{integers, Relation, equal}
-use Rattle.logic.specs.Bound.{meets}
+use Rattle.logic.specs.Bound.{meets, Lamp, lamp}
 use Rattle.logic.specs.Formula.{relation, nonnegative}
 use Rattle.blocks.specs.Bytes.{Bytes}
 use Rattle.models.specs.Layout.{state-count, action-count, prop-count, denominator-of}
@@ -61,6 +61,10 @@ meets-as r m q j w = meets integers (model-in m) ((node-of q j) .n) r ((node-of 
 -- Whether a total meets the bound of node j.
 abbrev pub meets-at : (m q : Bytes) (j : ℕ) → ℤ → Bool
 meets-at m q j w = meets-as (relation ((node-of q j) .right)) m q j w
+
+-- How a total stands to the bound of node j.
+abbrev pub lamp-at : (m q : Bytes) (j : ℕ) → ℤ → Lamp
+lamp-at m q j w = lamp integers (model-in m) ((node-of q j) .n) ((node-of q j) .p) ((node-of q j) .q) w
 
 -- The one raised total that meets "equal", if there is one.
 pub record Exactly (m q : Bytes) (j : ℕ) (whole : Bool) (total : ℕ) : Type 0 where

@@ -1,0 +1,16 @@
+-- What the code's lamps say, in document 02's words.
+use mathlib.Core.Option.{Option, none, some}
+use Rattle.logic.specs.Bound as logic
+use Rattle.lamp.specs.declared.Lamp.{Lamp}
+use Rattle.lamp.specs.declared.Lamp.the-variants.{Below, At, Above}
+use Rattle.lamp.specs.declared.Light.{Light}
+use Rattle.lamp.specs.declared.Light.the-variants.{Off, On}
+
+unfoldable pub said-lamp : Lamp → logic.Lamp
+said-lamp Below = logic.below
+said-lamp At = logic.at
+said-lamp Above = logic.above
+
+unfoldable pub said-light : Light → Option logic.Lamp
+said-light Off = none
+said-light (On l) = some (said-lamp l)
