@@ -6,7 +6,7 @@ use native.Mathlib.Nat.{min-eq-right}
 use mathlib.Core.Path.{_≡_, refl, sym, ap, ap₂, subst, _∙_}
 use mathlib.Core.Bool.{Bool, true, false, not, cond, _||_}
 use mathlib.Core.List.{List, [], _∷_, map, List·Memᴰ}
-use mathlib.Core.Option.{none, some}
+use mathlib.Core.Option.{Option, none, some}
 use lib.Dec.{eqb, leb, ltb}
 use lib.IntN.{ℤ}
 use lib.ListN.{getD, length, length-map, List·getD-map}
@@ -16,10 +16,10 @@ use Rattle.logic.specs.promises.Refusal.{refusal}
 use Rattle.logic.specs.Model.{Model, Step}
 use Rattle.logic.specs.Quantity.{naturals, integers, equal}
 use Rattle.logic.specs.Plan.{Plan, plans, choices}
-use Rattle.logic.specs.Bound.{Bound, total, meets}
+use Rattle.logic.specs.Bound.{Bound, Lamp, total, meets}
 use Rattle.logic.specs.Formula.{Formula, Node, sat, relation}
 use Rattle.logic.specs.promises.Extension.{first-plan}
-use Rattle.logic.specs.Verdict.{bound-goal, bound-of, goal, shown, Verdict, announced, verdict, yes, no, yes-plan, is-equal, verdict-by}
+use Rattle.logic.specs.Verdict.{Goal, bound-goal, bound-of, goal, shown, Verdict, announced, verdict, yes, no, yes-plan, is-equal, lamp-of, leader, verdict-by}
 use Rattle.logic.specs.Limits.{plan-total, every-plan, limits}
 use Rattle.logic.specs.Checked.{ok, refused, _>>=_}
 use Rattle.logic.proofs.Tests.{not-true, none≢some, every-at, getD-member}
@@ -39,7 +39,7 @@ use Rattle.limits.specs.promises.Totals.{fits}
 use Rattle.limits.specs.promises.Totals as totals
 use Rattle.limits.proofs.NodeByNode.{nodes-all, done}
 use Rattle.prepared_question.specs.promises.Nodes.{formula}
-use Rattle.bounds.specs.promises.Bounded.{Bounded, lowered, meets-as, meets-at}
+use Rattle.bounds.specs.promises.Bounded.{Bounded, lowered, meets-as, meets-at, lamp-at}
 use Rattle.bounds.proofs.ProductsFit.{compares}
 use Rattle.relevance.specs.promises.Need.{Given}
 use Rattle.judging.specs.promises.Asked.{Asked}
@@ -48,11 +48,11 @@ use Rattle.judging.proofs.NodeBounds.{sets-at, raises-at, inside}
 
 -- ---- verdicts by their parts
 
-abbrev pub shows : (total : ℤ) (steps count : ℕ) → List ℕ → Verdict
-shows w n k cs = yes-plan (record { total = w; steps = n; count = k; choices = cs })
+abbrev pub shows : (total : ℤ) → Lamp → (steps count : ℕ) → List ℕ → Verdict
+shows w l n k cs = yes-plan (record { total = w; lamp = l; steps = n; count = k; choices = cs })
 
-abbrev pub denies : (count : ℕ) → Verdict
-denies k = no (record { count = k })
+abbrev pub denies : (count : ℕ) → Option Lamp → Verdict
+denies k l = no (record { count = k; lamp = l })
 
 -- ---- a bound's shown plan, its formula's truth and verdict
 
@@ -121,17 +121,25 @@ module _ {m q : Bytes} {j : ℕ} (b : Bounded m q j) (s : ℕ) (h : s < state-co
         meets-same
         ∙ sym (by-shown sets _ (λ t. let k = decides .met t in ((k .0, best-node m q j s least), k .1)) (decides .missed))
 
-    pub led-yes : meets-at m q j (lowered m q j (best-raised m q j s least)) ≡ true
-        → verdict M s (formula q j) ≡ shows (lowered m q j (best-raised m q j s least)) (node .n) 0 (choices (node .n) (best-node m q j s least))
+    -- The verdict's numbers, by the best total.
+    abbrev best-total : ℤ
+    best-total = lowered m q j (best-raised m q j s least)
+
+    abbrev goal-here : Goal
+    goal-here = bound-goal M s (bound-as (extreme least) m q j s)
+
+    pub led-yes : meets-at m q j best-total ≡ true
+        → verdict M s (formula q j) ≡ shows best-total (lamp-at m q j best-total) (node .n) 0 (choices (node .n) (best-node m q j s least))
     led-yes t =
         let k = decides .met (sym meets-same ∙ t) in
-        verdict-by-bound sets ∙ ap (announced M s (bound-goal M s (bound-as (extreme least) m q j s))) (k .1)
-        ∙ ap₂ (λ v u. shows v (node .n) (cond u (k .0) 0) (choices (node .n) (best-node m q j s least))) (decides .weighs) (extreme-counts-not least)
+        verdict-by-bound sets ∙ ap (announced M s goal-here) (k .1)
+        ∙ ap₂ (λ v u. shows v (lamp-at m q j v) (node .n) (cond u (k .0) 0) (choices (node .n) (best-node m q j s least))) (decides .weighs) (extreme-counts-not least)
 
-    pub led-no : meets-at m q j (lowered m q j (best-raised m q j s least)) ≡ false → verdict M s (formula q j) ≡ denies 0
+    pub led-no : meets-at m q j best-total ≡ false → verdict M s (formula q j) ≡ denies 0 (some (lamp-at m q j best-total))
     led-no t =
-        verdict-by-bound sets ∙ ap (announced M s (bound-goal M s (bound-as (extreme least) m q j s))) (decides .missed (sym meets-same ∙ t))
-        ∙ ap (λ u. denies (cond u (length (plans M (node .n) s)) 0)) (extreme-counts-not least)
+        verdict-by-bound sets ∙ ap (announced M s goal-here) (decides .missed (sym meets-same ∙ t))
+        ∙ ap₂ (λ u o. denies (cond u (length (plans M (node .n) s)) 0) (cond u none (lamp-of goal-here o))) (extreme-counts-not least) (decides .first .1)
+        ∙ ap (λ v. denies 0 (some (lamp-at m q j v))) (decides .weighs)
 
   -- ---- "equal"
 
@@ -193,24 +201,24 @@ module _ {m q : Bytes} {j : ℕ} (b : Bounded m q j) (s : ℕ) (h : s < state-co
         (λ t. first .missed (ltb-false r (plan-total M (node .n) s) t))
 
     pub equal-yes : r < plan-total M (node .n) s
-        → verdict M s (formula q j) ≡ shows (lowered m q j x) (node .n) (1 + r) (choices (node .n) (plan-at M (node .n) s r))
+        → verdict M s (formula q j) ≡ shows (lowered m q j x) (lamp-at m q j (lowered m q j x)) (node .n) (1 + r) (choices (node .n) (plan-at M (node .n) s r))
     unfolding is-equal
     equal-yes l =
         verdict-by-bound equals ∙ ap (announced M s (bound-goal M s (bound-as equal m q j s))) (first .found l)
-        ∙ ap (λ v. shows v (node .n) (1 + r) (choices (node .n) (plan-at M (node .n) s r)))
+        ∙ ap (λ v. shows v (lamp-at m q j v) (node .n) (1 + r) (choices (node .n) (plan-at M (node .n) s r)))
         (raises-at b s h .lowered (plan-at M (node .n) s r) (listed r l) ∙ ap (lowered m q j) (first .weighs l))
 
-    pub equal-no : plan-total M (node .n) s ≤ r → verdict M s (formula q j) ≡ denies (plan-total M (node .n) s)
+    pub equal-no : plan-total M (node .n) s ≤ r → verdict M s (formula q j) ≡ denies (plan-total M (node .n) s) none
     unfolding is-equal
     equal-no l =
         verdict-by-bound equals ∙ ap (announced M s (bound-goal M s (bound-as equal m q j s))) (first .missed l)
-        ∙ ap denies (plan-count M (node .n) s)
+        ∙ ap (λ k. denies k none) (plan-count M (node .n) s)
 
 -- ---- a node that sets no bound
 
 -- It is yes or no.
 pub other-verdict : {m q : Bytes} → Given m q → (j s : ℕ) → j < node-count q → sets-bound ((node-of q j) .operator) ≡ false
-    → verdict (model-in m) s (formula q j) ≡ cond (sat (model-in m) (formula q j) s []) yes (denies 0)
+    → verdict (model-in m) s (formula q j) ≡ cond (sat (model-in m) (formula q j) s []) yes (denies 0 none)
 unfolding verdict goal bound-of
 other-verdict {m} {q} given j s h e =
     let n = sets-neither ((node-of q j) .operator) e in

@@ -7,13 +7,14 @@ use native.Mathlib.Decide.{ℕ-discrete}
 use mathlib.Core.Path.{_≡_, sym, ap, ap₂, subst, _∙_}
 use mathlib.Core.Bool.{Bool, true, false, cond}
 use mathlib.Core.List.{List, List·Memᴰ}
+use mathlib.Core.Option.{Option, none, some}
 use lib.Dec.{eqb}
-use lib.IntN.{ℤ, pos}
+use lib.IntN.{ℤ}
 use lib.ListN.{take}
-use borrow.Author.Tests.{ltb-true, ltb-false}
+use borrow.Author.Tests.{ltb-true, ltb-false, eq-eqb, ne-eqb}
 use Rattle.logic.specs.Checked.{ok}
 use Rattle.logic.specs.Quantity.{naturals}
-use Rattle.logic.specs.Bound.{Bound, total, one-if}
+use Rattle.logic.specs.Bound.{Bound, Lamp, total, one-if}
 use Rattle.logic.specs.Plan.{Plan, plans, choices}
 use Rattle.logic.specs.Choices.{plan-of}
 use Rattle.logic.specs.Formula.{depth, relation}
@@ -37,44 +38,47 @@ use Rattle.questions.specs.promises.Formed.{sets-bound}
 use Rattle.limits.specs.promises.Totals.{Totals}
 use Rattle.prepared_question.specs.promises.Nodes.{formula}
 use Rattle.evaluation.specs.promises.Worth.{worth-of}
-use Rattle.bounds.specs.promises.Bounded.{Bounded, lowered, most-of, meets-at}
+use Rattle.bounds.specs.promises.Bounded.{Bounded, lowered, most-of, meets-at, lamp-at}
 use Rattle.bounds.proofs.ProductsFit.{most-small}
 use Rattle.relevance.specs.promises.Need.{Given}
+use Rattle.lamp.specs.declared.Lamp as lamps
+use Rattle.lamp.specs.promises.Codes.{lamp-code, light-code}
 use Rattle.judging.specs.declared.Outcome.{Outcome}
+use Rattle.judging.specs.declared.Outcome.the-variants.{No, Yes, YesPlan}
 use Rattle.judging.specs.declared.plans.Decision.{Decision}
 use Rattle.judging.specs.promises.Asked.{Asked, Served}
 use Rattle.judging.specs.promises.Truth.{Supplied}
 use Rattle.judging.specs.promises.Worths.{Looks}
 use Rattle.judging.specs.promises.Decided.{raised-at, bound-as, best-node, plan-at, Posed, Decided}
-use Rattle.judging.specs.promises.Announced.{root, root-verdict, told, shown-choices, Announces, Sums, Spelled, Weighs}
+use Rattle.judging.specs.promises.Announced.{root, root-verdict, no-lamp, told, shown-choices, Announces, Sums, Spelled, Weighs}
 use Rattle.judging.proofs.NodeBounds.{sets-at, raises-at, total-most, best-most}
 use Rattle.judging.proofs.SearchDecides.{shows, denies, led-yes, led-no, equal-yes, equal-no, few-plans}
 use Rattle.judging.proofs.SearchHanded.{handed-worth}
 
 -- ---- telling
 
-pub announces-plan : {v : Verdict} {w : ℤ} {n k i : ℕ} {cs l after : List ℕ} {x : Outcome} (before : List ℕ) → v ≡ shows w n k cs → i ≡ n → l ≡ cs
-    → x ≡ record { yes = true; plan = true; total = w; steps = i; count = k } → after ≡ splice before 0 l → Announces v x before after
+pub announces-plan : {v : Verdict} {w : ℤ} {p : Lamp} {u : lamps.Lamp} {n k i : ℕ} {cs l after : List ℕ} {x : Outcome} (before : List ℕ) → v ≡ shows w p n k cs
+    → i ≡ n → u ≡ lamp-code p → l ≡ cs → x ≡ YesPlan (record { total = w; lamp = u; steps = i; count = k }) → after ≡ splice before 0 l → Announces v x before after
 unfolding told shown-choices
-announces-plan {w = w} {k = k} before e f same g h = (
-  g ∙ ap (λ i. record { yes = true; plan = true; total = w; steps = i; count = k }) f ∙ ap told (sym e),
+announces-plan {w = w} {k = k} before e f lit same g h = (
+  g ∙ ap₂ (λ i u. YesPlan (record { total = w; lamp = u; steps = i; count = k })) f lit ∙ ap told (sym e),
   h ∙ ap (splice before 0) same ∙ ap (λ u. splice before 0 (shown-choices u)) (sym e),
 )
 
-pub announces-no : {v : Verdict} {k : ℕ} {x : Outcome} (before : List ℕ) → v ≡ denies k
-    → x ≡ record { yes = false; plan = false; total = pos 0; steps = 0; count = k } → Announces v x before before
+pub announces-no : {v : Verdict} {k : ℕ} {o : Option Lamp} {x : Outcome} (before : List ℕ) → v ≡ denies k o
+    → x ≡ No (record { count = k; lamp = light-code o }) → Announces v x before before
 unfolding told shown-choices
 announces-no before e f = (f ∙ ap told (sym e), sym (splice-none before 0) ∙ ap (λ u. splice before 0 (shown-choices u)) (sym e))
 
-pub announces-truth : {v : Verdict} {y : ℕ} {x : Outcome} (t : Bool) (before : List ℕ) → v ≡ cond t verdicts.yes (denies 0) → y ≡ one-if t
-    → x ≡ record { yes = eqb y 1; plan = false; total = pos 0; steps = 0; count = 0 } → Announces v x before before
+pub announces-truth : {v : Verdict} {y : ℕ} {x : Outcome} (t : Bool) (before : List ℕ) → v ≡ cond t verdicts.yes (denies 0 none) → y ≡ one-if t
+    → x ≡ cond (eqb y 1) Yes (No (record { count = 0; lamp = light-code none })) → Announces v x before before
 unfolding told shown-choices one-if
 announces-truth true before e f g = (
-  g ∙ ap (λ y. record { yes = eqb y 1; plan = false; total = pos 0; steps = 0; count = 0 }) f ∙ ap told (sym e),
+  g ∙ ap (λ y. cond (eqb y 1) Yes (No (record { count = 0; lamp = light-code none }))) f ∙ ap told (sym e),
   sym (splice-none before 0) ∙ ap (λ u. splice before 0 (shown-choices u)) (sym e),
 )
 announces-truth false before e f g =
-    announces-no before e (g ∙ ap (λ y. record { yes = eqb y 1; plan = false; total = pos 0; steps = 0; count = 0 }) f)
+    announces-no before e (g ∙ ap (λ y. cond (eqb y 1) Yes (No (record { count = 0; lamp = light-code none }))) f)
 
 -- ---- the verdict on a node that sets a bound
 
@@ -89,28 +93,32 @@ module _ {m q : Bytes} {counts : List ℕ} (asked : Asked m q counts) {j : ℕ} 
 
   pub equal-verdict : (node-of q j) .right ≡ 2 → r .met ≡ true
       → verdict (model-in m) s (formula q j)
-      ≡ shows (lowered m q j (r .raised)) ((node-of q j) .n) (1 + r .place) (choices ((node-of q j) .n) (plan-at (model-in m) ((node-of q j) .n) s (r .place)))
+      ≡ shows (lowered m q j (r .raised)) (lamp-at m q j (lowered m q j (r .raised))) ((node-of q j) .n) (1 + r .place) (choices ((node-of q j) .n) (plan-at (model-in m) ((node-of q j) .n) s (r .place)))
   equal-verdict e t = equal-yes b s here e (x .placed e .first) (equal-inside e t)
 
   pub led-verdict : ((node-of q j) .right ≡ 2 → ⊥) → r .met ≡ true
       → verdict (model-in m) s (formula q j)
-      ≡ shows (lowered m q j (r .raised)) ((node-of q j) .n) 0 (choices ((node-of q j) .n) (best-node m q j s (eqb ((node-of q j) .right) 1)))
+      ≡ shows (lowered m q j (r .raised)) (lamp-at m q j (lowered m q j (r .raised))) ((node-of q j) .n) 0 (choices ((node-of q j) .n) (best-node m q j s (eqb ((node-of q j) .right) 1)))
   led-verdict e t =
       let p = x .led e in
       led-yes b s here e (sym (ap (λ w. meets-at m q j (lowered m q j w)) (p .weighs)) ∙ sym (p .bounds) ∙ t)
-      ∙ ap (λ w. shows (lowered m q j w) ((node-of q j) .n) 0 (choices ((node-of q j) .n) (best-node m q j s (eqb ((node-of q j) .right) 1)))) (sym (p .weighs))
+      ∙ ap (λ w. shows (lowered m q j w) (lamp-at m q j (lowered m q j w)) ((node-of q j) .n) 0 (choices ((node-of q j) .n) (best-node m q j s (eqb ((node-of q j) .right) 1)))) (sym (p .weighs))
 
-  pub no-verdict : r .met ≡ false → verdict (model-in m) s (formula q j) ≡ denies (r .place)
+  pub no-verdict : r .met ≡ false → verdict (model-in m) s (formula q j) ≡ denies (r .place) (no-lamp m q j (r .raised))
+  unfolding no-lamp
   no-verdict t = go (ℕ-discrete ((node-of q j) .right) 2)
     where
-      go : Dec ((node-of q j) .right ≡ 2) → verdict (model-in m) s (formula q j) ≡ denies (r .place)
+      go : Dec ((node-of q j) .right ≡ 2) → verdict (model-in m) s (formula q j) ≡ denies (r .place) (no-lamp m q j (r .raised))
       go (yes e) =
           let p = x .placed e in
           let l = ltb-false (r .place) (plan-total (model-in m) ((node-of q j) .n) s) (sym (p .bounds) ∙ t) in
-          equal-no b s here e (p .first) l ∙ ap denies (le-antisymm l (p .within))
+          equal-no b s here e (p .first) l
+          ∙ ap₂ (λ k u. denies k (cond u none (some (lamp-at m q j (lowered m q j (r .raised)))))) (le-antisymm l (p .within)) (sym (eq-eqb ((node-of q j) .right) 2 e))
       go (no e) =
           let p = x .led e in
-          led-no b s here e (sym (ap (λ w. meets-at m q j (lowered m q j w)) (p .weighs)) ∙ sym (p .bounds) ∙ t) ∙ ap denies (sym (p .unplaced))
+          led-no b s here e (sym (ap (λ w. meets-at m q j (lowered m q j w)) (p .weighs)) ∙ sym (p .bounds) ∙ t)
+          ∙ ap₂ (λ k w. denies k (some (lamp-at m q j (lowered m q j w)))) (sym (p .unplaced)) (sym (p .weighs))
+          ∙ ap (λ u. denies (r .place) (cond u none (some (lamp-at m q j (lowered m q j (r .raised)))))) (sym (ne-eqb ((node-of q j) .right) 2 e))
 
   pub place-few : r .place ≤ 65536
   place-few = go (ℕ-discrete ((node-of q j) .right) 2)
@@ -119,9 +127,12 @@ module _ {m q : Bytes} {counts : List ℕ} (asked : Asked m q counts) {j : ℕ} 
       go (yes e) = equal-few e .1
       go (no e) = omega (arith, x .led e .unplaced)
 
-  -- The total found is small, where it is one.
-  pub total-small : r .met ≡ true → r .raised ≤ 12000 * 100 ^ 6
-  total-small t = le-trans (go (ℕ-discrete ((node-of q j) .right) 2)) (most-small m q j b)
+  -- The best total is small, and so is the total found for "equal", where it is one.
+  pub led-most : ((node-of q j) .right ≡ 2 → ⊥) → r .raised ≤ most-of m q j
+  led-most e = subst (λ w. w ≤ most-of m q j) (sym (x .led e .weighs)) (best-most b s here (eqb ((node-of q j) .right) 1))
+
+  pub met-most : r .met ≡ true → r .raised ≤ most-of m q j
+  met-most t = go (ℕ-discrete ((node-of q j) .right) 2)
     where
       go : Dec ((node-of q j) .right ≡ 2) → r .raised ≤ most-of m q j
       go (yes e) =
@@ -130,7 +141,10 @@ module _ {m q : Bytes} {counts : List ℕ} (asked : Asked m q counts) {j : ℕ} 
           subst (λ w. w ≤ most-of m q j) (x .placed e .first .weighs l)
           (total-most b s here (plan-at (model-in m) n s (r .place))
           (getD-member (plans (model-in m) n s) (r .place) (first-plan (model-in m) n s) (subst (λ k. r .place < k) (sym (plan-count (model-in m) n s)) l)))
-      go (no e) = subst (λ w. w ≤ most-of m q j) (sym (x .led e .weighs)) (best-most b s here (eqb ((node-of q j) .right) 1))
+      go (no e) = led-most e
+
+  pub total-small : r .met ≡ true → r .raised ≤ 12000 * 100 ^ 6
+  total-small t = le-trans (met-most t) (most-small m q j b)
 
 -- ---- the root
 
@@ -190,13 +204,14 @@ module _ {m q : Bytes} (given : Given m q) (cs : Bytes) where
     pub spelled-most : {r : ℕ} → Spelled (model-in m) q cs → Sums m q cs r → r ≤ most-of m q (root q)
     spelled-most x f = subst (λ r. r ≤ most-of m q (root q)) (sym (f (x .0) (x .1))) (total-most b (start-of q) here (x .0) (member (x .0) (x .1)))
 
-    -- The total, lowered, and whether it meets the bound.
-    pub weighs : {r : ℕ} {total : ℤ} {met : Bool} → Sums m q cs r → total ≡ lowered m q (root q) r → met ≡ meets-at m q (root q) (lowered m q (root q) r)
-        → Weighs (model-in m) q cs (record { total = total; met = met })
-    weighs {r} {total} {met} f e t g a =
+    -- The total, lowered, whether it meets the bound, and its lamp.
+    pub weighs : {r : ℕ} {total : ℤ} {met : Bool} {lamp : lamps.Lamp} → Sums m q cs r → total ≡ lowered m q (root q) r
+        → met ≡ meets-at m q (root q) (lowered m q (root q) r) → lamp ≡ lamp-code (lamp-at m q (root q) (lowered m q (root q) r))
+        → Weighs (model-in m) q cs (record { total = total; met = met; lamp = lamp })
+    weighs {r} {total} {met} {lamp} f e t l g a =
         let B : Bound = bound-as (relation ((node-of q (root q)) .right)) m q (root q) (start-of q) in
-        subst (λ g. (π : Plan (g .steps)) → plan-of (model-in m) (g .steps) (start-of q) cs ≡ ok π → (total ≡ g .total π) × (met ≡ g .met π))
+        subst (λ g. (π : Plan (g .steps)) → plan-of (model-in m) (g .steps) (start-of q) cs ≡ ok π → (total ≡ g .total π) × (met ≡ g .met π) × (lamp ≡ lamp-code (g .lamp π)))
         (ok-same (sym (sets-goal (sets-at b (start-of q))) ∙ a))
         (λ π p.
         let z = ap (lowered m q (root q)) (f π p) ∙ sym (raises-at b (start-of q) here .lowered π (member π p)) in
-        (e ∙ z, t ∙ ap (meets-at m q (root q)) z))
+        (e ∙ z, t ∙ ap (meets-at m q (root q)) z, l ∙ ap (λ w. lamp-code (lamp-at m q (root q) w)) z))

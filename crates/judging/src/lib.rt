@@ -2,8 +2,8 @@
 // on the root.
 ghost use mathlib.Core.Path.{_≡_};
 ghost use Prim.Native.Nat.{_*_, _^_, _≤_, _<_};
-ghost use mathlib.Core.Bool.{true, false};
-ghost use lib.IntN.{pos};
+ghost use mathlib.Core.Bool.{true, cond};
+ghost use mathlib.Core.Option.{none};
 ghost use lib.ListN.{length};
 ghost use Rattle.logic.specs.Formula as formulas;
 ghost use Rattle.logic.specs.Verdict.{verdict};
@@ -16,8 +16,10 @@ ghost use Rattle.judging.specs.promises.Asked.{Asked, Served};
 ghost use Rattle.judging.specs.promises.Truth.{Supplied};
 ghost use Rattle.judging.specs.promises.Decided.{Posed, Decided};
 ghost use Rattle.questions.specs.promises.Formed.{sets-bound};
-ghost use Rattle.bounds.specs.promises.Bounded.{Bounded};
-ghost use Rattle.judging.specs.promises.Announced.{root, root-verdict, Announces, Sums, Spelled, Weighs};
+ghost use Rattle.lamp.specs.promises.Codes.{light-code};
+ghost use Rattle.bounds.specs.promises.Bounded.{Bounded, most-of};
+ghost use Rattle.judging.specs.declared.Outcome.the-variants.{No, Yes, YesPlan};
+ghost use Rattle.judging.specs.promises.Announced.{root, root-verdict, no-lamp, Announces, Sums, Spelled, Weighs};
 
 mod conditions;
 mod plans;
@@ -30,9 +32,12 @@ use crate::truth::plain_truth;
 use crate::truth::truth_table;
 use crate::worths::worth_of;
 use best_plan::STACK;
+use bounds::lamp_of;
 use bounds::lowered;
 use bounds::meets;
 use evaluation::TRUTHS;
+use lamp::Lamp;
+use lamp::Light;
 use limits::COUNTS;
 use limits::plan_totals;
 use plan_choices::extending::extend;
@@ -53,40 +58,72 @@ use relevance::needed;
 // The numbers of a table of best totals: by condition and state, the greatest and the least.
 const BESTS: usize = 2560;
 
-// What judging came to. `plan`: the root sets a bound on plans and is true, and then total, steps and count are the shown plan's; on no, count is
-// the number of all plans for "equal", else 0.
-pub struct Outcome {
-    pub yes: bool,
-    pub plan: bool,
+// What goes with a no. The count is the number of all plans for "equal", else 0; the lamp is that of the best total for "less" and "greater".
+pub struct Denied {
+    pub count: u32,
+    pub lamp: Light,
+}
+
+// What goes with a yes to a root that sets a bound on plans: the shown plan's total, its lamp, its steps and its count.
+pub struct ShownPlan {
     pub total: i64,
+    pub lamp: Lamp,
     pub steps: u32,
     pub count: u32,
 }
 
-// An outcome without a plan.
-fn plain(yes: bool, count: u32) -> Outcome
-    ensures value { λ r. ⌜ r ≡ record { yes = yes; plan = false; total = pos 0; steps = 0; count = count } ⌝ }
-{
-    Outcome {
-        yes: yes,
-        plan: false,
-        total: 0,
-        steps: 0,
-        count: count,
-    }
+// What judging came to.
+pub enum Outcome {
+    No(Denied),
+    Yes,
+    YesPlan(ShownPlan),
 }
 
-// An outcome with a plan: yes.
-fn with_plan(total: i64, steps: u8, count: u32) -> Outcome
-    ensures value { λ r. ⌜ r ≡ record { yes = true; plan = true; total = total; steps = steps; count = count } ⌝ }
+// The outcome for a root that sets no bound on plans.
+fn plain(yes: bool) -> Outcome
+    ensures value { λ r. ⌜ r ≡ cond yes Yes (No (record { count = 0; lamp = light-code none })) ⌝ }
 {
-    Outcome {
-        yes: true,
-        plan: true,
+    if yes {
+        return Outcome::Yes;
+    }
+    Outcome::No(Denied {
+        count: 0,
+        lamp: Light::Off,
+    })
+}
+
+// The outcome with a plan.
+fn with_plan(total: i64, lamp: Lamp, steps: u8, count: u32) -> Outcome
+    ensures value { λ r. ⌜ r ≡ YesPlan (record { total = total; lamp = lamp; steps = steps; count = count }) ⌝ }
+{
+    Outcome::YesPlan(ShownPlan {
         total: total,
+        lamp: lamp,
         steps: steps as u32,
         count: count,
+    })
+}
+
+// The outcome where node j, which sets a bound on plans, is not true.
+fn deny(m: &[u16; MODEL], q: &[u8; QUESTION], j: u8, r: Decision) -> Outcome
+    requires { ⌜ Bounded (now m) (now q) j × (r .place ≤ 65536) ⌝ }
+    requires { ⌜ ((node-of (now q) j .right ≡ 2 → ⊥) → r .raised ≤ most-of (now m) (now q) j) ⌝ }
+    ensures value { λ x.
+        let m = now (m .entry) in let q = now (q .entry) in
+        ⌜ x ≡ No (record { count = r .place; lamp = light-code (no-lamp m q j (r .raised)) }) ⌝ }
+{
+    let count = r.place as u32;
+    if asks_equal(q, j) {
+        return Outcome::No(Denied {
+            count: count,
+            lamp: Light::Off,
+        });
     }
+    let lamp = lamp_of(m, q, j, r.raised);
+    Outcome::No(Denied {
+        count: count,
+        lamp: Light::On(lamp),
+    })
 }
 
 // The truth of state formulas on which the root in the start state can depend.
@@ -120,14 +157,15 @@ fn show(
 {
     let n = steps(q, j);
     let total = lowered(m, q, j, r.raised);
+    let lamp = lamp_of(m, q, j, r.raised);
     let place = r.place;
     if asks_equal(q, j) {
         nth(m, counts, choices, s, n, place as u64);
-        return with_plan(total, n, 1 + place as u32);
+        return with_plan(total, lamp, n, 1 + place as u32);
     }
     let d = r.given as usize;
     extend(m, places, scratch, choices, s as usize, d, n as usize);
-    with_plan(total, n, 0)
+    with_plan(total, lamp, n, 0)
 }
 
 // The verdict on node j, a state formula, in s.
@@ -150,14 +188,13 @@ fn at_node(
         let mut scratch = [0u8; STACK];
         let mut places = [0u8; STAGES];
         let r = decide(m, q, counts, truth, &mut scratch, &mut places, j, s);
-        let place = r.place;
         if r.met {
             return show(m, q, counts, &scratch, &places, choices, j, s, r);
         }
-        return plain(false, place as u32);
+        return deny(m, q, j, r);
     }
     let x = plain_truth(m, q, truth, j, s);
-    plain(x == 1, 0)
+    plain(x == 1)
 }
 
 // Judges a question: the verdict on its root in its start state, and the choices of a shown plan from the beginning of `choices` on.
@@ -197,13 +234,14 @@ fn root_total(m: &[u16; MODEL], q: &[u8; QUESTION], truth: &[u8; TRUTHS], choice
     )
 }
 
-// The total of a plan for the root, and whether it meets the root's bound.
+// The total of a plan for the root, whether it meets the root's bound, and how it stands to it.
 pub struct Weighed {
     pub total: i64,
     pub met: bool,
+    pub lamp: Lamp,
 }
 
-// The total of the plan with these choices, for the root, which sets a bound on plans, and whether it meets that.
+// The total of the plan with these choices, for the root, which sets a bound on plans, and what it is to that bound.
 pub fn sheet_total(m: &[u16; MODEL], q: &[u8; QUESTION], choices: &[u8]) -> Weighed
     requires { ⌜ Served (now m) (now q) × (sets-bound (node-of (now q) (root (now q)) .operator) ≡ true) ⌝ }
     requires { ⌜ Spelled (model-in (now m)) (now q) (now choices) ⌝ }
@@ -216,5 +254,6 @@ pub fn sheet_total(m: &[u16; MODEL], q: &[u8; QUESTION], choices: &[u8]) -> Weig
     Weighed {
         total: lowered(m, q, j, x),
         met: meets(m, q, j, x),
+        lamp: lamp_of(m, q, j, x),
     }
 }

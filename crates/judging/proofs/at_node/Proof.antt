@@ -11,7 +11,7 @@ use Rattle.bounds.specs.promises.Bounded.{Bounded}
 use Rattle.judging.specs.promises.Decided.{Posed}
 use Rattle.judging.proofs.SearchDecides.{other-verdict}
 use Rattle.judging.proofs.SearchHanded.{posed-at, bounded-at}
-use Rattle.judging.proofs.VerdictShown.{announces-truth, announces-no, no-verdict, place-few}
+use Rattle.judging.proofs.VerdictShown.{announces-truth, announces-no, no-verdict, place-few, led-most}
 use borrow.Author.Needs.{needs}
 use Rattle.judging.proofs.at_node.Statement.{statement}
 use Rattle.judging.proofs.at_node.Tie as tie
@@ -52,32 +52,30 @@ same-length c = search needs
 returns : tie.Need-returns
 returns c = search needs
 
-cast-plain : tie.Need-cast-plain
-cast-plain c = let S = c .before .before .before .before .before .before .before .before .before in
-    let o = sym (tested (c .before .before .before .before .before .before)) ∙ c .before .before .before .before .before .if1 .taken in
-    record { fits = omega (arith, place-few (S .pre .0 .0) (bounded S o) (S .args .s) (S .pre .0 .2) (c .before .before .decide .ensures)) }
-
-plain-requires : tie.Need-plain-requires
-plain-requires c κs = search needs
+deny-requires : tie.Need-deny-requires
+deny-requires c κs = let S = c .before .before .before .before .before .before .before .before .before in
+    let b = bounded S (sym (tested (c .before .before .before .before .before .before)) ∙ c .before .before .before .before .before .if1 .taken) in
+    let d = c .before .before .decide .ensures in
+    ((b, place-few (S .pre .0 .0) b (S .args .s) (S .pre .0 .2) d), led-most (S .pre .0 .0) b (S .args .s) (S .pre .0 .2) d)
 
 returns-2 : tie.Need-returns-2
 returns-2 c = let S = c .before .before .before .before .before .before .before .before .before .before in
     let o = sym (tested (c .before .before .before .before .before .before .before)) ∙ c .before .before .before .before .before .before .if1 .taken in
-    announces-no (S .args .choices .now) (no-verdict (S .pre .0 .0) (bounded S o) (S .args .s) (S .pre .0 .2) (c .before .before .before .decide .ensures) (c .before .if2 .left)) (c .plain .ensures)
+    announces-no (S .args .choices .now) (no-verdict (S .pre .0 .0) (bounded S o) (S .args .s) (S .pre .0 .2) (c .before .before .before .decide .ensures) (c .before .if2 .left)) (c .deny .ensures)
 
 plain-truth-requires : tie.Need-plain-truth-requires
 plain-truth-requires c κs = let S = c .before .before .before .before in
     let P = S .pre .0 in
     ((P .0 .given, P .1, P .2), (S .pre .1 .0, sym (tested (c .before)) ∙ c .if1 .left))
 
-plain-requires-2 : tie.Need-plain-requires-2
-plain-requires-2 c κs = search needs
+plain-requires : tie.Need-plain-requires
+plain-requires c κs = search needs
 
 returns-3 : tie.Need-returns-3
 returns-3 c = let S = c .before .before .before .before .before .before in
     let P = S .pre .0 in
     announces-truth (sat (model-in (S .args .m .now)) (formula (S .args .q .now) (S .args .j)) (S .args .s) []) (S .args .choices .now)
-    (other-verdict (P .0 .given) (S .args .j) (S .args .s) (P .1) (sym (tested (c .before .before .before)) ∙ c .before .before .if1 .left)) (c .before .plain-truth .ensures (S .pre .1 .1)) (c .plain2 .ensures)
+    (other-verdict (P .0 .given) (S .args .j) (S .args .s) (P .1) (sym (tested (c .before .before .before)) ∙ c .before .before .if1 .left)) (c .before .plain-truth .ensures (S .pre .1 .1)) (c .plain .ensures)
 
 pub at-node-spec : {M : Type 1} → statement M
 at-node-spec =
@@ -91,9 +89,8 @@ at-node-spec =
     show-requires
     same-length
     returns
-    cast-plain
-    plain-requires
+    deny-requires
     returns-2
     plain-truth-requires
-    plain-requires-2
+    plain-requires
     returns-3)

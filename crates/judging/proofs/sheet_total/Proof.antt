@@ -1,10 +1,11 @@
--- The root's total, by the tables, lowered, and whether it meets the bound.
+-- The root's total, by the tables, lowered, whether it meets the bound, and its lamp.
 use Prim.Native.Nat.{ℕ, _-_, _≤_}
 use native.Mathlib.Omega.{arith}
 use mathlib.Core.Path.{_≡_, sym, ap, subst, _∙_}
 use Rattle.questions.specs.Layout.{start-of}
 use Rattle.relevance.specs.promises.Need.{Given}
-use Rattle.bounds.specs.promises.Bounded.{Bounded, lowered, most-of, meets-at}
+use Rattle.lamp.specs.promises.Codes.{lamp-code}
+use Rattle.bounds.specs.promises.Bounded.{Bounded, lowered, most-of, meets-at, lamp-at}
 use Rattle.judging.specs.promises.Announced.{root}
 use Rattle.judging.specs.promises.Decided.{Posed}
 use Rattle.judging.proofs.SearchHanded.{bounded-at}
@@ -49,21 +50,28 @@ bounded-here c = subst (λ (j : ℕ). Bounded (c .before .before .before .before
 lowered-requires : tie.Need-lowered-requires
 lowered-requires c κs = (bounded-here c, c .before .root-total .ensures .1)
 
+-- The raised total, at the node's number as the code has it.
+small : (c : tie.After-count) → c .before .root-total .result ≤ most-of (c .before .before .before .before .before .before .before .args .m .now) (c .before .before .before .before .before .before .before .args .q .now) (c .count .result - 1)
+small c = let S = c .before .before .before .before .before .before .before in
+    subst (λ (j : ℕ). c .before .root-total .result ≤ most-of (S .args .m .now) (S .args .q .now) j) (sym (at-root c))
+    (spelled-most (given S) (S .args .choices .now) (bounded (c .before .before .before)) (S .pre .1) (c .before .root-total .ensures .0))
+
 meets-requires : tie.Need-meets-requires
-meets-requires c κs = let S = c .before .before .before .before .before .before .before .before in (
-  bounded-here (c .before),
-  subst (λ (j : ℕ). c .before .before .root-total .result ≤ most-of (S .args .m .now) (S .args .q .now) j) (sym (at-root (c .before)))
-      (spelled-most (given S) (S .args .choices .now) (bounded (c .before .before .before .before)) (S .pre .1) (c .before .before .root-total .ensures .0)),
-)
+meets-requires c κs = (bounded-here (c .before), small (c .before))
+
+lamp-of-requires : tie.Need-lamp-of-requires
+lamp-of-requires c κs = (bounded-here (c .before .before), small (c .before .before))
 
 returns : tie.Need-returns
-returns c = let S = c .before .before .before .before .before .before .before .before .before in
+returns c = let S = c .before .before .before .before .before .before .before .before .before .before in
     let m = S .args .m .now in
     let q = S .args .q .now in
-    let x = c .before .before .before .root-total .result in
-    weighs (given S) (S .args .choices .now) (bounded (c .before .before .before .before .before)) (c .before .before .before .root-total .ensures .0)
-    (toZ-ofZ w64 (c .before .lowered .result) (record { sfits = c .before .lowered .ok }) ∙ c .before .lowered .ensures ∙ ap (λ (j : ℕ). lowered m q j x) (at-root (c .before .before)))
-    (c .meets .ensures ∙ ap (λ (j : ℕ). meets-at m q j (lowered m q j x)) (at-root (c .before .before)))
+    let x = c .before .before .before .before .root-total .result in
+    let at = at-root (c .before .before .before) in
+    weighs (given S) (S .args .choices .now) (bounded (c .before .before .before .before .before .before)) (c .before .before .before .before .root-total .ensures .0)
+    (toZ-ofZ w64 (c .before .before .lowered .result) (record { sfits = c .before .before .lowered .ok }) ∙ c .before .before .lowered .ensures ∙ ap (λ (j : ℕ). lowered m q j x) at)
+    (c .before .meets .ensures ∙ ap (λ (j : ℕ). meets-at m q j (lowered m q j x)) at)
+    (c .lamp-of .ensures ∙ ap (λ (j : ℕ). lamp-code (lamp-at m q j (lowered m q j x))) at)
 
 pub sheet-total-spec : {M : Type 1} → statement M
 sheet-total-spec =
@@ -76,4 +84,5 @@ sheet-total-spec =
     sub-j
     lowered-requires
     meets-requires
+    lamp-of-requires
     returns)

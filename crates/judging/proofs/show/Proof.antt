@@ -8,12 +8,12 @@ use Rattle.logic.specs.Limits.{plan-total}
 use Rattle.prepared_model.specs.promises.Rows.{model-in}
 use Rattle.questions.specs.Layout.{node-of}
 use Rattle.plan_choices.specs.promises.Extended.{extend, by-place, Placed}
-use Rattle.bounds.specs.promises.Bounded.{lowered}
+use Rattle.bounds.specs.promises.Bounded.{lowered, lamp-at}
 use Rattle.bounds.proofs.ProductsFit.{compares}
 use Rattle.judging.specs.promises.Decided.{best-node, plan-at}
 use Rattle.judging.proofs.SearchHanded.{asked-equal, asked-other}
 use Rattle.judging.proofs.SearchDecides.{shows}
-use Rattle.judging.proofs.VerdictShown.{announces-plan, equal-few, equal-inside, equal-verdict, place-few, total-small, led-verdict}
+use Rattle.judging.proofs.VerdictShown.{announces-plan, equal-few, equal-inside, equal-verdict, place-few, met-most, total-small, led-verdict}
 use mir.Syntax.{w64}
 use mir.ValLaws.{toZ-ofZ}
 use mir.Val.{toZ, ofZ}
@@ -39,15 +39,20 @@ lowered-requires c κs = let S = c .before .before .before in
 total-is : (c : tie.After-lowered) → toZ w64 (ofZ w64 (c .lowered .result)) ≡ lowered (c .before .before .before .before .args .m .now) (c .before .before .before .before .args .q .now) (c .before .before .before .before .args .j) (c .before .before .before .before .args .r .raised)
 total-is c = toZ-ofZ w64 (c .lowered .result) (record { sfits = c .lowered .ok }) ∙ c .lowered .ensures
 
+lamp-of-requires : tie.Need-lamp-of-requires
+lamp-of-requires c κs = let S = c .before .before .before .before in
+    let P = S .pre .0 in
+    (P .1, met-most (P .0) (P .1) (S .args .s) (S .pre .1 .0) (P .2) (P .3))
+
 asks-equal-requires : tie.Need-asks-equal-requires
 asks-equal-requires c κs = search needs
 
 nth-requires : tie.Need-nth-requires
-nth-requires c κs = let S = c .before .before .before .before .before .before .before in
+nth-requires c κs = let S = c .before .before .before .before .before .before .before .before in
     let P = S .pre .0 in
     let here = S .pre .1 .0 in
     let e = asked-equal (S .args .q .now) (S .args .j) (c .before .before .asks-equal .ensures) (c .before .if1 .taken) in
-    let n = c .before .before .before .before .steps .ensures in
+    let n = c .before .before .before .before .before .steps .ensures in
     let few = equal-few (P .0) (P .1) (S .args .s) here (P .2) e .0 in
     let inside = equal-inside (P .0) (P .1) (S .args .s) here (P .2) e (P .3) in (
       (P .0 .given .prepared, P .0 .counted),
@@ -61,10 +66,10 @@ nth-requires c κs = let S = c .before .before .before .before .before .before .
     )
 
 cast-with-plan : tie.Need-cast-with-plan
-cast-with-plan c = record { fits = omega (arith, place-small (c .before .before .before .before .before .before .before .before .before .before)) }
+cast-with-plan c = record { fits = omega (arith, place-small (c .before .before .before .before .before .before .before .before .before .before .before)) }
 
 add-with-plan : tie.Need-add-with-plan
-add-with-plan c = record { fits = omega (arith, place-small (c .before .before .before .before .before .before .before .before .before .before)) }
+add-with-plan c = record { fits = omega (arith, place-small (c .before .before .before .before .before .before .before .before .before .before .before)) }
 
 with-plan-requires : tie.Need-with-plan-requires
 with-plan-requires c κs = search needs
@@ -73,14 +78,14 @@ same-length : tie.Need-same-length
 same-length c = search needs
 
 returns : tie.Need-returns
-returns c = let S = c .before .before .before .before .before .before .before .before .before .before .before in
+returns c = let S = c .before .before .before .before .before .before .before .before .before .before .before .before in
     let P = S .pre .0 in
     let e = asked-equal (S .args .q .now) (S .args .j) (c .before .before .before .before .before .before .asks-equal .ensures) (c .before .before .before .before .before .if1 .taken) in
-    let n = c .before .before .before .before .before .before .before .before .steps .ensures in
+    let n = c .before .before .before .before .before .before .before .before .before .steps .ensures in
     announces-plan (S .args .choices .now)
     (equal-verdict (P .0) (P .1) (S .args .s) (S .pre .1 .0) (P .2) e (P .3)
-    ∙ ap (λ w. shows w ((node-of (S .args .q .now) (S .args .j)) .n) (1 + S .args .r .place) (choices ((node-of (S .args .q .now) (S .args .j)) .n) (plan-at (model-in (S .args .m .now)) ((node-of (S .args .q .now) (S .args .j)) .n) (S .args .s) (S .args .r .place)))) (sym (total-is (c .before .before .before .before .before .before .before))))
-    n (ap (λ (i : ℕ). choices i (plan-at (model-in (S .args .m .now)) i (S .args .s) (S .args .r .place))) n) (c .with-plan .ensures) (c .before .before .before .nth .ensures .0)
+    ∙ ap (λ w. shows w (lamp-at (S .args .m .now) (S .args .q .now) (S .args .j) (lowered (S .args .m .now) (S .args .q .now) (S .args .j) (S .args .r .raised))) ((node-of (S .args .q .now) (S .args .j)) .n) (1 + S .args .r .place) (choices ((node-of (S .args .q .now) (S .args .j)) .n) (plan-at (model-in (S .args .m .now)) ((node-of (S .args .q .now) (S .args .j)) .n) (S .args .s) (S .args .r .place)))) (sym (total-is (c .before .before .before .before .before .before .before .before))))
+    n (c .before .before .before .before .before .before .before .lamp-of .ensures) (ap (λ (i : ℕ). choices i (plan-at (model-in (S .args .m .now)) i (S .args .s) (S .args .r .place))) n) (c .with-plan .ensures) (c .before .before .before .nth .ensures .0)
 
 cast-d : tie.Need-cast-d
 cast-d c = search needs
@@ -89,10 +94,10 @@ cast-extend : tie.Need-cast-extend
 cast-extend c = search needs
 
 extend-requires : tie.Need-extend-requires
-extend-requires c κs = let S = c .before .before .before .before .before .before .before .before in
+extend-requires c κs = let S = c .before .before .before .before .before .before .before .before .before in
     let P = S .pre .0 in
     let e = asked-other (S .args .q .now) (S .args .j) (c .before .before .before .asks-equal .ensures) (c .before .before .if1 .left) in
-    ((P .0 .given .prepared, S .pre .1 .0), (subst (λ (n : ℕ). Placed (S .args .m .now) (S .args .places .now) n) (sym (c .before .before .before .before .before .steps .ensures)) (P .2 .led e .table), S .pre .1 .1))
+    ((P .0 .given .prepared, S .pre .1 .0), (subst (λ (n : ℕ). Placed (S .args .m .now) (S .args .places .now) n) (sym (c .before .before .before .before .before .before .steps .ensures)) (P .2 .led e .table), S .pre .1 .1))
 
 with-plan-requires-2 : tie.Need-with-plan-requires-2
 with-plan-requires-2 c κs = search needs
@@ -101,13 +106,13 @@ same-length-2 : tie.Need-same-length-2
 same-length-2 c = search needs
 
 returns-2 : tie.Need-returns-2
-returns-2 c = let S = c .before .before .before .before .before .before .before .before .before .before .before .before in
+returns-2 c = let S = c .before .before .before .before .before .before .before .before .before .before .before .before .before in
     let P = S .pre .0 in
     let e = asked-other (S .args .q .now) (S .args .j) (c .before .before .before .before .before .before .before .asks-equal .ensures) (c .before .before .before .before .before .before .if1 .left) in
-    let n = c .before .before .before .before .before .before .before .before .before .steps .ensures in
+    let n = c .before .before .before .before .before .before .before .before .before .before .steps .ensures in
     announces-plan (S .args .choices .now)
     (led-verdict (P .0) (P .1) (S .args .s) (S .pre .1 .0) (P .2) e (P .3)
-    ∙ ap (λ w. shows w ((node-of (S .args .q .now) (S .args .j)) .n) 0 (choices ((node-of (S .args .q .now) (S .args .j)) .n) (best-node (S .args .m .now) (S .args .q .now) (S .args .j) (S .args .s) (eqb ((node-of (S .args .q .now) (S .args .j)) .right) 1)))) (sym (total-is (c .before .before .before .before .before .before .before .before)))) n
+    ∙ ap (λ w. shows w (lamp-at (S .args .m .now) (S .args .q .now) (S .args .j) (lowered (S .args .m .now) (S .args .q .now) (S .args .j) (S .args .r .raised))) ((node-of (S .args .q .now) (S .args .j)) .n) 0 (choices ((node-of (S .args .q .now) (S .args .j)) .n) (best-node (S .args .m .now) (S .args .q .now) (S .args .j) (S .args .s) (eqb ((node-of (S .args .q .now) (S .args .j)) .right) 1)))) (sym (total-is (c .before .before .before .before .before .before .before .before .before)))) n (c .before .before .before .before .before .before .before .before .lamp-of .ensures)
     (ap (λ (i : ℕ). extend (model-in (S .args .m .now)) (by-place (S .args .m .now) (S .args .places .now)) (S .args .r .given) i (S .args .s) (S .args .scratch .now) .0) n ∙ P .2 .led e .chosen)
     (c .with-plan2 .ensures) (c .before .before .before .extend .ensures .0)
 
@@ -117,6 +122,7 @@ show-spec =
     (tie.spec
     steps-requires
     lowered-requires
+    lamp-of-requires
     asks-equal-requires
     nth-requires
     cast-with-plan

@@ -2,13 +2,14 @@
 -- told of a plan's choices.
 use Prim.Native.Nat.{ℕ, _-_}
 use mathlib.Core.Path.{_≡_}
-use mathlib.Core.Bool.{true, false}
+use mathlib.Core.Bool.{cond}
 use mathlib.Core.List.{List, []}
-use lib.IntN.{pos}
+use mathlib.Core.Option.{Option, none, some}
+use lib.Dec.{eqb}
 use Rattle.logic.specs.Checked.{ok}
 use Rattle.logic.specs.Model.{Model}
 use Rattle.logic.specs.Quantity.{naturals}
-use Rattle.logic.specs.Bound.{total}
+use Rattle.logic.specs.Bound.{Lamp, total}
 use Rattle.logic.specs.Plan.{Plan}
 use Rattle.logic.specs.Choices.{plan-of}
 use Rattle.logic.specs.Verdict.{Goal, goal, Verdict, no, yes, yes-plan, verdict}
@@ -17,8 +18,11 @@ use Rattle.prepared_model.specs.promises.Rows.{model-in}
 use Rattle.questions.specs.Layout.{start-of, node-count, node-of}
 use Rattle.prepared_question.specs.promises.Nodes.{formula}
 use Rattle.blocks.specs.Splice.{splice}
+use Rattle.lamp.specs.promises.Codes.{lamp-code, light-code}
+use Rattle.bounds.specs.promises.Bounded.{lowered, lamp-at}
 use Rattle.judging.specs.promises.Decided.{raised-at}
 use Rattle.judging.specs.declared.Outcome.{Outcome}
+use Rattle.judging.specs.declared.Outcome.the-variants.{No, Yes, YesPlan}
 use Rattle.judging.specs.declared.Weighed.{Weighed}
 
 -- The root is the last node.
@@ -28,10 +32,14 @@ root q = node-count q - 1
 abbrev pub root-verdict : Model → Bytes → Verdict
 root-verdict M q = verdict M (start-of q) (formula q (root q))
 
+-- The lamp of a no to node j, by the best raised total; none for "equal".
+unfoldable pub no-lamp : (m q : Bytes) (j x : ℕ) → Option Lamp
+no-lamp m q j x = cond (eqb ((node-of q j) .right) 2) none (some (lamp-at m q j (lowered m q j x)))
+
 unfoldable pub told : Verdict → Outcome
-told (no x) = record { yes = false; plan = false; total = pos 0; steps = 0; count = x .count }
-told yes = record { yes = true; plan = false; total = pos 0; steps = 0; count = 0 }
-told (yes-plan x) = record { yes = true; plan = true; total = x .total; steps = x .steps; count = x .count }
+told (no x) = No (record { count = x .count; lamp = light-code (x .lamp) })
+told yes = Yes
+told (yes-plan x) = YesPlan (record { total = x .total; lamp = lamp-code (x .lamp); steps = x .steps; count = x .count })
 
 unfoldable pub shown-choices : Verdict → List ℕ
 shown-choices (no x) = []
@@ -52,8 +60,8 @@ Sums m q choices r =
     (π : Plan ((node-of q (root q)) .n)) → plan-of (model-in m) ((node-of q (root q)) .n) (start-of q) choices ≡ ok π
     → r ≡ total naturals (model-in m) ((node-of q (root q)) .n) (start-of q) π (raised-at m q (root q) (start-of q))
 
--- What is told of the plan with these choices: its total for the root's goal, and whether it meets the bound.
+-- What is told of the plan with these choices: its total for the root's goal, whether it meets the bound, and its lamp.
 abbrev pub Weighs : Model → (q choices : Bytes) → Weighed → Type 0
 Weighs M q choices r =
     (g : Goal) → goal M (start-of q) (formula q (root q)) ≡ ok g → (π : Plan (g .steps)) → plan-of M (g .steps) (start-of q) choices ≡ ok π
-    → (r .total ≡ g .total π) × (r .met ≡ g .met π)
+    → (r .total ≡ g .total π) × (r .met ≡ g .met π) × (r .lamp ≡ lamp-code (g .lamp π))
