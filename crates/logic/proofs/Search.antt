@@ -38,6 +38,12 @@ best-as Q R v u same (later {x} {y} {l} p b) =
     member (here h) = List·Memᴰ·head refl
     member (later p b) = List·Memᴰ·tail (member b)
 
+-- From a state of an accepted model there is a plan: the best of any value.
+pub plan-there : (m : Model) → Accepted m → (n s : ℕ) → s < length (m .states) → (π : Plan n) × List·Memᴰ π (plans m n s)
+plan-there m accepted n s k =
+    let f : List Step → ℕ = λ r. 0 in
+    (best-plan naturals m n s f, best-member naturals naturals-ordered (λ π. total naturals m n s π f) (best-plan-first naturals naturals-additive naturals-ordered m accepted n s f k))
+
 -- ---- a bound whose totals, all raised by c, are those of f
 
 pub record Raises (m : Model) (s n : ℕ) (g : List Step → ℤ) (f : List Step → ℕ) (c : ℕ) : Type 0 where

@@ -1,6 +1,6 @@
 -- Demand 2 for every session whose replies are those that document 01 describes by the history: refusals are by the first ground that
 -- applies (`FirstGround`); the verdict says yes exactly where the formula is true, for a root that sets a bound on plans since there is a shown
--- plan just where it is true, and announces the plan and the count of document 01's words (`ShownPlan`).
+-- plan just where it is true, and announces the plan, the count and the lamp of the documents' words (`ShownPlan`).
 use Prim.Native.Nat.{ℕ}
 use mathlib.Core.Path.{_≡_, refl, sym, ap, _∙_}
 use mathlib.Core.Logic.{_↔_}
@@ -25,7 +25,7 @@ use Rattle.protocol.specs.Replies.{Session}
 use Rattle.protocol.specs.Demand2.{says-yes, Demand-2, Demand-2-always}
 use Rattle.protocol.specs.promises.Chains.{do-judge, answered, by-chain}
 use Rattle.protocol.proofs.AfterEachCall.{Sound, sound}
-use Rattle.protocol.proofs.HeldAccepted.{model-accepted}
+use Rattle.protocol.proofs.HeldAccepted.{model-accepted, start-inside}
 use Rattle.protocol.proofs.Refusals.{decided-none}
 use Rattle.protocol.proofs.FirstGround.{yields-is, refuse-first}
 use Rattle.protocol.proofs.ShownPlan.{all-plans, verdict-announces}
@@ -85,7 +85,7 @@ demand-2 h s reply yielding =
                   by-gain = λ t i n l u r p d steps. gain-policy (model-accepted s m e) n t i l u r p d steps;
                 };
             all-plans = all-plans m;
-            on-plans = λ g a. verdict-announces m (q .start) g (q .root) a;
+            on-plans = λ g a. verdict-announces m (q .start) g (q .root) a (model-accepted s m e) (start-inside s m e q f);
             on-others = λ k a. ap (verdict-by m (q .start) (sat m (q .root) (q .start) [])) a;
           };
     }

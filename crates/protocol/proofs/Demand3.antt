@@ -36,7 +36,7 @@ use Rattle.questions.specs.Layout.{Question}
 use Rattle.sheets.specs.Layout.{Sheet, weight-of, claimed-total, sheet-of}
 use Rattle.sheets.specs.Grounds.{sheet-grounds, read-sheet}
 use Rattle.protocol.specs.Calls.{Call, judge, query, write, check, Held, Report, Answer, judged, written, accepted, refuse, Reply, says, written-bytes, same, reported, yields}
-use Rattle.protocol.specs.Demand3.{Plan-question, On-condition, On-gain, total, meets-bound, Claims, Accepts, Differs, Meeting-sheet, Says-yes, Writes-shown, Demand-3}
+use Rattle.protocol.specs.Demand3.{Plan-question, On-condition, On-gain, total, meets-bound, lamp, Claims, Accepts, Differs, Meeting-sheet, Says-yes, Writes-shown, Demand-3}
 use Rattle.protocol.specs.promises.Chains.{sheet-shown, do-write, check-on, do-check, answered, by-chain}
 use Rattle.protocol.proofs.AfterEachCall.{Sound, sound}
 use Rattle.protocol.proofs.Refusals.{first-passes, decided-none, decided-first, decided-value, plan-only}
@@ -198,6 +198,9 @@ module _ {h : Held} (reply : Call → Reply) (yielding : (c : Call) → reply c 
 
   check-says : (sheet : Bytes) (w : ℤ) (π : Plan n) → Claims reply x sheet w π → (r : Report) → Accepts reply x sheet r → r .met ≡ meets-bound reply x π
   check-says sheet w π c r a = ap (λ z. z .met) (passed-test (same w (g .total π)) (reported g π) r (sym (claimed-answer sheet w π c) ∙ a) .1)
+
+  check-tells : (sheet : Bytes) (w : ℤ) (π : Plan n) → Claims reply x sheet w π → (r : Report) → Accepts reply x sheet r → r .lamp ≡ lamp reply x π
+  check-tells sheet w π c r a = ap (λ z. z .lamp) (passed-test (same w (g .total π)) (reported g π) r (sym (claimed-answer sheet w π c) ∙ a) .1)
 
   accepted-ok : (c : Checked Report) (r : Report) → checked-by c ≡ accepted r → c ≡ ok r
   accepted-ok (ok t) r e = ap ok (accepted-same e)
@@ -363,11 +366,16 @@ module _ {h : Held} (reply : Call → Reply) (yielding : (c : Call) → reply c 
           total-is-gain = total-is-gain;
           met-by-W = λ φ w. root .weight-met φ (w .relation, w .p, w .q, w .root);
           met-by-gain = λ l u w. root .gain-met l u (w .relation, w .p, w .q, w .root);
+          lamp-by-W = λ φ w. root .weight-lamp φ (w .relation, w .p, w .q, w .root);
+          lamp-by-gain = λ l u w. root .gain-lamp l u (w .relation, w .p, w .q, w .root);
+          W-met-by-lamp = λ φ w. root .weight-exact φ (w .relation, w .p, w .q, w .root);
+          gain-met-by-lamp = λ l u w. root .gain-exact l u (w .relation, w .p, w .q, w .root);
           check-exact = check-exact;
           check-unsigned = check-unsigned;
           check-differs = check-differs;
           claims-exact = claims-exact;
           check-says = check-says;
+          check-tells = check-tells;
           yes-exact = yes-exact;
           write-exact = write-exact;
         }

@@ -1,18 +1,21 @@
--- What a plan question asks of plans, by its root: of operator 8 the total is W, of operator 9 the summed path weights times gains.
+-- What a plan question asks of plans, by its root: of operator 8 the total is W, of operator 9 the summed path weights times gains. When they meet
+-- the bound, and what their lamp tells of it.
 use Prim.Native.Nat.{ℕ}
 use mathlib.Core.Path.{_≡_, refl, sym, ap, ap₂, subst, _∙_}
-use mathlib.Core.Logic.{_⊎_, inl, inr}
+use mathlib.Core.Logic.{_↔_, _⊎_, inl, inr}
 use mathlib.Core.Bool.{true, false, false≢true}
 use lib.IntN.{ℤ, pos}
 use Rattle.logic.specs.Checked.{ok, _>>=_}
 use Rattle.logic.specs.Model.{Model}
-use Rattle.logic.specs.Quantity.{naturals, integers, Relation}
+use Rattle.logic.specs.Quantity.{naturals, integers, Relation, less}
 use Rattle.logic.specs.Plan.{Plan, paths}
-use Rattle.logic.specs.Bound.{weighed, total, meets, gain-between}
-use Rattle.logic.specs.Formula.{Formula, never, plan, earns, on-plan, on-bound, W}
+use Rattle.logic.specs.Bound.{weighed, total, meets, tells, lamp, one-if, gain-between}
+use Rattle.logic.specs.Formula.{Formula, never, plan, earns, on-plan, on-bound, sat, W}
 use Rattle.logic.specs.Verdict.{Goal, bound-of, bound-goal, goal}
 use Rattle.logic.proofs.Checked.{not-ok, ok-same}
 use Rattle.logic.proofs.OnPlan.{by-plan}
+use Rattle.logic.proofs.Integers.{integers-ordered}
+use Rattle.logic.proofs.Lamps.{lamp-told, met-exactly}
 use Rattle.logic.proofs.WholeTotals.{condition-total, met-condition}
 
 -- The two kinds of roots, for a number of steps.
@@ -32,6 +35,12 @@ first-step e = ap (on-plan 0 (λ n ψ r p q. 0) (λ n l u r p q. l)) e
 last-step : {n k l l′ u u′ : ℕ} {r v : Relation} {p i : ℤ} {q j : ℕ} → earns n l u r p q ≡ earns k l′ u′ v i j → u ≡ u′
 last-step e = ap (on-plan 0 (λ n ψ r p q. 0) (λ n l u r p q. u)) e
 
+plan-relation : {n k : ℕ} {φ ψ : Formula} {r v : Relation} {p q i j : ℕ} → plan n φ r p q ≡ plan k ψ v i j → r ≡ v
+plan-relation e = ap (on-plan less (λ n ψ r p q. r) (λ n l u r p q. r)) e
+
+earns-relation : {n k l l′ u u′ : ℕ} {r v : Relation} {p i : ℤ} {q j : ℕ} → earns n l u r p q ≡ earns k l′ u′ v i j → r ≡ v
+earns-relation e = ap (on-plan less (λ n ψ r p q. r) (λ n l u r p q. r)) e
+
 earns≢plan : {n l u k : ℕ} {φ : Formula} {r v : Relation} {p : ℤ} {q i j : ℕ} → earns n l u r p q ≡ plan k φ v i j → ⊥
 earns≢plan e = false≢true (ap (on-plan false (λ n ψ r p q. true) (λ n l u r p q. false)) e)
 
@@ -46,6 +55,11 @@ pub record Root (m : Model) (s : ℕ) (φ : Formula) (g : Goal) : Type 0 where
   pub weight-met : (ψ : Formula) (w : Condition φ (g .steps) ψ) (π : Plan (g .steps))
       → g .met π ≡ meets naturals m (g .steps) (w .0) (w .1) (w .2) (W m ψ (g .steps) s π)
   pub gain-met : (l u : ℕ) (w : Gain φ (g .steps) l u) (π : Plan (g .steps)) → g .met π ≡ meets integers m (g .steps) (w .0) (w .1) (w .2) (g .total π)
+  pub weight-lamp : (ψ : Formula) (w : Condition φ (g .steps) ψ) (π : Plan (g .steps))
+      → meets naturals m (g .steps) (tells (g .lamp π)) (w .1) (w .2) (W m ψ (g .steps) s π) ≡ true
+  pub gain-lamp : (l u : ℕ) (w : Gain φ (g .steps) l u) (π : Plan (g .steps)) → meets integers m (g .steps) (tells (g .lamp π)) (w .1) (w .2) (g .total π) ≡ true
+  pub weight-exact : (ψ : Formula) (w : Condition φ (g .steps) ψ) (π : Plan (g .steps)) → (g .met π ≡ true) ↔ (tells (g .lamp π) ≡ w .0)
+  pub gain-exact : (l u : ℕ) (w : Gain φ (g .steps) l u) (π : Plan (g .steps)) → (g .met π ≡ true) ↔ (tells (g .lamp π) ≡ w .0)
 
 pub root-of : (m : Model) (s : ℕ) (φ : Formula) (g : Goal) → goal m s φ ≡ ok g → Root m s φ g
 unfolding goal bound-of total
@@ -63,11 +77,21 @@ root-of m s φ g =
           met-condition m s n ψ r p q π
           ∙ ap (on-plan false (λ k χ r p q. meets naturals m n r p q (W m χ n s π)) (λ k l u r p q. false)) (w .3);
       gain-met = λ l u w. absurd (earns≢plan (sym (w .3)));
+      weight-lamp = λ χ w π.
+          let t = total integers m n s π (λ ρ. pos (one-if (sat m ψ s ρ))) in
+          let k = tells (lamp integers m n (pos p) q t) in
+          sym (ap (on-plan false (λ _ χ _ p q. meets naturals m n k p q (W m χ n s π)) (λ _ l u r p q. false)) (w .3))
+          ∙ sym (met-condition m s n ψ k p q π) ∙ lamp-told integers m n (pos p) q t;
+      gain-lamp = λ l u w. absurd (earns≢plan (sym (w .3)));
+      weight-exact = λ χ w π.
+          let t = total integers m n s π (λ ρ. pos (one-if (sat m ψ s ρ))) in
+          subst (λ v. (meets integers m n r (pos p) q t ≡ true) ↔ (tells (lamp integers m n (pos p) q t) ≡ v)) (plan-relation (w .3)) (met-exactly integers m n (pos p) q t integers-ordered r);
+      gain-exact = λ l u w. absurd (earns≢plan (sym (w .3)));
     }))
-    (λ n l u r p q e.
-    subst (Root m s (earns n l u r p q)) (ok-same e)
+    (λ n l u r p′ q e.
+    subst (Root m s (earns n l u r p′ q)) (ok-same e)
     (record {
-      kinds = inr (l, u, (r, p, q, refl));
+      kinds = inr (l, u, (r, p′, q, refl));
       bounded = refl;
       steps = refl;
       weights = λ χ w. absurd (earns≢plan (w .3));
@@ -76,4 +100,13 @@ root-of m s φ g =
       weight-met = λ χ w. absurd (earns≢plan (w .3));
       gain-met = λ k v w π.
           ap (on-plan false (λ k χ r p q. false) (λ k a b r p q. meets integers m n r p q (total integers m n s π (gain-between l u)))) (w .3);
+      weight-lamp = λ χ w. absurd (earns≢plan (w .3));
+      gain-lamp = λ k v w π.
+          let t = total integers m n s π (gain-between l u) in
+          sym (ap (on-plan false (λ _ χ r p q. false) (λ _ a b _ p q′. meets integers m n (tells (lamp integers m n p′ q t)) p q′ t)) (w .3))
+          ∙ lamp-told integers m n p′ q t;
+      weight-exact = λ χ w. absurd (earns≢plan (w .3));
+      gain-exact = λ k v w π.
+          let t = total integers m n s π (gain-between l u) in
+          subst (λ v. (meets integers m n r p′ q t ≡ true) ↔ (tells (lamp integers m n p′ q t) ≡ v)) (earns-relation (w .3)) (met-exactly integers m n p′ q t integers-ordered r);
     })) φ

@@ -12,6 +12,7 @@ use Rattle.logic.specs.Checked.{Checked, ok, refused, got}
 use Rattle.logic.specs.Grounds.{_unless_}
 use Rattle.logic.specs.Model.{Model}
 use Rattle.logic.specs.Plan.{Plan}
+use Rattle.logic.specs.Bound.{Lamp}
 use Rattle.logic.specs.Verdict.{Goal, goal, Verdict, no, yes, yes-plan, verdict}
 use Rattle.logic.specs.Limits.{limit-grounds}
 use Rattle.logic.specs.Choices.{plan-of}
@@ -47,9 +48,10 @@ pub record Held : Type 0 where
   pub question : Option Question
   pub verdict : Option Verdict
 
--- What check reports of a sheet that it accepts: whether the sheet's total meets the bound.
+-- What check reports of a sheet that it accepts: whether the sheet's total meets the bound, and its lamp (document 02, A.4).
 pub record Report : Type 0 where
   pub met : Bool
+  pub lamp : Lamp
 
 pub data Answer : Type 0 where
   done : Answer
@@ -96,7 +98,7 @@ accepted-plan m q g b = do
 
 -- What is reported of it.
 abbrev pub reported : (g : Goal) → Plan (g .steps) → Report
-reported g π = record { met = g .met π }
+reported g π = record { met = g .met π; lamp = g .lamp π }
 
 unfoldable pub described : Held → Call → Tested Reply
 described h (load b) = do

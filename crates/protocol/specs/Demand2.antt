@@ -2,13 +2,14 @@
 --   "Verdicts are those of the published definitions: yes if the formula is true in the asked state, no if it is false, refusal only on
 --   the listed grounds and on every one of them. On yes to a plan question the shown plan is the one that document 01 singles out, and
 --   each count is the one defined there."
--- Document 01: "Demands 2 and 3 speak of desks that such lists, even empty ones, give back". The clauses stand beside the parts.
+-- Document 01: "Demands 2 and 3 speak of desks that such lists, even empty ones, give back". Document 02, A.4: "The verdict on yes carries that
+-- [below, at or above] for the shown plan, on no to "less" or "greater" for the least or greatest total". The clauses stand beside the parts.
 use Prim.Native.Nat.{ℕ, suc, _<_}
 use mathlib.Core.Path.{_≡_}
 use mathlib.Core.Logic.{_↔_}
 use mathlib.Core.Bool.{Bool, true, false, cond}
 use mathlib.Core.List.{List, [], List·Memᴰ}
-use mathlib.Core.Option.{none, some}
+use mathlib.Core.Option.{Option, none, some}
 use lib.IntN.{ℤ}
 use lib.ListN.{length}
 use Rattle.logic.specs.Checked.{ok, refused}
@@ -18,7 +19,7 @@ use Rattle.logic.specs.Quantity.{Relation, naturals, integers}
 use Rattle.logic.specs.Plan.{Plan, plans, choices}
 use Rattle.logic.specs.Accepted.{Accepted}
 use Rattle.logic.specs.Order.{Before, Rising, Is-plan}
-use Rattle.logic.specs.Bound.{meets}
+use Rattle.logic.specs.Bound.{meets, Lamp}
 use Rattle.logic.specs.Formula.{Formula, plan, earns, sat}
 use Rattle.logic.specs.Policy.{Policy, policy-weight, policy-gain}
 use Rattle.logic.specs.Verdict.{Goal, goal, Denial, Shown-plan, Verdict, no, yes, yes-plan}
@@ -69,15 +70,25 @@ module _ (m : Model) (s : ℕ) (g : Goal) where
     pub all-earlier : In-order (g .steps) (λ ρ. Is-plan m (g .steps) s ρ × Before (choices (g .steps) ρ) (choices (g .steps) shown-plan)) earlier
     pub counts : v .count ≡ cond (g .counts) (suc (length earlier)) 0
     pub its-total : v .total ≡ g .total shown-plan
+    pub its-lamp : v .lamp ≡ g .lamp shown-plan
     pub its-steps : v .steps ≡ g .steps
     pub its-choices : v .choices ≡ choices (g .steps) shown-plan
 
-  -- "or on no the number of all plans; else 0"
+  -- "for the least or greatest total": that of a plan from the start that leads
+  pub record Best (lamp : Option Lamp) : Type 0 where
+    pub best-plan : Plan (g .steps)
+    pub is-plan : Is-plan m (g .steps) s best-plan
+    pub leads : g .lead best-plan ≡ true
+    pub its-lamp : lamp ≡ some (g .lamp best-plan)
+
+  -- "or on no the number of all plans; else 0"; "A no to "equal" has no lamp."
   pub record Denies (v : Denial) : Type 0 where
     pub none-meets : (π : Plan (g .steps)) → Is-plan m (g .steps) s π → g .met π ≡ false
     pub plans : List (Plan (g .steps))
     pub all-plans : In-order (g .steps) (Is-plan m (g .steps) s) plans
     pub counts : v .count ≡ cond (g .counts) (length plans) 0
+    pub dark : g .counts ≡ true → v .lamp ≡ none
+    pub lit : g .counts ≡ false → Best (v .lamp)
 
   -- The verdict on a plan question.
   abbrev pub Announces : Verdict → Type 0
@@ -98,8 +109,8 @@ pub record Judged (m : Model) (q : Question) (answer : Answer) : Type 0 where
   pub all-plans : (n s : ℕ) → In-order n (Is-plan m n s) (plans m n s)
   -- a plan question: "no with its count .. or yes with a plan record"
   pub on-plans : (g : Goal) → goal m (q .start) (q .root) ≡ ok g → Announces m (q .start) g said
-  -- another: no, with the count 0, or yes
-  pub on-others : (k : ℕ) → goal m (q .start) (q .root) ≡ refused k → said ≡ cond (sat m (q .root) (q .start) []) yes (no (record { count = 0 }))
+  -- another: no, with the count 0 and no lamp, or yes
+  pub on-others : (k : ℕ) → goal m (q .start) (q .root) ≡ refused k → said ≡ cond (sat m (q .root) (q .start) []) yes (no (record { count = 0; lamp = none }))
 
 pub record Demand-2 (h : Held) (reply : Call → Reply) : Type 0 where
   -- "refusal only on the listed grounds and on every one of them": with k exactly when k is the first of the call's grounds, in document

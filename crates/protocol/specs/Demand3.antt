@@ -5,7 +5,7 @@
 --   paths that its plan allows and on which the condition is true. Judging says yes exactly when some accepted sheet meets the bound, and
 --   each write that is then not refused writes one of these, that of the shown plan."
 -- Document 02, A.3: "The sheet rule now speaks of both totals. All that is said of a "plan" root holds for an operator 9 root, with its total for
--- W." The clauses stand beside the parts.
+-- W." A.4: "the sheet check reports it [below, at or above] for the sheet's." The clauses stand beside the parts.
 use Prim.Native.Nat.{ℕ}
 use mathlib.Core.Path.{_≡_}
 use mathlib.Core.Logic.{_↔_, _⊎_}
@@ -19,7 +19,7 @@ use Rattle.logic.specs.Grounds.{first}
 use Rattle.logic.specs.Model.{Model}
 use Rattle.logic.specs.Quantity.{naturals, integers, Relation}
 use Rattle.logic.specs.Plan.{Plan, plans, choices, paths}
-use Rattle.logic.specs.Bound.{weighed, meets, gain-between}
+use Rattle.logic.specs.Bound.{weighed, meets, Lamp, tells, gain-between}
 use Rattle.logic.specs.Formula.{Formula, plan, earns, W}
 use Rattle.logic.specs.Verdict.{Goal, goal, shown, Shown-plan, yes-plan}
 use Rattle.logic.specs.Limits.{limit-grounds}
@@ -73,6 +73,10 @@ module _ {h : Held} (reply : Call → Reply) (x : Plan-question h) where
   abbrev pub meets-bound : Asked-plan → Bool
   meets-bound π = x .asked .met π
 
+  -- how a plan's total stands to the bound: `lamp-by-W` and `lamp-by-gain` below say so
+  abbrev pub lamp : Asked-plan → Lamp
+  lamp π = x .asked .lamp π
+
   -- "if it has no other ground for refusal" than 11: none of 1 to 6, and its choices are those of a plan, so not 10. It claims the total
   -- w for the plan π.
   pub record Claims (sheet : Bytes) (w : ℤ) (π : Asked-plan) : Type 0 where
@@ -124,6 +128,15 @@ module _ {h : Held} (reply : Call → Reply) (x : Plan-question h) where
         → meets-bound π ≡ meets naturals (x .model) (x .asked .steps) (c .relation) (c .p) (c .q) (W (x .model) φ (x .asked .steps) start π)
     pub met-by-gain : (l u : ℕ) (c : On-gain l u) (π : Asked-plan)
         → meets-bound π ≡ meets integers (x .model) (x .asked .steps) (c .relation) (c .p) (c .q) (total π)
+    -- A.4: "The comparison of a total with its bound shall tell below, at or above": the total stands to the bound in the relation of which its
+    -- lamp tells, "less" for below, "equal" for at, "greater" for above
+    pub lamp-by-W : (φ : Formula) (c : On-condition φ) (π : Asked-plan)
+        → meets naturals (x .model) (x .asked .steps) (tells (lamp π)) (c .p) (c .q) (W (x .model) φ (x .asked .steps) start π) ≡ true
+    pub lamp-by-gain : (l u : ℕ) (c : On-gain l u) (π : Asked-plan)
+        → meets integers (x .model) (x .asked .steps) (tells (lamp π)) (c .p) (c .q) (total π) ≡ true
+    -- and whether it meets the bound follows: it does exactly when the lamp tells of the bound's relation
+    pub W-met-by-lamp : (φ : Formula) (c : On-condition φ) (π : Asked-plan) → (meets-bound π ≡ true) ↔ (tells (lamp π) ≡ c .relation)
+    pub gain-met-by-lamp : (l u : ℕ) (c : On-gain l u) (π : Asked-plan) → (meets-bound π ≡ true) ↔ (tells (lamp π) ≡ c .relation)
     -- "accepts it exactly when two weights are equal"
     pub check-exact : (sheet : Bytes) (w : ℤ) (π : Asked-plan) → Claims sheet w π → ((report : Report) × Accepts sheet report) ↔ (w ≡ total π)
     -- of operator 8, where the weight claimed is document 01's u64: exactly when the number of the eight bytes, unsigned, is W
@@ -133,8 +146,9 @@ module _ {h : Held} (reply : Call → Reply) (x : Plan-question h) where
     pub check-differs : (sheet : Bytes) (w : ℤ) (π : Asked-plan) → Claims sheet w π → (w ≡ total π → ⊥) → Differs sheet
     -- "no other ground for refusal": the sheets that claim a total for some plan are just those that check accepts or refuses with 11
     pub claims-exact : (sheet : Bytes) → ((w : ℤ) × (π : Asked-plan) × Claims sheet w π) ↔ (((report : Report) × Accepts sheet report) ⊎ Differs sheet)
-    -- What it reports on accepting is whether the sheet's total meets the bound.
+    -- What it reports on accepting is whether the sheet's total meets the bound, and the lamp of that total.
     pub check-says : (sheet : Bytes) (w : ℤ) (π : Asked-plan) → Claims sheet w π → (report : Report) → Accepts sheet report → report .met ≡ meets-bound π
+    pub check-tells : (sheet : Bytes) (w : ℤ) (π : Asked-plan) → Claims sheet w π → (report : Report) → Accepts sheet report → report .lamp ≡ lamp π
     -- "Judging says yes exactly when some accepted sheet meets the bound"
     pub yes-exact : Says-yes ↔ ((sheet : Bytes) × (π : Asked-plan) × Meeting-sheet sheet π)
     -- "each write that is then not refused writes one of these, that of the shown plan"
