@@ -3,7 +3,7 @@
 use Prim.Native.Nat.{ℕ, _-_}
 use native.Mathlib.Omega.{arith}
 use mathlib.Core.Path.{_≡_, sym, ap, ap₂, subst, _∙_}
-use mathlib.Core.Bool.{true}
+use mathlib.Core.Bool.{Bool, true}
 use lib.IntN.{ℤ}
 use lib.ListN.{take, drop}
 use lib.Seq.{take-append-seam}
@@ -34,6 +34,7 @@ use Rattle.protocol.proofs.Demand3.{same-self, same-equal}
 use Rattle.prepared_question.specs.promises.Shared.{Shared}
 use Rattle.prepared_question.proofs.SameVerdict.{same-goal, same-limits}
 use Rattle.plan_choices.proofs.SumIsWeight.{plan-there}
+use Rattle.lamp.specs.promises.Codes.{lamp-code}
 use Rattle.judging.specs.promises.Asked.{Served}
 use Rattle.judging.specs.promises.Announced.{Spelled, Weighs}
 use Rattle.judging.specs.declared.Weighed.{Weighed}
@@ -151,7 +152,7 @@ module _ (m q : Bytes) (r : PlanRoot m q) (b : Bytes) where
     steps-there : root-node q′ .n ≡ n
     steps-there = ap (λ (g : Goal). g .steps) (ok-same (sym (root-goal (h .nodes .formed) M (start-of q′) root-there) ∙ goal-there))
 
-    -- Choices of a plan are choices of one there, with the same total and the same answer to the bound.
+    -- Choices of a plan are choices of one there, with the same total, the same answer to the bound and the same lamp.
     module _ (cs : Bytes) (π : Plan n) (e : plan-of M n s cs ≡ ok π) where
       read-there : plan-of M n (start-of q′) cs ≡ ok π
       read-there = subst (λ s. plan-of M n s cs ≡ ok π) (sym (h .start)) e
@@ -161,7 +162,7 @@ module _ (m q : Bytes) (r : PlanRoot m q) (b : Bytes) where
           subst (λ M. Spelled M q′ cs) (sym (p .same))
           (subst (λ k. (π : Plan k) × (plan-of M k (start-of q′) cs ≡ ok π)) (sym steps-there) (π, read-there))
 
-      pub weighs-there : {w : Weighed} → Weighs (model-in a) q′ cs w → (w .total ≡ g .total π) × (w .met ≡ g .met π)
+      pub weighs-there : {w : Weighed} → Weighs (model-in a) q′ cs w → (w .total ≡ g .total π) × (w .met ≡ g .met π) × (w .lamp ≡ lamp-code (g .lamp π))
       unfolding question-of
       weighs-there {w} x = subst (λ M. Weighs M q′ cs w) (p .same) x g goal-there π read-there
 
@@ -186,22 +187,30 @@ module _ (m q : Bytes) (r : PlanRoot m q) (b : Bytes) where
       o : OnSheet M n s b
       o = on-sheet M n s b e
 
-      weighs : (w .total ≡ g .total (o .plan)) × (w .met ≡ g .met (o .plan))
+      weighs : (w .total ≡ g .total (o .plan)) × (w .met ≡ g .met (o .plan)) × (w .lamp ≡ lamp-code (g .lamp (o .plan)))
       weighs = weighs-there p h (sheet-of b .choices) (o .plan) (o .read) x
 
-      past-sheet : check-on M (question-of q) b ≡ (guard 11 (same (sheet-of b .weight) (w .total)) >> ok (record { met = w .met }))
+      -- What check does past the sheet, by whether the totals are the same.
+      abbrev compares : ℤ → Bool → Checked Report
+      compares z t = guard 11 (same (sheet-of b .weight) z) >> ok (record { met = t; lamp = g .lamp (o .plan) })
+
+      past-sheet : check-on M (question-of q) b ≡ compares (w .total) (w .met)
       past-sheet =
           past-limits
           ∙ ap (λ c. c >>= (λ x. plan-of M n s (x .choices) >>= decides (x .weight))) (o .sheet)
           ∙ ap (λ c. c >>= decides (sheet-of b .weight)) (o .read)
-          ∙ ap₂ (λ z t. guard 11 (same (sheet-of b .weight) z) >> ok (record { met = t })) (sym (weighs .0)) (sym (weighs .1))
+          ∙ ap₂ compares (sym (weighs .0)) (sym (weighs .1))
+
+      abbrev passing : Bool → Checked Report
+      passing t = guard 11 t >> ok (record { met = w .met; lamp = g .lamp (o .plan) })
 
       pub check-differs : (sheet-of b .weight ≡ w .total → ⊥) → Refused 11 ≡ checking (check-on M (question-of q) b)
       check-differs i =
           refused-by (check-on M (question-of q) b) 11
-          (sym (ap refusal (past-sheet ∙ ap (λ t. guard 11 t >> ok (record { met = w .met })) (not-true (same (sheet-of b .weight) (w .total)) (λ t. i (same-equal (sheet-of b .weight) (w .total) t))))))
+          (sym (ap refusal (past-sheet ∙ ap passing (not-true (same (sheet-of b .weight) (w .total)) (λ t. i (same-equal (sheet-of b .weight) (w .total) t))))))
           (λ z. omega arith)
 
-      pub check-met : sheet-of b .weight ≡ w .total → Accepted (record { met = w .met }) ≡ checking (check-on M (question-of q) b)
+      pub check-met : sheet-of b .weight ≡ w .total → Accepted (record { met = w .met; lamp = w .lamp }) ≡ checking (check-on M (question-of q) b)
       check-met i =
-          sym (ap checking (past-sheet ∙ ap (λ t. guard 11 t >> ok (record { met = w .met })) (ap (same (sheet-of b .weight)) (sym i) ∙ same-self (sheet-of b .weight))))
+          ap (λ l. Accepted (record { met = w .met; lamp = l })) (weighs .2)
+          ∙ sym (ap checking (past-sheet ∙ ap passing (ap (same (sheet-of b .weight)) (sym i) ∙ same-self (sheet-of b .weight))))

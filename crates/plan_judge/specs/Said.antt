@@ -1,9 +1,10 @@
--- What the code answers, in document 01's words: of each case of an answer that is an enum, the paper's number and values.
+-- What the code answers, in document 01's words: of each case of an answer that is an enum, the paper's number and values. Lamps stand in `lamp`.
 use Prim.Native.Nat.{ℕ}
 use mathlib.Core.List.{List}
 use mathlib.Core.Option.{Option, none, some}
 use Rattle.logic.specs.Verdict as logic
 use Rattle.protocol.specs.Calls.{Held, Answer, done, judged, written, accepted, refuse}
+use Rattle.lamp.specs.Said.{said-lamp}
 use Rattle.plan_judge.specs.declared.Taken.{Taken}
 use Rattle.plan_judge.specs.declared.Taken.the-variants.{Done, Refused}
 use Rattle.plan_judge.specs.declared.Judgement.{Judgement}
@@ -33,5 +34,5 @@ said-written (Filled n) = written n
 said-written (Written.Refused k) = refuse k
 
 unfoldable pub said-checking : Checking → Answer
-said-checking (Accepted r) = accepted (record { met = r .met })
+said-checking (Accepted r) = accepted (record { met = r .met; lamp = said-lamp (r .lamp) })
 said-checking (Checking.Refused k) = refuse k

@@ -16,6 +16,7 @@ use Rattle.blocks.specs.Bytes.{Bytes}
 use Rattle.models.specs.Grounds.{read-model}
 use Rattle.questions.specs.Layout.{Question}
 use Rattle.protocol.specs.Calls.{Held, question-for}
+use Rattle.lamp.specs.Said.{said-lamp, said-light}
 use Rattle.plan_judge.specs.declared.Desk.{Desk}
 use Rattle.plan_judge.specs.declared.Verdict.{Verdict}
 use Rattle.plan_judge.specs.declared.Verdict.the-variants.{No, Yes, YesPlan}
@@ -33,11 +34,11 @@ question-in asked b (some m) = cond asked (got (question-for m b)) none
 unfoldable pub choices-in : Model → Question → List ℕ → Checked (List ℕ)
 choices-in m q cs = goal m (q .start) (q .root) >>= (λ g. read-plan m (g .steps) (q .start) cs >>= (λ x. ok (choices (g .steps) (x .0))))
 
--- A verdict by its cases: document 01's no with its count, yes, yes with a plan record and the choices beside it.
+-- A verdict by its cases: document 01's no with its count, yes, yes with a plan record and the choices beside it. Each lamp is document 02's.
 unfoldable pub verdict-in : Checked (List ℕ) → Verdict → Option logic.Verdict
-verdict-in cs (No x) = some (logic.no (record { count = x .count }))
+verdict-in cs (No x) = some (logic.no (record { count = x .count; lamp = said-light (x .lamp) }))
 verdict-in cs Yes = some logic.yes
-verdict-in (ok l) (YesPlan x) = some (logic.yes-plan (record { total = x .weight; steps = x .steps; count = x .count; choices = l }))
+verdict-in (ok l) (YesPlan x) = some (logic.yes-plan (record { total = x .weight; lamp = said-lamp (x .lamp); steps = x .steps; count = x .count; choices = l }))
 verdict-in (refused k) (YesPlan x) = none
 
 -- For the model and the question that are held.

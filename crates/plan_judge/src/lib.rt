@@ -27,6 +27,9 @@ ghost use Rattle.plan_judge.specs.promises.State.{held-both, held-goal, 
 pub mod c_call;
 
 use blocks::BLOCK;
+use judging::Outcome;
+use lamp::Lamp;
+use lamp::Light;
 use limits::limit_refusal;
 use plan_choices::CHOICES;
 use prepared_model::MODEL;
@@ -38,16 +41,19 @@ use sheets::GATHERED;
 // The bytes of the longest model.
 pub const MODEL_BYTES: usize = 6144;
 
-// The record of a shown plan: its total (W, or the expected gain times D to the n), its steps, and its place in dictionary order for "equal", else 0.
+// The record of a shown plan: its total (W, or the expected gain times D to the n), how that stands to the bound, its steps, and its place in
+// dictionary order for "equal", else 0.
 pub struct PlanRecord {
     pub weight: i64,
+    pub lamp: Lamp,
     pub steps: u32,
     pub count: u32,
 }
 
-// What goes with a no: for "equal" the number of all plans, else 0.
+// What goes with a no: for "equal" the number of all plans, else 0; for "less" and "greater" how the least or greatest total stands to the bound.
 pub struct Denial {
     pub count: u32,
+    pub lamp: Light,
 }
 
 pub enum Verdict {
@@ -97,9 +103,10 @@ pub enum Written {
     Refused(u32),
 }
 
-// What check reports of a sheet that it accepts: whether the sheet's total meets the bound.
+// What check reports of a sheet that it accepts: whether the sheet's total meets the bound, and how it stands to it.
 pub struct Report {
     pub met: bool,
+    pub lamp: Lamp,
 }
 
 // The answer of check.
@@ -112,7 +119,10 @@ pub enum Checking {
 fn unjudged() -> Verdict
     ensures value { λ r. ⌜ r ≡ unjudged ⌝ }
 {
-    Verdict::No(Denial { count: 0 })
+    Verdict::No(Denial {
+        count: 0,
+        lamp: Light::Off,
+    })
 }
 
 // A desk that holds nothing.
@@ -245,20 +255,28 @@ fn state_ground(d: Desk) -> u32
 }
 
 // The verdict that an outcome tells.
-fn verdict_of(o: judging::Outcome) -> Verdict
+fn verdict_of(o: Outcome) -> Verdict
     ensures value { λ r. ⌜ r ≡ verdict-from o ⌝ }
 {
-    if !o.yes {
-        return Verdict::No(Denial { count: o.count });
+    match o {
+        Outcome::No(x) => {
+            let lamp = x.lamp;
+            Verdict::No(Denial {
+                count: x.count,
+                lamp: lamp,
+            })
+        }
+        Outcome::Yes => Verdict::Yes,
+        Outcome::YesPlan(x) => {
+            let lamp = x.lamp;
+            Verdict::YesPlan(PlanRecord {
+                weight: x.total,
+                lamp: lamp,
+                steps: x.steps,
+                count: x.count,
+            })
+        }
     }
-    if !o.plan {
-        return Verdict::Yes;
-    }
-    Verdict::YesPlan(PlanRecord {
-        weight: o.total,
-        steps: o.steps,
-        count: o.count,
-    })
 }
 
 // The answer where judging is refused: the desk stays.
@@ -440,7 +458,7 @@ fn sheet_ground(m: &[u8], q: &[u8], b: &[u8]) -> u32
     sheets::plans::plan_refusal(m, &choices[..count], n, s)
 }
 
-// The total of the plan on a sheet, and whether it meets the bound of the question's root.
+// The total of the plan on a sheet, whether it meets the bound of the question's root, and how it stands to it.
 fn sheet_weighed(m: &[u16; MODEL], q: &[u8; QUESTION], b: &[u8]) -> judging::Weighed
     requires { ⌜
         Served (now m) (now q) × (sets-bound (node-of (now q) (node-count (now q) - 1) .operator) ≡ true) × Blocks 6 (now b)
@@ -471,11 +489,15 @@ fn check_on(m: &[u8], q: &[u8], b: &[u8]) -> Checking
     if sheets::total_at(b) != w.total {
         return Checking::Refused(11);
     }
-    Checking::Accepted(Report { met: w.met })
+    let lamp = w.lamp;
+    Checking::Accepted(Report {
+        met: w.met,
+        lamp: lamp,
+    })
 }
 
-// Checks a sheet for the question that is held, and says whether its total meets the bound; or refuses it by grounds 20, 21, 22, 24, 25,
-// then 1 to 6, 10, 11.
+// Checks a sheet for the question that is held, and says whether its total meets the bound and how it stands to it; or refuses it by grounds 20,
+// 21, 22, 24, 25, then 1 to 6, 10, 11.
 pub fn check(d: Desk, b: &[u8]) -> Checking
     ensures value { λ r. ⌜ r ≡ checked-by d (now (b .entry)) ⌝ }
 {

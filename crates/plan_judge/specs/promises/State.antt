@@ -24,6 +24,7 @@ use Rattle.questions.specs.promises.Formed.{sets-bound}
 use Rattle.sheets.specs.Grounds.{read-sheet}
 use Rattle.protocol.specs.Calls.{Held}
 use Rattle.judging.specs.declared.Outcome.{Outcome}
+use Rattle.judging.specs.declared.Outcome.the-variants as outcomes
 use Rattle.plan_judge.specs.declared.Verdict.{Verdict}
 use Rattle.plan_judge.specs.declared.Verdict.the-variants.{No, Yes, YesPlan}
 
@@ -81,4 +82,6 @@ plan-on m n start b = do
 -- ---- the verdict that an outcome of judging tells
 
 unfoldable pub verdict-from : Outcome → Verdict
-verdict-from o = cond (o .yes) (cond (o .plan) (YesPlan (record { weight = o .total; steps = o .steps; count = o .count })) Yes) (No (record { count = o .count }))
+verdict-from (outcomes.No x) = No (record { count = x .count; lamp = x .lamp })
+verdict-from outcomes.Yes = Yes
+verdict-from (outcomes.YesPlan x) = YesPlan (record { weight = x .total; lamp = x .lamp; steps = x .steps; count = x .count })
