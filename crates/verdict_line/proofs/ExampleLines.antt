@@ -8,12 +8,12 @@ use Rattle.logic.specs.Model.{no-action, true-of, mask, prop-in, enabled-action
 use lib.IntN.{pos, negsuc}
 use Rattle.logic.specs.Quantity.{sum, less, equal, greater, related}
 use Rattle.logic.specs.Plan.{plans, choices, paths, weight}
-use Rattle.logic.specs.Bound.{total, meets, one-if, gain-between}
+use Rattle.logic.specs.Bound.{total, meets, below, at, above, compared, lamp, one-if, gain-between}
 use Rattle.logic.specs.Formula.{Formula, never, prop, neg, next, plan, earns, sat}
-use Rattle.logic.specs.Verdict.{leads, is-equal, bound-of, goal, shown, verdict}
+use Rattle.logic.specs.Verdict.{leads, is-equal, bound-of, goal, shown, leader, verdict}
 use Rattle.logic.specs.TwoShelf.{two-shelf}
 use Rattle.verdict_line.specs.Text.{text, decimal, decimal-in, signed-decimal}
-use Rattle.verdict_line.specs.Line.{refused-line, plain-line, no-plans-line, yes-plan-line, bounds-plans, verdict-line}
+use Rattle.verdict_line.specs.Line.{lamp-word, light-word, refused-line, plain-line, no-plans-line, yes-plan-line, bounds-plans, verdict-line}
 
 pub record Row : Type 0 where
   pub line : List ℕ
@@ -35,19 +35,22 @@ done = prop 1
 unfoldable pub table : List Row
 unfolding row asked done
 table =
-    row (asked (plan 2 (next (next done)) equal 45 100)) "yes 45/100 plans 3 choices 1 2 0\n"
+    row (asked (plan 2 (next (next done)) equal 45 100)) "yes 45/100 at plans 3 choices 1 2 0\n"
     ∷ row (asked (plan 2 (next (next done)) equal 50 100)) "no plans 4\n"
-    ∷ row (asked (plan 1 (next done) less 0 1)) "no plans 0\n"
-    ∷ row (asked (plan 1 (next done) equal 0 1)) "yes 0/10 plans 1 choices 0\n"
-    ∷ row (asked (earns 2 2 2 greater (pos 6) 1)) "yes 700/100 plans 0 choices 0 2 1\n"
-    ∷ row (asked (earns 2 2 2 greater (pos 7) 1)) "no plans 0\n"
-    ∷ row (asked (earns 2 1 1 less (negsuc 0) 1)) "yes -200/100 plans 0 choices 0 2 0\n"
+    ∷ row (asked (plan 1 (next (prop 0)) greater 8 10)) "no plans 0 at\n"
+    ∷ row (asked (plan 1 (next (prop 0)) greater 9 10)) "no plans 0 below\n"
+    ∷ row (asked (plan 2 (next (next (prop 0))) less 17 100)) "no plans 0 above\n"
+    ∷ row (asked (plan 1 (next done) less 0 1)) "no plans 0 at\n"
+    ∷ row (asked (plan 1 (next done) equal 0 1)) "yes 0/10 at plans 1 choices 0\n"
+    ∷ row (asked (earns 2 2 2 greater (pos 6) 1)) "yes 700/100 above plans 0 choices 0 2 1\n"
+    ∷ row (asked (earns 2 2 2 greater (pos 7) 1)) "no plans 0 at\n"
+    ∷ row (asked (earns 2 1 1 less (negsuc 0) 1)) "yes -200/100 below plans 0 choices 0 2 0\n"
     ∷ row (asked (neg done)) "yes\n"
     ∷ row (asked never) "no\n"
     ∷ row (refused-line 24) "refused 24\n"
-    ∷ row (yes-plan-line (pos 10_000_000_000) 1_000_000_000_000 65536 (7 ∷ [])) "yes 10000000000/1000000000000 plans 65536 choices 7\n"
+    ∷ row (yes-plan-line (pos 10_000_000_000) 1_000_000_000_000 above 65536 (7 ∷ [])) "yes 10000000000/1000000000000 above plans 65536 choices 7\n"
     ∷ []
 
 pub printed-lines : map (λ r. r .line) table ≡ map (λ r. text (r .printed)) table
-unfolding table text decimal decimal-in signed-decimal refused-line plain-line no-plans-line yes-plan-line bounds-plans verdict-line two-shelf is-empty all any find keep product join count-from flatMap no-action true-of mask prop-in enabled-actions deadlocked enabled stored outcomes plans choices paths weight sum total one-if gain-between sat meets related leads is-equal bound-of goal shown verdict
+unfolding table text decimal decimal-in signed-decimal refused-line plain-line lamp-word light-word no-plans-line yes-plan-line bounds-plans verdict-line two-shelf is-empty all any find keep product join count-from flatMap no-action true-of mask prop-in enabled-actions deadlocked enabled stored outcomes plans choices paths weight sum total one-if gain-between sat meets compared lamp related leads is-equal bound-of goal shown leader verdict
 printed-lines = refl

@@ -1,4 +1,4 @@
--- The one line that the program `verdict` prints for its input. Document 01, "The program named verdict".
+-- The one line that the program `verdict` prints for its input. Document 01, "The program named verdict", and document 02, A.4, for the lamp.
 use Prim.Native.Nat.{ℕ, _-_, _^_}
 use mathlib.Core.Bool.{Bool, true, false, cond}
 use mathlib.Core.List.{List, [], _∷_, _++_, flatMap}
@@ -6,6 +6,7 @@ use mathlib.Core.Option.{Option, none, some}
 use lib.IntN.{ℤ}
 use lib.ListN.{length, take, drop}
 use Rattle.logic.specs.Model.{Model}
+use Rattle.logic.specs.Bound.{Lamp, below, at, above}
 use Rattle.logic.specs.Formula.{Formula, on-bound}
 use Rattle.logic.specs.Verdict.{Verdict, no, yes, yes-plan}
 use Rattle.blocks.specs.Bytes.{Bytes, within}
@@ -25,13 +26,24 @@ unfoldable pub plain-line : Bool → List ℕ
 plain-line true = text "yes\n"
 plain-line false = text "no\n"
 
-unfoldable pub no-plans-line : ℕ → List ℕ
-no-plans-line count = numbered "no plans " count ++ text "\n"
+-- "The program prints `below`, `at` or `above`"
+unfoldable pub lamp-word : Lamp → List ℕ
+lamp-word below = text " below"
+lamp-word at = text " at"
+lamp-word above = text " above"
 
--- W, for operator 9 the total, over D to the n, unreduced, the count, and the choices. A total below 0 has a minus.
-unfoldable pub yes-plan-line : (total : ℤ) (whole count : ℕ) → List ℕ → List ℕ
-yes-plan-line w t count cs =
-    text "yes " ++ signed-decimal w ++ numbered "/" t ++ numbered " plans " count ++ text " choices" ++ flatMap (numbered " ") cs ++ text "\n"
+unfoldable pub light-word : Option Lamp → List ℕ
+light-word none = []
+light-word (some l) = lamp-word l
+
+-- "on such a no after the count"
+unfoldable pub no-plans-line : ℕ → Option Lamp → List ℕ
+no-plans-line count o = numbered "no plans " count ++ light-word o ++ text "\n"
+
+-- W, for operator 9 the total, over D to the n, unreduced, then the lamp, the count, and the choices. A total below 0 has a minus.
+unfoldable pub yes-plan-line : (total : ℤ) (whole : ℕ) → Lamp → (count : ℕ) → List ℕ → List ℕ
+yes-plan-line w t l count cs =
+    text "yes " ++ signed-decimal w ++ numbered "/" t ++ lamp-word l ++ numbered " plans " count ++ text " choices" ++ flatMap (numbered " ") cs ++ text "\n"
 
 -- A "plan" root, or one of operator 9.
 unfoldable pub bounds-plans : Formula → Bool
@@ -39,9 +51,9 @@ bounds-plans φ = on-bound false (λ n r. true) φ
 
 -- The line of a verdict on this root.
 unfoldable pub verdict-line : Model → Formula → Verdict → List ℕ
-verdict-line m φ (no x) = cond (bounds-plans φ) (no-plans-line (x .count)) (plain-line false)
+verdict-line m φ (no x) = cond (bounds-plans φ) (no-plans-line (x .count) (x .lamp)) (plain-line false)
 verdict-line m φ yes = plain-line true
-verdict-line m φ (yes-plan x) = yes-plan-line (x .total) (m .denominator ^ x .steps) (x .count) (x .choices)
+verdict-line m φ (yes-plan x) = yes-plan-line (x .total) (m .denominator ^ x .steps) (x .lamp) (x .count) (x .choices)
 
 -- ---- the line of each input
 

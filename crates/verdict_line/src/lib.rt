@@ -2,9 +2,11 @@
 ghost use mathlib.Core.List.{_++_, flatMap};
 ghost use Prim.Native.Nat.{_+_, _*_, _≤_};
 ghost use lib.ListN.{length};
+ghost use Rattle.lamp.specs.Said.{said-lamp, said-light};
 ghost use Rattle.verdict_line.specs.Text.{decimal, signed-decimal, numbered, Put};
-ghost use Rattle.verdict_line.specs.Text as texts;
-ghost use Rattle.verdict_line.specs.Line.{refused-line, plain-line, no-plans-line, yes-plan-line};
+ghost use Rattle.verdict_line.specs.Line.{lamp-word, light-word, refused-line, plain-line, no-plans-line, yes-plan-line};
+use lamp::Lamp;
+use lamp::Light;
 
 // Room for the longest line.
 pub const LINE: usize = 8192;
@@ -58,13 +60,29 @@ pub fn put_choices(out: &mut [u8], at: usize, choices: &[u8]) -> usize
     next
 }
 
-// Writes a line that is a text and a number.
-fn number_line(out: &mut [u8], text: &[u8], n: u64) -> usize
-    requires { ⌜ length (now text) + 21 ≤ length (now out) ⌝ }
-    ensures effect { λ r. ⌜ Put (now (text .entry) ++ decimal n ++ texts.text "\n") (now (out .entry)) (now (out .exit)) 0 r ⌝ }
+// Writes a lamp's word after a space.
+pub fn put_lamp(out: &mut [u8], at: usize, lamp: Lamp) -> usize
+    requires { ⌜ at + 6 ≤ length (now out) ⌝ }
+    ensures effect { λ r. ⌜ Put (lamp-word (said-lamp lamp)) (now (out .entry)) (now (out .exit)) at r ⌝ }
+    ensures range { λ r. ⌜ r ≤ at + 6 ⌝ }
 {
-    let next = put_decimal(out, 0, text, n);
-    put_text(out, next, b"\n")
+    match lamp {
+        Lamp::Below => put_text(out, at, b" below"),
+        Lamp::At => put_text(out, at, b" at"),
+        Lamp::Above => put_text(out, at, b" above"),
+    }
+}
+
+// The same where there is a lamp.
+pub fn put_light(out: &mut [u8], at: usize, light: Light) -> usize
+    requires { ⌜ at + 6 ≤ length (now out) ⌝ }
+    ensures effect { λ r. ⌜ Put (light-word (said-light light)) (now (out .entry)) (now (out .exit)) at r ⌝ }
+    ensures range { λ r. ⌜ r ≤ at + 6 ⌝ }
+{
+    match light {
+        Light::Off => at,
+        Light::On(l) => put_lamp(out, at, l),
+    }
 }
 
 // A refusal's line. Every line leaves what stands behind it in the buffer.
@@ -72,7 +90,8 @@ pub fn refused_line(out: &mut [u8], k: u32) -> usize
     requires { ⌜ 8192 ≤ length (now out) ⌝ }
     ensures effect { λ r. ⌜ Put (refused-line k) (now (out .entry)) (now (out .exit)) 0 r ⌝ }
 {
-    number_line(out, b"refused ", k as u64)
+    let next = put_decimal(out, 0, b"refused ", k as u64);
+    put_text(out, next, b"\n")
 }
 
 // The line of a root that sets no bound on plans.
@@ -87,20 +106,32 @@ pub fn plain_line(out: &mut [u8], yes: bool) -> usize
 }
 
 // The line of a no to a root that sets a bound on plans.
-pub fn no_plans_line(out: &mut [u8], count: u32) -> usize
+pub fn no_plans_line(out: &mut [u8], count: u32, light: Light) -> usize
     requires { ⌜ 8192 ≤ length (now out) ⌝ }
-    ensures effect { λ r. ⌜ Put (no-plans-line count) (now (out .entry)) (now (out .exit)) 0 r ⌝ }
+    ensures effect { λ r. ⌜ Put (no-plans-line count (said-light light)) (now (out .entry)) (now (out .exit)) 0 r ⌝ }
 {
-    number_line(out, b"no plans ", count as u64)
+    let mut next = put_decimal(out, 0, b"no plans ", count as u64);
+    next = put_light(out, next, light);
+    put_text(out, next, b"\n")
 }
 
 // The line of a yes with a plan: at most 1365 choices of at most 3 digits, so that it is shorter than 8192 bytes.
-pub fn yes_plan_line(out: &mut [u8], total: i64, whole: u64, count: u32, choices: &[u8]) -> usize
+pub fn yes_plan_line(
+    out: &mut [u8],
+    total: i64,
+    whole: u64,
+    lamp: Lamp,
+    count: u32,
+    choices: &[u8],
+) -> usize
     requires { ⌜ (8192 ≤ length (now out)) × (length (now choices) ≤ 1365) ⌝ }
-    ensures effect { λ r. ⌜ Put (yes-plan-line total whole count (now (choices .entry))) (now (out .entry)) (now (out .exit)) 0 r ⌝ }
+    ensures effect { λ r.
+        let out′ = now (out .exit) in let out = now (out .entry) in let choices = now (choices .entry) in
+        ⌜ Put (yes-plan-line total whole (said-lamp lamp) count choices) out out′ 0 r ⌝ }
 {
     let mut next = put_signed(out, 0, b"yes ", total);
     next = put_decimal(out, next, b"/", whole);
+    next = put_lamp(out, next, lamp);
     next = put_decimal(out, next, b" plans ", count as u64);
     next = put_text(out, next, b" choices");
     next = put_choices(out, next, choices);

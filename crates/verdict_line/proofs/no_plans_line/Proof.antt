@@ -1,23 +1,49 @@
--- The text of the code is the one of the definition.
+-- The text, the number, the lamp and the line's end, one behind the other.
+use native.Mathlib.Omega.{arith}
 use borrow.Author.Needs.{needs}
 use Rattle.verdict_line.specs.Text.{text}
 use Rattle.verdict_line.specs.Line.{no-plans-line}
+use Rattle.verdict_line.proofs.PutInTurn.{put-put}
 use Rattle.verdict_line.proofs.no_plans_line.Statement.{statement}
 use Rattle.verdict_line.proofs.no_plans_line.Tie as tie
 
-slice-aggregate-number-line : tie.Need-slice-aggregate-number-line
-slice-aggregate-number-line c = search needs
+slice-aggregate-put-decimal : tie.Need-slice-aggregate-put-decimal
+slice-aggregate-put-decimal c = search needs
 
-number-line-requires : tie.Need-number-line-requires
-number-line-requires c κs = search needs
+put-decimal-requires : tie.Need-put-decimal-requires
+put-decimal-requires c κs = search needs
+
+put-light-requires : tie.Need-put-light-requires
+put-light-requires c κs = omega arith
+
+slice-aggregate-put-text : tie.Need-slice-aggregate-put-text
+slice-aggregate-put-text c = search needs
+
+put-text-requires : tie.Need-put-text-requires
+put-text-requires c κs = omega arith
 
 same-length : tie.Need-same-length
 same-length c = search needs
 
 returns : tie.Need-returns
 unfolding no-plans-line text
-returns c = c .before .before .number-line .ensures
+returns c = let number = c .before .before .before .before .before .before .before .before .before .before .before .put-decimal in
+    let light = c .before .before .before .before .before .before .before .put-light in
+    let end = c .before .before .put-text in
+    let long = c .before .before .before .before .before .before .before .before .before .before .before .before .before .before .before .pre in
+    let h₁ = number .ensures .1 in
+    let h₂ = light .ensures .1 in
+    let h₃ = end .ensures .next in
+    put-put (put-put (number .ensures .0) (light .ensures .0) (omega arith)) (end .ensures) (omega arith)
 
 pub no-plans-line-spec : {M : Type 1} → statement M
 no-plans-line-spec =
-    tie.close (tie.spec slice-aggregate-number-line number-line-requires same-length returns)
+    tie.close
+    (tie.spec
+    slice-aggregate-put-decimal
+    put-decimal-requires
+    put-light-requires
+    slice-aggregate-put-text
+    put-text-requires
+    same-length
+    returns)
