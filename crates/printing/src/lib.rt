@@ -5,11 +5,13 @@ ghost use Prim.Native.Nat.{_^_, _≤_};
 ghost use lib.ListN.{length};
 ghost use Rattle.models.specs.Layout.{denominator-of, model-of};
 ghost use Rattle.questions.specs.Layout.{node-count, question-of};
+ghost use Rattle.lamp.specs.Said.{said-light};
 ghost use Rattle.verdict_line.specs.Text.{Put};
 ghost use Rattle.verdict_line.specs.Line.{no-plans-line, plain-line};
 ghost use Rattle.verdict_line.specs.promises.Chain.{line-of, answer-line};
 ghost use Rattle.printing.specs.promises.Printed.{plan-root, judging-line, asking-line, loading-line, shown-line, Shown, Loaded, Asked};
 use blocks::BLOCK;
+use lamp::Light;
 use plan_judge::Desk;
 use plan_judge::Judgement;
 use plan_judge::Taken;
@@ -20,14 +22,14 @@ use verdict_line::LINE;
 const MOST_INPUT: usize = 6656;
 
 // The line of a no.
-fn no_line(out: &mut [u8], q: &[u8], count: u32) -> usize
+fn no_line(out: &mut [u8], q: &[u8], count: u32, light: Light) -> usize
     requires { ⌜ (8192 ≤ length (now out)) × (1 ≤ node-count (now q)) ⌝ }
     ensures effect { λ r.
         let out′ = now (out .exit) in let q = now (q .entry) in let out = now (out .entry) in
-        ⌜ Put (cond (plan-root q) (no-plans-line count) (plain-line false)) out out′ 0 r ⌝ }
+        ⌜ Put (cond (plan-root q) (no-plans-line count (said-light light)) (plain-line false)) out out′ 0 r ⌝ }
 {
     if questions::root_sets_bound(q) {
-        return verdict_line::no_plans_line(out, count);
+        return verdict_line::no_plans_line(out, count, light);
     }
     verdict_line::plain_line(out, false)
 }
@@ -49,15 +51,22 @@ fn verdict_line(out: &mut [u8], model: &[u8], q: &[u8], v: Verdict, choices: &[u
         ⌜ Put (shown-line (denominator-of model) (plan-root q) v choices) out out′ 0 r ⌝ }
 {
     match v {
-        Verdict::No(x) => no_line(out, q, x.count),
+        Verdict::No(x) => {
+            let light = x.lamp;
+            no_line(out, q, x.count, light)
+        }
         Verdict::Yes => verdict_line::plain_line(out, true),
-        Verdict::YesPlan(p) => verdict_line::yes_plan_line(
-            out,
-            p.weight,
-            whole(model, p.steps),
-            p.count,
-            choices,
-        ),
+        Verdict::YesPlan(p) => {
+            let lamp = p.lamp;
+            verdict_line::yes_plan_line(
+                out,
+                p.weight,
+                whole(model, p.steps),
+                lamp,
+                p.count,
+                choices,
+            )
+        }
     }
 }
 

@@ -5,10 +5,12 @@ ghost use lib.ListN.{length};
 use libc::STDIN_FILENO;
 use libc::STDOUT_FILENO;
 use plan_judge::Checking;
+use plan_judge::Denial;
 use plan_judge::Desk;
 use plan_judge::Judgement;
 use plan_judge::Judging;
 use plan_judge::PlanRecord;
+use plan_judge::Report;
 use plan_judge::Taken;
 use plan_judge::Verdict;
 use plan_judge::Written;
@@ -51,9 +53,20 @@ fn put_plan(out: &mut [u8], at: usize, p: PlanRecord, choices: &[u8]) -> usize
 {
     let mut next = verdict_line::put_signed(out, at, b" yes ", p.weight);
     next = verdict_line::put_decimal(out, next, b" ", p.steps as u64);
+    let lamp = p.lamp;
+    next = verdict_line::put_lamp(out, next, lamp);
     next = verdict_line::put_decimal(out, next, b" ", p.count as u64);
     next = verdict_line::put_text(out, next, b" choices");
     verdict_line::put_choices(out, next, choices)
+}
+
+fn put_denial(out: &mut [u8], at: usize, x: Denial) -> usize
+    requires { ⌜ at + 5600 ≤ length (now out) ⌝ }
+    ensures range { λ r. ⌜ r ≤ at + 5600 ⌝ }
+{
+    let next = verdict_line::put_decimal(out, at, b" no ", x.count as u64);
+    let light = x.lamp;
+    verdict_line::put_light(out, next, light)
 }
 
 fn put_verdict(out: &mut [u8], at: usize, v: Verdict, choices: &[u8]) -> usize
@@ -61,7 +74,7 @@ fn put_verdict(out: &mut [u8], at: usize, v: Verdict, choices: &[u8]) -> usize
     ensures range { λ r. ⌜ r ≤ at + 5600 ⌝ }
 {
     match v {
-        Verdict::No(x) => verdict_line::put_decimal(out, at, b" no ", x.count as u64),
+        Verdict::No(x) => put_denial(out, at, x),
         Verdict::Yes => verdict_line::put_text(out, at, b" yes"),
         Verdict::YesPlan(p) => put_plan(out, at, p, choices),
     }
@@ -103,12 +116,21 @@ fn put_met(out: &mut [u8], at: usize, met: bool) -> usize
     verdict_line::put_text(out, at, b" accepted unmet")
 }
 
+fn put_report(out: &mut [u8], at: usize, r: Report) -> usize
+    requires { ⌜ at + 35 ≤ length (now out) ⌝ }
+    ensures range { λ r. ⌜ r ≤ at + 35 ⌝ }
+{
+    let next = put_met(out, at, r.met);
+    let lamp = r.lamp;
+    verdict_line::put_lamp(out, next, lamp)
+}
+
 fn put_checked(out: &mut [u8], at: usize, answer: Checking) -> usize
-    requires { ⌜ at + 29 ≤ length (now out) ⌝ }
-    ensures range { λ r. ⌜ r ≤ at + 29 ⌝ }
+    requires { ⌜ at + 35 ≤ length (now out) ⌝ }
+    ensures range { λ r. ⌜ r ≤ at + 35 ⌝ }
 {
     match answer {
-        Checking::Accepted(r) => put_met(out, at, r.met),
+        Checking::Accepted(r) => put_report(out, at, r),
         Checking::Refused(k) => put_refused(out, at, k),
     }
 }

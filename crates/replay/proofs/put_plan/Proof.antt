@@ -1,4 +1,4 @@
--- Three numbers, a word, and at most 5460 bytes of choices.
+-- Three numbers, two words, and at most 5460 bytes of choices.
 use native.Mathlib.Omega.{arith}
 use borrow.Author.Needs.{needs}
 use Rattle.replay.proofs.put_plan.Statement.{statement}
@@ -19,6 +19,9 @@ cast-put-decimal c = search needs
 put-decimal-requires : tie.Need-put-decimal-requires
 put-decimal-requires c κs = search needs
 
+put-lamp-requires : tie.Need-put-lamp-requires
+put-lamp-requires c κs = search needs
+
 slice-aggregate-put-decimal-2 : tie.Need-slice-aggregate-put-decimal-2
 slice-aggregate-put-decimal-2 c = search needs
 
@@ -32,16 +35,34 @@ slice-aggregate-put-text : tie.Need-slice-aggregate-put-text
 slice-aggregate-put-text c = search needs
 
 put-text-requires : tie.Need-put-text-requires
-put-text-requires c κs = search needs
+put-text-requires c κs = let h₁ = c .before .before .before .before .before .before .before .before .before .before .before .before .before .before .before .before .before .before .before .before .put-signed .ensures .1 in
+    let h₂ = c .before .before .before .before .before .before .before .before .before .before .before .before .before .before .put-decimal .ensures .1 in
+    let h₃ = c .before .before .before .before .before .before .before .before .before .before .put-lamp .ensures .1 in
+    let h₄ = c .before .before .before .before .put-decimal2 .ensures .1 in
+    let long = c .before .before .before .before .before .before .before .before .before .before .before .before .before .before .before .before .before .before .before .before .before .before .before .before .before .before .pre .0 in
+    omega arith
 
 put-choices-requires : tie.Need-put-choices-requires
-put-choices-requires c κs = search needs
+put-choices-requires c κs = let h₁ = c .before .before .before .before .before .before .before .before .before .before .before .before .before .before .before .before .before .before .before .before .before .before .before .before .put-signed .ensures .1 in
+    let h₂ = c .before .before .before .before .before .before .before .before .before .before .before .before .before .before .before .before .before .before .put-decimal .ensures .1 in
+    let h₃ = c .before .before .before .before .before .before .before .before .before .before .before .before .before .before .put-lamp .ensures .1 in
+    let h₄ = c .before .before .before .before .before .before .before .before .put-decimal2 .ensures .1 in
+    let h₅ = c .before .before .before .put-text .ensures .next in
+    let long = c .before .before .before .before .before .before .before .before .before .before .before .before .before .before .before .before .before .before .before .before .before .before .before .before .before .before .before .before .before .before .pre in
+    omega arith
 
 same-length : tie.Need-same-length
 same-length c = search needs
 
 returns : tie.Need-returns
-returns c = omega (arith, c .before .before .put-choices .ensures .1, c .before .before .before .before .before .before .put-text .ensures .next, c .before .before .before .before .before .before .before .before .before .before .before .put-decimal2 .ensures .1, c .before .before .before .before .before .before .before .before .before .before .before .before .before .before .before .before .before .put-decimal .ensures .1, c .before .before .before .before .before .before .before .before .before .before .before .before .before .before .before .before .before .before .before .before .before .before .before .put-signed .ensures .1, c .before .before .before .before .before .before .before .before .before .before .before .before .before .before .before .before .before .before .before .before .before .before .before .before .before .before .before .before .before .pre .1)
+returns c = let h₁ = c .before .before .before .before .before .before .before .before .before .before .before .before .before .before .before .before .before .before .before .before .before .before .before .before .before .before .before .put-signed .ensures .1 in
+    let h₂ = c .before .before .before .before .before .before .before .before .before .before .before .before .before .before .before .before .before .before .before .before .before .put-decimal .ensures .1 in
+    let h₃ = c .before .before .before .before .before .before .before .before .before .before .before .before .before .before .before .before .before .put-lamp .ensures .1 in
+    let h₄ = c .before .before .before .before .before .before .before .before .before .before .before .put-decimal2 .ensures .1 in
+    let h₅ = c .before .before .before .before .before .before .put-text .ensures .next in
+    let h₆ = c .before .before .put-choices .ensures .1 in
+    let few = c .before .before .before .before .before .before .before .before .before .before .before .before .before .before .before .before .before .before .before .before .before .before .before .before .before .before .before .before .before .before .before .before .before .pre .1 in
+    omega arith
 
 pub put-plan-spec : {M : Type 1} → statement M
 put-plan-spec =
@@ -52,6 +73,7 @@ put-plan-spec =
     slice-aggregate-put-decimal
     cast-put-decimal
     put-decimal-requires
+    put-lamp-requires
     slice-aggregate-put-decimal-2
     cast-put-decimal-2
     put-decimal-requires-2

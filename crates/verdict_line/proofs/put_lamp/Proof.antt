@@ -1,11 +1,8 @@
 -- The word of each lamp.
 use native.Mathlib.Omega.{arith}
-use mathlib.Core.Path.{sym, subst}
-use lib.ListN.{length}
 use borrow.Author.Needs.{needs}
 use Rattle.lamp.specs.Said.{said-lamp}
-use Rattle.lamp.specs.declared.Lamp.{Lamp}
-use Rattle.verdict_line.specs.Text.{text, Put}
+use Rattle.verdict_line.specs.Text.{text}
 use Rattle.verdict_line.specs.Line.{lamp-word}
 use Rattle.verdict_line.proofs.put_lamp.Statement.{statement}
 use Rattle.verdict_line.proofs.put_lamp.Tie as tie
