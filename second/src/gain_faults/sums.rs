@@ -206,7 +206,7 @@ pub(super) fn lamp(fault: Fault, node: &PlanNode, total: i128, whole: u64) -> La
 /// The two sides with the same added to both, so that neither is below 0: the
 /// most that can be lost, and p times D to the n where that is below 0. They can
 /// reach 18 * 10^18, which 64 bits without a sign hold.
-fn raised(node: &PlanNode, total: i128, whole: i128) -> (i128, i128) {
+pub(crate) fn raised(node: &PlanNode, total: i128, whole: i128) -> (i128, i128) {
     let (p, q) = (i128::from(node.bound.p), i128::from(node.bound.q));
     let steps = match node.summed {
         Summed::Gains { first, last } => i128::from(last + 1 - first),
