@@ -10,6 +10,8 @@ use second::generate::stream;
 use second::logic::{Bound, Lamp, PlanNode, Relation, Summed};
 use second::tally::{tally, Tally};
 use second::text::pack_text;
+use std::collections::BTreeMap;
+use std::sync::LazyLock;
 
 fn fixture(name: &str) -> Vec<u8> {
     pack(&[&common::fixtures().join(name)]).remove(0)
@@ -138,9 +140,16 @@ fn lamps_meet() {
     }
 }
 
-fn counted(kind: &str, seed: u64, calls: usize) -> Tally {
-    tally(&stream(kind, seed, calls).expect("kind"))
-}
+/// The answers of the streams with verdicts, with the counts of calls of
+/// `tests/agree`.
+static COUNTS: LazyLock<BTreeMap<&str, Tally>> = LazyLock::new(|| {
+    let kinds = ["small", "judges", "sheets", "lists", "tight"].into_iter();
+    let counted = kinds.map(|kind| {
+        let calls = if kind == "tight" { 13_000 } else { 50_000 };
+        (kind, tally(&stream(kind, 1, calls).expect("kind")))
+    });
+    counted.collect()
+});
 
 /// A call has an answer about something so often at least.
 fn reached(counts: &Tally, kind: &str, call: &str, words: &str, fewest: usize) {
@@ -173,18 +182,18 @@ const NEXT_TO: [(&str, &str, &str); 4] = [
 #[test]
 fn streams_have_every_lamp_of_a_verdict() {
     for kind in ["small", "judges", "sheets", "lists"] {
-        let counts = counted(kind, 1, 50_000);
+        let counts = &COUNTS[kind];
         for (answer, asked) in VERDICTS {
             for operator in [8, 9] {
                 let words = format!("{answer} {operator} {asked}");
-                reached(&counts, kind, "judge", &words, 30);
+                reached(counts, kind, "judge", &words, 30);
             }
             let words = format!("{answer} 9 {asked}, total below 0");
-            reached(&counts, kind, "judge", &words, 3);
+            reached(counts, kind, "judge", &words, 3);
         }
         for answer in ["yes", "no"] {
             let words = format!("{answer}: another root over plans");
-            reached(&counts, kind, "judge", &words, 50);
+            reached(counts, kind, "judge", &words, 50);
         }
     }
 }
@@ -192,7 +201,7 @@ fn streams_have_every_lamp_of_a_verdict() {
 #[test]
 fn streams_have_verdicts_next_to_the_bound() {
     for kind in ["small", "judges", "sheets"] {
-        let counts = counted(kind, 1, 50_000);
+        let counts = &COUNTS[kind];
         for (answer, relation, lamp) in NEXT_TO {
             for (operator, near, fewest) in [
                 (8, "one unit", 20),
@@ -201,17 +210,17 @@ fn streams_have_verdicts_next_to_the_bound() {
                 (9, "less than a unit", 1),
             ] {
                 let words = format!("{answer} {operator} {relation}, {near} {lamp}");
-                reached(&counts, kind, "judge", &words, fewest);
+                reached(counts, kind, "judge", &words, fewest);
             }
             let words = format!("{answer} 9 {relation}, one unit {lamp}, total below 0");
-            reached(&counts, kind, "judge", &words, 2);
+            reached(counts, kind, "judge", &words, 2);
         }
     }
-    let counts = counted("tight", 1, 13_000);
+    let counts = &COUNTS["tight"];
     for (answer, relation, lamp) in NEXT_TO {
         for (operator, sign) in [(8, ""), (9, ""), (9, ", total below 0")] {
             let words = format!("{answer} {operator} {relation}, less than a unit {lamp}{sign}");
-            reached(&counts, "tight", "judge", &words, 5);
+            reached(counts, "tight", "judge", &words, 5);
         }
     }
 }
@@ -228,18 +237,18 @@ fn met(relation: &str, lamp: &str) -> &'static str {
 fn streams_have_sheets_of_every_lamp() {
     let kinds = [("small", 3), ("judges", 3), ("sheets", 8)];
     for (kind, fewest) in kinds {
-        let counts = counted(kind, 1, 50_000);
+        let counts = &COUNTS[kind];
         for relation in ["less", "equal", "greater"] {
             for (operator, sign) in [(8, ""), (9, ""), (9, ", total below 0")] {
                 for lamp in ["below", "at", "above"] {
                     let asked = format!("{}: operator {operator}", met(relation, lamp));
                     let words = format!("{asked} {relation}, {lamp}{sign}");
-                    reached(&counts, kind, "check", &words, fewest);
+                    reached(counts, kind, "check", &words, fewest);
                 }
                 for lamp in ["below", "above"] {
                     let asked = format!("{}: operator {operator}", met(relation, lamp));
                     let words = format!("{asked} {relation}, one unit {lamp}{sign}");
-                    reached(&counts, kind, "check", &words, fewest);
+                    reached(counts, kind, "check", &words, fewest);
                 }
             }
         }
