@@ -3,8 +3,7 @@
 use super::Relation;
 use std::cmp::Ordering;
 
-/// "Lamp" is document 02's word (A.4) for how a total stands to its bound: it
-/// lights up below, at or above it.
+/// "Lamp" is document 02's word (A.4) for how a total stands to its bound.
 #[derive(Clone, Copy, Debug, PartialEq, Eq, PartialOrd, Ord)]
 pub enum Lamp {
     Below,

@@ -65,8 +65,7 @@ impl Judged {
         })
     }
 
-    /// A no to "equal" after so many plans. No total is nearest to such a
-    /// bound on both sides, so it has no lamp.
+    /// A no to "equal" after so many plans, to which document 02 gives no lamp.
     pub fn none_equal(count: u64) -> Judged {
         Judged::plain(Verdict::No { count, lamp: None })
     }

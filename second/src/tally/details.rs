@@ -12,13 +12,17 @@ use crate::logic::{Question, Relation, Summed, Totals, Verdict};
 /// the call.
 pub(super) fn details(call: &Call, answer: &Answer, desk: &Desk) -> Vec<String> {
     match (call, answer) {
-        (Call::Put(bytes), Answer::Put(Err(Ground::Range))) => return wrong_fields(bytes),
-        (Call::Put(bytes), Answer::Put(Err(Ground::Formula))) => return asked_for_gains(bytes),
-        _ => {}
+        (Call::Put(bytes), Answer::Put(Err(Ground::Range))) => wrong_fields(bytes),
+        (Call::Put(bytes), Answer::Put(Err(Ground::Formula))) => asked_for_gains(bytes),
+        _ => match (desk.model(), desk.question()) {
+            (Ok(model), Ok(question)) => held_details(call, answer, model, question),
+            _ => Vec::new(),
+        },
     }
-    let (Ok(model), Ok(question)) = (desk.model(), desk.question()) else {
-        return Vec::new();
-    };
+}
+
+/// The same where a model and a question are held.
+fn held_details(call: &Call, answer: &Answer, model: &Model, question: &Question) -> Vec<String> {
     let root = question.root_plan();
     let about = |total: Option<i128>| -> Vec<String> {
         root.iter().map(|root| root_words(root, total)).collect()
