@@ -54,13 +54,16 @@ pub fn compare(seed: u64, count: usize) -> Result<usize, Box<Difference>> {
     Ok(compared)
 }
 
-/// The verdicts, and the totals of the first and the shown plan.
+/// The verdicts, the best plan, met or not, and the totals of the first and the
+/// shown plan.
 fn compare_one(model: &Model, question: &Question, totals: &Totals) -> Result<(), Difference> {
     let quick = fast::judge(model, question, totals);
     same(&quick, &plain::judge(model, question))?;
     let Some(root) = question.root_plan() else {
         return Ok(());
     };
+    let best = fast::best_plan(model, question, &root, totals);
+    same(&best, &plain::best_plan(model, question, &root))?;
     let first = Plan::first(model, question.start, root.steps());
     let shown = Plan::from_choices(model, question.start, root.steps(), &quick.choices);
     for plan in std::iter::once(first).chain(shown) {

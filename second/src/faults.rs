@@ -6,7 +6,7 @@ use crate::blocks::{fix_word_sums, read_model, ModelImage, NodeImage};
 use crate::blocks::{QuestionImage, Sheet, BLOCK};
 use crate::desk::{replay, Answer, Call, Desk};
 use crate::ground::Ground;
-use crate::logic::{check_limits, fast, Judged, Model, Move, Node, Plan, PlanNode};
+use crate::logic::{check_limits, fast, Checked, Judged, Model, Move, Node, Plan, PlanNode};
 use crate::logic::{Question, Summed, Totals, SILENT};
 use std::collections::BTreeMap;
 
@@ -227,8 +227,8 @@ fn check(
     model: &Model,
     question: &Question,
     bytes: &[u8],
-    right: Result<bool, Ground>,
-) -> Result<bool, Ground> {
+    right: Result<Checked, Ground>,
+) -> Result<Checked, Ground> {
     if limit_missed(fault, model, question, right.as_ref().err()) {
         return Err(SERVED);
     }
@@ -245,8 +245,8 @@ fn wrong_check(
     model: &Model,
     question: &Question,
     bytes: &[u8],
-    right: Result<bool, Ground>,
-) -> Result<bool, Ground> {
+    right: Result<Checked, Ground>,
+) -> Result<Checked, Ground> {
     let asked = |bytes: &[u8]| {
         let wrong = wrong_model(fault, model);
         Desk::holding(wrong, question.clone()).check(bytes)

@@ -6,7 +6,7 @@ use crate::blocks::Sheet;
 use crate::desk::{replay, Answer, Call};
 use crate::ground::Ground;
 use crate::logic::plain::{self, Meaning};
-use crate::logic::{Model, Path, Plan, PlanNode, Question};
+use crate::logic::{Checked, Model, Path, Plan, PlanNode, Question};
 use crate::logic::{Relation, Totals, Verdict};
 use std::collections::BTreeMap;
 use std::ops::Div;
@@ -211,7 +211,7 @@ fn answers(judge: &FloatJudge, call: &Call, answer: &Answer) -> Vec<(Asked, bool
 fn sheet_answers(
     judge: &FloatJudge,
     bytes: &[u8],
-    checked: Result<bool, Ground>,
+    checked: Result<Checked, Ground>,
 ) -> Vec<(Asked, bool, bool)> {
     let (start, root) = (judge.question.start, judge.question.root_plan());
     let (Some(root), Ok(_) | Err(Ground::Total)) = (root, checked) else {
@@ -228,8 +228,8 @@ fn sheet_answers(
     let claimed = root.summed.claimed(sheet.total);
     let claim = judge.claim_right(&root, &plan, claimed);
     let mut found = vec![(Asked::Claim, checked.is_ok(), claim)];
-    if let Ok(met) = checked {
-        found.push((Asked::Met, met, judge.met(&root, &plan, start)));
+    if let Ok(right) = checked {
+        found.push((Asked::Met, right.met, judge.met(&root, &plan, start)));
     }
     found
 }

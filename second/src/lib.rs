@@ -11,6 +11,7 @@ pub mod floats;
 pub mod gain_faults;
 pub mod generate;
 pub mod ground;
+pub mod lamp_faults;
 pub mod logic;
 pub mod sum_faults;
 pub mod tally;

@@ -5,7 +5,7 @@ mod common;
 use common::{files, named, pack, says};
 use second::blocks::{read_model, read_question};
 use second::desk::{verdict_line, Desk, JudgeKind};
-use second::logic::{plain, Plan, Totals};
+use second::logic::{plain, Checked, Plan, Totals};
 use std::path::Path;
 
 /// The verdict lines of both judges, the plain one where it is affordable.
@@ -84,6 +84,12 @@ fn six_tries_questions() {
     check_questions("six-tries", 6);
 }
 
+/// Document 02, A.4: totals below, at and above their bounds.
+#[test]
+fn lamp_questions() {
+    check_questions("lamps", 82);
+}
+
 #[test]
 fn limit_questions() {
     check_questions("limits", 37);
@@ -133,8 +139,8 @@ fn check_sheet(file: &Path) {
     desk.load(&parts[0]).expect("model");
     desk.put(&parts[1]).expect("question");
     let said = match desk.check(&parts[2]) {
-        Ok(true) => "accepted met".to_string(),
-        Ok(false) => "accepted unmet".to_string(),
+        Ok(Checked { met: true, lamp }) => format!("accepted met {}", lamp.word()),
+        Ok(Checked { met: false, lamp }) => format!("accepted unmet {}", lamp.word()),
         Err(ground) => format!("refused {}", ground.number()),
     };
     assert_eq!(
@@ -159,13 +165,14 @@ fn sheets() {
         "mary-published",
         "shelf",
         "six-tries",
+        "lamps",
         "refusals",
     ];
     let sheets: Vec<_> = folders
         .iter()
         .flat_map(|folder| files(folder, "sheet"))
         .collect();
-    assert!(sheets.len() >= 81);
+    assert!(sheets.len() >= 114);
     for file in sheets {
         check_sheet(&file);
     }
@@ -182,45 +189,49 @@ fn two_shelf_table() {
     let quick_once = "0 do 1\n1 next 0\n2 not 1\n3 and 0 2\n4 plan 3 steps 2 ";
     let gain_eight = "0 gain 2 steps equal 8\n1 plan 0 steps 2 ";
     let table = [
-        (next_held, "greater 7/10", "yes 8/10 plans 0 choices 0"),
-        (next_held, "greater 8/10", "no plans 0"),
-        (next_held, "equal 5/10", "yes 5/10 plans 2 choices 1"),
+        (
+            next_held,
+            "greater 7/10",
+            "yes 8/10 above plans 0 choices 0",
+        ),
+        (next_held, "greater 8/10", "no plans 0 at"),
+        (next_held, "equal 5/10", "yes 5/10 at plans 2 choices 1"),
         (
             done_in_two,
             "equal 72/100",
-            "yes 72/100 plans 1 choices 0 2 0",
+            "yes 72/100 at plans 1 choices 0 2 0",
         ),
         (
             done_in_two,
             "equal 45/100",
-            "yes 45/100 plans 3 choices 1 2 0",
+            "yes 45/100 at plans 3 choices 1 2 0",
         ),
         (done_in_two, "equal 50/100", "no plans 4"),
         (
             held_in_two,
             "greater 44/100",
-            "yes 45/100 plans 0 choices 1 2 0",
+            "yes 45/100 above plans 0 choices 1 2 0",
         ),
-        (held_in_two, "greater 45/100", "no plans 0"),
+        (held_in_two, "greater 45/100", "no plans 0 at"),
         (
             held_in_two,
             "less 19/100",
-            "yes 18/100 plans 0 choices 0 2 1",
+            "yes 18/100 below plans 0 choices 0 2 1",
         ),
-        (held_in_two, "less 18/100", "no plans 0"),
+        (held_in_two, "less 18/100", "no plans 0 at"),
         (
             gain_eight,
             "greater 71/100",
-            "yes 72/100 plans 0 choices 0 2 0",
+            "yes 72/100 above plans 0 choices 0 2 0",
         ),
-        (gain_eight, "greater 72/100", "no plans 0"),
+        (gain_eight, "greater 72/100", "no plans 0 at"),
         (
             quick_once,
             "greater 9/10",
-            "yes 100/100 plans 0 choices 1 2 0",
+            "yes 100/100 above plans 0 choices 1 2 0",
         ),
-        (next_done, "equal 0/1", "yes 0/10 plans 1 choices 0"),
-        (next_done, "less 0/1", "no plans 0"),
+        (next_done, "equal 0/1", "yes 0/10 at plans 1 choices 0"),
+        (next_done, "less 0/1", "no plans 0 at"),
     ];
     let model = pack(&[&common::fixtures().join("two-shelf.model")]).remove(0);
     for (nodes, bound, wanted) in table {
@@ -234,29 +245,34 @@ fn two_shelf_table() {
 
 /// Start, steps, bound and the line for "done after these steps".
 const WITHOUT_WAIT: [(u8, usize, &str, &str); 8] = [
-    (0, 2, "equal 72/100", "yes 72/100 plans 1 choices 0 2 0"),
-    (0, 2, "equal 45/100", "yes 45/100 plans 3 choices 1 2 0"),
+    (0, 2, "equal 72/100", "yes 72/100 at plans 1 choices 0 2 0"),
+    (0, 2, "equal 45/100", "yes 45/100 at plans 3 choices 1 2 0"),
     (0, 2, "equal 50/100", "no plans 4"),
-    (1, 2, "equal 99/100", "yes 99/100 plans 1 choices 2 255 2"),
-    (2, 2, "equal 1/1", "yes 100/100 plans 1 choices 255 255"),
+    (
+        1,
+        2,
+        "equal 99/100",
+        "yes 99/100 at plans 1 choices 2 255 2",
+    ),
+    (2, 2, "equal 1/1", "yes 100/100 at plans 1 choices 255 255"),
     // All three drops miss with 1 of 1000.
     (
         1,
         3,
         "less 1/1",
-        "yes 999/1000 plans 0 choices 2 255 255 2 255 2",
+        "yes 999/1000 below plans 0 choices 2 255 255 2 255 2",
     ),
     (
         0,
         3,
         "equal 882/1000",
-        "yes 882/1000 plans 3 choices 0 2 255 2 1 2 0",
+        "yes 882/1000 at plans 3 choices 0 2 255 2 1 2 0",
     ),
     (
         0,
         3,
         "greater 9/10",
-        "yes 936/1000 plans 0 choices 0 2 255 2 0 2 0",
+        "yes 936/1000 above plans 0 choices 0 2 255 2 0 2 0",
     ),
 ];
 

@@ -26,7 +26,7 @@ fn two_shelf_picture() {
     assert_eq!(count(&svg, "class=\"action\""), 4 + 3);
     assert_eq!(count(&svg, ", reward "), 7);
     assert_eq!(count(&svg, "45/100, condition true"), 1);
-    assert!(svg.contains("Verdict: yes 45/100 plans 3<"));
+    assert!(svg.contains("Verdict: yes 45/100 at plans 3<"));
 }
 
 /// Silent moves are loops: one at the state over, one where the plan comes to

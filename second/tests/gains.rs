@@ -32,18 +32,36 @@ type Row = (u8, &'static str, u8, &'static str, &'static str);
 /// What a step earns, out of 10: grip -20, quick -10, drop 9 * 10 = 90, wait 0.
 const TWO_SHELF: [Row; 18] = [
     // One step: -20 and -10.
-    (0, "1 to 1", 1, "less 0/1", "yes -20/10 plans 0 choices 0"),
-    (0, "1 to 1", 1, "equal -1/1", "yes -10/10 plans 2 choices 1"),
-    (0, "1 to 1", 1, "greater -1/1", "no plans 0"),
-    (1, "1 to 1", 1, "greater 8/1", "yes 90/10 plans 0 choices 2"),
-    (2, "1 to 1", 1, "equal 0/1", "yes 0/10 plans 1 choices 3"),
+    (
+        0,
+        "1 to 1",
+        1,
+        "less 0/1",
+        "yes -20/10 below plans 0 choices 0",
+    ),
+    (
+        0,
+        "1 to 1",
+        1,
+        "equal -1/1",
+        "yes -10/10 at plans 2 choices 1",
+    ),
+    (0, "1 to 1", 1, "greater -1/1", "no plans 0 at"),
+    (
+        1,
+        "1 to 1",
+        1,
+        "greater 8/1",
+        "yes 90/10 above plans 0 choices 2",
+    ),
+    (2, "1 to 1", 1, "equal 0/1", "yes 0/10 at plans 1 choices 3"),
     // The second of two, as document 02 has it: 8 * 90 - 2 * 10.
     (
         0,
         "2 to 2",
         2,
         "greater 6/1",
-        "yes 700/100 plans 0 choices 0 2 1",
+        "yes 700/100 above plans 0 choices 0 2 1",
     ),
     // 5 * 90 - 5 * 20 = 350, and 5 * 90 - 5 * 10 = 400, the fourth plan.
     (
@@ -51,14 +69,14 @@ const TWO_SHELF: [Row; 18] = [
         "2 to 2",
         2,
         "less 4/1",
-        "yes 350/100 plans 0 choices 1 2 0",
+        "yes 350/100 below plans 0 choices 1 2 0",
     ),
     (
         0,
         "2 to 2",
         2,
         "equal 4/1",
-        "yes 400/100 plans 4 choices 1 2 1",
+        "yes 400/100 at plans 4 choices 1 2 1",
     ),
     (0, "2 to 2", 2, "equal 5/1", "no plans 4"),
     // The first of two: -2 * 100 by two plans, -1 * 100 by two.
@@ -67,14 +85,14 @@ const TWO_SHELF: [Row; 18] = [
         "1 to 1",
         2,
         "less -1/1",
-        "yes -200/100 plans 0 choices 0 2 0",
+        "yes -200/100 below plans 0 choices 0 2 0",
     ),
     (
         0,
         "1 to 1",
         2,
         "equal -1/1",
-        "yes -100/100 plans 3 choices 1 2 0",
+        "yes -100/100 at plans 3 choices 1 2 0",
     ),
     // Both: 700 - 200, and 350 - 100.
     (
@@ -82,15 +100,15 @@ const TWO_SHELF: [Row; 18] = [
         "1 to 2",
         2,
         "greater 4/1",
-        "yes 500/100 plans 0 choices 0 2 1",
+        "yes 500/100 above plans 0 choices 0 2 1",
     ),
-    (0, "1 to 2", 2, "less 5/2", "no plans 0"),
+    (0, "1 to 2", 2, "less 5/2", "no plans 0 at"),
     (
         0,
         "1 to 2",
         2,
         "less 3/1",
-        "yes 250/100 plans 0 choices 1 2 0",
+        "yes 250/100 below plans 0 choices 1 2 0",
     ),
     // A window that ends before the plan: ten times as much, first choices.
     (
@@ -98,7 +116,7 @@ const TWO_SHELF: [Row; 18] = [
         "2 to 2",
         3,
         "greater 6/1",
-        "yes 7000/1000 plans 0 choices 0 2 3 2 1 2 0",
+        "yes 7000/1000 above plans 0 choices 0 2 3 2 1 2 0",
     ),
     // The third of three: after quick, 5 * 90 (drop missed before) + 5 * 700.
     (
@@ -106,7 +124,7 @@ const TWO_SHELF: [Row; 18] = [
         "3 to 3",
         3,
         "greater 3/1",
-        "yes 3950/1000 plans 0 choices 1 2 3 2 0 2 1",
+        "yes 3950/1000 above plans 0 choices 1 2 3 2 0 2 1",
     ),
     // All three: -2000 + 8 * (9 * 100 + 90) + 2 * 500.
     (
@@ -114,7 +132,7 @@ const TWO_SHELF: [Row; 18] = [
         "1 to 3",
         3,
         "greater 6/1",
-        "yes 6920/1000 plans 0 choices 0 2 3 2 0 2 1",
+        "yes 6920/1000 above plans 0 choices 0 2 3 2 0 2 1",
     ),
     // From loaded, the second step: 1 * 90, since 9 of 10 wait.
     (
@@ -122,7 +140,7 @@ const TWO_SHELF: [Row; 18] = [
         "2 to 2",
         2,
         "equal 9/10",
-        "yes 90/100 plans 1 choices 2 3 2",
+        "yes 90/100 at plans 1 choices 2 3 2",
     ),
 ];
 
@@ -158,7 +176,7 @@ fn example_10() {
     ];
     assert_eq!(found, wanted);
     let asked = question(0, "0 plan gain 1 to 2 steps 2 equal 81/10");
-    let line = "yes 810/100 plans 2 choices 0 0 3";
+    let line = "yes 810/100 at plans 2 choices 0 0 3";
     assert_eq!(verdicts(&fixture("robot.model"), &asked), [line; 2]);
 }
 
@@ -292,7 +310,7 @@ fn pictures() {
         ("8/100, gain -2<", 1),
         ("10/100, gain -3<", 2),
         ("condition true", 0),
-        ("Verdict: yes 500/100 plans 0<", 1),
+        ("Verdict: yes 500/100 above plans 0<", 1),
     ] {
         assert_eq!(svg.matches(words).count(), count, "{words}");
     }

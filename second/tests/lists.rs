@@ -4,7 +4,8 @@ use second::blocks::{Sheet, BLOCK};
 use second::desk::{next_call, stored, Answer, Call, Desk};
 use second::generate::stream;
 use second::ground::Ground;
-use second::logic::{check_limits, plain, Model, Plan, Question, Totals, Verdict};
+use second::logic::{check_limits, plain, Checked, Lamp, Model, Plan, PlanNode};
+use second::logic::{Question, Relation, Totals, Verdict};
 use second::tally::tally;
 
 fn calls(kind: &str, seed: u64, count: usize) -> Vec<Call> {
@@ -127,22 +128,49 @@ fn demand_three_holds(desk: &Desk, verdict: &Verdict) -> bool {
         return false;
     }
     let mut plan = Plan::first(model, question.start, root.steps());
-    let mut some_met = accepted_exactly(desk, model, question, &plan);
+    let mut answers = vec![accepted_exactly(desk, model, question, &plan)];
     while plan.advance(model) {
-        some_met |= accepted_exactly(desk, model, question, &plan);
+        answers.push(accepted_exactly(desk, model, question, &plan));
     }
+    let some_met = answers.iter().any(|checked| checked.met);
     assert_eq!(some_met, matches!(verdict, Verdict::YesPlan(_)));
+    assert_eq!(
+        lamp_of_verdict(verdict),
+        lamp_of_all(root.relation, &answers)
+    );
     let mut buffer = vec![0; 3 * BLOCK];
     match desk.write(&mut buffer) {
-        Ok(bytes) => assert_eq!(desk.check(&buffer[..bytes]), Ok(true)),
+        Ok(bytes) => assert!(desk
+            .check(&buffer[..bytes])
+            .is_ok_and(|checked| checked.met)),
         Err(ground) => assert_eq!((ground, some_met), (Ground::NoShownPlan, false)),
     }
     true
 }
 
-/// The plan's sheet is accepted with its total and with no other; tells
-/// whether it meets the bound.
-fn accepted_exactly(desk: &Desk, model: &Model, question: &Question, plan: &Plan) -> bool {
+fn lamp_of_verdict(verdict: &Verdict) -> Option<Lamp> {
+    match verdict {
+        Verdict::YesPlan(record) => Some(record.lamp),
+        Verdict::No { lamp, .. } => *lamp,
+        Verdict::Yes => None,
+    }
+}
+
+/// The lamp of a verdict from the answers to all plans' sheets: that of the
+/// least total for "less", of the greatest for "greater", and on no to "equal"
+/// none. A lesser total never has a higher lamp.
+fn lamp_of_all(relation: Relation, answers: &[Checked]) -> Option<Lamp> {
+    let lamps = answers.iter().map(|checked| checked.lamp);
+    match relation {
+        Relation::Less => lamps.min(),
+        Relation::Equal => lamps.into_iter().find(|lamp| *lamp == Lamp::At),
+        Relation::Greater => lamps.max(),
+    }
+}
+
+/// The plan's sheet is accepted with its total and with no other; gives the
+/// answer, whether it meets the bound and how it stands to it.
+fn accepted_exactly(desk: &Desk, model: &Model, question: &Question, plan: &Plan) -> Checked {
     let root = question.root_plan().expect("a plan root");
     let total = plain::total_of(model, question, &root, plan);
     let mut sheet = Sheet {
@@ -151,14 +179,30 @@ fn accepted_exactly(desk: &Desk, model: &Model, question: &Question, plan: &Plan
         total: stored(total),
         choices: plan.choices(model),
     };
-    let met = root.met_by(total, model.whole(root.steps()));
-    assert_eq!(desk.check(&sheet.pack()), Ok(met));
+    let lamp = lamp_of(&root, total, model.whole(root.steps()));
+    let met = match root.relation {
+        Relation::Less => lamp == Lamp::Below,
+        Relation::Equal => lamp == Lamp::At,
+        Relation::Greater => lamp == Lamp::Above,
+    };
+    assert_eq!(desk.check(&sheet.pack()), Ok(Checked { met, lamp }));
     let right = sheet.total;
     for wrong in wrong_totals(total).filter(|wrong| *wrong != right) {
         sheet.total = wrong;
         assert_eq!(desk.check(&sheet.pack()), Err(Ground::Total));
     }
-    met
+    Checked { met, lamp }
+}
+
+/// How a total over `whole` stands to the bound, by the sign of how far it
+/// lies over it.
+fn lamp_of(root: &PlanNode, total: i128, whole: u64) -> Lamp {
+    let over = total * i128::from(root.bound.q) - i128::from(root.bound.p) * i128::from(whole);
+    match over.signum() {
+        -1 => Lamp::Below,
+        0 => Lamp::At,
+        _ => Lamp::Above,
+    }
 }
 
 /// Eight bytes that are not a total's, or are so by chance: one off, the sign

@@ -8,7 +8,7 @@ use second::blocks::{fix_word_sums, read_model, ModelImage, Sheet, BLOCK};
 use second::desk::{next_call, Answer, Call, Desk, JudgeKind};
 use second::generate::{random_model, stream, Rng, Size};
 use second::ground::Ground;
-use second::logic::{Model, Totals, SILENT};
+use second::logic::{Checked, Lamp, Model, Totals, SILENT};
 
 fn fixture(name: &str) -> Vec<u8> {
     pack(&[&common::fixtures().join(name)]).remove(0)
@@ -58,7 +58,11 @@ fn choice_bytes() {
                     choices: vec![choice],
                 };
                 let wanted = match accepted.contains(&choice) {
-                    true => Ok(true),
+                    // The whole weight is just that of the bound.
+                    true => Ok(Checked {
+                        met: true,
+                        lamp: Lamp::At,
+                    }),
                     false => Err(Ground::Choices),
                 };
                 assert_eq!(desk.check(&sheet.pack()), wanted, "{start}: {choice}");
@@ -82,10 +86,10 @@ fn do_is_false() {
         let now = format!("question start 1\n0 do {action}\n1 plan 0 steps 1 ");
         let later = format!("question start 0\n0 do {action}\n1 next 0\n2 plan 1 steps 2 ");
         for (text, yes) in [
-            (now, "yes 0/10 plans 1 choices 255"),
-            (later, "yes 0/100 plans 1 choices 0 255"),
+            (now, "yes 0/10 at plans 1 choices 255"),
+            (later, "yes 0/100 at plans 1 choices 0 255"),
         ] {
-            for (bound, wanted) in [("equal 0/1", yes), ("greater 0/1", "no plans 0")] {
+            for (bound, wanted) in [("equal 0/1", yes), ("greater 0/1", "no plans 0 at")] {
                 let lines = verdicts("silent/eight-actions.model", &format!("{text}{bound}"));
                 assert_eq!(lines, [wanted; 2], "{text}{bound}");
             }

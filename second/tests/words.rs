@@ -109,7 +109,7 @@ fn each_changed_word_is_refused_with_2() {
         for round in rounds(list).0 {
             let name = round[0].0.name();
             let accepted = match name {
-                "check" => "check accepted met".to_string(),
+                "check" => "check accepted met above".to_string(),
                 _ => format!("{name} done"),
             };
             assert_eq!(round[0].1, accepted);
@@ -279,7 +279,7 @@ fn answers_counted() {
         ("put refused 1", 12 + 3),
         ("put refused 2", 256 + (1 + 9)),
         ("put refused 3", 2),
-        ("check accepted met", 3 * 2),
+        ("check accepted met above", 3 * 2),
         ("check refused 1", 10 + 3),
         ("check refused 2", (3 + 2 + 1) * 256 + 3 * (1 + 9) + 2),
         ("check refused 3", 3 * 2),

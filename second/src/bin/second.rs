@@ -5,7 +5,7 @@ use second::desk::{c_calls, next_call, verdict_line, Desk, JudgeKind};
 use second::generate::{bench_cases, stream};
 use second::tally::tally;
 use second::timing::time;
-use second::{faults, floats, gain_faults, sum_faults};
+use second::{faults, floats, gain_faults, lamp_faults, sum_faults};
 use std::io::{self, Read, Write};
 use std::process::ExitCode;
 
@@ -17,6 +17,7 @@ const USAGE: &str = "usage: second [--plain] COMMAND
   floats                     a stream of calls to counts of the answers that judges in floats get wrong
   faults                     a stream of calls to counts of the answers that judges that err about silent states get wrong
   gain-faults                a stream of calls to counts of the answers that judges that err about expected gains get wrong
+  lamp-faults                a stream of calls to counts of the answers that judges that err about lamps get wrong
   sum-faults                 a stream of calls to counts of the answers that judges with wrong word sums get wrong
   generate KIND SEED COUNT   a stream of models, questions, judges, small, sheets, lists, tight or words
   compare SEED COUNT         the fast judge against the plain one
@@ -51,6 +52,7 @@ fn run(kind: JudgeKind, words: &[&str]) -> io::Result<ExitCode> {
         ["floats"] => print_floats(&read_input()?)?,
         ["faults"] => print_faults(&read_input()?)?,
         ["gain-faults"] => print_gain_faults(&read_input()?)?,
+        ["lamp-faults"] => print_lamp_faults(&read_input()?)?,
         ["sum-faults"] => print_sum_faults(&read_input()?)?,
         ["generate", kind, seed, count] => return generate(kind, seed, count),
         ["compare", seed, count] => return compare_judges(seed, count),
@@ -122,6 +124,13 @@ fn print_faults(stream: &[u8]) -> io::Result<()> {
 fn print_gain_faults(stream: &[u8]) -> io::Result<()> {
     for ((fault, call), count) in gain_faults::differences(stream) {
         print_line(&format!("{count:8} {call} {fault:?}"))?;
+    }
+    Ok(())
+}
+
+fn print_lamp_faults(stream: &[u8]) -> io::Result<()> {
+    for ((fault, call, operator), count) in lamp_faults::differences(stream) {
+        print_line(&format!("{count:8} {call}, operator {operator}: {fault:?}"))?;
     }
     Ok(())
 }

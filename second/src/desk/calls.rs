@@ -2,7 +2,7 @@
 
 use crate::blocks::{read_model, read_question, read_sheet, Sheet};
 use crate::ground::{demand, Ground};
-use crate::logic::{check_limits, fast, plain, Judged, Model, Plan, PlanNode};
+use crate::logic::{check_limits, fast, plain, Checked, Judged, Model, Plan, PlanNode};
 use crate::logic::{PlanRecord, Question, Totals, Verdict};
 
 /// Which of the two judges a desk uses.
@@ -117,8 +117,8 @@ impl Desk {
     }
 
     /// Checks a sheet; on accepting it, tells whether its total meets the
-    /// bound.
-    pub fn check(&self, bytes: &[u8]) -> Result<bool, Ground> {
+    /// bound, and how it stands to it.
+    pub fn check(&self, bytes: &[u8]) -> Result<Checked, Ground> {
         let root = self.root_plan()?;
         let (model, question) = (self.model()?, self.question()?);
         let totals = Totals::of(model);
@@ -131,7 +131,7 @@ impl Desk {
             JudgeKind::Plain => plain::total_of(model, question, &root, &plan),
         };
         demand(total == root.summed.claimed(sheet.total), Ground::Total)?;
-        Ok(root.met_by(total, model.whole(root.steps())))
+        Ok(Checked::by(&root, total, model.whole(root.steps())))
     }
 }
 

@@ -3,7 +3,7 @@
 use super::calls::{Desk, JudgeKind};
 use crate::blocks::BLOCK;
 use crate::ground::Ground;
-use crate::logic::{Judged, Verdict};
+use crate::logic::{Judged, Lamp, Verdict};
 
 const MOST_BLOCKS: usize = 13;
 
@@ -32,16 +32,23 @@ pub fn verdict_of(input: &[u8], kind: JudgeKind) -> Result<String, Ground> {
 fn answer_line(desk: &Desk, judged: &Judged) -> Result<String, Ground> {
     let root_is_plan = desk.question()?.root_plan().is_some();
     Ok(match judged.verdict {
-        Verdict::No { count } if root_is_plan => format!("no plans {count}"),
+        Verdict::No { count, lamp } if root_is_plan => {
+            format!("no plans {count}{}", lamp_after_count(lamp))
+        }
         Verdict::No { .. } => "no".to_string(),
         Verdict::Yes => "yes".to_string(),
         Verdict::YesPlan(record) => {
             let whole = desk.model()?.whole(usize::from(record.steps));
-            let (total, count) = (record.total, record.count);
+            let (total, lamp, count) = (record.total, record.lamp.word(), record.count);
             let choices = list_choices(&judged.choices);
-            format!("yes {total}/{whole} plans {count} choices{choices}")
+            format!("yes {total}/{whole} {lamp} plans {count} choices{choices}")
         }
     })
+}
+
+/// The lamp of a no after a space, where it has one.
+pub(super) fn lamp_after_count(lamp: Option<Lamp>) -> String {
+    lamp.map_or_else(String::new, |lamp| format!(" {}", lamp.word()))
 }
 
 /// The choices, each after a space.

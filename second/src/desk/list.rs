@@ -1,10 +1,10 @@
 //! Lists of calls as a stream of bytes, and the line that answers each.
 
 use super::calls::Desk;
-use super::line::list_choices;
+use super::line::{lamp_after_count, list_choices};
 use crate::bytes::u32_at;
 use crate::ground::Ground;
-use crate::logic::{Judged, Verdict};
+use crate::logic::{Checked, Judged, Verdict};
 use std::fmt;
 
 /// A call with its input.
@@ -101,7 +101,7 @@ pub enum Answer {
     Put(Result<(), Ground>),
     Judge(Result<Judged, Ground>),
     Write(Result<usize, Ground>, Vec<u8>),
-    Check(Result<bool, Ground>),
+    Check(Result<Checked, Ground>),
 }
 
 impl fmt::Display for Answer {
@@ -116,8 +116,10 @@ impl fmt::Display for Answer {
                 let words = answer.map_or_else(refused, |bytes| bytes.to_string());
                 write!(out, "write {words} {a} {b}")
             }
-            Answer::Check(Ok(true)) => write!(out, "check accepted met"),
-            Answer::Check(Ok(false)) => write!(out, "check accepted unmet"),
+            Answer::Check(Ok(checked)) => {
+                let met = if checked.met { "met" } else { "unmet" };
+                write!(out, "check accepted {met} {}", checked.lamp.word())
+            }
             Answer::Check(Err(ground)) => write!(out, "check {}", refused(*ground)),
         }
     }
@@ -133,12 +135,12 @@ fn done(answer: &Result<(), Ground>) -> String {
 
 fn verdict_words(judged: &Judged) -> String {
     match judged.verdict {
-        Verdict::No { count } => format!("no {count}"),
+        Verdict::No { count, lamp } => format!("no {count}{}", lamp_after_count(lamp)),
         Verdict::Yes => "yes".to_string(),
         Verdict::YesPlan(record) => {
             let (total, steps, count) = (record.total, record.steps, record.count);
-            let choices = list_choices(&judged.choices);
-            format!("yes {total} {steps} {count} choices{choices}")
+            let (lamp, choices) = (record.lamp.word(), list_choices(&judged.choices));
+            format!("yes {total} {steps} {lamp} {count} choices{choices}")
         }
     }
 }

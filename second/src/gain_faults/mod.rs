@@ -13,6 +13,8 @@ use crate::ground::Ground;
 use crate::logic::{check_limits, Model, Node, PlanNode, Question, Relation, Totals};
 use std::collections::BTreeMap;
 
+pub(crate) use sums::raised;
+
 #[derive(Clone, Copy, Debug, PartialEq, Eq, PartialOrd, Ord)]
 pub enum Fault {
     /// Steps are counted from 0, so that the window is one step late.

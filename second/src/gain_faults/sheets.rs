@@ -1,14 +1,14 @@
 //! What judges with faults write, and what they answer to sheets.
 
 use super::misread::misread;
-use super::sums::{meets, Sums};
+use super::sums::{lamp, Sums};
 use super::verdicts::wrong_below;
 use super::{gains_root, Fault, ALL};
 use crate::blocks::{fix_word_sums, Sheet, BLOCK};
 use crate::bytes::{put, u8_at};
 use crate::desk::{stored, Desk};
 use crate::ground::Ground;
-use crate::logic::{fast, Model, Plan, PlanNode, Question, Totals};
+use crate::logic::{fast, Checked, Lamp, Model, Plan, PlanNode, Question, Totals};
 
 /// Whether write is answered otherwise, or other bytes are written.
 pub(super) fn write_differs(
@@ -44,7 +44,7 @@ pub(super) fn wrong_checks(
     model: &Model,
     question: &Question,
     bytes: &[u8],
-    right: Result<bool, Ground>,
+    right: Result<Checked, Ground>,
 ) -> Vec<(Fault, &'static str)> {
     let mut found = Vec::new();
     if gains_root(question).is_some() {
@@ -67,7 +67,7 @@ pub(super) fn wrong_checks(
         stored: sheet.total,
         whole: model.whole(root.steps()),
     };
-    let answers: Vec<(Fault, Result<bool, Ground>)> = match root.sums_gains() {
+    let answers: Vec<(Fault, Result<Checked, Ground>)> = match root.sums_gains() {
         true => claim.gains(model, question),
         false => claim.weight(model, question),
     };
@@ -83,7 +83,7 @@ pub(super) fn wrong_checks(
 
 /// The answer to the blocks with the top bit of the first one's total in all of
 /// them, and the other bits as they are.
-fn blind_to_signs(model: &Model, question: &Question, bytes: &[u8]) -> Result<bool, Ground> {
+fn blind_to_signs(model: &Model, question: &Question, bytes: &[u8]) -> Result<Checked, Ground> {
     const HIGH_AT: usize = 15;
     let sign = u8_at(bytes, HIGH_AT) & 0x80;
     let mut changed = bytes.to_vec();
@@ -105,7 +105,7 @@ struct Claim {
 
 impl Claim {
     /// What judges with faults answer where gains are summed.
-    fn gains(&self, model: &Model, question: &Question) -> Vec<(Fault, Result<bool, Ground>)> {
+    fn gains(&self, model: &Model, question: &Question) -> Vec<(Fault, Result<Checked, Ground>)> {
         let sums = Sums::of(model, &self.root, &self.plan);
         let pointed_past = misread(Fault::LeftPointedPast, question, question.root());
         let by_left = pointed_past.map(|node| Sums::of(model, &node, &self.plan));
@@ -115,7 +115,7 @@ impl Claim {
                 _ => sums.by(fault),
             };
             match written(fault, total) == self.stored {
-                true => Ok(meets(fault, &self.root, total, self.whole)),
+                true => Ok(self.answered(lamp(fault, &self.root, total, self.whole))),
                 false => Err(Ground::Total),
             }
         };
@@ -128,12 +128,20 @@ impl Claim {
         asked.map(|fault| (fault, answer(fault))).collect()
     }
 
+    /// The answer about a total with this lamp.
+    fn answered(&self, lamp: Lamp) -> Checked {
+        Checked {
+            met: lamp.meets(self.root.relation),
+            lamp,
+        }
+    }
+
     /// What they answer for operator 8's weight.
-    fn weight(&self, model: &Model, question: &Question) -> Vec<(Fault, Result<bool, Ground>)> {
+    fn weight(&self, model: &Model, question: &Question) -> Vec<(Fault, Result<Checked, Ground>)> {
         let totals = Totals::of(model);
         let weight = fast::total_of(model, question, &self.root, &self.plan, &totals);
         let answer = |claimed: i128| match claimed == weight {
-            true => Ok(self.root.met_by(weight, self.whole)),
+            true => Ok(Checked::by(&self.root, weight, self.whole)),
             false => Err(Ground::Total),
         };
         let top_bit = 1 << 63;

@@ -3,7 +3,8 @@
 
 use super::misread::misread;
 use super::{Fault, ALL};
-use crate::logic::{Model, Node, Path, Plan, PlanNode, Question, Relation, Summed, Totals};
+use crate::logic::{Lamp, Model, Node, Path, Plan, PlanNode};
+use crate::logic::{Question, Relation, Summed, Totals};
 use std::collections::BTreeMap;
 
 /// Totals of more (plan, path) pairs than this are not worked out.
@@ -125,7 +126,7 @@ impl Reading {
 
     /// The same among these sums.
     fn best(&self, fault: Fault, sums: &[Sums]) -> Option<(usize, i128)> {
-        let meeting = |total: i128| meets(fault, &self.node, total, self.whole);
+        let meeting = |total: i128| self.lamp(fault, total).meets(self.node.relation);
         let equal = self.node.relation == Relation::Equal;
         if equal || fault == Fault::FirstThatMeets {
             let by_state = |sums: &Sums| sums.by_state && meeting(sums.right);
@@ -135,6 +136,20 @@ impl Reading {
         }
         let best = self.extreme(fault, sums);
         best.filter(|(_, total)| meeting(*total))
+    }
+
+    /// How a total stands to the bound, to a judge with the fault.
+    pub(super) fn lamp(&self, fault: Fault, total: i128) -> Lamp {
+        lamp(fault, &self.node, total, self.whole)
+    }
+
+    /// The lamp of a no by a judge with the fault: that of the total that it
+    /// takes for the least or the greatest, and none for "equal".
+    pub(super) fn lamp_of_no(&self, fault: Fault) -> Option<Lamp> {
+        let sums = self.misread.get(&fault).unwrap_or(&self.right);
+        let asked = self.node.relation != Relation::Equal;
+        let best = asked.then(|| self.extreme(fault, sums)).flatten();
+        best.map(|(_, total)| self.lamp(fault, total))
     }
 
     /// The first greatest or least total, as the relation asks for it.
@@ -170,35 +185,28 @@ fn all_sums(model: &Model, node: &PlanNode, state: u8) -> Option<Vec<Sums>> {
     Some(found)
 }
 
-/// Whether a total meets the node's bound, to a judge with the fault.
-pub(super) fn meets(fault: Fault, node: &PlanNode, total: i128, whole: u64) -> bool {
+/// How a total stands to the node's bound, to a judge with the fault.
+pub(super) fn lamp(fault: Fault, node: &PlanNode, total: i128, whole: u64) -> Lamp {
     let (p, q) = (i128::from(node.bound.p), i128::from(node.bound.q));
     let whole = i128::from(whole);
-    let relates = |left: i128, right: i128| node.relation.relates(left, right);
-    match fault {
-        Fault::UnsignedTotals => {
-            let (left, right) = ((total * q) as u128, (p * whole) as u128);
-            node.relation.relates(left, right)
-        }
-        Fault::BoundUnsigned => relates(total * q, p.abs() * whole),
-        Fault::BoundTurnedOver => relates(total * p, q * whole),
-        Fault::BoundTruncated => relates(total, p * whole / q),
+    Lamp::of(match fault {
+        Fault::UnsignedTotals => ((total * q) as u128).cmp(&((p * whole) as u128)),
+        Fault::BoundUnsigned => (total * q).cmp(&(p.abs() * whole)),
+        Fault::BoundTurnedOver => (total * p).cmp(&(q * whole)),
+        Fault::BoundTruncated => total.cmp(&(p * whole / q)),
         Fault::SidesSigned => {
             let (left, right) = raised(node, total, whole);
-            node.relation.relates(left as i64, right as i64)
+            (left as i64).cmp(&(right as i64))
         }
-        Fault::DifferenceSigned => {
-            let difference = (total * q - p * whole) as i64;
-            node.relation.relates(difference, 0)
-        }
-        _ => relates(total * q, p * whole),
-    }
+        Fault::DifferenceSigned => ((total * q - p * whole) as i64).cmp(&0),
+        _ => (total * q).cmp(&(p * whole)),
+    })
 }
 
 /// The two sides with the same added to both, so that neither is below 0: the
 /// most that can be lost, and p times D to the n where that is below 0. They can
 /// reach 18 * 10^18, which 64 bits without a sign hold.
-fn raised(node: &PlanNode, total: i128, whole: i128) -> (i128, i128) {
+pub(crate) fn raised(node: &PlanNode, total: i128, whole: i128) -> (i128, i128) {
     let (p, q) = (i128::from(node.bound.p), i128::from(node.bound.q));
     let steps = match node.summed {
         Summed::Gains { first, last } => i128::from(last + 1 - first),

@@ -43,11 +43,13 @@ fn judged(
     let Some((place, total)) = sums.shown(fault) else {
         return Judged::plain(Verdict::No {
             count: counted(sums.count()),
+            lamp: sums.lamp_of_no(fault),
         });
     };
     if fault == Fault::NoPlanShown {
         return Judged::plain(Verdict::Yes);
     }
+    let lamp = sums.lamp(fault, total);
     let total = match fault {
         Fault::TotalUnsigned => total.abs(),
         _ => total,
@@ -56,6 +58,7 @@ fn judged(
         verdict: Verdict::YesPlan(PlanRecord {
             total,
             steps: root.steps,
+            lamp,
             count: counted(place + 1),
         }),
         choices: choices_at(model, question, root, place),

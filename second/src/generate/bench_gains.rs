@@ -92,7 +92,7 @@ mod tests {
     use super::*;
     use crate::blocks::{read_model, read_question};
     use crate::generate::bench_cases;
-    use crate::logic::{fast, Model, Node, Question, Totals, Verdict};
+    use crate::logic::{fast, Judged, Model, Node, Question, Totals};
 
     /// The states that can be met after just so many steps from state 0.
     fn met_after(model: &Model, steps: usize) -> Vec<u8> {
@@ -152,7 +152,7 @@ mod tests {
                     nodes: vec![Node::Plan(node)],
                 };
                 let judged = fast::judge(&model, &asked, &Totals::of(&model));
-                assert_eq!(judged.verdict, Verdict::No { count: 46_656 }, "{number}");
+                assert_eq!(judged, Judged::none_equal(46_656), "{number}");
             }
         }
     }

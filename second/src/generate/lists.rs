@@ -1,5 +1,6 @@
 //! Random lists of all five calls.
 
+use super::lamps::lit;
 use super::question::{random_question, Scale};
 use super::rng::Rng;
 use super::streams::{any_model, any_question, any_sheet, canary, few_states, good_model, stretch};
@@ -42,6 +43,9 @@ fn pool(rng: &mut Rng) -> Pool {
         puts: Vec::new(),
         sheets: Vec::new(),
     };
+    if rng.once_in(3) {
+        add_lamps(rng, &mut pool);
+    }
     for turn in 0..2 {
         let size = few_states(rng);
         let Some((bytes, model, totals)) = good_model(rng, size) else {
@@ -66,6 +70,20 @@ fn pool(rng: &mut Rng) -> Pool {
         pool.loads.push(any_model(rng, size, harm));
     }
     pool
+}
+
+/// Adds a model with questions whose bounds lie next to plans' totals.
+fn add_lamps(rng: &mut Rng, pool: &mut Pool) {
+    let Some(lit) = lit(rng, 2) else {
+        return;
+    };
+    pool.loads.push(lit.model);
+    for (question, sheets) in lit.asked {
+        let place = pool.puts.len();
+        let placed = sheets.into_iter().map(|sheet| (place, sheet));
+        pool.sheets.extend(placed);
+        pool.puts.push(question);
+    }
 }
 
 fn call(rng: &mut Rng, pool: &Pool, last_put: &mut usize) -> Call {

@@ -7,6 +7,7 @@ mod bounds;
 mod cases;
 mod damage;
 mod gain_damage;
+mod lamps;
 mod lists;
 mod model;
 mod model_damage;

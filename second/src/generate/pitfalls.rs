@@ -53,9 +53,13 @@ fn far_model(rng: &mut Rng) -> Vec<u8> {
     let base = rng.pick_or(&[100, 100, 100, 99, 98, 97], 100);
     let stays = rng.range(1, base - 1);
     let leaves = base - stays;
+    // With rewards of one sign, a bound on the other side of 0 is missed by as
+    // much as can be.
+    let sign = rng.pick(&[1, -1]).filter(|_| rng.once_in(2));
     let mut reward = || {
         let points = rng.range(900, 1000) as i32;
-        rng.pick_or(&[points, -points, 1000, -1000], 1000)
+        let points = rng.pick_or(&[points, -points, 1000, -1000], 1000);
+        sign.map_or(points, |sign| sign * points.abs())
     };
     let (first, second, third, last) = (reward(), reward(), reward(), reward());
     let mut text = format!("model D {base}\nproposition 0 gone\nstate 0:\nstate 1: gone\n");

@@ -1,6 +1,7 @@
 //! Streams that dwell on one kind of call.
 
 use super::cases::{self, Ends};
+use super::lamps::lamps;
 use super::model::{random_model, Size};
 use super::pitfalls::pitfalls;
 use super::question::{random_choices, random_question, Scale};
@@ -142,6 +143,9 @@ pub fn judges(rng: &mut Rng, count: usize) -> Vec<Call> {
         if rng.once_in(16) {
             calls.extend(pitfalls(rng));
         }
+        if rng.once_in(16) {
+            calls.extend(lamps(rng));
+        }
     }
     calls
 }
@@ -247,6 +251,9 @@ pub fn sheets(rng: &mut Rng, count: usize) -> Vec<Call> {
         };
         calls.push(Call::Put(QuestionImage::from(&question).pack()));
         calls.extend(sheet_calls(rng, &model, &question, &totals, turn));
+        if rng.once_in(12) {
+            calls.extend(lamps(rng));
+        }
     }
     calls
 }
@@ -429,6 +436,9 @@ pub fn small(rng: &mut Rng, count: usize) -> Vec<Call> {
         }
         if rng.once_in(12) {
             calls.extend(pitfalls(rng));
+        }
+        if rng.once_in(12) {
+            calls.extend(lamps(rng));
         }
     }
     calls

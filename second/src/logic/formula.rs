@@ -1,5 +1,7 @@
 //! Formulas as numbered nodes: state and path formulas, and their depth.
 
+use super::Lamp;
+
 /// How a total is compared with its bound.
 #[derive(Clone, Copy, Debug, PartialEq, Eq, PartialOrd, Ord)]
 pub enum Relation {
@@ -111,12 +113,17 @@ impl PlanNode {
         matches!(self.summed, Summed::Gains { .. })
     }
 
-    /// Whether a total over `whole` stands in the relation to the bound: the
-    /// total times q against p times D to the n, in whole numbers.
-    pub fn met_by(&self, total: i128, whole: u64) -> bool {
+    /// How a total over `whole` stands to the bound: the total times q against
+    /// p times D to the n, in whole numbers.
+    pub fn lamp(&self, total: i128, whole: u64) -> Lamp {
         let left = total * i128::from(self.bound.q);
         let right = i128::from(self.bound.p) * i128::from(whole);
-        self.relation.relates(left, right)
+        Lamp::of(left.cmp(&right))
+    }
+
+    /// Whether a total over `whole` stands in the relation to the bound.
+    pub fn met_by(&self, total: i128, whole: u64) -> bool {
+        self.lamp(total, whole).meets(self.relation)
     }
 }
 

@@ -1,8 +1,8 @@
 //! The judge straight from the definitions: every plan in dictionary order,
 //! every path of each, every formula by recursion. Slow, and plain to check.
 
-use super::{Judged, Model, Node, Path, Plan, PlanNode, PlanRecord, Question};
-use super::{Relation, Summed, Totals, Verdict};
+use super::{Judged, Model, Node, Path, Plan, PlanNode, Question};
+use super::{Relation, Summed, Totals};
 
 /// The verdict on a question.
 pub fn judge(model: &Model, question: &Question) -> Judged {
@@ -11,12 +11,15 @@ pub fn judge(model: &Model, question: &Question) -> Judged {
         return reader.judge_plan(&plan);
     }
     let place = Path::standing(question.start);
-    let yes = reader.holds(question.root(), &place, 0);
-    Judged::plain(if yes {
-        Verdict::Yes
-    } else {
-        Verdict::No { count: 0 }
-    })
+    Judged::other_root(reader.holds(question.root(), &place, 0))
+}
+
+/// The least total of all plans where the root asks for "less", the greatest
+/// where it asks for "greater", and the choices of the first plan that has it,
+/// whether or not it meets the bound. "Equal" has no best plan.
+pub fn best_plan(model: &Model, question: &Question, root: &PlanNode) -> Option<(i128, Vec<u8>)> {
+    let (total, plan) = Reader { model, question }.best_plan(root)?;
+    Some((total, plan.choices(model)))
 }
 
 /// The plan's total for the question's root.
@@ -164,50 +167,59 @@ impl Meaning for Reader<'_> {
 }
 
 impl Reader<'_> {
-    /// The verdict on a plan root: all plans are tried, the best first one is
-    /// shown.
+    /// The verdict on a plan root. All plans are tried.
     fn judge_plan(&self, node: &PlanNode) -> Judged {
         let whole = self.model.whole(node.steps());
-        let mut plan = Plan::first(self.model, self.question.start, node.steps());
-        let mut shown: Option<(i128, u64, Plan)> = None;
+        match self.best_plan(node) {
+            Some((total, plan)) => Judged::by_best(node, whole, total, plan.choices(self.model)),
+            None => self.judge_equal(node, whole),
+        }
+    }
+
+    /// The first plan in dictionary order that meets an "equal" bound is shown;
+    /// if there is none, all are counted.
+    fn judge_equal(&self, node: &PlanNode, whole: u64) -> Judged {
         let mut place = 0;
-        loop {
+        let mut shown: Option<(i128, u64, Plan)> = None;
+        self.each_plan(node, |total, plan| {
             place += 1;
-            let total = self.total(node, &plan);
-            let met = node.met_by(total, whole);
-            if met && better(node.relation, total, shown.as_ref().map(|best| best.0)) {
+            if shown.is_none() && node.met_by(total, whole) {
                 shown = Some((total, place, plan.clone()));
             }
+        });
+        match shown {
+            Some((total, count, plan)) => {
+                Judged::shown(node, whole, total, count, plan.choices(self.model))
+            }
+            None => Judged::none_equal(place),
+        }
+    }
+
+    /// The least total for "less", the greatest for "greater", and the first
+    /// plan in dictionary order that has it.
+    fn best_plan(&self, node: &PlanNode) -> Option<(i128, Plan)> {
+        if node.relation == Relation::Equal {
+            return None;
+        }
+        let mut best: Option<(i128, Plan)> = None;
+        self.each_plan(node, |total, plan| {
+            // Of equal totals the one that came before stays.
+            let so_far = best.as_ref().map(|best| best.0);
+            if so_far.is_none_or(|so_far| node.relation.relates(total, so_far)) {
+                best = Some((total, plan.clone()));
+            }
+        });
+        best
+    }
+
+    /// Every plan from the question's start in dictionary order, with its total.
+    fn each_plan(&self, node: &PlanNode, mut seen: impl FnMut(i128, &Plan)) {
+        let mut plan = Plan::first(self.model, self.question.start, node.steps());
+        loop {
+            seen(self.total(node, &plan), &plan);
             if !plan.advance(self.model) {
-                break;
+                return;
             }
         }
-        self.verdict(node, shown, place)
     }
-
-    fn verdict(&self, node: &PlanNode, shown: Option<(i128, u64, Plan)>, all: u64) -> Judged {
-        let counted = |count: u64| match node.relation {
-            Relation::Equal => count,
-            _ => 0,
-        };
-        let Some((total, place, plan)) = shown else {
-            return Judged::plain(Verdict::No {
-                count: counted(all),
-            });
-        };
-        Judged {
-            verdict: Verdict::YesPlan(PlanRecord {
-                total,
-                steps: node.steps,
-                count: counted(place),
-            }),
-            choices: plan.choices(self.model),
-        }
-    }
-}
-
-/// Whether a plan of this total is shown rather than the best so far: only a
-/// greater total for "greater", a lesser for "less", none for "equal".
-fn better(relation: Relation, total: i128, best: Option<i128>) -> bool {
-    best.is_none_or(|best| relation != Relation::Equal && relation.relates(total, best))
 }

@@ -21,7 +21,8 @@ impl Plan {
         Plan::first_with(model, state, steps, 0)
     }
 
-    fn first_with(model: &Model, state: u8, steps: usize, option: usize) -> Plan {
+    /// The first one with a given first move, by its place among the state's.
+    pub fn first_with(model: &Model, state: u8, steps: usize, option: usize) -> Plan {
         let mut plan = Plan {
             state,
             option,
@@ -33,6 +34,16 @@ impl Plan {
             plan.below = below
                 .map(|outcome| Plan::first(model, outcome.target, steps - 1))
                 .collect();
+        }
+        plan
+    }
+
+    /// The last plan in dictionary order: the highest choices everywhere.
+    pub fn last(model: &Model, state: u8, steps: usize) -> Plan {
+        let option = model.moves(state).len().saturating_sub(1);
+        let mut plan = Plan::first_with(model, state, steps, option);
+        for below in &mut plan.below {
+            *below = Plan::last(model, below.state, steps - 1);
         }
         plan
     }

@@ -1,6 +1,7 @@
 //! What an answer was about: the root of the question, the sign of its total,
 //! the field of operator 9 that was refused.
 
+use super::lamps::{lamp_words, verdict_lamp_words};
 use crate::blocks::{NodeImage, QuestionImage, Sheet};
 use crate::desk::{Answer, Call, Desk};
 use crate::ground::Ground;
@@ -11,13 +12,17 @@ use crate::logic::{Question, Relation, Summed, Totals, Verdict};
 /// the call.
 pub(super) fn details(call: &Call, answer: &Answer, desk: &Desk) -> Vec<String> {
     match (call, answer) {
-        (Call::Put(bytes), Answer::Put(Err(Ground::Range))) => return wrong_fields(bytes),
-        (Call::Put(bytes), Answer::Put(Err(Ground::Formula))) => return asked_for_gains(bytes),
-        _ => {}
+        (Call::Put(bytes), Answer::Put(Err(Ground::Range))) => wrong_fields(bytes),
+        (Call::Put(bytes), Answer::Put(Err(Ground::Formula))) => asked_for_gains(bytes),
+        _ => match (desk.model(), desk.question()) {
+            (Ok(model), Ok(question)) => held_details(call, answer, model, question),
+            _ => Vec::new(),
+        },
     }
-    let (Ok(model), Ok(question)) = (desk.model(), desk.question()) else {
-        return Vec::new();
-    };
+}
+
+/// The same where a model and a question are held.
+fn held_details(call: &Call, answer: &Answer, model: &Model, question: &Question) -> Vec<String> {
     let root = question.root_plan();
     let about = |total: Option<i128>| -> Vec<String> {
         root.iter().map(|root| root_words(root, total)).collect()
@@ -26,6 +31,7 @@ pub(super) fn details(call: &Call, answer: &Answer, desk: &Desk) -> Vec<String> 
         (Call::Judge, Answer::Judge(Ok(judged))) => {
             let mut found = about(shown_total(judged));
             found.extend(inner_words(model, question));
+            found.extend(verdict_lamp_words(model, question, judged));
             found.extend(root.and_then(|root| far_words(model, &root)));
             found
         }
@@ -33,9 +39,13 @@ pub(super) fn details(call: &Call, answer: &Answer, desk: &Desk) -> Vec<String> 
         (Call::Write(_), Answer::Write(Ok(length), buffer)) => {
             about(claimed(root, buffer.get(..*length).unwrap_or(buffer)))
         }
-        (Call::Check(bytes), Answer::Check(Ok(_) | Err(Ground::Total))) => {
-            about(claimed(root, bytes))
+        (Call::Check(bytes), Answer::Check(Ok(_))) => {
+            let total = claimed(root, bytes);
+            let mut found = about(total);
+            found.extend(lamp_words(model, root.zip(total)));
+            found
         }
+        (Call::Check(bytes), Answer::Check(Err(Ground::Total))) => about(claimed(root, bytes)),
         (Call::Write(_), Answer::Write(Err(ground), _))
         | (Call::Check(_), Answer::Check(Err(ground))) => match ground {
             Ground::RootNotPlan => below_words(question),
@@ -47,7 +57,7 @@ pub(super) fn details(call: &Call, answer: &Answer, desk: &Desk) -> Vec<String> 
 }
 
 /// `operator 9 less, total below 0`.
-fn root_words(root: &PlanNode, total: Option<i128>) -> String {
+pub(super) fn root_words(root: &PlanNode, total: Option<i128>) -> String {
     let sign = match total {
         Some(total) if total < 0 => ", total below 0",
         _ => "",
@@ -111,10 +121,19 @@ fn inner_words(model: &Model, question: &Question) -> Option<String> {
                 found = true;
             }
         }
-        found.then(|| fast::judge(model, &changed, &Totals::of(model)))
+        found.then(|| lampless(fast::judge(model, &changed, &Totals::of(model))))
     };
     let turns_on_them = with(true)? != with(false)?;
     turns_on_them.then(|| "by operator 9 below the root".to_string())
+}
+
+/// The same answer without the lamp of a no: whether it is yes or no, and what
+/// is shown, shall turn on the nodes below, and not the lamp alone.
+fn lampless(mut judged: Judged) -> Judged {
+    if let Verdict::No { lamp, .. } = &mut judged.verdict {
+        *lamp = None;
+    }
+    judged
 }
 
 fn is_gains(node: &Node) -> bool {

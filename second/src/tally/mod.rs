@@ -1,9 +1,10 @@
 //! How often each call got each answer, and what it was about.
 
 mod details;
+mod lamps;
 
 use crate::desk::{replay, Answer};
-use crate::logic::{Judged, Verdict};
+use crate::logic::{Checked, Judged, Verdict};
 use std::collections::BTreeMap;
 
 /// Counts of (call, answer), in order of call and answer number. An answer is
@@ -34,7 +35,7 @@ fn key(answer: &Answer) -> (&'static str, u8, String) {
         Answer::Write(Ok(512), _) => ("write", None, "1 block"),
         Answer::Write(Ok(1024), _) => ("write", None, "2 blocks"),
         Answer::Write(answer, _) => ("write", answer.err(), "3 blocks"),
-        Answer::Check(Ok(true)) => ("check", None, "accepted met"),
+        Answer::Check(Ok(Checked { met: true, .. })) => ("check", None, "accepted met"),
         Answer::Check(answer) => ("check", answer.err(), "accepted unmet"),
     };
     match refusal {
@@ -49,7 +50,7 @@ fn key(answer: &Answer) -> (&'static str, u8, String) {
 
 fn verdict_words(judged: &Judged) -> &'static str {
     match judged.verdict {
-        Verdict::No { count: 0 } => "no",
+        Verdict::No { count: 0, .. } => "no",
         Verdict::No { .. } => "no, plans counted",
         Verdict::Yes => "yes",
         Verdict::YesPlan(record) if record.count == 0 => "yes with plan",

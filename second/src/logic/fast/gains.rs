@@ -3,9 +3,9 @@
 
 use super::show::{first_choices, numbered_choices};
 use super::totals::find_sum;
-use super::{judged, wanted_total};
+use super::wanted_total;
 use crate::logic::{Judged, Model, Move, Outcome, Plan, PlanNode};
-use crate::logic::{Relation, Summed, Totals, Verdict};
+use crate::logic::{Relation, Summed, Totals};
 use std::collections::HashMap;
 
 /// A node's window of steps on a model. Steps after the last one of the window
@@ -179,30 +179,25 @@ impl<'a> Gains<'a> {
         }
     }
 
-    /// The verdict on a root.
-    pub(super) fn judge(&mut self, start: u8, totals: &Totals) -> Judged {
-        if self.node.relation == Relation::Equal {
-            return self.judge_equal(start, totals);
-        }
-        let total = self.best_from(start);
-        if !self.met_by(total) {
-            return Judged::plain(Verdict::No { count: 0 });
-        }
+    /// The best total of all plans from a state, and the choices of the first
+    /// plan that has it.
+    pub(super) fn best_plan(&self, start: u8) -> (i128, Vec<u8>) {
         let mut choices = Vec::new();
         self.best_choices(0, start, &mut choices);
-        judged(&self.node, total, 0, choices)
+        (self.best_from(start), choices)
     }
 
-    fn judge_equal(&mut self, start: u8, totals: &Totals) -> Judged {
+    /// The verdict on a root that asks for "equal".
+    pub(super) fn judge_equal(&mut self, start: u8, totals: &Totals) -> Judged {
         let steps = self.node.steps();
         let Some(number) = self.first_equal(start) else {
-            let count = totals.plans(steps, start);
-            return Judged::plain(Verdict::No { count });
+            return Judged::none_equal(totals.plans(steps, start));
         };
         let (choices, before) =
             numbered_choices(self.model, totals, steps, self.last, start, number);
-        let total = wanted_total(&self.node, self.model.whole(steps)).unwrap_or(0);
-        judged(&self.node, total.into(), before + 1, choices)
+        let whole = self.model.whole(steps);
+        let total = wanted_total(&self.node, whole).unwrap_or(0);
+        Judged::shown(&self.node, whole, total.into(), before + 1, choices)
     }
 
     /// The total of a given plan.

@@ -15,8 +15,7 @@ mod show;
 mod totals;
 mod walk;
 
-use super::{Judged, Model, Node, Plan, PlanNode, PlanRecord, Question};
-use super::{Relation, Totals, Verdict};
+use super::{Judged, Model, Node, Plan, PlanNode, Question, Relation, Totals};
 use gains::Gains;
 use program::Program;
 use walk::Walk;
@@ -26,9 +25,20 @@ pub fn judge(model: &Model, question: &Question, totals: &Totals) -> Judged {
     let judge = Judge::prepare(model, question, totals);
     match question.root_plan() {
         Some(plan) => judge.judge_plan(&plan),
-        None if judge.holds(question.root(), question.start) => Judged::plain(Verdict::Yes),
-        None => Judged::plain(Verdict::No { count: 0 }),
+        None => Judged::other_root(judge.holds(question.root(), question.start)),
     }
+}
+
+/// The least total of all plans where the root asks for "less", the greatest
+/// where it asks for "greater", and the choices of the first plan that has it,
+/// whether or not it meets the bound. "Equal" has no best plan.
+pub fn best_plan(
+    model: &Model,
+    question: &Question,
+    root: &PlanNode,
+    totals: &Totals,
+) -> Option<(i128, Vec<u8>)> {
+    Judge::prepare(model, question, totals).best_plan(root)
 }
 
 /// The plan's total for the question's root.
@@ -162,27 +172,39 @@ impl<'a> Judge<'a> {
 
     /// The verdict on a plan root.
     fn judge_plan(&self, plan: &PlanNode) -> Judged {
+        match self.best_plan(plan) {
+            Some((total, choices)) => {
+                Judged::by_best(plan, self.model.whole(plan.steps()), total, choices)
+            }
+            None => self.judge_equal(plan),
+        }
+    }
+
+    fn judge_equal(&self, plan: &PlanNode) -> Judged {
         if let Some(mut gains) = Gains::of(self.model, plan) {
-            return gains.judge(self.question.start, self.totals);
+            return gains.judge_equal(self.question.start, self.totals);
+        }
+        let program = self.program(plan);
+        match self.first_equal(plan, &mut self.walk(&program)) {
+            Some(number) => self.show_numbered(plan, &program, number),
+            None => Judged::none_equal(self.totals.plans(plan.steps(), self.question.start)),
+        }
+    }
+
+    /// The least total for "less", the greatest for "greater", and the choices
+    /// of the first plan that has it.
+    fn best_plan(&self, plan: &PlanNode) -> Option<(i128, Vec<u8>)> {
+        if plan.relation == Relation::Equal {
+            return None;
+        }
+        if let Some(gains) = Gains::of(self.model, plan) {
+            return Some(gains.best_plan(self.question.start));
         }
         let program = self.program(plan);
         let mut walk = self.walk(&program);
-        if plan.relation == Relation::Equal {
-            return match self.first_equal(plan, &mut walk) {
-                Some(number) => self.show_numbered(plan, &program, number),
-                None => Judged::plain(Verdict::No {
-                    count: self.totals.plans(plan.steps(), self.question.start),
-                }),
-            };
-        }
         let wanted = plan.relation == Relation::Greater;
         let (found, choices) = show::best_choices(&mut walk, plan.steps(), wanted);
-        let total = self.extreme(plan, program.depth(), found);
-        if plan.met_by(total, self.model.whole(plan.steps())) {
-            judged(plan, total, 0, choices)
-        } else {
-            Judged::plain(Verdict::No { count: 0 })
-        }
+        Some((self.extreme(plan, program.depth(), found), choices))
     }
 
     fn show_numbered(&self, plan: &PlanNode, program: &Program, number: u64) -> Judged {
@@ -196,7 +218,7 @@ impl<'a> Judge<'a> {
         );
         let whole = self.model.whole(plan.steps());
         let total = wanted_total(plan, whole).unwrap_or(0);
-        judged(plan, total.into(), before + 1, choices)
+        Judged::shown(plan, whole, total.into(), before + 1, choices)
     }
 }
 
@@ -208,18 +230,6 @@ fn wanted_total(plan: &PlanNode, whole: u64) -> Option<i64> {
     match product.checked_rem(q) {
         Some(0) => i64::try_from(product / q).ok(),
         _ => None,
-    }
-}
-
-fn judged(plan: &PlanNode, total: i128, count: u64, choices: Vec<u8>) -> Judged {
-    let record = PlanRecord {
-        total,
-        steps: plan.steps,
-        count,
-    };
-    Judged {
-        verdict: Verdict::YesPlan(record),
-        choices,
     }
 }
 
