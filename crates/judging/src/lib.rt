@@ -119,10 +119,10 @@ fn deny(m: &[u16; MODEL], q: &[u8; QUESTION], j: u8, r: Decision) -> Outcome
             lamp: Light::Off,
         });
     }
-    let lamp = lamp_of(m, q, j, r.raised);
+    let best = lamp_of(m, q, j, r.raised);
     Outcome::No(Denied {
         count: count,
-        lamp: Light::On(lamp),
+        lamp: Light::On(best),
     })
 }
 
