@@ -1,20 +1,20 @@
--- A raised total against a bound: the numbers of a node of operator 8 or 9 are small, so that the products fit; in natural numbers the bound is
--- met just where it is met in integers; and the raised total that equals the bound is a quotient.
+-- A raised total against a bound: the numbers of a node of operator 8 or 9 are small, so that the products fit; in natural numbers the total compares
+-- with the bound as it does in integers; and the raised total that equals the bound is a quotient.
 use Prim.Native.Nat.{ℕ, suc, _+_, _*_, _-_, _/_, _%_, _^_, _≤_, _<_}
 use native.Mathlib.Omega.{arith}
 use native.Mathlib.Nat.{le-trans, mul-le-mul, mul-le-mul-left, mul-div-cancel-left, mul-mod-right, div-add-mod}
 use mathlib.Core.Path.{_≡_, refl, sym, ap, ap₂, subst, _∙_}
 use mathlib.Core.Logic.{_⊎_, ⊎-elim}
-use mathlib.Core.Bool.{Bool, true, false, false≢true}
+use mathlib.Core.Bool.{true, false, cond, false≢true}
 use lib.Dec.{eqb}
 use lib.IntN.{ℤ, pos, negsuc, subℕ}
 use lib.Signed.{mag}
 use borrow.Author.Tests.{eq-eqb, ne-eqb, eqb-true, eqb-false}
-use Rattle.logic.specs.Quantity.{naturals, integers, Relation, related, equal}
-use Rattle.logic.specs.Bound.{meets, lamp, compared}
-use Rattle.logic.specs.Formula.{relation, nonnegative}
+use Rattle.logic.specs.Quantity.{naturals, integers, Relation, less, equal, related}
+use Rattle.logic.specs.Bound.{meets, below, at, above, compared, lamp}
+use Rattle.logic.specs.Formula.{nonnegative}
 use Rattle.logic.proofs.Tests.{same-test}
-use Rattle.logic.proofs.Lowered.{meets-raised, lamp-raised}
+use Rattle.logic.proofs.Lowered.{meets-raised}
 use Rattle.logic.proofs.Integers.{subℕ-ge, subℕ-lt}
 use Rattle.logic.proofs.Naturals.{eqb-leb}
 use Rattle.lamp.specs.declared.Lamp.{Lamp}
@@ -174,15 +174,12 @@ module _ (m q : Bytes) (j : ℕ) (b : Bounded m q j) where
       (denominator-is m)
 
   lamp-sides : (x : ℕ) → lamp-at m q j (lowered m q j x) ≡ compared naturals (raised-left x) raised-right
-  lamp-sides x =
-      ap (λ p. lamp integers (model-in m) ((node-of q j) .n) p ((node-of q j) .q) (lowered m q j x)) (p-split ((node-of q j) .p))
-      ∙ lamp-raised (model-in m) ((node-of q j) .n) (nonnegative ((node-of q j) .p)) (under ((node-of q j) .p)) ((node-of q j) .q) x (lift-of m q j)
-      ∙ ap (λ d. compared naturals ((node-of q j) .q * x + d ^ (node-of q j) .n * under ((node-of q j) .p)) (d ^ (node-of q j) .n * nonnegative ((node-of q j) .p) + (node-of q j) .q * lift-of m q j))
-      (denominator-is m)
+  unfolding lamp compared meets
+  lamp-sides x = ap₂ (λ t u. cond t below (cond u at above)) (meets-sides less x) (meets-sides equal x)
 
-  pub lamp-by : (x : ℕ) {a b : ℕ} {r : Lamp} → r ≡ lamp-code (compared naturals a b) → a ≡ raised-left x → b ≡ raised-right
+  pub compared-is : (x : ℕ) {a b : ℕ} {r : Lamp} → r ≡ lamp-code (compared naturals a b) → a ≡ raised-left x → b ≡ raised-right
       → r ≡ lamp-code (lamp-at m q j (lowered m q j x))
-  lamp-by x e g h = e ∙ rw (g, h) refl ∙ sym (ap lamp-code (lamp-sides x))
+  compared-is x e g h = e ∙ rw (g, h) refl ∙ sym (ap lamp-code (lamp-sides x))
 
   met : (x : ℕ) → meets-as equal m q j (lowered m q j x) ≡ eqb (raised-left x) raised-right
   unfolding related

@@ -1,4 +1,4 @@
-// Bounds: powers of the denominator, and how a total stands to the bound of a node of operator 8 or 9, the total times q beside p times D to the
+// Bounds: powers of the denominator, and how a total compares with the bound of a node of operator 8 or 9, the total times q with p times D to the
 // n. Whether it meets the bound follows from that and the node's relation.
 ghost use mathlib.Core.Path.{_≡_};
 ghost use mathlib.Core.Bool.{not};
@@ -38,15 +38,15 @@ pub fn power(d: usize, k: u8) -> u64
     x
 }
 
-// Whether the relation of this number is the one that a lamp tells of.
-fn allows(kind: u8, lamp: Lamp) -> bool
-    requires { ⌜ (1 ≤ kind) × (kind ≤ 3) ⌝ }
-    ensures value { λ r. ⌜ r ≡ lamps.allows (relation kind) (said-lamp lamp) ⌝ }
+// Whether a bound is met whose relation has this number, by a total's lamp.
+fn met_by_lamp(number: u8, lamp: Lamp) -> bool
+    requires { ⌜ (1 ≤ number) × (number ≤ 3) ⌝ }
+    ensures value { λ r. ⌜ r ≡ lamps.met-by-lamp (relation number) (said-lamp lamp) ⌝ }
 {
     match lamp {
-        Lamp::Below => kind == LESS,
-        Lamp::At => kind == EQUAL,
-        Lamp::Above => kind == GREATER,
+        Lamp::Below => number == LESS,
+        Lamp::At => number == EQUAL,
+        Lamp::Above => number == GREATER,
     }
 }
 
@@ -61,7 +61,7 @@ pub fn exceeds(value: u64, other: u64, least: bool) -> bool
 }
 
 // p where it is above 0, else 0.
-fn above(p: i32) -> u64
+fn above_zero(p: i32) -> u64
     ensures value { λ r. ⌜ r ≡ nonnegative p ⌝ }
 {
     if p < 0 {
@@ -71,7 +71,7 @@ fn above(p: i32) -> u64
 }
 
 // How far p is below 0.
-fn below(p: i32) -> u64
+fn below_zero(p: i32) -> u64
     ensures value { λ r. ⌜ r ≡ under p ⌝ }
 {
     if 0 <= p {
@@ -120,12 +120,12 @@ fn raised_bound(m: &[u16; MODEL], q: &[u8; QUESTION], j: u8) -> Sides
     let p = prepared_question::bound(q, j);
     Sides {
         parts: parts,
-        up: d * above(p) + parts * lift(m, q, j),
-        down: d * below(p),
+        up: d * above_zero(p) + parts * lift(m, q, j),
+        down: d * below_zero(p),
     }
 }
 
-// How a raised total stands to the bound of node j.
+// How a raised total compares with the bound of node j.
 pub fn lamp_of(m: &[u16; MODEL], q: &[u8; QUESTION], j: u8, x: u64) -> Lamp
     requires { ⌜ Bounded (now m) (now q) j ⌝ }
     requires { ⌜ x ≤ most-of (now m) (now q) j ⌝ }
@@ -146,7 +146,7 @@ pub fn meets(m: &[u16; MODEL], q: &[u8; QUESTION], j: u8, x: u64) -> bool
         ⌜ r ≡ meets-at m q j (lowered m q j x) ⌝ }
 {
     let l = lamp_of(m, q, j, x);
-    allows(prepared_question::right(q, j), l)
+    met_by_lamp(prepared_question::right(q, j), l)
 }
 
 // The one raised total that meets "equal", if there is one.

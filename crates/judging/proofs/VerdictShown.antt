@@ -42,7 +42,7 @@ use Rattle.bounds.specs.promises.Bounded.{Bounded, lowered, most-of, meets-at, 
 use Rattle.bounds.proofs.ProductsFit.{most-small}
 use Rattle.relevance.specs.promises.Need.{Given}
 use Rattle.lamp.specs.declared.Lamp as lamps
-use Rattle.lamp.specs.promises.Codes.{lamp-code, light-code}
+use Rattle.lamp.specs.promises.Codes.{lamp-code, optional-code}
 use Rattle.judging.specs.declared.Outcome.{Outcome}
 use Rattle.judging.specs.declared.Outcome.the-variants.{No, Yes, YesPlan}
 use Rattle.judging.specs.declared.plans.Decision.{Decision}
@@ -66,19 +66,19 @@ announces-plan {w = w} {k = k} before e f lit same g h = (
 )
 
 pub announces-no : {v : Verdict} {k : ℕ} {o : Option Lamp} {x : Outcome} (before : List ℕ) → v ≡ denies k o
-    → x ≡ No (record { count = k; lamp = light-code o }) → Announces v x before before
+    → x ≡ No (record { count = k; lamp = optional-code o }) → Announces v x before before
 unfolding told shown-choices
 announces-no before e f = (f ∙ ap told (sym e), sym (splice-none before 0) ∙ ap (λ u. splice before 0 (shown-choices u)) (sym e))
 
 pub announces-truth : {v : Verdict} {y : ℕ} {x : Outcome} (t : Bool) (before : List ℕ) → v ≡ cond t verdicts.yes (denies 0 none) → y ≡ one-if t
-    → x ≡ cond (eqb y 1) Yes (No (record { count = 0; lamp = light-code none })) → Announces v x before before
+    → x ≡ cond (eqb y 1) Yes (No (record { count = 0; lamp = optional-code none })) → Announces v x before before
 unfolding told shown-choices one-if
 announces-truth true before e f g = (
-  g ∙ ap (λ y. cond (eqb y 1) Yes (No (record { count = 0; lamp = light-code none }))) f ∙ ap told (sym e),
+  g ∙ ap (λ y. cond (eqb y 1) Yes (No (record { count = 0; lamp = optional-code none }))) f ∙ ap told (sym e),
   sym (splice-none before 0) ∙ ap (λ u. splice before 0 (shown-choices u)) (sym e),
 )
 announces-truth false before e f g =
-    announces-no before e (g ∙ ap (λ y. cond (eqb y 1) Yes (No (record { count = 0; lamp = light-code none }))) f)
+    announces-no before e (g ∙ ap (λ y. cond (eqb y 1) Yes (No (record { count = 0; lamp = optional-code none }))) f)
 
 -- ---- the verdict on a node that sets a bound
 

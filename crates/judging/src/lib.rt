@@ -16,7 +16,7 @@ ghost use Rattle.judging.specs.promises.Asked.{Asked, Served};
 ghost use Rattle.judging.specs.promises.Truth.{Supplied};
 ghost use Rattle.judging.specs.promises.Decided.{Posed, Decided};
 ghost use Rattle.questions.specs.promises.Formed.{sets-bound};
-ghost use Rattle.lamp.specs.promises.Codes.{light-code};
+ghost use Rattle.lamp.specs.promises.Codes.{optional-code};
 ghost use Rattle.bounds.specs.promises.Bounded.{Bounded, most-of};
 ghost use Rattle.judging.specs.declared.Outcome.the-variants.{No, Yes, YesPlan};
 ghost use Rattle.judging.specs.promises.Announced.{root, root-verdict, no-lamp, Announces, Sums, Spelled, Weighs};
@@ -37,7 +37,7 @@ use bounds::lowered;
 use bounds::meets;
 use evaluation::TRUTHS;
 use lamp::Lamp;
-use lamp::Light;
+use lamp::OptionalLamp;
 use limits::COUNTS;
 use limits::plan_totals;
 use plan_choices::extending::extend;
@@ -61,7 +61,7 @@ const BESTS: usize = 2560;
 // What goes with a no. The count is the number of all plans for "equal", else 0; the lamp is that of the best total for "less" and "greater".
 pub struct Denied {
     pub count: u32,
-    pub lamp: Light,
+    pub lamp: OptionalLamp,
 }
 
 // What goes with a yes to a root that sets a bound on plans: the shown plan's total, its lamp, its steps and its count.
@@ -81,14 +81,14 @@ pub enum Outcome {
 
 // The outcome for a root that sets no bound on plans.
 fn plain(yes: bool) -> Outcome
-    ensures value { λ r. ⌜ r ≡ cond yes Yes (No (record { count = 0; lamp = light-code none })) ⌝ }
+    ensures value { λ r. ⌜ r ≡ cond yes Yes (No (record { count = 0; lamp = optional-code none })) ⌝ }
 {
     if yes {
         return Outcome::Yes;
     }
     Outcome::No(Denied {
         count: 0,
-        lamp: Light::Off,
+        lamp: OptionalLamp::Missing,
     })
 }
 
@@ -110,19 +110,19 @@ fn deny(m: &[u16; MODEL], q: &[u8; QUESTION], j: u8, r: Decision) -> Outcome
     requires { ⌜ ((node-of (now q) j .right ≡ 2 → ⊥) → r .raised ≤ most-of (now m) (now q) j) ⌝ }
     ensures value { λ x.
         let m = now (m .entry) in let q = now (q .entry) in
-        ⌜ x ≡ No (record { count = r .place; lamp = light-code (no-lamp m q j (r .raised)) }) ⌝ }
+        ⌜ x ≡ No (record { count = r .place; lamp = optional-code (no-lamp m q j (r .raised)) }) ⌝ }
 {
     let count = r.place as u32;
     if asks_equal(q, j) {
         return Outcome::No(Denied {
             count: count,
-            lamp: Light::Off,
+            lamp: OptionalLamp::Missing,
         });
     }
     let best = lamp_of(m, q, j, r.raised);
     Outcome::No(Denied {
         count: count,
-        lamp: Light::On(best),
+        lamp: OptionalLamp::Present(best),
     })
 }
 

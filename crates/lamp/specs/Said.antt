@@ -3,14 +3,14 @@ use mathlib.Core.Option.{Option, none, some}
 use Rattle.logic.specs.Bound as logic
 use Rattle.lamp.specs.declared.Lamp.{Lamp}
 use Rattle.lamp.specs.declared.Lamp.the-variants.{Below, At, Above}
-use Rattle.lamp.specs.declared.Light.{Light}
-use Rattle.lamp.specs.declared.Light.the-variants.{Off, On}
+use Rattle.lamp.specs.declared.OptionalLamp.{OptionalLamp}
+use Rattle.lamp.specs.declared.OptionalLamp.the-variants.{Missing, Present}
 
 unfoldable pub said-lamp : Lamp → logic.Lamp
 said-lamp Below = logic.below
 said-lamp At = logic.at
 said-lamp Above = logic.above
 
-unfoldable pub said-light : Light → Option logic.Lamp
-said-light Off = none
-said-light (On l) = some (said-lamp l)
+unfoldable pub said-optional : OptionalLamp → Option logic.Lamp
+said-optional Missing = none
+said-optional (Present l) = some (said-lamp l)

@@ -1,4 +1,4 @@
-// How a total stands to its bound. Document 02, A.4, calls it a lamp: below, at or above.
+// Lamps: document 02's word, A.4, for how a total compares with its bound, below, at or above.
 ghost use mathlib.Core.Path.{_≡_};
 ghost use Rattle.logic.specs.Quantity.{naturals};
 ghost use Rattle.logic.specs.Bound as bounds;
@@ -10,13 +10,13 @@ pub enum Lamp {
     Above,
 }
 
-// A lamp where there is one.
-pub enum Light {
-    Off,
-    On(Lamp),
+// A lamp, or none.
+pub enum OptionalLamp {
+    Missing,
+    Present(Lamp),
 }
 
-// How a number stands to another.
+// How a number compares with another.
 pub fn compared(a: u64, b: u64) -> Lamp
     ensures value { λ r. ⌜ r ≡ lamp-code (bounds.compared naturals a b) ⌝ }
 {

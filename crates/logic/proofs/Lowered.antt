@@ -3,13 +3,13 @@
 use Prim.Native.Nat.{ℕ, suc, _+_, _*_, _-_, _^_, _≤_, _<_}
 use native.Mathlib.Omega.{arith}
 use mathlib.Core.Path.{_≡_, refl, sym, ap, ap₂, subst, _∙_}
-use mathlib.Core.Bool.{Bool, true, false, not, cond, _&&_}
+use mathlib.Core.Bool.{Bool, true, false, not, _&&_}
 use lib.Dec.{T, leb, ltb, leb→le, le→leb, ltb→lt, nltb→le, nleb→lt}
 use lib.IntN.{ℤ, pos, negsuc, subℕ, _+ℤ_, _*ℤ_, pos-*ℤ-pos, pos-ne-negsuc}
 use lib.Signed.{mag, leZ}
 use Rattle.logic.specs.Model.{Model}
 use Rattle.logic.specs.Quantity.{naturals, integers, Relation, less, equal, greater, related}
-use Rattle.logic.specs.Bound.{meets, below, at, above, compared, lamp}
+use Rattle.logic.specs.Bound.{meets}
 use Rattle.logic.proofs.Tests.{T→true, true→T, not-true}
 use Rattle.logic.proofs.Integers.{times-plus, subℕ-ge, subℕ-lt}
 
@@ -118,9 +118,3 @@ unfolding meets
 meets-raised m n r P N q x c =
     ap₂ (related integers r) (times-sub q x c) (times-sub (m .denominator ^ n) P N)
     ∙ related-raised r (q * x) (q * c) (m .denominator ^ n * P) (m .denominator ^ n * N)
-
--- So is the lamp.
-pub lamp-raised : (m : Model) (n P N q x c : ℕ)
-    → lamp integers m n (subℕ P N) q (subℕ x c) ≡ compared naturals (q * x + m .denominator ^ n * N) (m .denominator ^ n * P + q * c)
-unfolding lamp compared meets
-lamp-raised m n P N q x c = ap₂ (λ t u. cond t below (cond u at above)) (meets-raised m n less P N q x c) (meets-raised m n equal P N q x c)

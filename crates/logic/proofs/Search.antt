@@ -1,6 +1,6 @@
 -- What a search finds is the shown plan. It searches natural numbers: the totals of a bound, all raised by one number, which changes no order.
 -- For "greater" the shown plan is that of first-best choices, for "less" the same in the reversed order, and where its total does not meet
--- the bound there is none. For "equal" it is the plan at the first place of the list that meets the bound.
+-- the bound there is none; it is the leader either way. For "equal" the shown plan is the one at the first place of the list that meets the bound.
 use Prim.Native.Nat.{ℕ, _+_, _<_}
 use mathlib.Core.Path.{_≡_, refl, sym, ap, ap₂, subst, _∙_}
 use mathlib.Core.Bool.{Bool, true, false, not, and-true}
@@ -39,8 +39,8 @@ best-as Q R v u same (later {x} {y} {l} p b) =
     member (later p b) = List·Memᴰ·tail (member b)
 
 -- From a state of an accepted model there is a plan: the best of any value.
-pub plan-there : (m : Model) → Accepted m → (n s : ℕ) → s < length (m .states) → (π : Plan n) × List·Memᴰ π (plans m n s)
-plan-there m accepted n s k =
+pub some-plan : (m : Model) → Accepted m → (n s : ℕ) → s < length (m .states) → (π : Plan n) × List·Memᴰ π (plans m n s)
+some-plan m accepted n s k =
     let f : List Step → ℕ = λ r. 0 in
     (best-plan naturals m n s f, best-member naturals naturals-ordered (λ π. total naturals m n s π f) (best-plan-first naturals naturals-additive naturals-ordered m accepted n s f k))
 

@@ -1,5 +1,6 @@
 -- The shown plan is there exactly when some plan meets the bound: with one that meets it, the greatest (for "less" the least) meets it
--- too, and leads. For "greater" the first plan that meets the bound and leads is the first of the greatest. So is the first that leads.
+-- too, and leads. For "greater" the first plan that meets the bound and leads is the first of the greatest; the first that leads, met or not, is
+-- the same plan.
 use Prim.Native.Nat.{ℕ, suc, _^_}
 use mathlib.Core.Path.{_≡_, refl, sym, ap, ap₂, subst, _∙_}
 use mathlib.Core.Logic.{_↔_}

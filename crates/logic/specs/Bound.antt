@@ -1,6 +1,6 @@
 -- Bounds on plans: what operators 8 and 9 ask of a plan. Document 01, "Formulas", for operator 8; document 02, A.3, for operator 9, which is
 -- Definition 13 of the r-PLBP thesis. A path is worth something; a plan's total is what its paths are worth, weighed and summed; and the
--- total must stand in a relation to p / q of what all paths weigh together. Document 02, A.4: which relation it stands in is its lamp.
+-- total must stand in a relation to p / q of what all paths weigh together. Document 02, A.4: how it compares with that is its lamp.
 use Prim.Native.Nat.{ℕ, _-_, _^_}
 use mathlib.Core.Bool.{Bool, true, false, cond}
 use mathlib.Core.List.{List}
@@ -22,22 +22,22 @@ total Q m n s π f = weighed Q f (paths m n s π)
 unfoldable pub meets : (Q : Quantity) → Model → ℕ → Relation → Q .Value → ℕ → Q .Value → Bool
 meets Q m n r p q w = related Q r (Q .times q w) (Q .times (m .denominator ^ n) p)
 
--- Lamp is document 02's word for how a total stands to its bound.
+-- Lamp is document 02's word for how a total compares with its bound.
 pub data Lamp : Type 0 where
   below at above : Lamp
 
--- The relation that each lamp tells of.
-unfoldable pub tells : Lamp → Relation
-tells below = less
-tells at = equal
-tells above = greater
+-- The relation that each lamp stands for.
+unfoldable pub lamp-relation : Lamp → Relation
+lamp-relation below = less
+lamp-relation at = equal
+lamp-relation above = greater
 
--- A number beside another.
-unfoldable pub compared : (Q : Quantity) → Q .Value → Q .Value → Lamp
+-- How a compares with b.
+unfoldable pub compared : (Q : Quantity) (a b : Q .Value) → Lamp
 compared Q a b = cond (related Q less a b) below (cond (related Q equal a b) at above)
 
--- A total w of an n-step plan, times q, beside p times D to the n. That the bound is met exactly when this tells of its relation is proved
--- (`Lamps`).
+-- How a total w of an n-step plan, times q, compares with p times D to the n. That the bound is met exactly when its relation is the lamp's is
+-- proved (`Lamps`).
 unfoldable pub lamp : (Q : Quantity) → Model → ℕ → Q .Value → ℕ → Q .Value → Lamp
 lamp Q m n p q w = compared Q (Q .times q w) (Q .times (m .denominator ^ n) p)
 

@@ -59,7 +59,8 @@ goal m s φ = bound-of m s φ >>= λ b. ok (bound-goal m s b)
 unfoldable pub shown : Model → ℕ → (g : Goal) → Option (ℕ × Plan (g .steps))
 shown m s g = find (λ π. g .met π && g .lead π) 1 (plans m (g .steps) s)
 
--- The first plan in dictionary order that leads, with its place: of greatest total, for "less" of least. It may meet the bound or not.
+-- For "greater" the first plan in dictionary order of greatest total, for "less" that of least, with its place; it may meet the bound or not. (For
+-- "equal" every plan leads, and nobody asks.)
 unfoldable pub leader : Model → ℕ → (g : Goal) → Option (ℕ × Plan (g .steps))
 leader m s g = find (g .lead) 1 (plans m (g .steps) s)
 
@@ -83,14 +84,15 @@ pub data Verdict : Type 0 where
   yes : Verdict
   yes-plan : Shown-plan → Verdict
 
--- The lamp of a plan, if there is one.
-abbrev pub lamp-of : (g : Goal) → Option (ℕ × Plan (g .steps)) → Option Lamp
-lamp-of g none = none
-lamp-of g (some x) = some (g .lamp (x .1))
+-- The lamp of a plan, if one was found.
+abbrev pub found-lamp : (g : Goal) → Option (ℕ × Plan (g .steps)) → Option Lamp
+found-lamp g none = none
+found-lamp g (some x) = some (g .lamp (x .1))
 
--- What goes with a no to a goal, and with a yes, by the shown plan with its place. "A no to "equal" has no lamp."
+-- What goes with a no to a goal, and with a yes, by the shown plan with its place. Where plans are counted a no has no lamp: "A no to "equal" has
+-- no lamp."
 abbrev pub denial : Model → ℕ → Goal → Denial
-denial m s g = record { count = cond (g .counts) (length (plans m (g .steps) s)) 0; lamp = cond (g .counts) none (lamp-of g (leader m s g)) }
+denial m s g = record { count = cond (g .counts) (length (plans m (g .steps) s)) 0; lamp = cond (g .counts) none (found-lamp g (leader m s g)) }
 
 abbrev pub plan-record : (g : Goal) → ℕ × Plan (g .steps) → Shown-plan
 plan-record g x =

@@ -20,9 +20,9 @@ use Rattle.logic.proofs.Checked.{ok-same, bind-ok, guard-ok}
 use Rattle.logic.proofs.Tests.{and-left, and-right, eqb-eq}
 use Rattle.logic.proofs.Reading.{read-complete}
 use Rattle.logic.proofs.Shown.{shown-meets}
-use Rattle.lamp.specs.Said.{said-light}
-use Rattle.lamp.specs.promises.Codes.{light-code}
-use Rattle.lamp.proofs.Coded.{lamp-said, light-said}
+use Rattle.lamp.specs.Said.{said-optional}
+use Rattle.lamp.specs.promises.Codes.{optional-code}
+use Rattle.lamp.proofs.Coded.{lamp-said, optional-said}
 use borrow.Author.Tests.{leb-true}
 use lib.Dec.{eqb, leb}
 use Rattle.blocks.specs.Bytes.{Bytes, within}
@@ -93,14 +93,14 @@ module _ (m : Model) (q : Question) where
   announced-read : (g : Goal) → goal m s (q .root) ≡ ok g → (o : Option (ℕ × Plan (g .steps))) → shown m s g ≡ o
       → verdict-in (choices-in m q (choices-code (announced m s g o))) (verdict-code (announced m s g o)) ≡ some (announced m s g o)
   unfolding verdict-in verdict-code choices-code
-  announced-read g e none h = ap (λ l. some (logic.no (record { count = (denial m s g) .count; lamp = l }))) (light-said ((denial m s g) .lamp))
+  announced-read g e none h = ap (λ l. some (logic.no (record { count = (denial m s g) .count; lamp = l }))) (optional-said ((denial m s g) .lamp))
   announced-read g e (some x) h =
       let p = plan-record g x in
       ap (λ c. verdict-in c (verdict-code (announced m s g (some x)))) (choices-read g e (x .1) (shown-meets m s g x h .0))
       ∙ ap (λ l. some (logic.yes-plan (record { total = p .total; lamp = l; steps = p .steps; count = p .count; choices = p .choices }))) (lamp-said (p .lamp))
 
   verdict-read : verdict-on (some m) (some q) (choices-code (verdict m s (q .root))) (verdict-code (verdict m s (q .root))) ≡ some (verdict m s (q .root))
-  unfolding verdict verdict-on verdict-in verdict-code light-code said-light
+  unfolding verdict verdict-on verdict-in verdict-code optional-code said-optional
   verdict-read = by (goal m s (q .root)) refl (sat m (q .root) s [])
     where
       by : (c : Checked Goal) → goal m s (q .root) ≡ c → (t : Bool)

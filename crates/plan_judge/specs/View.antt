@@ -16,7 +16,7 @@ use Rattle.blocks.specs.Bytes.{Bytes}
 use Rattle.models.specs.Grounds.{read-model}
 use Rattle.questions.specs.Layout.{Question}
 use Rattle.protocol.specs.Calls.{Held, question-for}
-use Rattle.lamp.specs.Said.{said-lamp, said-light}
+use Rattle.lamp.specs.Said.{said-lamp, said-optional}
 use Rattle.plan_judge.specs.declared.Desk.{Desk}
 use Rattle.plan_judge.specs.declared.Verdict.{Verdict}
 use Rattle.plan_judge.specs.declared.Verdict.the-variants.{No, Yes, YesPlan}
@@ -36,7 +36,7 @@ choices-in m q cs = goal m (q .start) (q .root) >>= (λ g. read-plan m (g .steps
 
 -- A verdict by its cases: document 01's no with its count, yes, yes with a plan record and the choices beside it. Each lamp is document 02's.
 unfoldable pub verdict-in : Checked (List ℕ) → Verdict → Option logic.Verdict
-verdict-in cs (No x) = some (logic.no (record { count = x .count; lamp = said-light (x .lamp) }))
+verdict-in cs (No x) = some (logic.no (record { count = x .count; lamp = said-optional (x .lamp) }))
 verdict-in cs Yes = some logic.yes
 verdict-in (ok l) (YesPlan x) = some (logic.yes-plan (record { total = x .weight; lamp = said-lamp (x .lamp); steps = x .steps; count = x .count; choices = l }))
 verdict-in (refused k) (YesPlan x) = none

@@ -29,7 +29,7 @@ pub mod c_call;
 use blocks::BLOCK;
 use judging::Outcome;
 use lamp::Lamp;
-use lamp::Light;
+use lamp::OptionalLamp;
 use limits::limit_refusal;
 use plan_choices::CHOICES;
 use prepared_model::MODEL;
@@ -53,7 +53,7 @@ pub struct PlanRecord {
 // What goes with a no: for "equal" the number of all plans, else 0; for "less" and "greater" how the least or greatest total stands to the bound.
 pub struct Denial {
     pub count: u32,
-    pub lamp: Light,
+    pub lamp: OptionalLamp,
 }
 
 pub enum Verdict {
@@ -121,7 +121,7 @@ fn unjudged() -> Verdict
 {
     Verdict::No(Denial {
         count: 0,
-        lamp: Light::Off,
+        lamp: OptionalLamp::Missing,
     })
 }
 

@@ -22,7 +22,7 @@ use Rattle.questions.proofs.SetsBound.{bound-compares}
 use Rattle.verdict_line.specs.Line.{plain-line, no-plans-line, yes-plan-line, bounds-plans, verdict-line}
 use Rattle.lamp.specs.Said.{said-lamp}
 use Rattle.lamp.specs.promises.Codes.{lamp-code}
-use Rattle.lamp.proofs.Coded.{lamp-said, light-said}
+use Rattle.lamp.proofs.Coded.{lamp-said, optional-said}
 use Rattle.plan_judge.specs.promises.Values.{padded, verdict-code, choices-code}
 use Rattle.plan_judge.specs.promises.State.{shown-size}
 use Rattle.plan_judge.proofs.StateGrounds.{other-goal, root-goal}
@@ -86,7 +86,7 @@ few-choices (logic.yes-plan x) e = let cs : List ℕ = x .choices in omega (arit
 pub line-is : (m : Model) (φ : Formula) (v : logic.Verdict) (D : ℕ) (t : Bool) → m .denominator ≡ D → bounds-plans φ ≡ t
     → shown-line D t (verdict-code v) (take (shown-size (some v)) (choices-code v)) ≡ verdict-line m φ v
 unfolding shown-line verdict-line verdict-code choices-code padded shown-size
-line-is m φ (logic.no x) D t d i = ap₂ (λ u o. cond u (no-plans-line (x .count) o) (plain-line false)) (sym i) (light-said (x .lamp))
+line-is m φ (logic.no x) D t d i = ap₂ (λ u o. cond u (no-plans-line (x .count) o) (plain-line false)) (sym i) (optional-said (x .lamp))
 line-is m φ logic.yes D t d i = refl
 line-is m φ (logic.yes-plan x) D t d i =
     ap₂ (λ D cs. yes-plan-line (x .total) (D ^ x .steps) (said-lamp (lamp-code (x .lamp))) (x .count) cs) (sym d) (take-append-seam (x .choices) (replicate (1365 - length (x .choices)) 0))

@@ -5,13 +5,13 @@ ghost use Prim.Native.Nat.{_^_, _≤_};
 ghost use lib.ListN.{length};
 ghost use Rattle.models.specs.Layout.{denominator-of, model-of};
 ghost use Rattle.questions.specs.Layout.{node-count, question-of};
-ghost use Rattle.lamp.specs.Said.{said-light};
+ghost use Rattle.lamp.specs.Said.{said-optional};
 ghost use Rattle.verdict_line.specs.Text.{Put};
 ghost use Rattle.verdict_line.specs.Line.{no-plans-line, plain-line};
 ghost use Rattle.verdict_line.specs.promises.Chain.{line-of, answer-line};
 ghost use Rattle.printing.specs.promises.Printed.{plan-root, judging-line, asking-line, loading-line, shown-line, Shown, Loaded, Asked};
 use blocks::BLOCK;
-use lamp::Light;
+use lamp::OptionalLamp;
 use plan_judge::Desk;
 use plan_judge::Judgement;
 use plan_judge::Taken;
@@ -22,11 +22,11 @@ use verdict_line::LINE;
 const MOST_INPUT: usize = 6656;
 
 // The line of a no.
-fn no_line(out: &mut [u8], q: &[u8], count: u32, light: Light) -> usize
+fn no_line(out: &mut [u8], q: &[u8], count: u32, light: OptionalLamp) -> usize
     requires { ⌜ (8192 ≤ length (now out)) × (1 ≤ node-count (now q)) ⌝ }
     ensures effect { λ r.
         let out′ = now (out .exit) in let q = now (q .entry) in let out = now (out .entry) in
-        ⌜ Put (cond (plan-root q) (no-plans-line count (said-light light)) (plain-line false)) out out′ 0 r ⌝ }
+        ⌜ Put (cond (plan-root q) (no-plans-line count (said-optional light)) (plain-line false)) out out′ 0 r ⌝ }
 {
     if questions::root_sets_bound(q) {
         return verdict_line::no_plans_line(out, count, light);

@@ -1,5 +1,5 @@
 -- What a plan question asks of plans, by its root: of operator 8 the total is W, of operator 9 the summed path weights times gains. When they meet
--- the bound, and what their lamp tells of it.
+-- the bound, and what their lamp lamp-relation of it.
 use Prim.Native.Nat.{ℕ}
 use mathlib.Core.Path.{_≡_, refl, sym, ap, ap₂, subst, _∙_}
 use mathlib.Core.Logic.{_↔_, _⊎_, inl, inr}
@@ -9,7 +9,7 @@ use Rattle.logic.specs.Checked.{ok, _>>=_}
 use Rattle.logic.specs.Model.{Model}
 use Rattle.logic.specs.Quantity.{naturals, integers, Relation, less}
 use Rattle.logic.specs.Plan.{Plan, paths}
-use Rattle.logic.specs.Bound.{weighed, total, meets, tells, lamp, one-if, gain-between}
+use Rattle.logic.specs.Bound.{weighed, total, meets, lamp-relation, lamp, one-if, gain-between}
 use Rattle.logic.specs.Formula.{Formula, never, plan, earns, on-plan, on-bound, sat, W}
 use Rattle.logic.specs.Verdict.{Goal, bound-of, bound-goal, goal}
 use Rattle.logic.proofs.Checked.{not-ok, ok-same}
@@ -56,10 +56,10 @@ pub record Root (m : Model) (s : ℕ) (φ : Formula) (g : Goal) : Type 0 where
       → g .met π ≡ meets naturals m (g .steps) (w .0) (w .1) (w .2) (W m ψ (g .steps) s π)
   pub gain-met : (l u : ℕ) (w : Gain φ (g .steps) l u) (π : Plan (g .steps)) → g .met π ≡ meets integers m (g .steps) (w .0) (w .1) (w .2) (g .total π)
   pub weight-lamp : (ψ : Formula) (w : Condition φ (g .steps) ψ) (π : Plan (g .steps))
-      → meets naturals m (g .steps) (tells (g .lamp π)) (w .1) (w .2) (W m ψ (g .steps) s π) ≡ true
-  pub gain-lamp : (l u : ℕ) (w : Gain φ (g .steps) l u) (π : Plan (g .steps)) → meets integers m (g .steps) (tells (g .lamp π)) (w .1) (w .2) (g .total π) ≡ true
-  pub weight-exact : (ψ : Formula) (w : Condition φ (g .steps) ψ) (π : Plan (g .steps)) → (g .met π ≡ true) ↔ (tells (g .lamp π) ≡ w .0)
-  pub gain-exact : (l u : ℕ) (w : Gain φ (g .steps) l u) (π : Plan (g .steps)) → (g .met π ≡ true) ↔ (tells (g .lamp π) ≡ w .0)
+      → meets naturals m (g .steps) (lamp-relation (g .lamp π)) (w .1) (w .2) (W m ψ (g .steps) s π) ≡ true
+  pub gain-lamp : (l u : ℕ) (w : Gain φ (g .steps) l u) (π : Plan (g .steps)) → meets integers m (g .steps) (lamp-relation (g .lamp π)) (w .1) (w .2) (g .total π) ≡ true
+  pub weight-exact : (ψ : Formula) (w : Condition φ (g .steps) ψ) (π : Plan (g .steps)) → (g .met π ≡ true) ↔ (lamp-relation (g .lamp π) ≡ w .0)
+  pub gain-exact : (l u : ℕ) (w : Gain φ (g .steps) l u) (π : Plan (g .steps)) → (g .met π ≡ true) ↔ (lamp-relation (g .lamp π) ≡ w .0)
 
 pub root-of : (m : Model) (s : ℕ) (φ : Formula) (g : Goal) → goal m s φ ≡ ok g → Root m s φ g
 unfolding goal bound-of total
@@ -79,13 +79,13 @@ root-of m s φ g =
       gain-met = λ l u w. absurd (earns≢plan (sym (w .3)));
       weight-lamp = λ χ w π.
           let t = total integers m n s π (λ ρ. pos (one-if (sat m ψ s ρ))) in
-          let k = tells (lamp integers m n (pos p) q t) in
+          let k = lamp-relation (lamp integers m n (pos p) q t) in
           sym (ap (on-plan false (λ _ χ _ p q. meets naturals m n k p q (W m χ n s π)) (λ _ l u r p q. false)) (w .3))
           ∙ sym (met-condition m s n ψ k p q π) ∙ lamp-told integers m n (pos p) q t;
       gain-lamp = λ l u w. absurd (earns≢plan (sym (w .3)));
       weight-exact = λ χ w π.
           let t = total integers m n s π (λ ρ. pos (one-if (sat m ψ s ρ))) in
-          subst (λ v. (meets integers m n r (pos p) q t ≡ true) ↔ (tells (lamp integers m n (pos p) q t) ≡ v)) (plan-relation (w .3)) (met-exactly integers m n (pos p) q t integers-ordered r);
+          subst (λ v. (meets integers m n r (pos p) q t ≡ true) ↔ (lamp-relation (lamp integers m n (pos p) q t) ≡ v)) (plan-relation (w .3)) (met-exactly integers m n (pos p) q t integers-ordered r);
       gain-exact = λ l u w. absurd (earns≢plan (sym (w .3)));
     }))
     (λ n l u r p′ q e.
@@ -103,10 +103,10 @@ root-of m s φ g =
       weight-lamp = λ χ w. absurd (earns≢plan (w .3));
       gain-lamp = λ k v w π.
           let t = total integers m n s π (gain-between l u) in
-          sym (ap (on-plan false (λ _ χ r p q. false) (λ _ a b _ p q′. meets integers m n (tells (lamp integers m n p′ q t)) p q′ t)) (w .3))
+          sym (ap (on-plan false (λ _ χ r p q. false) (λ _ a b _ p q′. meets integers m n (lamp-relation (lamp integers m n p′ q t)) p q′ t)) (w .3))
           ∙ lamp-told integers m n p′ q t;
       weight-exact = λ χ w. absurd (earns≢plan (w .3));
       gain-exact = λ k v w π.
           let t = total integers m n s π (gain-between l u) in
-          subst (λ v. (meets integers m n r p′ q t ≡ true) ↔ (tells (lamp integers m n p′ q t) ≡ v)) (earns-relation (w .3)) (met-exactly integers m n p′ q t integers-ordered r);
+          subst (λ v. (meets integers m n r p′ q t ≡ true) ↔ (lamp-relation (lamp integers m n p′ q t) ≡ v)) (earns-relation (w .3)) (met-exactly integers m n p′ q t integers-ordered r);
     })) φ

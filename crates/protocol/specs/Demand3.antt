@@ -19,7 +19,7 @@ use Rattle.logic.specs.Grounds.{first}
 use Rattle.logic.specs.Model.{Model}
 use Rattle.logic.specs.Quantity.{naturals, integers, Relation}
 use Rattle.logic.specs.Plan.{Plan, plans, choices, paths}
-use Rattle.logic.specs.Bound.{weighed, meets, Lamp, tells, gain-between}
+use Rattle.logic.specs.Bound.{weighed, meets, Lamp, lamp-relation, gain-between}
 use Rattle.logic.specs.Formula.{Formula, plan, earns, W}
 use Rattle.logic.specs.Verdict.{Goal, goal, shown, Shown-plan, yes-plan}
 use Rattle.logic.specs.Limits.{limit-grounds}
@@ -129,14 +129,14 @@ module _ {h : Held} (reply : Call → Reply) (x : Plan-question h) where
     pub met-by-gain : (l u : ℕ) (c : On-gain l u) (π : Asked-plan)
         → meets-bound π ≡ meets integers (x .model) (x .asked .steps) (c .relation) (c .p) (c .q) (total π)
     -- A.4: "The comparison of a total with its bound shall tell below, at or above": the total stands to the bound in the relation of which its
-    -- lamp tells, "less" for below, "equal" for at, "greater" for above
+    -- lamp lamp-relation, "less" for below, "equal" for at, "greater" for above
     pub lamp-by-W : (φ : Formula) (c : On-condition φ) (π : Asked-plan)
-        → meets naturals (x .model) (x .asked .steps) (tells (lamp π)) (c .p) (c .q) (W (x .model) φ (x .asked .steps) start π) ≡ true
+        → meets naturals (x .model) (x .asked .steps) (lamp-relation (lamp π)) (c .p) (c .q) (W (x .model) φ (x .asked .steps) start π) ≡ true
     pub lamp-by-gain : (l u : ℕ) (c : On-gain l u) (π : Asked-plan)
-        → meets integers (x .model) (x .asked .steps) (tells (lamp π)) (c .p) (c .q) (total π) ≡ true
-    -- and whether it meets the bound follows: it does exactly when the lamp tells of the bound's relation
-    pub W-met-by-lamp : (φ : Formula) (c : On-condition φ) (π : Asked-plan) → (meets-bound π ≡ true) ↔ (tells (lamp π) ≡ c .relation)
-    pub gain-met-by-lamp : (l u : ℕ) (c : On-gain l u) (π : Asked-plan) → (meets-bound π ≡ true) ↔ (tells (lamp π) ≡ c .relation)
+        → meets integers (x .model) (x .asked .steps) (lamp-relation (lamp π)) (c .p) (c .q) (total π) ≡ true
+    -- and whether it meets the bound follows: it does exactly when the lamp lamp-relation of the bound's relation
+    pub W-met-by-lamp : (φ : Formula) (c : On-condition φ) (π : Asked-plan) → (meets-bound π ≡ true) ↔ (lamp-relation (lamp π) ≡ c .relation)
+    pub gain-met-by-lamp : (l u : ℕ) (c : On-gain l u) (π : Asked-plan) → (meets-bound π ≡ true) ↔ (lamp-relation (lamp π) ≡ c .relation)
     -- "accepts it exactly when two weights are equal"
     pub check-exact : (sheet : Bytes) (w : ℤ) (π : Asked-plan) → Claims sheet w π → ((report : Report) × Accepts sheet report) ↔ (w ≡ total π)
     -- of operator 8, where the weight claimed is document 01's u64: exactly when the number of the eight bytes, unsigned, is W

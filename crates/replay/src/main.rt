@@ -66,7 +66,7 @@ fn put_denial(out: &mut [u8], at: usize, x: Denial) -> usize
 {
     let next = verdict_line::put_decimal(out, at, b" no ", x.count as u64);
     let light = x.lamp;
-    verdict_line::put_light(out, next, light)
+    verdict_line::put_optional(out, next, light)
 }
 
 fn put_verdict(out: &mut [u8], at: usize, v: Verdict, choices: &[u8]) -> usize

@@ -20,7 +20,7 @@ use Rattle.questions.specs.Layout.{node-of, formulas-of, question-of}
 use Rattle.questions.specs.Grounds.{compares, gain-bound, plan-bound, plan-in-range, span, expected-bound, earns-in-range, node-in-range, node-spare, spare-zero, formed, read-question}
 use Rattle.blocks.specs.Splice.{splice}
 use Rattle.verdict_line.specs.Text.{text, decimal, decimal-in, signed-decimal}
-use Rattle.verdict_line.specs.Line.{refused-line, plain-line, lamp-word, light-word, no-plans-line, yes-plan-line, bounds-plans, verdict-line, printed}
+use Rattle.verdict_line.specs.Line.{refused-line, plain-line, lamp-word, optional-word, no-plans-line, yes-plan-line, bounds-plans, verdict-line, printed}
 use Rattle.verdict_line.specs.promises.Chain.{judged-line, line-of, answer-line}
 use Rattle.verdict_line.proofs.LineIsChain.{printed-is}
 
@@ -127,7 +127,7 @@ table =
     ∷ []
 
 chain-lines : map (λ r. answer-line (r .input)) table ≡ map (λ r. text (r .printed)) table
-unfolding table block two-shelf question first-gain without-wait three-steps coins five-steps flatMap is-empty all any every find keep product join count-from tabulate no-action true-of contradict mask prop-in enabled-actions deadlocked enabled stored outcomes sum related plans choices paths weight nonnegative relation formula-of formulas depth is-path shallow total one-if gain-between sat meets compared lamp leads is-equal bound-of goal shown leader verdict path-total multiply plan-total every-plan limits u16 u32 signed i16 i32 little-endian zeros within sum-below block-count whole-blocks word-sum sums-right headed literals state-mask pre-of post-count post-of cell-at outcome-of entries model-of kinds-right sizes-right mask-in-range literals-in-range action-in-range outcome-in-range cell-in-range fields-right action-spare head-spare row-spare rows-spare cell-spare cells-spare posts-contradict cell-consistent consistent read-model node-of formulas-of question-of compares gain-bound plan-bound plan-in-range span expected-bound earns-in-range node-in-range node-spare spare-zero formed read-question with-word-sum splice text decimal decimal-in signed-decimal refused-line plain-line lamp-word light-word no-plans-line yes-plan-line bounds-plans verdict-line judged-line line-of answer-line
+unfolding table block two-shelf question first-gain without-wait three-steps coins five-steps flatMap is-empty all any every find keep product join count-from tabulate no-action true-of contradict mask prop-in enabled-actions deadlocked enabled stored outcomes sum related plans choices paths weight nonnegative relation formula-of formulas depth is-path shallow total one-if gain-between sat meets compared lamp leads is-equal bound-of goal shown leader verdict path-total multiply plan-total every-plan limits u16 u32 signed i16 i32 little-endian zeros within sum-below block-count whole-blocks word-sum sums-right headed literals state-mask pre-of post-count post-of cell-at outcome-of entries model-of kinds-right sizes-right mask-in-range literals-in-range action-in-range outcome-in-range cell-in-range fields-right action-spare head-spare row-spare rows-spare cell-spare cells-spare posts-contradict cell-consistent consistent read-model node-of formulas-of question-of compares gain-bound plan-bound plan-in-range span expected-bound earns-in-range node-in-range node-spare spare-zero formed read-question with-word-sum splice text decimal decimal-in signed-decimal refused-line plain-line lamp-word optional-word no-plans-line yes-plan-line bounds-plans verdict-line judged-line line-of answer-line
 chain-lines = refl
 
 map-same : {A B : Type 0} {f g : A → B} → ((x : A) → f x ≡ g x) → (l : List A) → map f l ≡ map g l

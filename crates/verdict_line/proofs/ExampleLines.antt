@@ -13,7 +13,7 @@ use Rattle.logic.specs.Formula.{Formula, never, prop, neg, next, plan, earns, s
 use Rattle.logic.specs.Verdict.{leads, is-equal, bound-of, goal, shown, leader, verdict}
 use Rattle.logic.specs.TwoShelf.{two-shelf}
 use Rattle.verdict_line.specs.Text.{text, decimal, decimal-in, signed-decimal}
-use Rattle.verdict_line.specs.Line.{lamp-word, light-word, refused-line, plain-line, no-plans-line, yes-plan-line, bounds-plans, verdict-line}
+use Rattle.verdict_line.specs.Line.{lamp-word, optional-word, refused-line, plain-line, no-plans-line, yes-plan-line, bounds-plans, verdict-line}
 
 pub record Row : Type 0 where
   pub line : List ℕ
@@ -52,5 +52,5 @@ table =
     ∷ []
 
 pub printed-lines : map (λ r. r .line) table ≡ map (λ r. text (r .printed)) table
-unfolding table text decimal decimal-in signed-decimal refused-line plain-line lamp-word light-word no-plans-line yes-plan-line bounds-plans verdict-line two-shelf is-empty all any find keep product join count-from flatMap no-action true-of mask prop-in enabled-actions deadlocked enabled stored outcomes plans choices paths weight sum total one-if gain-between sat meets compared lamp related leads is-equal bound-of goal shown leader verdict
+unfolding table text decimal decimal-in signed-decimal refused-line plain-line lamp-word optional-word no-plans-line yes-plan-line bounds-plans verdict-line two-shelf is-empty all any find keep product join count-from flatMap no-action true-of mask prop-in enabled-actions deadlocked enabled stored outcomes plans choices paths weight sum total one-if gain-between sat meets compared lamp related leads is-equal bound-of goal shown leader verdict
 printed-lines = refl

@@ -32,13 +32,13 @@ lamp-word below = text " below"
 lamp-word at = text " at"
 lamp-word above = text " above"
 
-unfoldable pub light-word : Option Lamp → List ℕ
-light-word none = []
-light-word (some l) = lamp-word l
+unfoldable pub optional-word : Option Lamp → List ℕ
+optional-word none = []
+optional-word (some l) = lamp-word l
 
 -- "on such a no after the count"
 unfoldable pub no-plans-line : ℕ → Option Lamp → List ℕ
-no-plans-line count o = numbered "no plans " count ++ light-word o ++ text "\n"
+no-plans-line count o = numbered "no plans " count ++ optional-word o ++ text "\n"
 
 -- W, for operator 9 the total, over D to the n, unreduced, then the lamp, the count, and the choices. A total below 0 has a minus.
 unfoldable pub yes-plan-line : (total : ℤ) (whole : ℕ) → Lamp → (count : ℕ) → List ℕ → List ℕ

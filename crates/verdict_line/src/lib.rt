@@ -2,11 +2,11 @@
 ghost use mathlib.Core.List.{_++_, flatMap};
 ghost use Prim.Native.Nat.{_+_, _*_, _≤_};
 ghost use lib.ListN.{length};
-ghost use Rattle.lamp.specs.Said.{said-lamp, said-light};
+ghost use Rattle.lamp.specs.Said.{said-lamp, said-optional};
 ghost use Rattle.verdict_line.specs.Text.{decimal, signed-decimal, numbered, Put};
-ghost use Rattle.verdict_line.specs.Line.{lamp-word, light-word, refused-line, plain-line, no-plans-line, yes-plan-line};
+ghost use Rattle.verdict_line.specs.Line.{lamp-word, optional-word, refused-line, plain-line, no-plans-line, yes-plan-line};
 use lamp::Lamp;
-use lamp::Light;
+use lamp::OptionalLamp;
 
 // Room for the longest line.
 pub const LINE: usize = 8192;
@@ -74,14 +74,14 @@ pub fn put_lamp(out: &mut [u8], at: usize, lamp: Lamp) -> usize
 }
 
 // The same where there is a lamp.
-pub fn put_light(out: &mut [u8], at: usize, light: Light) -> usize
+pub fn put_optional(out: &mut [u8], at: usize, light: OptionalLamp) -> usize
     requires { ⌜ at + 6 ≤ length (now out) ⌝ }
-    ensures effect { λ r. ⌜ Put (light-word (said-light light)) (now (out .entry)) (now (out .exit)) at r ⌝ }
+    ensures effect { λ r. ⌜ Put (optional-word (said-optional light)) (now (out .entry)) (now (out .exit)) at r ⌝ }
     ensures range { λ r. ⌜ r ≤ at + 6 ⌝ }
 {
     match light {
-        Light::Off => at,
-        Light::On(l) => put_lamp(out, at, l),
+        OptionalLamp::Missing => at,
+        OptionalLamp::Present(l) => put_lamp(out, at, l),
     }
 }
 
@@ -106,12 +106,12 @@ pub fn plain_line(out: &mut [u8], yes: bool) -> usize
 }
 
 // The line of a no to a root that sets a bound on plans.
-pub fn no_plans_line(out: &mut [u8], count: u32, light: Light) -> usize
+pub fn no_plans_line(out: &mut [u8], count: u32, light: OptionalLamp) -> usize
     requires { ⌜ 8192 ≤ length (now out) ⌝ }
-    ensures effect { λ r. ⌜ Put (no-plans-line count (said-light light)) (now (out .entry)) (now (out .exit)) 0 r ⌝ }
+    ensures effect { λ r. ⌜ Put (no-plans-line count (said-optional light)) (now (out .entry)) (now (out .exit)) 0 r ⌝ }
 {
     let mut next = put_decimal(out, 0, b"no plans ", count as u64);
-    next = put_light(out, next, light);
+    next = put_optional(out, next, light);
     put_text(out, next, b"\n")
 }
 

@@ -2,7 +2,7 @@
 use Prim.Native.Nat.{_+_, _*_, _^_, _≤_}
 use native.Mathlib.Omega.{arith}
 use mathlib.Core.Path.{ap, ap₂}
-use Rattle.bounds.proofs.ProductsFit.{total-small, lamp-by}
+use Rattle.bounds.proofs.ProductsFit.{total-small, compared-is}
 use borrow.Author.Needs.{needs}
 use Rattle.bounds.proofs.lamp_of.Statement.{statement}
 use Rattle.bounds.proofs.lamp_of.Tie as tie
@@ -29,7 +29,7 @@ returns c =
     let S = L .before in
     let s = L .raised-bound .ensures in
     let left = ap₂ _+_ (ap (λ k. k * S .args .x) (s .its-parts)) (s .its-down) in
-    lamp-by (S .args .m .now) (S .args .q .now) (S .args .j) (S .pre .0) (S .args .x) (c .compared .ensures) left (s .its-up)
+    compared-is (S .args .m .now) (S .args .q .now) (S .args .j) (S .pre .0) (S .args .x) (c .compared .ensures) left (s .its-up)
 
 pub lamp-of-spec : {M : Type 1} → statement M
 lamp-of-spec = tie.close (tie.spec raised-bound-requires mul-compared add-compared compared-requires returns)

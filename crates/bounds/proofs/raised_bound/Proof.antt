@@ -24,20 +24,20 @@ cast-parts c = search needs
 bound-requires : tie.Need-bound-requires
 bound-requires c κs = let S = c .before .before in few (S .args .m .now) (S .args .q .now) (S .args .j) (S .pre)
 
-above-requires : tie.Need-above-requires
-above-requires c κs = search needs
+above-zero-requires : tie.Need-above-zero-requires
+above-zero-requires c κs = search needs
 
 -- What is read of p, above 0 and below it.
 p-read : (c : tie.After-bound) → toZ w32 (ofZ w32 (c .bound .result)) ≡ (node-of (c .before .before .before .args .q .now) (c .before .before .before .args .j)) .p
 p-read c = let z : toZ w32 (ofZ w32 (c .bound .result)) ≡ c .bound .result = search needs in z ∙ c .bound .ensures
 
-above-is : (c : tie.After-above) → c .above .result ≡ nonnegative ((node-of (c .before .before .before .before .args .q .now) (c .before .before .before .before .args .j)) .p)
-above-is c = c .above .ensures ∙ ap nonnegative (p-read (c .before))
+above-is : (c : tie.After-above-zero) → c .above-zero .result ≡ nonnegative ((node-of (c .before .before .before .before .args .q .now) (c .before .before .before .before .args .j)) .p)
+above-is c = c .above-zero .ensures ∙ ap nonnegative (p-read (c .before))
 
-below-is : (c : tie.After-below) → c .below .result ≡ under ((node-of (c .before .before .before .before .before .before .args .q .now) (c .before .before .before .before .before .before .args .j)) .p)
-below-is c = c .below .ensures ∙ ap under (p-read (c .before .before .before))
+below-is : (c : tie.After-below-zero) → c .below-zero .result ≡ under ((node-of (c .before .before .before .before .before .before .args .q .now) (c .before .before .before .before .before .before .args .j)) .p)
+below-is c = c .below-zero .ensures ∙ ap under (p-read (c .before .before .before))
 
-up-fits : (c : tie.After-above) → c .before .before .before .whole .result * c .above .result ≤ 100 ^ 6 * 6000001
+up-fits : (c : tie.After-above-zero) → c .before .before .before .whole .result * c .above-zero .result ≤ 100 ^ 6 * 6000001
 up-fits c = let S = c .before .before .before .before in
     up-small (S .args .m .now) (S .args .q .now) (S .args .j) (S .pre) (c .before .before .before .whole .ensures .1) (above-is c)
 
@@ -45,7 +45,7 @@ lift-fits : (c : tie.After-lift) → c .before .before .before .parts .result * 
 lift-fits c = let S = c .before .before .before .before .before in
     lift-small (S .args .m .now) (S .args .q .now) (S .args .j) (S .pre) (c .before .before .before .parts .ensures) (c .lift .ensures .0)
 
-down-fits : (c : tie.After-below) → c .before .before .before .before .before .whole .result * c .below .result ≤ 100 ^ 6 * 6000001
+down-fits : (c : tie.After-below-zero) → c .before .before .before .before .before .whole .result * c .below-zero .result ≤ 100 ^ 6 * 6000001
 down-fits c = let S = c .before .before .before .before .before .before in
     down-small (S .args .m .now) (S .args .q .now) (S .args .j) (S .pre) (c .before .before .before .before .before .whole .ensures .1) (below-is c)
 
@@ -61,8 +61,8 @@ mul-t11 c = record { fits = omega (arith, lift-fits c) }
 add-t12 : tie.Need-add-t12
 add-t12 c = record { fits = omega (arith, up-fits (c .before), lift-fits c) }
 
-below-requires : tie.Need-below-requires
-below-requires c κs = search needs
+below-zero-requires : tie.Need-below-zero-requires
+below-zero-requires c κs = search needs
 
 mul-t14 : tie.Need-mul-t14
 mul-t14 c = record { fits = omega (arith, down-fits c) }
@@ -87,11 +87,11 @@ raised-bound-spec =
     parts-requires
     cast-parts
     bound-requires
-    above-requires
+    above-zero-requires
     mul-t9
     lift-requires
     mul-t11
     add-t12
-    below-requires
+    below-zero-requires
     mul-t14
     returns)

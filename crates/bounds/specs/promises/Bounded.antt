@@ -62,7 +62,7 @@ meets-as r m q j w = meets integers (model-in m) ((node-of q j) .n) r ((node-of 
 abbrev pub meets-at : (m q : Bytes) (j : ℕ) → ℤ → Bool
 meets-at m q j w = meets-as (relation ((node-of q j) .right)) m q j w
 
--- How a total stands to the bound of node j.
+-- How a total compares with the bound of node j.
 abbrev pub lamp-at : (m q : Bytes) (j : ℕ) → ℤ → Lamp
 lamp-at m q j w = lamp integers (model-in m) ((node-of q j) .n) ((node-of q j) .p) ((node-of q j) .q) w
 

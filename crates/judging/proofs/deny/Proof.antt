@@ -7,8 +7,8 @@ use mathlib.Core.Option.{none, some}
 use borrow.Author.Tests.{eq-eqb, ne-eqb}
 use Rattle.blocks.specs.Bytes.{Bytes}
 use Rattle.lamp.specs.declared.Lamp.{Lamp}
-use Rattle.lamp.specs.declared.Light.the-variants.{Off, On}
-use Rattle.lamp.specs.promises.Codes.{lamp-code, light-code}
+use Rattle.lamp.specs.declared.OptionalLamp.the-variants.{Missing, Present}
+use Rattle.lamp.specs.promises.Codes.{lamp-code, optional-code}
 use Rattle.questions.specs.Layout.{node-of}
 use Rattle.bounds.specs.promises.Bounded.{lowered, lamp-at}
 use Rattle.judging.specs.promises.Announced.{no-lamp}
@@ -26,13 +26,13 @@ asks-equal-requires c κs = search needs
 
 -- The lamp by the node's relation.
 module _ (m q : Bytes) (j x : ℕ) where
-  dark : (node-of q j) .right ≡ 2 → Off ≡ light-code (no-lamp m q j x)
-  unfolding no-lamp light-code
-  dark e = ap (λ u. light-code (cond u none (some (lamp-at m q j (lowered m q j x))))) (sym (eq-eqb ((node-of q j) .right) 2 e))
+  dark : (node-of q j) .right ≡ 2 → Missing ≡ optional-code (no-lamp m q j x)
+  unfolding no-lamp optional-code
+  dark e = ap (λ u. optional-code (cond u none (some (lamp-at m q j (lowered m q j x))))) (sym (eq-eqb ((node-of q j) .right) 2 e))
 
-  lit : ((node-of q j) .right ≡ 2 → ⊥) → {l : Lamp} → l ≡ lamp-code (lamp-at m q j (lowered m q j x)) → On l ≡ light-code (no-lamp m q j x)
-  unfolding no-lamp light-code
-  lit e i = ap On i ∙ ap (λ u. light-code (cond u none (some (lamp-at m q j (lowered m q j x))))) (sym (ne-eqb ((node-of q j) .right) 2 e))
+  lit : ((node-of q j) .right ≡ 2 → ⊥) → {l : Lamp} → l ≡ lamp-code (lamp-at m q j (lowered m q j x)) → Present l ≡ optional-code (no-lamp m q j x)
+  unfolding no-lamp optional-code
+  lit e i = ap Present i ∙ ap (λ u. optional-code (cond u none (some (lamp-at m q j (lowered m q j x))))) (sym (ne-eqb ((node-of q j) .right) 2 e))
 
 returns : tie.Need-returns
 returns c = let S = c .before .before .before in

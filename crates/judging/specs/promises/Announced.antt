@@ -18,7 +18,7 @@ use Rattle.prepared_model.specs.promises.Rows.{model-in}
 use Rattle.questions.specs.Layout.{start-of, node-count, node-of}
 use Rattle.prepared_question.specs.promises.Nodes.{formula}
 use Rattle.blocks.specs.Splice.{splice}
-use Rattle.lamp.specs.promises.Codes.{lamp-code, light-code}
+use Rattle.lamp.specs.promises.Codes.{lamp-code, optional-code}
 use Rattle.bounds.specs.promises.Bounded.{lowered, lamp-at}
 use Rattle.judging.specs.promises.Decided.{raised-at}
 use Rattle.judging.specs.declared.Outcome.{Outcome}
@@ -37,7 +37,7 @@ unfoldable pub no-lamp : (m q : Bytes) (j x : ℕ) → Option Lamp
 no-lamp m q j x = cond (eqb ((node-of q j) .right) 2) none (some (lamp-at m q j (lowered m q j x)))
 
 unfoldable pub told : Verdict → Outcome
-told (no x) = No (record { count = x .count; lamp = light-code (x .lamp) })
+told (no x) = No (record { count = x .count; lamp = optional-code (x .lamp) })
 told yes = Yes
 told (yes-plan x) = YesPlan (record { total = x .total; lamp = lamp-code (x .lamp); steps = x .steps; count = x .count })
 

@@ -3,13 +3,13 @@ use mathlib.Core.Bool.{Bool, true, false}
 use Rattle.logic.specs.Quantity.{Relation, less, equal, greater}
 use Rattle.logic.specs.Bound.{Lamp, below, at, above}
 
-unfoldable pub allows : Relation → Lamp → Bool
-allows less below = true
-allows less at = false
-allows less above = false
-allows equal below = false
-allows equal at = true
-allows equal above = false
-allows greater below = false
-allows greater at = false
-allows greater above = true
+unfoldable pub met-by-lamp : Relation → Lamp → Bool
+met-by-lamp less below = true
+met-by-lamp less at = false
+met-by-lamp less above = false
+met-by-lamp equal below = false
+met-by-lamp equal at = true
+met-by-lamp equal above = false
+met-by-lamp greater below = false
+met-by-lamp greater at = false
+met-by-lamp greater above = true

@@ -9,8 +9,8 @@ use Rattle.blocks.specs.Bytes.{Bytes}
 use Rattle.models.specs.Grounds.{read-model}
 use Rattle.protocol.specs.Calls.{Report}
 use Rattle.protocol.specs.promises.Chains.{do-put, do-judge, do-write, do-check}
-use Rattle.lamp.specs.declared.Light.the-variants.{Off}
-use Rattle.lamp.specs.promises.Codes.{lamp-code, light-code}
+use Rattle.lamp.specs.declared.OptionalLamp.the-variants.{Missing}
+use Rattle.lamp.specs.promises.Codes.{lamp-code, optional-code}
 use Rattle.plan_judge.specs.declared.Desk.{Desk}
 use Rattle.plan_judge.specs.declared.Taken.the-variants.{Done, Refused}
 use Rattle.plan_judge.specs.declared.Taking.{Taking}
@@ -31,7 +31,7 @@ padded n b = b ++ replicate (n - length b) 0
 
 -- What stands for a verdict on a desk that is not judged.
 abbrev pub unjudged : Verdict
-unjudged = No (record { count = 0; lamp = Off })
+unjudged = No (record { count = 0; lamp = Missing })
 
 -- The empty desk.
 unfoldable pub nothing : Desk
@@ -63,7 +63,7 @@ put-by d b = taking d (do-put (view d) b) (asking d b)
 
 -- A verdict as it is returned and held: its record, and its choices with zeros after them.
 unfoldable pub verdict-code : logic.Verdict → Verdict
-verdict-code (logic.no x) = No (record { count = x .count; lamp = light-code (x .lamp) })
+verdict-code (logic.no x) = No (record { count = x .count; lamp = optional-code (x .lamp) })
 verdict-code logic.yes = Yes
 verdict-code (logic.yes-plan x) = YesPlan (record { weight = x .total; lamp = lamp-code (x .lamp); steps = x .steps; count = x .count })
 

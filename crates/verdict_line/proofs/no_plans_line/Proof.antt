@@ -28,7 +28,7 @@ same-length c = search needs
 returns : tie.Need-returns
 unfolding no-plans-line text
 returns c = let number = c .before .before .before .before .before .before .before .before .before .before .before .put-decimal in
-    let light = c .before .before .before .before .before .before .before .put-light in
+    let light = c .before .before .before .before .before .before .before .put-optional in
     let end = c .before .before .put-text in
     let long = c .before .before .before .before .before .before .before .before .before .before .before .before .before .before .before .pre in
     let h₁ = number .ensures .1 in

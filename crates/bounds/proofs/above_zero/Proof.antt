@@ -1,4 +1,4 @@
--- `above`: below 0 nothing is above it, and from 0 on p is itself as an unsigned number.
+-- `above_zero`: below 0 nothing is above it, and from 0 on p is itself as an unsigned number.
 use Prim.Native.Nat.{_^_, _<_}
 use native.Mathlib.Omega.{arith}
 use mathlib.Core.Path.{_≡_, refl, sym, ap, _∙_}
@@ -10,8 +10,8 @@ use mir.Syntax.{w32, w64}
 use mir.Val.{toZ, ofZ, Fits}
 use Rattle.logic.specs.Formula.{nonnegative}
 use borrow.Author.Needs.{needs}
-use Rattle.bounds.proofs.above.Statement.{statement}
-use Rattle.bounds.proofs.above.Tie as tie
+use Rattle.bounds.proofs.above_zero.Statement.{statement}
+use Rattle.bounds.proofs.above_zero.Tie as tie
 
 none-above : (p : ℤ) → ltZ p (pos 0) ≡ true → 0 ≡ nonnegative p
 unfolding nonnegative
@@ -39,5 +39,5 @@ cast-result c = let w = kept (c .before) (c .if1 .left) in rw (same (c .before))
 returns-2 : tie.Need-returns-2
 returns-2 c = ap natAbs (same (c .before)) ∙ kept (c .before) (c .if1 .left) .2
 
-pub above-spec : {M : Type 1} → statement M
-above-spec = tie.close (tie.spec returns cast-result returns-2)
+pub above-zero-spec : {M : Type 1} → statement M
+above-zero-spec = tie.close (tie.spec returns cast-result returns-2)

@@ -1,11 +1,11 @@
 -- The lamp's word, or nothing.
 use native.Mathlib.Omega.{arith}
 use borrow.Author.Needs.{needs}
-use Rattle.lamp.specs.Said.{said-light}
-use Rattle.verdict_line.specs.Line.{light-word}
+use Rattle.lamp.specs.Said.{said-optional}
+use Rattle.verdict_line.specs.Line.{optional-word}
 use Rattle.verdict_line.proofs.PutInTurn.{put-none}
-use Rattle.verdict_line.proofs.put_light.Statement.{statement}
-use Rattle.verdict_line.proofs.put_light.Tie as tie
+use Rattle.verdict_line.proofs.put_optional.Statement.{statement}
+use Rattle.verdict_line.proofs.put_optional.Tie as tie
 
 enum-told : tie.Need-enum-told
 enum-told c = search needs
@@ -17,7 +17,7 @@ put-lamp-requires : tie.Need-put-lamp-requires
 put-lamp-requires c κs = search needs
 
 returns : tie.Need-returns
-unfolding light-word said-light
+unfolding optional-word said-optional
 returns c = let S = c .before .before .before in
     (rw (c .enum-told .given .1) (put-none (S .args .out .now) (S .args .at)), omega arith)
 
@@ -25,7 +25,7 @@ same-length : tie.Need-same-length
 same-length c = search needs
 
 returns-2 : tie.Need-returns-2
-unfolding light-word said-light
+unfolding optional-word said-optional
 returns-2 c = let put = c .before .before .put-lamp in
     (rw (c .before .before .before .before .before .light .given .1) (put .ensures .0), put .ensures .1)
 

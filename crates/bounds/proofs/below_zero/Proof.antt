@@ -1,4 +1,4 @@
--- `below`: from 0 on nothing is below it, and a number below 0 is 0 minus how far it is.
+-- `below_zero`: from 0 on nothing is below it, and a number below 0 is 0 minus how far it is.
 use Prim.Native.Nat.{_^_, _<_}
 use native.Mathlib.Omega.{arith}
 use mathlib.Core.Path.{_≡_, refl, sym, ap, _∙_}
@@ -12,8 +12,8 @@ use mir.ValLaws.{toZ-ofZ}
 use borrow.Author.Tests.{leb-false}
 use borrow.Author.Needs.{needs}
 use Rattle.bounds.specs.promises.Bounded.{under}
-use Rattle.bounds.proofs.below.Statement.{statement}
-use Rattle.bounds.proofs.below.Tie as tie
+use Rattle.bounds.proofs.below_zero.Statement.{statement}
+use Rattle.bounds.proofs.below_zero.Tie as tie
 
 none-below : (p : ℤ) → leZ (pos 0) p ≡ true → 0 ≡ under p
 unfolding under
@@ -53,5 +53,5 @@ cast-result-2 c = let w = here (c .before) (c .if1 .left) in rw (wide (c .before
 returns-2 : tie.Need-returns-2
 returns-2 c = let w = here (c .before) (c .if1 .left) in rw (wide (c .before), toZ-ofZ w64 (pos 0 -ℤ c .before .args .p) (w .0)) (w .3)
 
-pub below-spec : {M : Type 1} → statement M
-below-spec = tie.close (tie.spec returns cast-result sub-result cast-result-2 returns-2)
+pub below-zero-spec : {M : Type 1} → statement M
+below-zero-spec = tie.close (tie.spec returns cast-result sub-result cast-result-2 returns-2)
