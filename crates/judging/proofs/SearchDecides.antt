@@ -1,4 +1,4 @@
--- What a search's result decides. For "less" and "greater" the first plan of the best total is the shown plan, or none is. The search for "equal"
+-- What a search's result decides. For "less" and "greater" the first plan of the best total leads; it is the shown plan, or none is. The search for "equal"
 -- finds the first place of the totals of all plans that has the one number that meets the bound, if there is such a number.
 use Prim.Native.Nat.{ℕ, zero, suc, _+_, _*_, _≤_, _<_}
 use native.Mathlib.Omega.{arith}
@@ -19,7 +19,7 @@ use Rattle.logic.specs.Plan.{Plan, plans, choices}
 use Rattle.logic.specs.Bound.{Bound, Lamp, total, meets}
 use Rattle.logic.specs.Formula.{Formula, Node, sat, relation}
 use Rattle.logic.specs.promises.Extension.{first-plan}
-use Rattle.logic.specs.Verdict.{Goal, bound-goal, bound-of, goal, shown, Verdict, announced, verdict, yes, no, yes-plan, is-equal, lamp-of, leader, verdict-by}
+use Rattle.logic.specs.Verdict.{Goal, bound-goal, bound-of, goal, shown, Verdict, announced, verdict, yes, no, yes-plan, is-equal, found-lamp, verdict-by}
 use Rattle.logic.specs.Limits.{plan-total, every-plan, limits}
 use Rattle.logic.specs.Checked.{ok, refused, _>>=_}
 use Rattle.logic.proofs.Tests.{not-true, none≢some, every-at, getD-member}
@@ -109,24 +109,24 @@ module _ {m q : Bytes} {j : ℕ} (b : Bounded m q j) (s : ℕ) (h : s < state-co
     sets : Sets M s (formula q j) (bound-as (extreme least) m q j s)
     sets = subst (λ r. Sets M s (formula q j) (bound-as r m q j s)) same-relation (sets-at b s)
 
-    decides : Decides M s (node .n) (worth-at m q j s) (node .p) (node .q) (extreme least) (lowered m q j (best-raised m q j s least)) (best-node m q j s least)
-    decides = best-decides M s (node .n) (worth-at m q j s) (node .p) (node .q) (raises-at b s h) (b .prepared .accepted) (inside b s h) least
-
-    meets-same : meets-at m q j (lowered m q j (best-raised m q j s least)) ≡ meets-as (extreme least) m q j (lowered m q j (best-raised m q j s least))
-    meets-same = ap (λ r. meets-as r m q j (lowered m q j (best-raised m q j s least))) same-relation
-
-    -- Whether the best total meets the bound is whether the node is true.
-    pub led-truth : meets-at m q j (lowered m q j (best-raised m q j s least)) ≡ sat M (formula q j) s []
-    led-truth =
-        meets-same
-        ∙ sym (by-shown sets _ (λ t. let k = decides .met t in ((k .0, best-node m q j s least), k .1)) (decides .missed))
-
-    -- The verdict's numbers, by the best total.
+    -- The best total, and the goal.
     abbrev best-total : ℤ
     best-total = lowered m q j (best-raised m q j s least)
 
     abbrev goal-here : Goal
     goal-here = bound-goal M s (bound-as (extreme least) m q j s)
+
+    decides : Decides M s (node .n) (worth-at m q j s) (node .p) (node .q) (extreme least) best-total (best-node m q j s least)
+    decides = best-decides M s (node .n) (worth-at m q j s) (node .p) (node .q) (raises-at b s h) (b .prepared .accepted) (inside b s h) least
+
+    meets-same : meets-at m q j best-total ≡ meets-as (extreme least) m q j best-total
+    meets-same = ap (λ r. meets-as r m q j best-total) same-relation
+
+    -- Whether the best total meets the bound is whether the node is true.
+    pub led-truth : meets-at m q j best-total ≡ sat M (formula q j) s []
+    led-truth =
+        meets-same
+        ∙ sym (by-shown sets _ (λ t. let k = decides .met t in ((k .0, best-node m q j s least), k .1)) (decides .missed))
 
     pub led-yes : meets-at m q j best-total ≡ true
         → verdict M s (formula q j) ≡ shows best-total (lamp-at m q j best-total) (node .n) 0 (choices (node .n) (best-node m q j s least))
@@ -138,7 +138,7 @@ module _ {m q : Bytes} {j : ℕ} (b : Bounded m q j) (s : ℕ) (h : s < state-co
     pub led-no : meets-at m q j best-total ≡ false → verdict M s (formula q j) ≡ denies 0 (some (lamp-at m q j best-total))
     led-no t =
         verdict-by-bound sets ∙ ap (announced M s goal-here) (decides .missed (sym meets-same ∙ t))
-        ∙ ap₂ (λ u o. denies (cond u (length (plans M (node .n) s)) 0) (cond u none (lamp-of goal-here o))) (extreme-counts-not least) (decides .first .1)
+        ∙ ap₂ (λ u o. denies (cond u (length (plans M (node .n) s)) 0) (cond u none (found-lamp goal-here o))) (extreme-counts-not least) (decides .first .1)
         ∙ ap (λ v. denies 0 (some (lamp-at m q j v))) (decides .weighs)
 
   -- ---- "equal"

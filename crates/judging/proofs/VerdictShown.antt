@@ -1,5 +1,5 @@
--- How the verdict follows from what a search decided, and how it is told: the plan that a search found, extended or looked up by its place,
--- is the shown plan. And what is told of a sheet's plan.
+-- How the verdict follows from what a search decided, and how the code has it: the plan that a search found, extended or looked up by its place, is
+-- the shown plan. And what is told of a sheet's plan.
 use Prim.Native.Nat.{ℕ, _+_, _*_, _^_, _≤_, _<_}
 use native.Mathlib.Omega.{arith}
 use native.Mathlib.Nat.{le-antisymm, le-trans}
@@ -43,44 +43,54 @@ use Rattle.bounds.proofs.ProductsFit.{most-small}
 use Rattle.relevance.specs.promises.Need.{Given}
 use Rattle.lamp.specs.declared.Lamp as lamps
 use Rattle.lamp.specs.promises.Codes.{lamp-code, optional-code}
-use Rattle.judging.specs.declared.Outcome.{Outcome}
-use Rattle.judging.specs.declared.Outcome.the-variants.{No, Yes, YesPlan}
+use Rattle.judging.specs.declared.Verdict as code
+use Rattle.judging.specs.declared.Verdict.the-variants.{No, Yes, YesPlan}
 use Rattle.judging.specs.declared.plans.Decision.{Decision}
 use Rattle.judging.specs.promises.Asked.{Asked, Served}
 use Rattle.judging.specs.promises.Truth.{Supplied}
 use Rattle.judging.specs.promises.Worths.{Looks}
 use Rattle.judging.specs.promises.Decided.{raised-at, bound-as, best-node, plan-at, Posed, Decided}
-use Rattle.judging.specs.promises.Announced.{root, root-verdict, no-lamp, told, shown-choices, Announces, Sums, Spelled, Weighs}
+use Rattle.judging.specs.promises.Announced.{root, root-verdict, no-lamp, verdict-code, shown-choices, Announces, Sums, Spelled, Weighs}
 use Rattle.judging.proofs.NodeBounds.{sets-at, raises-at, total-most, best-most}
 use Rattle.judging.proofs.SearchDecides.{shows, denies, led-yes, led-no, equal-yes, equal-no, few-plans}
 use Rattle.judging.proofs.SearchHanded.{handed-worth}
 
 -- ---- telling
 
-pub announces-plan : {v : Verdict} {w : ℤ} {p : Lamp} {u : lamps.Lamp} {n k i : ℕ} {cs l after : List ℕ} {x : Outcome} (before : List ℕ) → v ≡ shows w p n k cs
+pub announces-plan : {v : Verdict} {w : ℤ} {p : Lamp} {u : lamps.Lamp} {n k i : ℕ} {cs l after : List ℕ} {x : code.Verdict} (before : List ℕ) → v ≡ shows w p n k cs
     → i ≡ n → u ≡ lamp-code p → l ≡ cs → x ≡ YesPlan (record { total = w; lamp = u; steps = i; count = k }) → after ≡ splice before 0 l → Announces v x before after
-unfolding told shown-choices
+unfolding verdict-code shown-choices
 announces-plan {w = w} {k = k} before e f lit same g h = (
-  g ∙ ap₂ (λ i u. YesPlan (record { total = w; lamp = u; steps = i; count = k })) f lit ∙ ap told (sym e),
+  g ∙ ap₂ (λ i u. YesPlan (record { total = w; lamp = u; steps = i; count = k })) f lit ∙ ap verdict-code (sym e),
   h ∙ ap (splice before 0) same ∙ ap (λ u. splice before 0 (shown-choices u)) (sym e),
 )
 
-pub announces-no : {v : Verdict} {k : ℕ} {o : Option Lamp} {x : Outcome} (before : List ℕ) → v ≡ denies k o
+pub announces-no : {v : Verdict} {k : ℕ} {o : Option Lamp} {x : code.Verdict} (before : List ℕ) → v ≡ denies k o
     → x ≡ No (record { count = k; lamp = optional-code o }) → Announces v x before before
-unfolding told shown-choices
-announces-no before e f = (f ∙ ap told (sym e), sym (splice-none before 0) ∙ ap (λ u. splice before 0 (shown-choices u)) (sym e))
+unfolding verdict-code shown-choices
+announces-no before e f = (f ∙ ap verdict-code (sym e), sym (splice-none before 0) ∙ ap (λ u. splice before 0 (shown-choices u)) (sym e))
 
-pub announces-truth : {v : Verdict} {y : ℕ} {x : Outcome} (t : Bool) (before : List ℕ) → v ≡ cond t verdicts.yes (denies 0 none) → y ≡ one-if t
+pub announces-truth : {v : Verdict} {y : ℕ} {x : code.Verdict} (t : Bool) (before : List ℕ) → v ≡ cond t verdicts.yes (denies 0 none) → y ≡ one-if t
     → x ≡ cond (eqb y 1) Yes (No (record { count = 0; lamp = optional-code none })) → Announces v x before before
-unfolding told shown-choices one-if
+unfolding verdict-code shown-choices one-if
 announces-truth true before e f g = (
-  g ∙ ap (λ y. cond (eqb y 1) Yes (No (record { count = 0; lamp = optional-code none }))) f ∙ ap told (sym e),
+  g ∙ ap (λ y. cond (eqb y 1) Yes (No (record { count = 0; lamp = optional-code none }))) f ∙ ap verdict-code (sym e),
   sym (splice-none before 0) ∙ ap (λ u. splice before 0 (shown-choices u)) (sym e),
 )
 announces-truth false before e f g =
     announces-no before e (g ∙ ap (λ y. cond (eqb y 1) Yes (No (record { count = 0; lamp = optional-code none }))) f)
 
 -- ---- the verdict on a node that sets a bound
+
+-- The lamp of a no, by the node's relation.
+module _ (m q : Bytes) (j x : ℕ) where
+  pub no-lamp-equal : (node-of q j) .right ≡ 2 → no-lamp m q j x ≡ none
+  unfolding no-lamp
+  no-lamp-equal e = ap (λ u. cond u none (some (lamp-at m q j (lowered m q j x)))) (eq-eqb ((node-of q j) .right) 2 e)
+
+  pub no-lamp-other : ((node-of q j) .right ≡ 2 → ⊥) → no-lamp m q j x ≡ some (lamp-at m q j (lowered m q j x))
+  unfolding no-lamp
+  no-lamp-other e = ap (λ u. cond u none (some (lamp-at m q j (lowered m q j x)))) (ne-eqb ((node-of q j) .right) 2 e)
 
 module _ {m q : Bytes} {counts : List ℕ} (asked : Asked m q counts) {j : ℕ} (b : Bounded m q j) (s : ℕ) (here : s < state-count m)
     {scratch places : List ℕ} {r : Decision} (x : Decided m q j s scratch places r) where
@@ -105,20 +115,18 @@ module _ {m q : Bytes} {counts : List ℕ} (asked : Asked m q counts) {j : ℕ} 
       ∙ ap (λ w. shows (lowered m q j w) (lamp-at m q j (lowered m q j w)) ((node-of q j) .n) 0 (choices ((node-of q j) .n) (best-node m q j s (eqb ((node-of q j) .right) 1)))) (sym (p .weighs))
 
   pub no-verdict : r .met ≡ false → verdict (model-in m) s (formula q j) ≡ denies (r .place) (no-lamp m q j (r .raised))
-  unfolding no-lamp
   no-verdict t = go (ℕ-discrete ((node-of q j) .right) 2)
     where
       go : Dec ((node-of q j) .right ≡ 2) → verdict (model-in m) s (formula q j) ≡ denies (r .place) (no-lamp m q j (r .raised))
       go (yes e) =
           let p = x .placed e in
           let l = ltb-false (r .place) (plan-total (model-in m) ((node-of q j) .n) s) (sym (p .bounds) ∙ t) in
-          equal-no b s here e (p .first) l
-          ∙ ap₂ (λ k u. denies k (cond u none (some (lamp-at m q j (lowered m q j (r .raised)))))) (le-antisymm l (p .within)) (sym (eq-eqb ((node-of q j) .right) 2 e))
+          equal-no b s here e (p .first) l ∙ ap₂ denies (le-antisymm l (p .within)) (sym (no-lamp-equal m q j (r .raised) e))
       go (no e) =
           let p = x .led e in
           led-no b s here e (sym (ap (λ w. meets-at m q j (lowered m q j w)) (p .weighs)) ∙ sym (p .bounds) ∙ t)
           ∙ ap₂ (λ k w. denies k (some (lamp-at m q j (lowered m q j w)))) (sym (p .unplaced)) (sym (p .weighs))
-          ∙ ap (λ u. denies (r .place) (cond u none (some (lamp-at m q j (lowered m q j (r .raised)))))) (sym (ne-eqb ((node-of q j) .right) 2 e))
+          ∙ ap (denies (r .place)) (sym (no-lamp-other m q j (r .raised) e))
 
   pub place-few : r .place ≤ 65536
   place-few = go (ℕ-discrete ((node-of q j) .right) 2)
@@ -177,7 +185,7 @@ module _ {m q : Bytes} (given : Given m q) where
   pub root-posed : {truth : Bytes} → Supplied m q truth (root q) (start-of q) → sets-bound ((node-of q (root q)) .operator) ≡ true → Posed m q truth (root q) (start-of q)
   root-posed x o = record { node = root-node; sets = o; state = given .nodes .formed .starts; told = x .under-plan }
 
-pub root-announces : (m q : Bytes) {j s : ℕ} {x : Outcome} (before after : List ℕ) → j ≡ root q → s ≡ start-of q
+pub root-announces : (m q : Bytes) {j s : ℕ} {x : code.Verdict} (before after : List ℕ) → j ≡ root q → s ≡ start-of q
     → Announces (verdict (model-in m) s (formula q j)) x before after → Announces (root-verdict (model-in m) q) x before after
 root-announces m q {x = x} before after e f =
     subst (λ v. Announces v x before after) (ap₂ (λ s j. verdict (model-in m) s (formula q j)) f e)

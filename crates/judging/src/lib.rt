@@ -18,7 +18,7 @@ ghost use Rattle.judging.specs.promises.Decided.{Posed, Decided};
 ghost use Rattle.questions.specs.promises.Formed.{sets-bound};
 ghost use Rattle.lamp.specs.promises.Codes.{optional-code};
 ghost use Rattle.bounds.specs.promises.Bounded.{Bounded, most-of};
-ghost use Rattle.judging.specs.declared.Outcome.the-variants.{No, Yes, YesPlan};
+ghost use Rattle.judging.specs.declared.Verdict.the-variants.{No, Yes, YesPlan};
 ghost use Rattle.judging.specs.promises.Announced.{root, root-verdict, no-lamp, Announces, Sums, Spelled, Weighs};
 
 mod conditions;
@@ -58,45 +58,46 @@ use relevance::needed;
 // The numbers of a table of best totals: by condition and state, the greatest and the least.
 const BESTS: usize = 2560;
 
-// What goes with a no. The count is the number of all plans for "equal", else 0; the lamp is that of the best total for "less" and "greater".
-pub struct Denied {
+// What goes with a no: for "equal" the number of all plans, else 0; for "less" and "greater" how the least or greatest total compares with the bound.
+pub struct Denial {
     pub count: u32,
     pub lamp: OptionalLamp,
 }
 
-// What goes with a yes to a root that sets a bound on plans: the shown plan's total, its lamp, its steps and its count.
-pub struct ShownPlan {
+// The record of a shown plan: its total (W, or the expected gain times D to the n), how that compares with the bound, its steps, and its place in
+// dictionary order for "equal", else 0.
+pub struct PlanRecord {
     pub total: i64,
     pub lamp: Lamp,
     pub steps: u32,
     pub count: u32,
 }
 
-// What judging came to.
-pub enum Outcome {
-    No(Denied),
+// No, yes to a root that sets no bound on plans, or yes with a shown plan.
+pub enum Verdict {
+    No(Denial),
     Yes,
-    YesPlan(ShownPlan),
+    YesPlan(PlanRecord),
 }
 
-// The outcome for a root that sets no bound on plans.
-fn plain(yes: bool) -> Outcome
+// The verdict on a root that sets no bound on plans.
+fn plain(yes: bool) -> Verdict
     ensures value { λ r. ⌜ r ≡ cond yes Yes (No (record { count = 0; lamp = optional-code none })) ⌝ }
 {
     if yes {
-        return Outcome::Yes;
+        return Verdict::Yes;
     }
-    Outcome::No(Denied {
+    Verdict::No(Denial {
         count: 0,
         lamp: OptionalLamp::Missing,
     })
 }
 
-// The outcome with a plan.
-fn with_plan(total: i64, lamp: Lamp, steps: u8, count: u32) -> Outcome
+// The verdict with a plan.
+fn with_plan(total: i64, lamp: Lamp, steps: u8, count: u32) -> Verdict
     ensures value { λ r. ⌜ r ≡ YesPlan (record { total = total; lamp = lamp; steps = steps; count = count }) ⌝ }
 {
-    Outcome::YesPlan(ShownPlan {
+    Verdict::YesPlan(PlanRecord {
         total: total,
         lamp: lamp,
         steps: steps as u32,
@@ -104,8 +105,8 @@ fn with_plan(total: i64, lamp: Lamp, steps: u8, count: u32) -> Outcome
     })
 }
 
-// The outcome where node j, which sets a bound on plans, is not true.
-fn deny(m: &[u16; MODEL], q: &[u8; QUESTION], j: u8, r: Decision) -> Outcome
+// The verdict where node j, which sets a bound on plans, is not true.
+fn deny(m: &[u16; MODEL], q: &[u8; QUESTION], j: u8, r: Decision) -> Verdict
     requires { ⌜ Bounded (now m) (now q) j × (r .place ≤ 65536) ⌝ }
     requires { ⌜ ((node-of (now q) j .right ≡ 2 → ⊥) → r .raised ≤ most-of (now m) (now q) j) ⌝ }
     ensures value { λ x.
@@ -114,13 +115,13 @@ fn deny(m: &[u16; MODEL], q: &[u8; QUESTION], j: u8, r: Decision) -> Outcome
 {
     let count = r.place as u32;
     if asks_equal(q, j) {
-        return Outcome::No(Denied {
+        return Verdict::No(Denial {
             count: count,
             lamp: OptionalLamp::Missing,
         });
     }
     let best = lamp_of(m, q, j, r.raised);
-    Outcome::No(Denied {
+    Verdict::No(Denial {
         count: count,
         lamp: OptionalLamp::Present(best),
     })
@@ -146,7 +147,7 @@ fn show(
     j: u8,
     s: u8,
     r: Decision,
-) -> Outcome
+) -> Verdict
     requires { ⌜
         Asked (now m) (now q) (now counts) × Bounded (now m) (now q) j × Decided (now m) (now q) j s (now scratch) (now places) r
         × (r .met ≡ true) ⌝ }
@@ -177,7 +178,7 @@ fn at_node(
     choices: &mut [u8],
     j: u8,
     s: u8,
-) -> Outcome
+) -> Verdict
     requires { ⌜ Asked (now m) (now q) (now counts) × (j < node-count (now q)) × (s < state-count (now m)) ⌝ }
     requires { ⌜ Supplied (now m) (now q) (now truth) j s × (formulas.depth (formula (now q) j) ≡ 0) × (1365 ≤ length (now choices)) ⌝ }
     ensures effect { λ r.
@@ -198,7 +199,7 @@ fn at_node(
 }
 
 // Judges a question: the verdict on its root in its start state, and the choices of a shown plan from the beginning of `choices` on.
-pub fn judged(m: &[u16; MODEL], q: &[u8; QUESTION], choices: &mut [u8]) -> Outcome
+pub fn judged(m: &[u16; MODEL], q: &[u8; QUESTION], choices: &mut [u8]) -> Verdict
     requires { ⌜ Served (now m) (now q) ⌝ }
     requires { ⌜ 1365 ≤ length (now choices) ⌝ }
     ensures effect { λ r.
@@ -234,14 +235,14 @@ fn root_total(m: &[u16; MODEL], q: &[u8; QUESTION], truth: &[u8; TRUTHS], choice
     )
 }
 
-// The total of a plan for the root, whether it meets the root's bound, and how it stands to it.
+// The total of a plan for the root, whether it meets the root's bound, and its lamp.
 pub struct Weighed {
     pub total: i64,
     pub met: bool,
     pub lamp: Lamp,
 }
 
-// The total of the plan with these choices, for the root, which sets a bound on plans, and what it is to that bound.
+// The total of the plan with these choices, for the root, which sets a bound on plans, whether it meets the bound, and its lamp.
 pub fn sheet_total(m: &[u16; MODEL], q: &[u8; QUESTION], choices: &[u8]) -> Weighed
     requires { ⌜ Served (now m) (now q) × (sets-bound (node-of (now q) (root (now q)) .operator) ≡ true) ⌝ }
     requires { ⌜ Spelled (model-in (now m)) (now q) (now choices) ⌝ }

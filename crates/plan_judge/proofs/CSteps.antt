@@ -26,17 +26,18 @@ use Rattle.protocol.specs.promises.Chains.{do-put, do-judge, do-write, sheet-sh
 use Rattle.plan_judge.specs.declared.Desk.{Desk}
 use Rattle.plan_judge.specs.declared.Taking.{Taking}
 use Rattle.plan_judge.specs.declared.Taken.the-variants.{Done, Refused}
-use Rattle.plan_judge.specs.declared.PlanRecord.{PlanRecord}
-use Rattle.plan_judge.specs.declared.Verdict.{Verdict}
-use Rattle.plan_judge.specs.declared.Denial.{Denial}
-use Rattle.plan_judge.specs.declared.Verdict.the-variants.{No, Yes, YesPlan}
+use Rattle.judging.specs.declared.PlanRecord.{PlanRecord}
+use Rattle.judging.specs.declared.Verdict.{Verdict}
+use Rattle.judging.specs.declared.Denial.{Denial}
+use Rattle.judging.specs.declared.Verdict.the-variants.{No, Yes, YesPlan}
 use Rattle.plan_judge.specs.declared.Judgement.{Judgement}
 use Rattle.plan_judge.specs.declared.Judgement.the-variants.{Judged}
 use Rattle.plan_judge.specs.declared.Judging.{Judging}
 use Rattle.plan_judge.specs.declared.Written.{Written}
 use Rattle.plan_judge.specs.declared.Written.the-variants.{Bytes as Filled}
 use Rattle.plan_judge.specs.View.{view}
-use Rattle.plan_judge.specs.promises.Values.{taking, holding, loaded-by, asking, put-by, verdict-code, settling, judging, judged-by, writing, written-by, filling, filled-by}
+use Rattle.plan_judge.specs.promises.Values.{taking, holding, loaded-by, asking, put-by, settling, judging, judged-by, writing, written-by, filling, filled-by}
+use Rattle.judging.specs.promises.Announced.{verdict-code}
 use Rattle.plan_judge.specs.promises.CChain.{Told, told-of, told-on, c-chain, Tells}
 use Rattle.plan_judge.specs.promises.CSteps.{told-put, told-judge, told-write}
 use Rattle.plan_judge.proofs.DesksHoldHistory.{view-holding, view-asking, view-settling}

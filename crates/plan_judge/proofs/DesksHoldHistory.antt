@@ -38,7 +38,8 @@ use Rattle.protocol.proofs.FirstGround.{yields-is}
 use Rattle.protocol.proofs.Demand3.{held-some, then-ok}
 use Rattle.plan_judge.specs.declared.Desk.{Desk}
 use Rattle.plan_judge.specs.View.{model-bytes, question-in, choices-in, verdict-in, verdict-on, view}
-use Rattle.plan_judge.specs.promises.Values.{padded, nothing, taking, holding, loaded-by, asking, put-by, verdict-code, choices-code, settling, judging, judged-by, writing, written-by, filling, filled-by, checking, checked-by}
+use Rattle.plan_judge.specs.promises.Values.{padded, nothing, taking, holding, loaded-by, asking, put-by, choices-code, settling, judging, judged-by, writing, written-by, filling, filled-by, checking, checked-by}
+use Rattle.judging.specs.promises.Announced.{verdict-code}
 use Rattle.plan_judge.specs.Said.{said-taken, said-verdict, said-judgement, said-written, said-checking}
 use Rattle.plan_judge.specs.promises.Session.{asked, step, desk-after, session}
 

@@ -19,27 +19,19 @@ use Rattle.blocks.specs.Splice.{splice}
 use Rattle.prepared_question.specs.promises.Shared.{Shared}
 use Rattle.prepared_question.proofs.SameVerdict.{same-verdict, same-limits}
 use Rattle.judging.specs.promises.Asked.{Served}
-use Rattle.judging.specs.promises.Announced.{root-verdict, told, shown-choices}
+use Rattle.judging.specs.promises.Announced.{root-verdict, verdict-code, shown-choices}
 use Rattle.protocol.specs.promises.Chains.{do-judge}
 use Rattle.plan_judge.specs.declared.Desk.{Desk}
-use Rattle.plan_judge.specs.declared.Verdict.{Verdict}
+use Rattle.judging.specs.declared.Verdict.{Verdict}
 use Rattle.plan_judge.specs.declared.Judgement.the-variants.{Judged}
 use Rattle.plan_judge.specs.declared.Judging.{Judging}
 use Rattle.plan_judge.specs.View.{view}
-use Rattle.plan_judge.specs.promises.Values.{verdict-code, choices-code, settling, judging, judged-by}
-use Rattle.plan_judge.specs.promises.State.{held-both, verdict-from}
+use Rattle.plan_judge.specs.promises.Values.{choices-code, settling, judging, judged-by}
+use Rattle.plan_judge.specs.promises.State.{held-both}
 use Rattle.plan_judge.proofs.LoadPutReturn.{said-bytes, padded-copy}
 use Rattle.plan_judge.proofs.StateGrounds.{Both, limits-passed, both-held, both-refused, both-passed}
 
--- ---- the verdict that is told
-
-pub verdict-told : (v : logic.Verdict) → verdict-from (told v) ≡ verdict-code v
-unfolding verdict-from told verdict-code
-verdict-told (logic.no x) = refl
-verdict-told logic.yes = refl
-verdict-told (logic.yes-plan x) = refl
-
--- Its choices, written over zeros.
+-- The choices of a verdict, written over zeros.
 pub choices-told : (v : logic.Verdict) → splice (replicate 1365 0) 0 (shown-choices v) ≡ choices-code v
 unfolding splice shown-choices choices-code
 choices-told (logic.no x) = refl

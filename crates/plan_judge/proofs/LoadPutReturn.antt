@@ -26,7 +26,7 @@ use Rattle.protocol.specs.Calls.{question-for}
 use Rattle.protocol.specs.promises.Chains.{do-put}
 use Rattle.plan_judge.specs.declared.Desk.{Desk}
 use Rattle.plan_judge.specs.declared.Taken.the-variants.{Done, Refused}
-use Rattle.plan_judge.specs.declared.Verdict.{Verdict}
+use Rattle.judging.specs.declared.Verdict.{Verdict}
 use Rattle.plan_judge.specs.View.{model-bytes, view}
 use Rattle.plan_judge.specs.promises.State.{held-size}
 use Rattle.plan_judge.specs.promises.Values.{padded, unjudged, taking, holding, loaded-by, asking, put-by}

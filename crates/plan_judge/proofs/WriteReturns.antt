@@ -30,9 +30,9 @@ use Rattle.sheets.specs.Layout.{Sheet, sheet-bytes, blocks-for}
 use Rattle.sheets.proofs.ReadsBack.{sheet-length}
 use Rattle.protocol.specs.promises.Chains.{sheet-shown, do-write}
 use Rattle.plan_judge.specs.declared.Desk.{Desk}
-use Rattle.plan_judge.specs.declared.PlanRecord.{PlanRecord}
-use Rattle.plan_judge.specs.declared.Verdict.{Verdict}
-use Rattle.plan_judge.specs.declared.Verdict.the-variants.{No, Yes, YesPlan}
+use Rattle.judging.specs.declared.PlanRecord.{PlanRecord}
+use Rattle.judging.specs.declared.Verdict.{Verdict}
+use Rattle.judging.specs.declared.Verdict.the-variants.{No, Yes, YesPlan}
 use Rattle.plan_judge.specs.declared.Written.the-variants.{Bytes as Filled, Refused}
 use Rattle.plan_judge.specs.View.{choices-in, verdict-in, verdict-on, view}
 use Rattle.plan_judge.specs.promises.Values.{writing, written-by, filling, filled-by}

@@ -18,8 +18,8 @@ use Rattle.questions.specs.Layout.{Question}
 use Rattle.protocol.specs.Calls.{Held, question-for}
 use Rattle.lamp.specs.Said.{said-lamp, said-optional}
 use Rattle.plan_judge.specs.declared.Desk.{Desk}
-use Rattle.plan_judge.specs.declared.Verdict.{Verdict}
-use Rattle.plan_judge.specs.declared.Verdict.the-variants.{No, Yes, YesPlan}
+use Rattle.judging.specs.declared.Verdict.{Verdict}
+use Rattle.judging.specs.declared.Verdict.the-variants.{No, Yes, YesPlan}
 
 -- The bytes that a desk has for a model.
 unfoldable pub model-bytes : Desk → Bytes
@@ -38,7 +38,7 @@ choices-in m q cs = goal m (q .start) (q .root) >>= (λ g. read-plan m (g .steps
 unfoldable pub verdict-in : Checked (List ℕ) → Verdict → Option logic.Verdict
 verdict-in cs (No x) = some (logic.no (record { count = x .count; lamp = said-optional (x .lamp) }))
 verdict-in cs Yes = some logic.yes
-verdict-in (ok l) (YesPlan x) = some (logic.yes-plan (record { total = x .weight; lamp = said-lamp (x .lamp); steps = x .steps; count = x .count; choices = l }))
+verdict-in (ok l) (YesPlan x) = some (logic.yes-plan (record { total = x .total; lamp = said-lamp (x .lamp); steps = x .steps; count = x .count; choices = l }))
 verdict-in (refused k) (YesPlan x) = none
 
 -- For the model and the question that are held.

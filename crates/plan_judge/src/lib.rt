@@ -22,14 +22,17 @@ ghost use Rattle.judging.specs.promises.Announced.{Spelled, Weighs};
 ghost use Rattle.plan_judge.specs.View.{choices-in, view};
 ghost use Rattle.plan_judge.specs.promises.State.{held-size};
 ghost use Rattle.plan_judge.specs.promises.Values.{unjudged, nothing, loaded-by, put-by, judging, judged-by, written-by, filled-by, checking, checked-by};
-ghost use Rattle.plan_judge.specs.promises.State.{held-both, held-goal, plan-size, size-in, shown-size, shown-total, PlanRoot, plan-on, verdict-from};
+ghost use Rattle.plan_judge.specs.promises.State.{held-both, held-goal, plan-size, size-in, shown-size, shown-total, PlanRoot, plan-on};
 
 pub mod c_call;
 
+pub use judging::Denial;
+pub use judging::PlanRecord;
+pub use judging::Verdict;
+pub use lamp::Lamp;
+pub use lamp::OptionalLamp;
+
 use blocks::BLOCK;
-use judging::Outcome;
-use lamp::Lamp;
-use lamp::OptionalLamp;
 use limits::limit_refusal;
 use plan_choices::CHOICES;
 use prepared_model::MODEL;
@@ -40,27 +43,6 @@ use sheets::GATHERED;
 
 // The bytes of the longest model.
 pub const MODEL_BYTES: usize = 6144;
-
-// The record of a shown plan: its total (W, or the expected gain times D to the n), how that stands to the bound, its steps, and its place in
-// dictionary order for "equal", else 0.
-pub struct PlanRecord {
-    pub weight: i64,
-    pub lamp: Lamp,
-    pub steps: u32,
-    pub count: u32,
-}
-
-// What goes with a no: for "equal" the number of all plans, else 0; for "less" and "greater" how the least or greatest total stands to the bound.
-pub struct Denial {
-    pub count: u32,
-    pub lamp: OptionalLamp,
-}
-
-pub enum Verdict {
-    No(Denial),
-    Yes,
-    YesPlan(PlanRecord),
-}
 
 // The desk, document 01's word for the judge's state: the blocks of a model (none: 0 blocks), the block of a question, and a verdict with
 // its choices beside it. What is not held is zero.
@@ -103,7 +85,7 @@ pub enum Written {
     Refused(u32),
 }
 
-// What check reports of a sheet that it accepts: whether the sheet's total meets the bound, and how it stands to it.
+// What check reports of a sheet that it accepts: whether the sheet's total meets the bound, and its lamp.
 pub struct Report {
     pub met: bool,
     pub lamp: Lamp,
@@ -254,31 +236,6 @@ fn state_ground(d: Desk) -> u32
     0
 }
 
-// The verdict that an outcome tells.
-fn verdict_of(o: Outcome) -> Verdict
-    ensures value { λ r. ⌜ r ≡ verdict-from o ⌝ }
-{
-    match o {
-        Outcome::No(x) => {
-            let lamp = x.lamp;
-            Verdict::No(Denial {
-                count: x.count,
-                lamp: lamp,
-            })
-        }
-        Outcome::Yes => Verdict::Yes,
-        Outcome::YesPlan(x) => {
-            let lamp = x.lamp;
-            Verdict::YesPlan(PlanRecord {
-                weight: x.total,
-                lamp: lamp,
-                steps: x.steps,
-                count: x.count,
-            })
-        }
-    }
-}
-
 // The answer where judging is refused: the desk stays.
 fn turned_away(d: Desk, k: u32) -> Judging
     ensures value { λ r. ⌜ r ≡ judging d (refused k) ⌝ }
@@ -309,8 +266,7 @@ pub fn judge(d: Desk) -> Judging
         return turned_away(d, ground);
     }
     let mut choices = [0u8; CHOICES];
-    let o = judging::judged(&model, &query, &mut choices);
-    let v = verdict_of(o);
+    let v = judging::judged(&model, &query, &mut choices);
     Judging {
         answer: Judgement::Judged(v),
         choices: choices,
@@ -401,7 +357,7 @@ fn shown_total(v: Verdict) -> i64
     ensures value { λ r. ⌜ r ≡ shown-total v ⌝ }
 {
     match v {
-        Verdict::YesPlan(p) => p.weight,
+        Verdict::YesPlan(p) => p.total,
         Verdict::Yes => 0,
         Verdict::No(_) => 0,
     }
@@ -458,7 +414,7 @@ fn sheet_ground(m: &[u8], q: &[u8], b: &[u8]) -> u32
     sheets::plans::plan_refusal(m, &choices[..count], n, s)
 }
 
-// The total of the plan on a sheet, whether it meets the bound of the question's root, and how it stands to it.
+// The total of the plan on a sheet, whether it meets the bound of the question's root, and its lamp.
 fn sheet_weighed(m: &[u16; MODEL], q: &[u8; QUESTION], b: &[u8]) -> judging::Weighed
     requires { ⌜
         Served (now m) (now q) × (sets-bound (node-of (now q) (node-count (now q) - 1) .operator) ≡ true) × Blocks 6 (now b)
@@ -496,8 +452,8 @@ fn check_on(m: &[u8], q: &[u8], b: &[u8]) -> Checking
     })
 }
 
-// Checks a sheet for the question that is held, and says whether its total meets the bound and how it stands to it; or refuses it by grounds 20,
-// 21, 22, 24, 25, then 1 to 6, 10, 11.
+// Checks a sheet for the question that is held, and reports whether its total meets the bound, and its lamp; or refuses it by grounds 20, 21, 22, 24,
+// 25, then 1 to 6, 10, 11.
 pub fn check(d: Desk, b: &[u8]) -> Checking
     ensures value { λ r. ⌜ r ≡ checked-by d (now (b .entry)) ⌝ }
 {

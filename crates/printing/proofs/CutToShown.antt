@@ -16,11 +16,12 @@ use Rattle.questions.proofs.AcceptedFacts.{accepted}
 use Rattle.verdict_line.specs.Text.{Put}
 use Rattle.verdict_line.specs.promises.Chain.{line-of}
 use Rattle.plan_judge.specs.declared.Desk.{Desk}
-use Rattle.plan_judge.specs.declared.Verdict.{Verdict}
+use Rattle.judging.specs.declared.Verdict.{Verdict}
 use Rattle.plan_judge.specs.declared.Judgement.the-variants.{Judged}
 use Rattle.plan_judge.specs.declared.Judging.{Judging}
 use Rattle.plan_judge.specs.View.{view}
-use Rattle.plan_judge.specs.promises.Values.{judged-by, verdict-code}
+use Rattle.plan_judge.specs.promises.Values.{judged-by}
+use Rattle.judging.specs.promises.Announced.{verdict-code}
 use Rattle.plan_judge.specs.promises.State.{shown-size}
 use Rattle.printing.specs.promises.Printed.{plan-root, judging-line, shown-line, shown-steps, Shown, Asked}
 use Rattle.printing.proofs.LineOfVerdict.{root-is, few-steps, few-choices, line-is}

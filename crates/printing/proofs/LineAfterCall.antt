@@ -24,12 +24,13 @@ use Rattle.verdict_line.specs.Line.{verdict-line}
 use Rattle.plan_judge.specs.declared.Desk.{Desk}
 use Rattle.plan_judge.specs.declared.Taken.the-variants.{Done, Refused}
 use Rattle.plan_judge.specs.declared.Taking.{Taking}
-use Rattle.plan_judge.specs.declared.Verdict.{Verdict}
+use Rattle.judging.specs.declared.Verdict.{Verdict}
 use Rattle.plan_judge.specs.declared.Judgement.the-variants.{Judged}
 use Rattle.plan_judge.specs.declared.Judgement.{Judgement}
 use Rattle.plan_judge.specs.declared.Judging.{Judging}
 use Rattle.plan_judge.specs.View.{view}
-use Rattle.plan_judge.specs.promises.Values.{nothing, taking, holding, loaded-by, asking, put-by, verdict-code, choices-code, judging, judged-by}
+use Rattle.plan_judge.specs.promises.Values.{nothing, taking, holding, loaded-by, asking, put-by, choices-code, judging, judged-by}
+use Rattle.judging.specs.promises.Announced.{verdict-code}
 use Rattle.plan_judge.specs.promises.Session.{step, desk-after}
 use Rattle.plan_judge.proofs.DesksHoldHistory.{desk-holds}
 use Rattle.printing.specs.promises.Printed.{judging-line, asking-line, loading-line, Loaded, Asked}

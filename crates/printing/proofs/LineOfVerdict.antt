@@ -23,7 +23,8 @@ use Rattle.verdict_line.specs.Line.{plain-line, no-plans-line, yes-plan-line, b
 use Rattle.lamp.specs.Said.{said-lamp}
 use Rattle.lamp.specs.promises.Codes.{lamp-code}
 use Rattle.lamp.proofs.Coded.{lamp-said, optional-said}
-use Rattle.plan_judge.specs.promises.Values.{padded, verdict-code, choices-code}
+use Rattle.plan_judge.specs.promises.Values.{padded, choices-code}
+use Rattle.judging.specs.promises.Announced.{verdict-code}
 use Rattle.plan_judge.specs.promises.State.{shown-size}
 use Rattle.plan_judge.proofs.StateGrounds.{other-goal, root-goal}
 use Rattle.printing.specs.promises.Printed.{plan-root, shown-line, shown-steps}

@@ -60,7 +60,7 @@ fn verdict_line(out: &mut [u8], model: &[u8], q: &[u8], v: Verdict, choices: &[u
             let lamp = p.lamp;
             verdict_line::yes_plan_line(
                 out,
-                p.weight,
+                p.total,
                 whole(model, p.steps),
                 lamp,
                 p.count,

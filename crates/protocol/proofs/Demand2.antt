@@ -29,6 +29,7 @@ use Rattle.protocol.proofs.HeldAccepted.{model-accepted, start-inside}
 use Rattle.protocol.proofs.Refusals.{decided-none}
 use Rattle.protocol.proofs.FirstGround.{yields-is, refuse-first}
 use Rattle.protocol.proofs.ShownPlan.{all-plans, verdict-announces}
+use Rattle.protocol.proofs.TotalsByRoot.{goal-by-relation}
 
 -- ---- the verdict says yes exactly where the formula is true
 
@@ -86,6 +87,7 @@ demand-2 h s reply yielding =
                 };
             all-plans = all-plans m;
             on-plans = λ g a. verdict-announces m (q .start) g (q .root) a (model-accepted s m e) (start-inside s m e q f);
+            by-relation = λ g a. goal-by-relation m (q .start) (q .root) g a;
             on-others = λ k a. ap (verdict-by m (q .start) (sat m (q .root) (q .start) [])) a;
           };
     }

@@ -368,8 +368,7 @@ module _ {h : Held} (reply : Call → Reply) (yielding : (c : Call) → reply c 
           met-by-gain = λ l u w. root .gain-met l u (w .relation, w .p, w .q, w .root);
           lamp-by-W = λ φ w. root .weight-lamp φ (w .relation, w .p, w .q, w .root);
           lamp-by-gain = λ l u w. root .gain-lamp l u (w .relation, w .p, w .q, w .root);
-          W-met-by-lamp = λ φ w. root .weight-exact φ (w .relation, w .p, w .q, w .root);
-          gain-met-by-lamp = λ l u w. root .gain-exact l u (w .relation, w .p, w .q, w .root);
+          met-by-lamp = root .met-exact;
           check-exact = check-exact;
           check-unsigned = check-unsigned;
           check-differs = check-differs;

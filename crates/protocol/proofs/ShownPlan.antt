@@ -1,4 +1,4 @@
--- The verdict on a plan question in document 01's words. `shown` finds the first plan of the list that meets the bound and leads; the list
+-- The verdict on a plan question in document 01's words, with document 02's lamp. `shown` finds the first plan of the list that meets the bound and leads; the list
 -- has all plans in dictionary order, so that those before the one found are just the plans that come before it in that order.
 use Prim.Native.Nat.{ℕ, suc, _+_, _<_}
 use native.Mathlib.Omega.{arith}
@@ -16,12 +16,12 @@ use Rattle.logic.specs.Bound.{Lamp}
 use Rattle.logic.specs.Accepted.{Accepted}
 use Rattle.logic.specs.Order.{Before, differ, agree, Rising, nothing, first, Is-plan}
 use Rattle.logic.specs.Formula.{Formula, sat}
-use Rattle.logic.specs.Verdict.{Goal, goal, shown, leader, lamp-of, denial, plan-record, announced, verdict-by, verdict}
+use Rattle.logic.specs.Verdict.{Goal, goal, shown, leader, found-lamp, denial, plan-record, announced, verdict-by, verdict}
 use Rattle.logic.proofs.Tests.{and-both, not-true, none≢some, some-same}
 use Rattle.logic.proofs.Dictionary.{plans-are, plans-rising, before-differs}
 use Rattle.logic.proofs.Shown.{goal-led, shown-there, leader-there, leader-leads}
-use Rattle.logic.proofs.Search.{plan-there}
-use Rattle.protocol.specs.Demand2.{In-order, Shows, Best, Denies, Announces}
+use Rattle.logic.proofs.Search.{some-plan}
+use Rattle.protocol.specs.Demand2.{In-order, Shows, Best-lamp, Denies, Announces}
 
 -- ---- lists
 
@@ -150,29 +150,29 @@ module _ (m : Model) (s : ℕ) (g : Goal) where
         }
 
   -- The lamp of a no: none where plans are counted, else that of a plan that leads.
-  dark : (t : Bool) (o : Option Lamp) → t ≡ true → cond t none o ≡ none
-  dark true o e = refl
-  dark false o e = absurd (false≢true e)
+  no-lamp : (t : Bool) (o : Option Lamp) → t ≡ true → cond t none o ≡ none
+  no-lamp true o e = refl
+  no-lamp false o e = absurd (false≢true e)
 
-  lit : (t : Bool) (x : ℕ × Plan n) → leader m s g ≡ some x → t ≡ false → Best m s g (cond t none (lamp-of g (leader m s g)))
-  lit true x e f = absurd (false≢true (sym f))
-  lit false x e f =
+  best-lamp : (t : Bool) (x : ℕ × Plan n) → leader m s g ≡ some x → t ≡ false → Best-lamp m s g (cond t none (found-lamp g (leader m s g)))
+  best-lamp true x e f = absurd (false≢true (sym f))
+  best-lamp false x e f =
       let w = leader-leads m s g x e in
-      record { best-plan = x .1; is-plan = plans-are m n s (x .1) .0 (w .0); leads = w .1; its-lamp = ap (lamp-of g) e }
+      record { best-plan = x .1; is-plan = plans-are m n s (x .1) .0 (w .0); leads = w .1; its-lamp = ap (found-lamp g) e }
 
   module _ (φ : Formula) (a : goal m s φ ≡ ok g) (accepted : Accepted m) (inside : s < length (m .states)) where
     denies : shown m s g ≡ none → Denies m s g (denial m s g)
     denies e =
         let led = goal-led m s φ g a in
-        let some-plan = plan-there m accepted n s inside in
-        let x = leader-there m s g led (some-plan .0) (some-plan .1) in
+        let p = some-plan m accepted n s inside in
+        let x = leader-there m s g led (p .0) (p .1) in
         record {
           none-meets = λ π i. not-true (g .met π) (λ t. none≢some (sym e ∙ shown-there m s g led π (plans-are m n s π .1 i) t .1));
           plans = plans m n s;
           all-plans = all-plans m n s;
           counts = refl;
-          dark = dark (g .counts) (lamp-of g (leader m s g));
-          lit = lit (g .counts) (x .0) (x .1);
+          no-lamp-if-counted = no-lamp (g .counts) (found-lamp g (leader m s g));
+          best-lamp = best-lamp (g .counts) (x .0) (x .1);
         }
 
     announces : Announces m s g (announced m s g (shown m s g))

@@ -12,15 +12,16 @@ use mathlib.Core.List.{List, [], List·Memᴰ}
 use mathlib.Core.Option.{Option, none, some}
 use lib.IntN.{ℤ}
 use lib.ListN.{length}
+use lib.Signed.{leZ}
 use Rattle.logic.specs.Checked.{ok, refused}
 use Rattle.logic.specs.Grounds.{first}
 use Rattle.logic.specs.Model.{Model, Step}
-use Rattle.logic.specs.Quantity.{Relation, naturals, integers}
+use Rattle.logic.specs.Quantity.{Relation, less, equal, greater, naturals, integers}
 use Rattle.logic.specs.Plan.{Plan, plans, choices}
 use Rattle.logic.specs.Accepted.{Accepted}
 use Rattle.logic.specs.Order.{Before, Rising, Is-plan}
 use Rattle.logic.specs.Bound.{meets, Lamp}
-use Rattle.logic.specs.Formula.{Formula, plan, earns, sat}
+use Rattle.logic.specs.Formula.{Formula, plan, earns, on-bound, sat}
 use Rattle.logic.specs.Policy.{Policy, policy-weight, policy-gain}
 use Rattle.logic.specs.Verdict.{Goal, goal, Denial, Shown-plan, Verdict, no, yes, yes-plan}
 use Rattle.logic.specs.Limits.{limit-grounds}
@@ -74,8 +75,8 @@ module _ (m : Model) (s : ℕ) (g : Goal) where
     pub its-steps : v .steps ≡ g .steps
     pub its-choices : v .choices ≡ choices (g .steps) shown-plan
 
-  -- "for the least or greatest total": that of a plan from the start that leads
-  pub record Best (lamp : Option Lamp) : Type 0 where
+  -- "for the least or greatest total": that of a plan from the start that leads (what the lamp of a plan is: `lamp-by-W`, `lamp-by-gain` of demand 3)
+  pub record Best-lamp (lamp : Option Lamp) : Type 0 where
     pub best-plan : Plan (g .steps)
     pub is-plan : Is-plan m (g .steps) s best-plan
     pub leads : g .lead best-plan ≡ true
@@ -87,8 +88,14 @@ module _ (m : Model) (s : ℕ) (g : Goal) where
     pub plans : List (Plan (g .steps))
     pub all-plans : In-order (g .steps) (Is-plan m (g .steps) s) plans
     pub counts : v .count ≡ cond (g .counts) (length plans) 0
-    pub dark : g .counts ≡ true → v .lamp ≡ none
-    pub lit : g .counts ≡ false → Best (v .lamp)
+    pub no-lamp-if-counted : g .counts ≡ true → v .lamp ≡ none
+    pub best-lamp : g .counts ≡ false → Best-lamp (v .lamp)
+
+  -- Which plans lead, and which roots have their plans counted, by the root's relation.
+  pub record By-relation (r : Relation) : Type 0 where
+    pub greatest : r ≡ greater → (π : Plan (g .steps)) → (g .lead π ≡ true) ↔ ((ρ : Plan (g .steps)) → Is-plan m (g .steps) s ρ → leZ (g .total ρ) (g .total π) ≡ true)
+    pub least : r ≡ less → (π : Plan (g .steps)) → (g .lead π ≡ true) ↔ ((ρ : Plan (g .steps)) → Is-plan m (g .steps) s ρ → leZ (g .total π) (g .total ρ) ≡ true)
+    pub counted : (g .counts ≡ true) ↔ (r ≡ equal)
 
   -- The verdict on a plan question.
   abbrev pub Announces : Verdict → Type 0
@@ -107,8 +114,9 @@ pub record Judged (m : Model) (q : Question) (answer : Answer) : Type 0 where
   -- of the definitions alone: `sat` means what is published, and the list over which it asks for "some plan" has every plan, once
   pub published : As-published m
   pub all-plans : (n s : ℕ) → In-order n (Is-plan m n s) (plans m n s)
-  -- a plan question: "no with its count .. or yes with a plan record"
+  -- a plan question, of operator 8 or 9: "no with its count .. or yes with a plan record"
   pub on-plans : (g : Goal) → goal m (q .start) (q .root) ≡ ok g → Announces m (q .start) g said
+  pub by-relation : (g : Goal) → goal m (q .start) (q .root) ≡ ok g → By-relation m (q .start) g (on-bound equal (λ n r. r) (q .root))
   -- another: no, with the count 0 and no lamp, or yes
   pub on-others : (k : ℕ) → goal m (q .start) (q .root) ≡ refused k → said ≡ cond (sat m (q .root) (q .start) []) yes (no (record { count = 0; lamp = none }))
 

@@ -17,10 +17,10 @@ use lib.ListN.{length, take, drop}
 use Rattle.logic.specs.Checked.{ok}
 use Rattle.logic.specs.Grounds.{first}
 use Rattle.logic.specs.Model.{Model}
-use Rattle.logic.specs.Quantity.{naturals, integers, Relation}
+use Rattle.logic.specs.Quantity.{naturals, integers, Relation, equal}
 use Rattle.logic.specs.Plan.{Plan, plans, choices, paths}
 use Rattle.logic.specs.Bound.{weighed, meets, Lamp, lamp-relation, gain-between}
-use Rattle.logic.specs.Formula.{Formula, plan, earns, W}
+use Rattle.logic.specs.Formula.{Formula, plan, earns, on-bound, W}
 use Rattle.logic.specs.Verdict.{Goal, goal, shown, Shown-plan, yes-plan}
 use Rattle.logic.specs.Limits.{limit-grounds}
 use Rattle.blocks.specs.Bytes.{Bytes, All-bytes}
@@ -32,7 +32,7 @@ use Rattle.protocol.specs.History.{after}
 use Rattle.protocol.specs.Replies.{Session}
 
 -- "for every plan question that the desk then holds with its accepted model, within the path and plan limits": its root is "plan" or of
--- operator 9, and asks of plans what the goal says: their steps, the total of each, and whether that meets the bound.
+-- operator 9, and asks of plans what the goal says: their steps, the total of each, whether that meets the bound, and its lamp.
 pub record Plan-question (h : Held) : Type 0 where
   pub model : Model
   pub question : Question
@@ -73,7 +73,7 @@ module _ {h : Held} (reply : Call → Reply) (x : Plan-question h) where
   abbrev pub meets-bound : Asked-plan → Bool
   meets-bound π = x .asked .met π
 
-  -- how a plan's total stands to the bound: `lamp-by-W` and `lamp-by-gain` below say so
+  -- how a plan's total compares with the bound: `lamp-by-W` and `lamp-by-gain` below say so
   abbrev pub lamp : Asked-plan → Lamp
   lamp π = x .asked .lamp π
 
@@ -128,15 +128,14 @@ module _ {h : Held} (reply : Call → Reply) (x : Plan-question h) where
         → meets-bound π ≡ meets naturals (x .model) (x .asked .steps) (c .relation) (c .p) (c .q) (W (x .model) φ (x .asked .steps) start π)
     pub met-by-gain : (l u : ℕ) (c : On-gain l u) (π : Asked-plan)
         → meets-bound π ≡ meets integers (x .model) (x .asked .steps) (c .relation) (c .p) (c .q) (total π)
-    -- A.4: "The comparison of a total with its bound shall tell below, at or above": the total stands to the bound in the relation of which its
-    -- lamp lamp-relation, "less" for below, "equal" for at, "greater" for above
+    -- A.4: "The comparison of a total with its bound shall tell below, at or above": the total is to the bound in the lamp's relation, "less" for
+    -- below, "equal" for at, "greater" for above
     pub lamp-by-W : (φ : Formula) (c : On-condition φ) (π : Asked-plan)
         → meets naturals (x .model) (x .asked .steps) (lamp-relation (lamp π)) (c .p) (c .q) (W (x .model) φ (x .asked .steps) start π) ≡ true
     pub lamp-by-gain : (l u : ℕ) (c : On-gain l u) (π : Asked-plan)
         → meets integers (x .model) (x .asked .steps) (lamp-relation (lamp π)) (c .p) (c .q) (total π) ≡ true
-    -- and whether it meets the bound follows: it does exactly when the lamp lamp-relation of the bound's relation
-    pub W-met-by-lamp : (φ : Formula) (c : On-condition φ) (π : Asked-plan) → (meets-bound π ≡ true) ↔ (lamp-relation (lamp π) ≡ c .relation)
-    pub gain-met-by-lamp : (l u : ℕ) (c : On-gain l u) (π : Asked-plan) → (meets-bound π ≡ true) ↔ (lamp-relation (lamp π) ≡ c .relation)
+    -- and whether it meets the bound follows: it does exactly when the lamp's relation is the root's
+    pub met-by-lamp : (π : Asked-plan) → (meets-bound π ≡ true) ↔ (lamp-relation (lamp π) ≡ on-bound equal (λ n r. r) (x .question .root))
     -- "accepts it exactly when two weights are equal"
     pub check-exact : (sheet : Bytes) (w : ℤ) (π : Asked-plan) → Claims sheet w π → ((report : Report) × Accepts sheet report) ↔ (w ≡ total π)
     -- of operator 8, where the weight claimed is document 01's u64: exactly when the number of the eight bytes, unsigned, is W

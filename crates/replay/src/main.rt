@@ -51,7 +51,7 @@ fn put_plan(out: &mut [u8], at: usize, p: PlanRecord, choices: &[u8]) -> usize
     requires { ⌜ (at + 5600 ≤ length (now out)) × (length (now choices) ≤ 1365) ⌝ }
     ensures range { λ r. ⌜ r ≤ at + 5600 ⌝ }
 {
-    let mut next = verdict_line::put_signed(out, at, b" yes ", p.weight);
+    let mut next = verdict_line::put_signed(out, at, b" yes ", p.total);
     next = verdict_line::put_decimal(out, next, b" ", p.steps as u64);
     let lamp = p.lamp;
     next = verdict_line::put_lamp(out, next, lamp);
@@ -61,8 +61,8 @@ fn put_plan(out: &mut [u8], at: usize, p: PlanRecord, choices: &[u8]) -> usize
 }
 
 fn put_denial(out: &mut [u8], at: usize, x: Denial) -> usize
-    requires { ⌜ at + 5600 ≤ length (now out) ⌝ }
-    ensures range { λ r. ⌜ r ≤ at + 5600 ⌝ }
+    requires { ⌜ at + 30 ≤ length (now out) ⌝ }
+    ensures range { λ r. ⌜ r ≤ at + 30 ⌝ }
 {
     let next = verdict_line::put_decimal(out, at, b" no ", x.count as u64);
     let light = x.lamp;

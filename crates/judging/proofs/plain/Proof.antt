@@ -3,7 +3,7 @@ use mathlib.Core.Path.{sym, ap}
 use mathlib.Core.Bool.{cond}
 use mathlib.Core.Option.{none}
 use Rattle.lamp.specs.promises.Codes.{optional-code}
-use Rattle.judging.specs.declared.Outcome.the-variants.{No, Yes}
+use Rattle.judging.specs.declared.Verdict.the-variants.{No, Yes}
 use Rattle.judging.proofs.plain.Statement.{statement}
 use Rattle.judging.proofs.plain.Tie as tie
 

@@ -1,5 +1,5 @@
--- The verdict on a question's root in its start state, and how it is told: in an outcome, with the choices of a shown plan beside it. And what is
--- told of a plan's choices.
+-- The verdict on a question's root in its start state as the code has it, with the choices of a shown plan beside it. And what is told of a plan's
+-- choices.
 use Prim.Native.Nat.{ℕ, _-_}
 use mathlib.Core.Path.{_≡_}
 use mathlib.Core.Bool.{cond}
@@ -21,8 +21,8 @@ use Rattle.blocks.specs.Splice.{splice}
 use Rattle.lamp.specs.promises.Codes.{lamp-code, optional-code}
 use Rattle.bounds.specs.promises.Bounded.{lowered, lamp-at}
 use Rattle.judging.specs.promises.Decided.{raised-at}
-use Rattle.judging.specs.declared.Outcome.{Outcome}
-use Rattle.judging.specs.declared.Outcome.the-variants.{No, Yes, YesPlan}
+use Rattle.judging.specs.declared.Verdict as code
+use Rattle.judging.specs.declared.Verdict.the-variants.{No, Yes, YesPlan}
 use Rattle.judging.specs.declared.Weighed.{Weighed}
 
 -- The root is the last node.
@@ -36,19 +36,19 @@ root-verdict M q = verdict M (start-of q) (formula q (root q))
 unfoldable pub no-lamp : (m q : Bytes) (j x : ℕ) → Option Lamp
 no-lamp m q j x = cond (eqb ((node-of q j) .right) 2) none (some (lamp-at m q j (lowered m q j x)))
 
-unfoldable pub told : Verdict → Outcome
-told (no x) = No (record { count = x .count; lamp = optional-code (x .lamp) })
-told yes = Yes
-told (yes-plan x) = YesPlan (record { total = x .total; lamp = lamp-code (x .lamp); steps = x .steps; count = x .count })
+unfoldable pub verdict-code : Verdict → code.Verdict
+verdict-code (no x) = No (record { count = x .count; lamp = optional-code (x .lamp) })
+verdict-code yes = Yes
+verdict-code (yes-plan x) = YesPlan (record { total = x .total; lamp = lamp-code (x .lamp); steps = x .steps; count = x .count })
 
 unfoldable pub shown-choices : Verdict → List ℕ
 shown-choices (no x) = []
 shown-choices yes = []
 shown-choices (yes-plan x) = x .choices
 
--- The outcome tells the verdict, and the choices are written over those before, from the beginning.
-abbrev pub Announces : Verdict → Outcome → (before after : List ℕ) → Type 0
-Announces v r before after = (r ≡ told v) × (after ≡ splice before 0 (shown-choices v))
+-- The verdict, and the choices written over those before, from the beginning.
+abbrev pub Announces : Verdict → code.Verdict → (before after : List ℕ) → Type 0
+Announces v r before after = (r ≡ verdict-code v) × (after ≡ splice before 0 (shown-choices v))
 
 -- The choices are those of a plan from the start.
 abbrev pub Spelled : Model → (q choices : Bytes) → Type 0

@@ -15,10 +15,9 @@ use Rattle.prepared_model.specs.promises.Rows.{model-in, Prepares}
 use Rattle.protocol.specs.promises.Chains.{do-judge}
 use Rattle.judging.specs.promises.Announced.{root-verdict}
 use Rattle.plan_judge.specs.View.{view}
-use Rattle.plan_judge.specs.promises.State.{verdict-from}
 use Rattle.plan_judge.proofs.LoadPutReturn.{said-bytes, cut-inside, cut-said}
 use Rattle.plan_judge.proofs.StateGrounds.{Both, both}
-use Rattle.plan_judge.proofs.JudgeReturns.{verdict-told, choices-told, judge-refused, ground-state, limits-prepared, asked-prepared, served, judge-done}
+use Rattle.plan_judge.proofs.JudgeReturns.{choices-told, judge-refused, ground-state, limits-prepared, asked-prepared, served, judge-done}
 use borrow.Author.Needs.{needs}
 use Rattle.plan_judge.proofs.judge.Statement.{statement}
 use Rattle.plan_judge.proofs.judge.Tie as tie
@@ -108,16 +107,13 @@ judged-requires c κs = let N = c .before .before .before .before .before .befor
     let P = N .before .before in
     (served (P .before .before .before .before .before .before .before .args .d) (both-held P) (prepared P) (shared N) (past (c .before .before .before)), omega arith)
 
-verdict-of-requires : tie.Need-verdict-of-requires
-verdict-of-requires c κs = search needs
-
 returns-3 : tie.Need-returns-3
-returns-3 c = let N = c .before .before .before .before .before .before .before .before .before .before in
+returns-3 c = let N = c .before .before .before .before .before .before .before .before .before in
     let P = N .before .before in
     let d = P .before .before .before .before .before .before .before .args .d in
     let v = root-verdict (model-in (P .prepare-model .result)) (N .prepare-question .result) in
-    let o = c .before .before .judged .ensures in
-    judge-done d (both-held P) (prepared P) (shared N) (past (c .before .before .before .before .before .before)) _ (o .1 ∙ choices-told v) (c .verdict-of .result) (c .verdict-of .ensures ∙ ap verdict-from (o .0) ∙ verdict-told v)
+    let o = c .before .judged .ensures in
+    judge-done d (both-held P) (prepared P) (shared N) (past (c .before .before .before .before .before)) _ (o .1 ∙ choices-told v) (c .before .judged .result) (o .0)
 
 pub judge-spec : {M : Type 1} → statement M
 judge-spec =
@@ -137,5 +133,4 @@ judge-spec =
     returns-2
     slice-aggregate-judged
     judged-requires
-    verdict-of-requires
     returns-3)

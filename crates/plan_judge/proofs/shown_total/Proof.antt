@@ -18,7 +18,7 @@ enum-told-2 c = search needs
 
 returns : tie.Need-returns
 unfolding shown-total
-returns c = toZ-ofZ w64 (c .before .before .v .given .0 .0 .weight) (record { sfits = c .struct-told .given .0 .1 }) ∙ sym (ap shown-total (c .before .before .v .given .1))
+returns c = toZ-ofZ w64 (c .before .before .v .given .0 .0 .total) (record { sfits = c .struct-told .given .0 .1 }) ∙ sym (ap shown-total (c .before .before .v .given .1))
 
 returns-2 : tie.Need-returns-2
 unfolding shown-total

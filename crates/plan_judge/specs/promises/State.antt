@@ -1,5 +1,4 @@
--- What judge, write and check find: on the desk a model, a question, a goal, a shown plan; on a sheet a plan; in an outcome of judging a
--- verdict.
+-- What judge, write and check find: on the desk a model, a question, a goal, a shown plan; on a sheet a plan.
 use Prim.Native.Nat.{ℕ, _*_, _-_}
 use mathlib.Core.Path.{_≡_}
 use mathlib.Core.Bool.{true, cond}
@@ -23,10 +22,8 @@ use Rattle.questions.specs.Grounds.{read-question}
 use Rattle.questions.specs.promises.Formed.{sets-bound}
 use Rattle.sheets.specs.Grounds.{read-sheet}
 use Rattle.protocol.specs.Calls.{Held}
-use Rattle.judging.specs.declared.Outcome.{Outcome}
-use Rattle.judging.specs.declared.Outcome.the-variants as outcomes
-use Rattle.plan_judge.specs.declared.Verdict.{Verdict}
-use Rattle.plan_judge.specs.declared.Verdict.the-variants.{No, Yes, YesPlan}
+use Rattle.judging.specs.declared.Verdict.{Verdict}
+use Rattle.judging.specs.declared.Verdict.the-variants.{No, Yes, YesPlan}
 
 -- How many bytes of a desk's model are held.
 unfoldable pub held-size : Bytes → ℕ → ℕ
@@ -70,7 +67,7 @@ shown-size (some (logic.yes-plan x)) = length (x .choices)
 unfoldable pub shown-total : Verdict → ℤ
 shown-total (No x) = pos 0
 shown-total Yes = pos 0
-shown-total (YesPlan x) = x .weight
+shown-total (YesPlan x) = x .total
 
 -- ---- the plan on a sheet: grounds 1 to 6, then 10
 
@@ -78,10 +75,3 @@ unfoldable pub plan-on : Model → (n start : ℕ) → Bytes → Checked (Plan n
 plan-on m n start b = do
   x ← read-sheet n start b
   plan-of m n start (x .choices)
-
--- ---- the verdict that an outcome of judging tells
-
-unfoldable pub verdict-from : Outcome → Verdict
-verdict-from (outcomes.No x) = No (record { count = x .count; lamp = x .lamp })
-verdict-from outcomes.Yes = Yes
-verdict-from (outcomes.YesPlan x) = YesPlan (record { weight = x .total; lamp = x .lamp; steps = x .steps; count = x .count })

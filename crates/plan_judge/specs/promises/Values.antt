@@ -14,8 +14,8 @@ use Rattle.lamp.specs.promises.Codes.{lamp-code, optional-code}
 use Rattle.plan_judge.specs.declared.Desk.{Desk}
 use Rattle.plan_judge.specs.declared.Taken.the-variants.{Done, Refused}
 use Rattle.plan_judge.specs.declared.Taking.{Taking}
-use Rattle.plan_judge.specs.declared.Verdict.{Verdict}
-use Rattle.plan_judge.specs.declared.Verdict.the-variants.{No, Yes, YesPlan}
+use Rattle.judging.specs.declared.Verdict.{Verdict}
+use Rattle.judging.specs.declared.Verdict.the-variants.{No, Yes, YesPlan}
 use Rattle.plan_judge.specs.declared.Judgement.{Judgement}
 use Rattle.plan_judge.specs.declared.Judgement.the-variants.{Judged}
 use Rattle.plan_judge.specs.declared.Judging.{Judging}
@@ -23,6 +23,7 @@ use Rattle.plan_judge.specs.declared.Written.{Written}
 use Rattle.plan_judge.specs.declared.Written.the-variants.{Bytes as Filled}
 use Rattle.plan_judge.specs.declared.Checking.{Checking}
 use Rattle.plan_judge.specs.declared.Checking.the-variants.{Accepted}
+use Rattle.judging.specs.promises.Announced.{verdict-code}
 use Rattle.plan_judge.specs.View.{view}
 
 -- The bytes with zeros after them, n in all.
@@ -61,12 +62,7 @@ put-by d b = taking d (do-put (view d) b) (asking d b)
 
 -- ---- judge
 
--- A verdict as it is returned and held: its record, and its choices with zeros after them.
-unfoldable pub verdict-code : logic.Verdict → Verdict
-verdict-code (logic.no x) = No (record { count = x .count; lamp = optional-code (x .lamp) })
-verdict-code logic.yes = Yes
-verdict-code (logic.yes-plan x) = YesPlan (record { weight = x .total; lamp = lamp-code (x .lamp); steps = x .steps; count = x .count })
-
+-- The choices of a verdict as they are returned and held, with zeros after them.
 unfoldable pub choices-code : logic.Verdict → Bytes
 choices-code (logic.no x) = replicate 1365 0
 choices-code logic.yes = replicate 1365 0

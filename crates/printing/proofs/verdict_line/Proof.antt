@@ -54,7 +54,7 @@ returns-3 : tie.Need-returns-3
 unfolding shown-line
 returns-3 c = let v = c .before .before .before .before .before .before .before .v2 .given in
     let p = v .0 .0 in
-    let line = rw (toZ-ofZ w64 (p .weight) (record { sfits = c .before .before .before .struct-told .given .0 .1 })) at (c .before .before .yes-plan-line .ensures) in
+    let line = rw (toZ-ofZ w64 (p .total) (record { sfits = c .before .before .before .struct-told .given .0 .1 })) at (c .before .before .yes-plan-line .ensures) in
     rw (v .1, sym (c .before .before .before .before .whole .ensures)) line
 
 pub verdict-line-spec : {M : Type 1} → statement M

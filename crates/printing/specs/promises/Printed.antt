@@ -18,8 +18,8 @@ use Rattle.protocol.specs.Calls.{load, put, question-for}
 use Rattle.verdict_line.specs.Line.{plain-line, no-plans-line, yes-plan-line, verdict-line}
 use Rattle.lamp.specs.Said.{said-lamp, said-optional}
 use Rattle.plan_judge.specs.declared.Desk.{Desk}
-use Rattle.plan_judge.specs.declared.Verdict.{Verdict}
-use Rattle.plan_judge.specs.declared.Verdict.the-variants.{No, Yes, YesPlan}
+use Rattle.judging.specs.declared.Verdict.{Verdict}
+use Rattle.judging.specs.declared.Verdict.the-variants.{No, Yes, YesPlan}
 use Rattle.plan_judge.specs.promises.Values.{nothing}
 use Rattle.plan_judge.specs.promises.Session.{desk-after}
 
@@ -55,7 +55,7 @@ plan-root q = sets-bound (node-of q (node-count q - 1) .operator)
 unfoldable pub shown-line : (D : ℕ) → Bool → Verdict → List ℕ → List ℕ
 shown-line D bounded (No x) cs = cond bounded (no-plans-line (x .count) (said-optional (x .lamp))) (plain-line false)
 shown-line D bounded Yes cs = plain-line true
-shown-line D bounded (YesPlan x) cs = yes-plan-line (x .weight) (D ^ x .steps) (said-lamp (x .lamp)) (x .count) cs
+shown-line D bounded (YesPlan x) cs = yes-plan-line (x .total) (D ^ x .steps) (said-lamp (x .lamp)) (x .count) cs
 
 -- The steps of the plan record; 0 where there is none.
 unfoldable pub shown-steps : Verdict → ℕ
