@@ -26,13 +26,12 @@ ghost use Rattle.plan_judge.specs.promises.State.{held-both, held-goal, 
 
 pub mod c_call;
 
+use blocks::BLOCK;
 pub use judging::Denial;
 pub use judging::PlanRecord;
 pub use judging::Verdict;
 pub use lamp::Lamp;
 pub use lamp::OptionalLamp;
-
-use blocks::BLOCK;
 use limits::limit_refusal;
 use plan_choices::CHOICES;
 use prepared_model::MODEL;

@@ -22,14 +22,14 @@ use verdict_line::LINE;
 const MOST_INPUT: usize = 6656;
 
 // The line of a no.
-fn no_line(out: &mut [u8], q: &[u8], count: u32, light: OptionalLamp) -> usize
+fn no_line(out: &mut [u8], q: &[u8], count: u32, lamp: OptionalLamp) -> usize
     requires { ⌜ (8192 ≤ length (now out)) × (1 ≤ node-count (now q)) ⌝ }
     ensures effect { λ r.
         let out′ = now (out .exit) in let q = now (q .entry) in let out = now (out .entry) in
-        ⌜ Put (cond (plan-root q) (no-plans-line count (said-optional light)) (plain-line false)) out out′ 0 r ⌝ }
+        ⌜ Put (cond (plan-root q) (no-plans-line count (said-optional lamp)) (plain-line false)) out out′ 0 r ⌝ }
 {
     if questions::root_sets_bound(q) {
-        return verdict_line::no_plans_line(out, count, light);
+        return verdict_line::no_plans_line(out, count, lamp);
     }
     verdict_line::plain_line(out, false)
 }
@@ -52,20 +52,13 @@ fn verdict_line(out: &mut [u8], model: &[u8], q: &[u8], v: Verdict, choices: &[u
 {
     match v {
         Verdict::No(x) => {
-            let light = x.lamp;
-            no_line(out, q, x.count, light)
+            let lamp = x.lamp;
+            no_line(out, q, x.count, lamp)
         }
         Verdict::Yes => verdict_line::plain_line(out, true),
         Verdict::YesPlan(p) => {
             let lamp = p.lamp;
-            verdict_line::yes_plan_line(
-                out,
-                p.total,
-                whole(model, p.steps),
-                lamp,
-                p.count,
-                choices,
-            )
+            verdict_line::yes_plan_line(out, p.total, whole(model, p.steps), lamp, p.count, choices)
         }
     }
 }

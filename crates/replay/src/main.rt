@@ -65,8 +65,8 @@ fn put_denial(out: &mut [u8], at: usize, x: Denial) -> usize
     ensures range { λ r. ⌜ r ≤ at + 30 ⌝ }
 {
     let next = verdict_line::put_decimal(out, at, b" no ", x.count as u64);
-    let light = x.lamp;
-    verdict_line::put_optional(out, next, light)
+    let lamp = x.lamp;
+    verdict_line::put_optional(out, next, lamp)
 }
 
 fn put_verdict(out: &mut [u8], at: usize, v: Verdict, choices: &[u8]) -> usize

@@ -26,7 +26,7 @@ unfoldable pub plain-line : Bool → List ℕ
 plain-line true = text "yes\n"
 plain-line false = text "no\n"
 
--- "The program prints `below`, `at` or `above`"
+-- "The program prints `below`, `at` or `above`", after a space
 unfoldable pub lamp-word : Lamp → List ℕ
 lamp-word below = text " below"
 lamp-word at = text " at"

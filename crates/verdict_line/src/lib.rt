@@ -73,13 +73,13 @@ pub fn put_lamp(out: &mut [u8], at: usize, lamp: Lamp) -> usize
     }
 }
 
-// The same where there is a lamp.
-pub fn put_optional(out: &mut [u8], at: usize, light: OptionalLamp) -> usize
+// The same, or nothing where there is no lamp.
+pub fn put_optional(out: &mut [u8], at: usize, lamp: OptionalLamp) -> usize
     requires { ⌜ at + 6 ≤ length (now out) ⌝ }
-    ensures effect { λ r. ⌜ Put (optional-word (said-optional light)) (now (out .entry)) (now (out .exit)) at r ⌝ }
+    ensures effect { λ r. ⌜ Put (optional-word (said-optional lamp)) (now (out .entry)) (now (out .exit)) at r ⌝ }
     ensures range { λ r. ⌜ r ≤ at + 6 ⌝ }
 {
-    match light {
+    match lamp {
         OptionalLamp::Missing => at,
         OptionalLamp::Present(l) => put_lamp(out, at, l),
     }
@@ -106,12 +106,12 @@ pub fn plain_line(out: &mut [u8], yes: bool) -> usize
 }
 
 // The line of a no to a root that sets a bound on plans.
-pub fn no_plans_line(out: &mut [u8], count: u32, light: OptionalLamp) -> usize
+pub fn no_plans_line(out: &mut [u8], count: u32, lamp: OptionalLamp) -> usize
     requires { ⌜ 8192 ≤ length (now out) ⌝ }
-    ensures effect { λ r. ⌜ Put (no-plans-line count (said-optional light)) (now (out .entry)) (now (out .exit)) 0 r ⌝ }
+    ensures effect { λ r. ⌜ Put (no-plans-line count (said-optional lamp)) (now (out .entry)) (now (out .exit)) 0 r ⌝ }
 {
     let mut next = put_decimal(out, 0, b"no plans ", count as u64);
-    next = put_optional(out, next, light);
+    next = put_optional(out, next, lamp);
     put_text(out, next, b"\n")
 }
 

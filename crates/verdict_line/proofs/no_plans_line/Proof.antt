@@ -13,8 +13,8 @@ slice-aggregate-put-decimal c = search needs
 put-decimal-requires : tie.Need-put-decimal-requires
 put-decimal-requires c κs = search needs
 
-put-light-requires : tie.Need-put-light-requires
-put-light-requires c κs = omega arith
+put-optional-requires : tie.Need-put-optional-requires
+put-optional-requires c κs = omega arith
 
 slice-aggregate-put-text : tie.Need-slice-aggregate-put-text
 slice-aggregate-put-text c = search needs
@@ -28,13 +28,13 @@ same-length c = search needs
 returns : tie.Need-returns
 unfolding no-plans-line text
 returns c = let number = c .before .before .before .before .before .before .before .before .before .before .before .put-decimal in
-    let light = c .before .before .before .before .before .before .before .put-optional in
+    let lamp = c .before .before .before .before .before .before .before .put-optional in
     let end = c .before .before .put-text in
     let long = c .before .before .before .before .before .before .before .before .before .before .before .before .before .before .before .pre in
     let h₁ = number .ensures .1 in
-    let h₂ = light .ensures .1 in
+    let h₂ = lamp .ensures .1 in
     let h₃ = end .ensures .next in
-    put-put (put-put (number .ensures .0) (light .ensures .0) (omega arith)) (end .ensures) (omega arith)
+    put-put (put-put (number .ensures .0) (lamp .ensures .0) (omega arith)) (end .ensures) (omega arith)
 
 pub no-plans-line-spec : {M : Type 1} → statement M
 no-plans-line-spec =
@@ -42,7 +42,7 @@ no-plans-line-spec =
     (tie.spec
     slice-aggregate-put-decimal
     put-decimal-requires
-    put-light-requires
+    put-optional-requires
     slice-aggregate-put-text
     put-text-requires
     same-length

@@ -10,8 +10,8 @@ use Rattle.verdict_line.proofs.put_optional.Tie as tie
 enum-told : tie.Need-enum-told
 enum-told c = search needs
 
-enum-known-light : tie.Need-enum-known-light
-enum-known-light c = search needs
+enum-known-lamp : tie.Need-enum-known-lamp
+enum-known-lamp c = search needs
 
 put-lamp-requires : tie.Need-put-lamp-requires
 put-lamp-requires c κs = search needs
@@ -27,9 +27,9 @@ same-length c = search needs
 returns-2 : tie.Need-returns-2
 unfolding optional-word said-optional
 returns-2 c = let put = c .before .before .put-lamp in
-    (rw (c .before .before .before .before .before .light .given .1) (put .ensures .0), put .ensures .1)
+    (rw (c .before .before .before .before .before .lamp .given .1) (put .ensures .0), put .ensures .1)
 
-pub put-light-spec : {M : Type 1} → statement M
-put-light-spec =
+pub put-optional-spec : {M : Type 1} → statement M
+put-optional-spec =
     tie.close
-    (tie.spec enum-told enum-known-light put-lamp-requires returns same-length returns-2)
+    (tie.spec enum-told enum-known-lamp put-lamp-requires returns same-length returns-2)
