@@ -8,7 +8,7 @@ use mathlib.Core.Bool.{Bool, true, false, cond, _&&_, false≢true}
 use mathlib.Core.Option.{none, some}
 use mathlib.Core.List.{List, [], _∷_, List·Memᴰ, List·Memᴰ·not-nil}
 use lib.Dec.{not-T, T-not}
-use Rattle.logic.specs.Lists.{all, any, find}
+use Rattle.logic.specs.Lists.{any, find}
 use Rattle.logic.specs.Model.{Model, Step}
 use Rattle.logic.specs.Plan.{Plan, plans}
 use lib.IntN.{ℤ}

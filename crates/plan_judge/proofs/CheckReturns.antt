@@ -1,5 +1,5 @@
 -- What check returns, at each of its returns: the grounds of the state, of the limits and of the sheet in their order, then whether the
--- total of the plan on the sheet is the sheet's and meets the bound.
+-- total of the plan on the sheet is the sheet's, and if so whether it meets the bound, and its lamp.
 use Prim.Native.Nat.{ℕ, _-_}
 use native.Mathlib.Omega.{arith}
 use mathlib.Core.Path.{_≡_, sym, ap, ap₂, subst, _∙_}
@@ -190,7 +190,7 @@ module _ (m q : Bytes) (r : PlanRoot m q) (b : Bytes) where
       weighs : (w .total ≡ g .total (o .plan)) × (w .met ≡ g .met (o .plan)) × (w .lamp ≡ lamp-code (g .lamp (o .plan)))
       weighs = weighs-there p h (sheet-of b .choices) (o .plan) (o .read) x
 
-      -- What check does past the sheet, by whether the totals are the same.
+      -- What check does past the sheet, by the plan's total and whether that meets the bound.
       abbrev compares : ℤ → Bool → Checked Report
       compares z t = guard 11 (same (sheet-of b .weight) z) >> ok (record { met = t; lamp = g .lamp (o .plan) })
 
@@ -201,6 +201,7 @@ module _ (m q : Bytes) (r : PlanRoot m q) (b : Bytes) where
           ∙ ap (λ c. c >>= decides (sheet-of b .weight)) (o .read)
           ∙ ap₂ compares (sym (weighs .0)) (sym (weighs .1))
 
+      -- By whether the totals are the same.
       abbrev passing : Bool → Checked Report
       passing t = guard 11 t >> ok (record { met = w .met; lamp = g .lamp (o .plan) })
 
