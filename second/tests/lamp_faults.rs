@@ -43,7 +43,7 @@ const SOME_CHECKS: &[(&str, usize)] = &[("small", 8), ("judges", 8), ("sheets", 
 const VERDICTS: &[(&str, usize)] = &[("small", 30), ("judges", 30), ("sheets", 3), ("lists", 10)];
 const BOTH: &[u8] = &[8, 9];
 
-const TOLD: [Row; 17] = [
+const TOLD: [Row; 24] = [
     Row {
         streams: EVERYWHERE,
         answers: &[YES, NO, CHECK],
@@ -122,11 +122,91 @@ const TOLD: [Row; 17] = [
         operators: BOTH,
         faults: &[Fault::OtherBound],
     },
+    // A sheet after a yes, and after a no.
     Row {
-        streams: EVERYWHERE,
+        streams: &[("small", 15), ("judges", 15), ("sheets", 50), ("tight", 20)],
         answers: &[CHECK],
         operators: BOTH,
-        faults: &[Fault::OfTheVerdict],
+        faults: &[Fault::OfTheYes, Fault::OfTheNo],
+    },
+    // A silent state gains nothing, so that nothing is lost for operator 9
+    // where paths end there.
+    Row {
+        streams: &[
+            ("small", 100),
+            ("judges", 100),
+            ("sheets", 20),
+            ("lists", 50),
+            ("tight", 30),
+        ],
+        answers: &[NO],
+        operators: &[8],
+        faults: &[Fault::PathsEnd],
+    },
+    Row {
+        streams: &[("small", 5), ("judges", 2)],
+        answers: &[NO],
+        operators: BOTH,
+        faults: &[Fault::SilentPassedOver],
+    },
+    Row {
+        streams: &[
+            ("small", 100),
+            ("judges", 100),
+            ("sheets", 40),
+            ("lists", 100),
+        ],
+        answers: &[NO],
+        operators: &[8],
+        faults: &[Fault::NestedFalse],
+    },
+    Row {
+        streams: &[
+            ("small", 100),
+            ("judges", 100),
+            ("sheets", 20),
+            ("lists", 5),
+            ("tight", 10),
+        ],
+        answers: &[NO],
+        operators: &[9],
+        faults: &[Fault::BestUnsigned, Fault::BestBySize],
+    },
+    Row {
+        streams: &[
+            ("small", 400),
+            ("judges", 400),
+            ("sheets", 20),
+            ("lists", 100),
+            ("tight", 10),
+        ],
+        answers: &[YES, NO],
+        operators: BOTH,
+        faults: &[Fault::LastKept],
+    },
+    // A no to "equal", then another root.
+    Row {
+        streams: &[
+            ("small", 400),
+            ("judges", 400),
+            ("sheets", 20),
+            ("lists", 100),
+            ("tight", 50),
+        ],
+        answers: &[NO],
+        operators: BOTH,
+        faults: &[Fault::LastLeft],
+    },
+    Row {
+        streams: &[
+            ("small", 400),
+            ("judges", 400),
+            ("lists", 100),
+            ("tight", 100),
+        ],
+        answers: &[YES, NO],
+        operators: &[0],
+        faults: &[Fault::LastLeft],
     },
     Row {
         streams: SOME_CHECKS,
@@ -218,8 +298,8 @@ fn every_fault_is_told() {
     }
 }
 
-/// The calls of a fixture: a question is judged, a sheet checked.
-fn calls(file: &Path) -> Vec<u8> {
+/// The calls of a fixture: a question is judged, and a sheet checked after it.
+fn calls(file: &Path) -> Vec<Call> {
     let model = named(file, "model");
     let question = says(file, "question").map(|_| named(file, "question"));
     let mut packed = vec![model.as_path()];
@@ -228,13 +308,19 @@ fn calls(file: &Path) -> Vec<u8> {
     let mut parts = pack(&packed).into_iter();
     let mut calls: Vec<Call> = parts.next().map(Call::Load).into_iter().collect();
     calls.extend(parts.next().map(Call::Put));
-    calls.push(parts.next().map_or(Call::Judge, Call::Check));
-    calls.iter().flat_map(Call::record).collect()
+    calls.push(Call::Judge);
+    calls.extend(parts.next().map(Call::Check));
+    calls
+}
+
+fn told_by(calls: &[Call]) -> Differences {
+    let records = calls.iter().flat_map(Call::record);
+    differences(&records.collect::<Vec<u8>>())
 }
 
 /// The fixtures that are there for a fault, and the answer in which they tell
 /// it.
-const FIXTURES: [(&str, &str, Fault); 22] = [
+const FIXTURES: [(&str, &str, Fault); 28] = [
     ("held-less-18-100.question", NO, Fault::FirstPlan),
     ("held-greater-45-100.question", NO, Fault::LastPlan),
     ("held-greater-45-100.question", NO, Fault::WrongEnd),
@@ -259,8 +345,30 @@ const FIXTURES: [(&str, &str, Fault); 22] = [
         NO,
         Fault::ShortTotal,
     ),
-    ("greater-24-twenty-four.sheet", CHECK, Fault::OfTheVerdict),
-    ("greater-45-thirty.sheet", CHECK, Fault::OfTheVerdict),
+    (
+        "silent-both-steps-greater-5.question",
+        NO,
+        Fault::SilentPassedOver,
+    ),
+    (
+        "silent-next-done-greater-1.question",
+        NO,
+        Fault::SilentPassedOver,
+    ),
+    (
+        "silent-next-not-done-less-0.question",
+        NO,
+        Fault::SilentPassedOver,
+    ),
+    ("nested-above-root-at.question", NO, Fault::NestedFalse),
+    (
+        "step-1-greater-minus-100-100.question",
+        NO,
+        Fault::BestUnsigned,
+    ),
+    ("step-1-less-minus-200-100.question", NO, Fault::BestBySize),
+    ("greater-24-twenty-four.sheet", CHECK, Fault::OfTheYes),
+    ("greater-45-thirty.sheet", CHECK, Fault::OfTheNo),
     ("less-30-thirty.sheet", CHECK, Fault::AtAsBelow),
     ("equal-29-thirty.sheet", CHECK, Fault::OneUnitIsAt),
     ("step-1-at-minus-100.sheet", CHECK, Fault::TotalUnsigned),
@@ -274,21 +382,27 @@ const FIXTURES: [(&str, &str, Fault); 22] = [
 #[test]
 fn fixtures_tell_faults() {
     for (name, answer, fault) in FIXTURES {
-        let counts = differences(&calls(&fixtures().join("lamps").join(name)));
+        let counts = told_by(&calls(&fixtures().join("lamps").join(name)));
         let told = counts.keys().any(|key| (key.0, key.1) == (fault, answer));
         assert!(told, "{name} {fault:?}");
     }
 }
 
 /// All faults but one are told by questions and sheets whose answers were
-/// worked out by hand; singles happen to tell them all rightly.
+/// worked out by hand; singles happen to tell them all rightly. A model is
+/// loaded once for all fixtures in a row.
 #[test]
 fn handmade_answers_tell_faults() {
     let folders = ["two-shelf", "two-shelf-gains", "two-shelf-silent", "lamps"];
     let folders = folders.into_iter().chain(["toll", "six-tries", "thirds"]);
     let inputs = folders.flat_map(|folder| [files(folder, "question"), files(folder, "sheet")]);
-    let inputs: Vec<u8> = inputs.flatten().flat_map(|file| calls(&file)).collect();
-    let counts = differences(&inputs);
+    let mut made: Vec<Call> = inputs.flatten().flat_map(|file| calls(&file)).collect();
+    let mut loaded = None;
+    made.retain(|call| match call {
+        Call::Load(model) => loaded.replace(model.clone()).as_ref() != Some(model),
+        _ => true,
+    });
+    let counts = told_by(&made);
     for fault in ALL {
         let told = counts.keys().any(|key| key.0 == fault);
         assert_eq!(told, fault != Fault::DividedSingles, "{fault:?}");

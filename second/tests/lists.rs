@@ -169,7 +169,7 @@ fn lamp_of_all(relation: Relation, answers: &[Checked]) -> Option<Lamp> {
 }
 
 /// The plan's sheet is accepted with its total and with no other; gives the
-/// answer, whether it meets the bound and how it stands to it.
+/// answer, whether it meets the bound and its lamp.
 fn accepted_exactly(desk: &Desk, model: &Model, question: &Question, plan: &Plan) -> Checked {
     let root = question.root_plan().expect("a plan root");
     let total = plain::total_of(model, question, &root, plan);
@@ -194,7 +194,7 @@ fn accepted_exactly(desk: &Desk, model: &Model, question: &Question, plan: &Plan
     Checked { met, lamp }
 }
 
-/// How a total over `whole` stands to the bound, by the sign of how far it
+/// How a total over `whole` compares with the bound, by the sign of how far it
 /// lies over it.
 fn lamp_of(root: &PlanNode, total: i128, whole: u64) -> Lamp {
     let over = total * i128::from(root.bound.q) - i128::from(root.bound.p) * i128::from(whole);

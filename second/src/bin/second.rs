@@ -1,7 +1,7 @@
 //! The second implementation's commands; `README.md` describes each.
 
 use second::compare::compare;
-use second::desk::{c_calls, next_call, verdict_line, Desk, JudgeKind};
+use second::desk::{c_calls, next_call, pairs, verdict_line, Desk, JudgeKind};
 use second::generate::{bench_cases, stream};
 use second::tally::tally;
 use second::timing::time;
@@ -13,6 +13,7 @@ const USAGE: &str = "usage: second [--plain] COMMAND
   verdict                    a model and a question to their verdict line
   replay                     a stream of calls to a line for each
   ccalls                     the C call on what a stream of calls loads and puts
+  pairs DIR COUNT            the models and questions of a stream of calls as files for verdict
   tally                      a stream of calls to counts of its answers
   floats                     a stream of calls to counts of the answers that judges in floats get wrong
   faults                     a stream of calls to counts of the answers that judges that err about silent states get wrong
@@ -48,6 +49,7 @@ fn run(kind: JudgeKind, words: &[&str]) -> io::Result<ExitCode> {
         ["verdict"] => print_line(&verdict_line(&read_input()?, kind))?,
         ["replay"] => replay(kind, &read_input()?)?,
         ["ccalls"] => ccalls(kind, &read_input()?)?,
+        ["pairs", folder, count] => return write_pairs(folder, count),
         ["tally"] => print_tally(&read_input()?)?,
         ["floats"] => print_floats(&read_input()?)?,
         ["faults"] => print_faults(&read_input()?)?,
@@ -95,6 +97,17 @@ fn ccalls(kind: JudgeKind, stream: &[u8]) -> io::Result<()> {
         writeln!(out, "{line}")?;
     }
     out.flush()
+}
+
+fn write_pairs(folder: &str, count: &str) -> io::Result<ExitCode> {
+    let Ok(count) = count.parse() else {
+        return Ok(usage());
+    };
+    std::fs::create_dir_all(folder)?;
+    for (number, pair) in pairs(&read_input()?, count).iter().enumerate() {
+        std::fs::write(format!("{folder}/{number:04}.bin"), pair)?;
+    }
+    Ok(ExitCode::SUCCESS)
 }
 
 fn print_tally(stream: &[u8]) -> io::Result<()> {

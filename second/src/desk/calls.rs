@@ -54,6 +54,11 @@ impl Desk {
         self.question.as_ref().ok_or(Ground::NoQuestion)
     }
 
+    /// The held verdict, if the question was judged.
+    pub fn judged(&self) -> Option<&Judged> {
+        self.judged.as_ref()
+    }
+
     /// The question's root, which must be a plan node of either kind.
     fn root_plan(&self) -> Result<PlanNode, Ground> {
         self.question()?.root_plan().ok_or(Ground::RootNotPlan)
@@ -109,7 +114,7 @@ impl Desk {
 
     /// The figures and choices of the plan that a yes shows.
     fn shown(&self) -> Option<(PlanRecord, &[u8])> {
-        let judged = self.judged.as_ref()?;
+        let judged = self.judged()?;
         match judged.verdict {
             Verdict::YesPlan(record) => Some((record, &judged.choices)),
             _ => None,
@@ -117,7 +122,7 @@ impl Desk {
     }
 
     /// Checks a sheet; on accepting it, tells whether its total meets the
-    /// bound, and how it stands to it.
+    /// bound, and its lamp.
     pub fn check(&self, bytes: &[u8]) -> Result<Checked, Ground> {
         let root = self.root_plan()?;
         let (model, question) = (self.model()?, self.question()?);

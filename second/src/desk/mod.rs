@@ -4,8 +4,10 @@ mod c_call;
 mod calls;
 mod line;
 mod list;
+mod pairs;
 
 pub use c_call::c_calls;
 pub use calls::{stored, Desk, JudgeKind};
 pub use line::{verdict_line, verdict_of};
 pub use list::{adler, next_call, replay, Answer, Call};
+pub use pairs::pairs;

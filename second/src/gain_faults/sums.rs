@@ -138,7 +138,7 @@ impl Reading {
         best.filter(|(_, total)| meeting(*total))
     }
 
-    /// How a total stands to the bound, to a judge with the fault.
+    /// How a total compares with the bound, to a judge with the fault.
     pub(super) fn lamp(&self, fault: Fault, total: i128) -> Lamp {
         lamp(fault, &self.node, total, self.whole)
     }
@@ -185,7 +185,7 @@ fn all_sums(model: &Model, node: &PlanNode, state: u8) -> Option<Vec<Sums>> {
     Some(found)
 }
 
-/// How a total stands to the node's bound, to a judge with the fault.
+/// How a total compares with the node's bound, to a judge with the fault.
 pub(super) fn lamp(fault: Fault, node: &PlanNode, total: i128, whole: u64) -> Lamp {
     let (p, q) = (i128::from(node.bound.p), i128::from(node.bound.q));
     let whole = i128::from(whole);

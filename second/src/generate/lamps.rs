@@ -10,7 +10,7 @@ use crate::desk::{stored, Call};
 use crate::logic::{fast, Bound, Lamp, Model, Plan, PlanNode, Question, Summed, Totals};
 
 /// A model, and questions about it, each with some sheets.
-pub(super) struct Lit {
+pub(super) struct Cases {
     pub(super) model: Vec<u8>,
     pub(super) asked: Vec<(Vec<u8>, Vec<Vec<u8>>)>,
 }
@@ -18,11 +18,11 @@ pub(super) struct Lit {
 /// Such a model and its questions: each is judged, its plan written, and the
 /// sheets are checked.
 pub(super) fn lamps(rng: &mut Rng) -> Vec<Call> {
-    let Some(lit) = lit(rng, 3) else {
+    let Some(cases) = cases(rng, 3) else {
         return Vec::new();
     };
-    let mut calls = vec![Call::Load(lit.model)];
-    for (question, sheets) in lit.asked {
+    let mut calls = vec![Call::Load(cases.model)];
+    for (question, sheets) in cases.asked {
         calls.extend([Call::Put(question), Call::Judge]);
         calls.push(Call::Write(vec![0; 3 * BLOCK]));
         calls.extend(sheets.into_iter().map(Call::Check));
@@ -31,12 +31,12 @@ pub(super) fn lamps(rng: &mut Rng) -> Vec<Call> {
 }
 
 /// The same, not yet as calls, with so many questions.
-pub(super) fn lit(rng: &mut Rng, questions: usize) -> Option<Lit> {
+pub(super) fn cases(rng: &mut Rng, questions: usize) -> Option<Cases> {
     let bytes = small_model(rng);
     let model = read_model(&bytes).ok()?;
     let asked = (0..questions).filter_map(|_| asked(rng, &model));
     let asked = asked.collect();
-    Some(Lit {
+    Some(Cases {
         model: bytes,
         asked,
     })

@@ -1,6 +1,6 @@
 //! Random lists of all five calls.
 
-use super::lamps::lit;
+use super::lamps::cases;
 use super::question::{random_question, Scale};
 use super::rng::Rng;
 use super::streams::{any_model, any_question, any_sheet, canary, few_states, good_model, stretch};
@@ -74,11 +74,11 @@ fn pool(rng: &mut Rng) -> Pool {
 
 /// Adds a model with questions whose bounds lie next to plans' totals.
 fn add_lamps(rng: &mut Rng, pool: &mut Pool) {
-    let Some(lit) = lit(rng, 2) else {
+    let Some(cases) = cases(rng, 2) else {
         return;
     };
-    pool.loads.push(lit.model);
-    for (question, sheets) in lit.asked {
+    pool.loads.push(cases.model);
+    for (question, sheets) in cases.asked {
         let place = pool.puts.len();
         let placed = sheets.into_iter().map(|sheet| (place, sheet));
         pool.sheets.extend(placed);

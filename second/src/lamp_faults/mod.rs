@@ -2,16 +2,16 @@
 //! nothing else: which calls of a stream they answer otherwise than a right one
 //! does. A stream in which they answer all alike cannot tell them from it.
 
+mod missed;
 mod sides;
 mod verdicts;
 
 use crate::blocks::Sheet;
 use crate::desk::{replay, Answer, Call};
-use crate::logic::{fast, Checked, Judged, Model, PlanNode, Question};
-use crate::logic::{Summed, Totals, Verdict};
+use crate::logic::{Checked, Judged, Lamp, Model, PlanNode, Question};
+use crate::logic::{Summed, Verdict};
 use sides::Sides;
 use std::collections::BTreeMap;
-use verdicts::lamp_of_verdict;
 
 #[derive(Clone, Copy, Debug, PartialEq, Eq, PartialOrd, Ord)]
 pub enum Fault {
@@ -27,7 +27,8 @@ pub enum Fault {
     ByRelation,
     /// Where the bound is not met, the lamp is at.
     MissedIsAt,
-    /// Where the bound is not met, the lamp is never at but on the other side.
+    /// Where the bound is not met, the lamp is never at but on the other side:
+    /// that of the relation negated, above for "less", below for "greater".
     MissedIsBeside,
     /// Where the bound is met, the lamp is at.
     MetIsAt,
@@ -55,11 +56,29 @@ pub enum Fault {
     FirstMoveOnly,
     /// A no has that of the best total from state 0.
     FromStateZero,
+    /// A no has that of the best total where paths end at silent states.
+    PathsEnd,
+    /// A no has that of the best total of the plans without silent moves.
+    SilentPassedOver,
+    /// A no has that of the best total where no plan below the root is true.
+    NestedFalse,
+    /// A no has that of the best of all totals of operator 9 without their
+    /// signs.
+    BestUnsigned,
+    /// A no has that of the total of operator 9 that is nearest to 0 for
+    /// "less", farthest from it for "greater", with its sign.
+    BestBySize,
+    /// A verdict has the last lamp of the verdicts before it on the same model.
+    LastKept,
+    /// A verdict that has no lamp is left with that last one.
+    LastLeft,
     /// A verdict has that of the best total of the question's first plan node,
     /// where that stands below the root and does not ask for "equal".
     OfThePlanBelow,
-    /// A sheet has the lamp of the verdict on its question, where that has one.
-    OfTheVerdict,
+    /// A sheet has the lamp of the yes that the desk holds.
+    OfTheYes,
+    /// A sheet has the lamp of the no that the desk holds.
+    OfTheNo,
     /// The root's total is compared with the bound of the question's first plan
     /// node.
     OtherBound,
@@ -106,7 +125,7 @@ pub enum Fault {
     DifferenceCut,
 }
 
-pub const ALL: [Fault; 42] = [
+pub const ALL: [Fault; 50] = [
     Fault::Exchanged,
     Fault::AtAsAbove,
     Fault::AtAsBelow,
@@ -126,8 +145,16 @@ pub const ALL: [Fault; 42] = [
     Fault::WrongEnd,
     Fault::FirstMoveOnly,
     Fault::FromStateZero,
+    Fault::PathsEnd,
+    Fault::SilentPassedOver,
+    Fault::NestedFalse,
+    Fault::BestUnsigned,
+    Fault::BestBySize,
+    Fault::LastKept,
+    Fault::LastLeft,
     Fault::OfThePlanBelow,
-    Fault::OfTheVerdict,
+    Fault::OfTheYes,
+    Fault::OfTheNo,
     Fault::OtherBound,
     Fault::DividedFirst,
     Fault::BoundCut,
@@ -159,7 +186,11 @@ pub type Differences = BTreeMap<(Fault, &'static str, u8), usize>;
 /// their calls is made on what the right desk holds.
 pub fn differences(stream: &[u8]) -> Differences {
     let mut counts = Differences::new();
+    let mut last = None;
     replay(stream, |call, answer, desk| {
+        if let Answer::Load(Ok(())) = answer {
+            last = None;
+        }
         let (Ok(model), Ok(question)) = (desk.model(), desk.question()) else {
             return;
         };
@@ -167,12 +198,17 @@ pub fn differences(stream: &[u8]) -> Differences {
             model,
             question,
             root: question.root_plan(),
+            held: desk.judged().map(|judged| judged.verdict),
+            last,
         };
         let (name, found) = match (call, answer) {
             (Call::Judge, Answer::Judge(Ok(judged))) => asked.wrong_verdicts(judged),
             (Call::Check(bytes), Answer::Check(Ok(checked))) => asked.wrong_checks(bytes, checked),
             _ => return,
         };
+        if let Answer::Judge(Ok(judged)) = answer {
+            last = judged.verdict.lamp().or(last);
+        }
         let operator = asked.root.map_or(0, |root| root.summed.operator());
         for fault in found {
             *counts.entry((fault, name, operator)).or_default() += 1;
@@ -186,15 +222,24 @@ struct Asked<'a> {
     model: &'a Model,
     question: &'a Question,
     root: Option<PlanNode>,
+    /// The verdict on it, if there is one already.
+    held: Option<Verdict>,
+    /// The last lamp of the verdicts on this model before the call.
+    last: Option<Lamp>,
 }
 
 impl Asked<'_> {
     /// The faults with which a verdict has another lamp, or has one wrongly.
     fn wrong_verdicts(&self, judged: &Judged) -> (&'static str, Vec<Fault>) {
         let yes = !matches!(judged.verdict, Verdict::No { .. });
-        let right = lamp_of_verdict(&judged.verdict);
+        let right = judged.verdict.lamp();
         let lamps = verdicts::Lamps::of(self, judged);
-        let differs = |fault: &Fault| lamps.by(*fault) != right;
+        let by = |fault: Fault| match fault {
+            Fault::LastKept if right.is_some() => self.last.or(right),
+            Fault::LastLeft if right.is_none() => self.last,
+            _ => lamps.by(fault),
+        };
+        let differs = |fault: &Fault| by(*fault) != right;
         let found = ALL.into_iter().filter(differs).collect();
         (if yes { "judge yes" } else { "judge no" }, found)
     }
@@ -206,9 +251,9 @@ impl Asked<'_> {
         };
         let total = root.summed.claimed(Sheet::unpack(bytes).total);
         let sides = self.sides(&root, total);
-        let verdict = fast::judge(self.model, self.question, &Totals::of(self.model)).verdict;
-        let by = |fault: Fault| match fault {
-            Fault::OfTheVerdict => lamp_of_verdict(&verdict).unwrap_or(checked.lamp),
+        let by = |fault: Fault| match (fault, self.held) {
+            (Fault::OfTheYes, Some(Verdict::YesPlan(record))) => record.lamp,
+            (Fault::OfTheNo, Some(Verdict::No { lamp, .. })) => lamp.unwrap_or(checked.lamp),
             _ => sides.lamp(fault),
         };
         let differs = |fault: &Fault| by(*fault) != checked.lamp;

@@ -20,7 +20,7 @@ pub(super) struct Sides {
 impl Sides {
     /// The lamp of the total to a judge with the fault.
     pub(super) fn lamp(&self, fault: Fault) -> Lamp {
-        let right = Lamp::of(self.compared(Fault::NoLampOnNo));
+        let right = self.right();
         let relation = self.root.relation;
         let met = right.meets(relation);
         match (fault, right) {
@@ -31,8 +31,13 @@ impl Sides {
             (Fault::MissedIsAt, _) if !met => Lamp::At,
             (Fault::MissedIsBeside, _) if !met => beside(relation),
             (Fault::MetIsAt, _) if met => Lamp::At,
-            _ => Lamp::of(self.compared(fault)),
+            _ => self.compared(fault).map_or(right, Lamp::of),
         }
+    }
+
+    /// The total's lamp.
+    pub(super) fn right(&self) -> Lamp {
+        Lamp::of(self.over(self.root.bound).cmp(&0))
     }
 
     /// The same root with another total.
@@ -40,16 +45,24 @@ impl Sides {
         Sides { total, ..*self }
     }
 
-    /// The comparison of a judge with the fault.
-    fn compared(&self, fault: Fault) -> Ordering {
-        let Bound { p, q } = match fault {
-            Fault::OtherBound => self.other,
-            _ => self.root.bound,
-        };
+    /// By how much the total times q is over p times D to the n.
+    fn over(&self, bound: Bound) -> i128 {
+        self.total * i128::from(bound.q) - i128::from(bound.p) * self.whole()
+    }
+
+    /// D to the n.
+    fn whole(&self) -> i128 {
+        self.base.pow(self.root.steps.into())
+    }
+
+    /// The comparison of a judge with the fault, if it compares otherwise.
+    fn compared(&self, fault: Fault) -> Option<Ordering> {
+        let Bound { p, q } = self.root.bound;
         let (p, q, total) = (i128::from(p), i128::from(q), self.total);
-        let whole = self.base.pow(self.root.steps.into());
+        let whole = self.whole();
         let short = self.base.pow(self.matter);
-        match fault {
+        Some(match fault {
+            Fault::OtherBound => self.over(self.other).cmp(&0),
             Fault::DividedFirst => (total / whole).cmp(&(p / q)),
             Fault::BoundCut => total.cmp(&(p * whole / q)),
             Fault::BoundFloored => total.cmp(&(p * whole).div_euclid(q)),
@@ -71,20 +84,20 @@ impl Sides {
                 let (left, right) = raised(&self.root, total, whole);
                 (left as i64).cmp(&(right as i64))
             }
-            _ => by_difference(fault, total * q - p * whole, q),
-        }
+            _ => return by_difference(fault, self.over(self.root.bound), q),
+        })
     }
 }
 
-/// The comparison by how far the total, times q, lies over the bound. A unit is
-/// q there.
-fn by_difference(fault: Fault, over: i128, q: i128) -> Ordering {
+/// The same where it errs about how far the total, times q, lies over the
+/// bound. A unit is q there.
+fn by_difference(fault: Fault, over: i128, q: i128) -> Option<Ordering> {
     match fault {
-        Fault::OneUnitIsAt if over.abs() <= q => Ordering::Equal,
-        Fault::NearestIsAt if over.abs() < q => Ordering::Equal,
-        Fault::DifferenceSigned => (over as i64).cmp(&0),
-        Fault::DifferenceCut => (over as i32).cmp(&0),
-        _ => over.cmp(&0),
+        Fault::OneUnitIsAt if over.abs() <= q => Some(Ordering::Equal),
+        Fault::NearestIsAt if over.abs() < q => Some(Ordering::Equal),
+        Fault::DifferenceSigned => Some((over as i64).cmp(&0)),
+        Fault::DifferenceCut => Some((over as i32).cmp(&0)),
+        _ => None,
     }
 }
 

@@ -113,7 +113,7 @@ impl PlanNode {
         matches!(self.summed, Summed::Gains { .. })
     }
 
-    /// How a total over `whole` stands to the bound: the total times q against
+    /// How a total over `whole` compares with the bound: the total times q against
     /// p times D to the n, in whole numbers.
     pub fn lamp(&self, total: i128, whole: u64) -> Lamp {
         let left = total * i128::from(self.bound.q);

@@ -1,9 +1,9 @@
-//! How a total stands to its bound.
+//! How a total compares with its bound.
 
 use super::Relation;
 use std::cmp::Ordering;
 
-/// "Lamp" is document 02's word (A.4) for how a total stands to its bound.
+/// "Lamp" is document 02's word (A.4) for how a total compares with its bound.
 #[derive(Clone, Copy, Debug, PartialEq, Eq, PartialOrd, Ord)]
 pub enum Lamp {
     Below,

@@ -8,7 +8,7 @@ pub struct PlanRecord {
     /// The weight W of a plan or its total of gains, over D to the n.
     pub total: i128,
     pub steps: u8,
-    /// How the total stands to the root's bound.
+    /// How the total compares with the root's bound.
     pub lamp: Lamp,
     /// For "equal" the plan's place in dictionary order, else 0.
     pub count: u64,
@@ -37,11 +37,22 @@ pub struct Judged {
 }
 
 /// The answer to a sheet that is accepted: whether its own total meets the
-/// bound, and how it stands to it.
+/// bound, and its lamp.
 #[derive(Clone, Copy, Debug, PartialEq, Eq)]
 pub struct Checked {
     pub met: bool,
     pub lamp: Lamp,
+}
+
+impl Verdict {
+    /// The lamp that it has.
+    pub fn lamp(&self) -> Option<Lamp> {
+        match self {
+            Verdict::YesPlan(record) => Some(record.lamp),
+            Verdict::No { lamp, .. } => *lamp,
+            Verdict::Yes => None,
+        }
+    }
 }
 
 impl Judged {

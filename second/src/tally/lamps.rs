@@ -1,4 +1,4 @@
-//! How the totals that answers tell the lamp of stood to their bounds, and by
+//! How the totals whose lamps answers tell compared with their bounds, and by
 //! how much they missed them.
 
 use super::details::root_words;
