@@ -46,6 +46,8 @@ extern "C" {
  * beyond the sheet, no byte of `sheet` changes. A choice is the number of an action, or PLAN_JUDGE_SILENT where no action is enabled.
  * Bytes 8 to 15 of each block are the plan's total, a whole number, little-endian: its chance (operator 8) or its expected gain
  * (operator 9) times the denominator to the steps. It is below 0 only for operator 9, and then in two's complement (an int64_t).
+ * The answer does not say whether that total is below, at or above the question's bound p/q (the program verdict prints it): compare
+ * total times q with p times the denominator to the steps; both fit an int64_t.
  *
  * The three slices may have any length and any contents; a pointer may be null where its length is 0. `sheet` must not overlap the
  * others. Nothing is allocated, nothing is kept between calls, and calls on different buffers may run at the same time. The call uses
