@@ -1,5 +1,5 @@
--- What a search's result decides. For "less" and "greater" the first plan of the best total leads; it is the shown plan, or none is. The search for "equal"
--- finds the first place of the totals of all plans that has the one number that meets the bound, if there is such a number.
+-- What a search's result decides. For "less" and "greater" the first plan of the best total leads; it is the shown plan, or none is. The search for
+-- "equal" finds the first place of the totals of all plans that has the one number that meets the bound, if there is such a number.
 use Prim.Native.Nat.{ℕ, zero, suc, _+_, _*_, _≤_, _<_}
 use native.Mathlib.Omega.{arith}
 use native.Mathlib.Nat.{min-eq-right}

@@ -1,5 +1,6 @@
--- The verdict on a plan question in document 01's words, with document 02's lamp. `shown` finds the first plan of the list that meets the bound and leads; the list
--- has all plans in dictionary order, so that those before the one found are just the plans that come before it in that order.
+-- The verdict on a plan question in document 01's words, with document 02's lamp. `shown` finds the first plan of the list that meets the bound and
+-- leads; the list has all plans in dictionary order, so that those before the one found are just the plans that come before it in that order. The
+-- lamp of a no is that of the leader.
 use Prim.Native.Nat.{ℕ, suc, _+_, _<_}
 use native.Mathlib.Omega.{arith}
 use mathlib.Core.Path.{_≡_, refl, sym, ap, ap₂, subst, _∙_}
