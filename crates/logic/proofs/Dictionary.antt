@@ -63,6 +63,12 @@ pub before-differs : {l r : List ℕ} → Before l r → l ≡ r → ⊥
 before-differs (differ {a} {b} h) e = let q : a ≡ b = cc in omega arith
 before-differs (agree {l = l} {r} q b) e = before-differs b (let t : l ≡ r = cc in t)
 
+pub before-one-way : {l r : List ℕ} → Before l r → Before r l → ⊥
+before-one-way (differ h) (differ k) = omega arith
+before-one-way (differ h) (agree e k) = omega arith
+before-one-way (agree e h) (differ k) = omega arith
+before-one-way (agree e h) (agree f k) = before-one-way h k
+
 -- x comes before y by the choices that its key gives.
 abbrev By : {B : Type 0} → (B → List ℕ) → B → B → Type 0
 By key x y = Before (key x) (key y)

@@ -17,6 +17,7 @@ pub mod Reading
 pub mod OnPlan
 pub mod Shown
 pub mod Search
+pub mod Reasons
 pub mod WholeTotals
 pub mod TotalsSmall
 pub mod Contradiction

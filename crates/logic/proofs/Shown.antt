@@ -54,7 +54,7 @@ module _ (Q : Quantity) (O : Ordered Q) {A : Type 0} (t : A → Q .Value) where
   one-leads (x ∷ l) h = let b = first-best-is Q O t x l in (first-best Q t x l, best-member Q O t b, greatest-leads b)
 
 -- In a list that has an element one leads: "less" is "greater" in the reversed order.
-some-leads : (Q : Quantity) → Ordered Q → {A : Type 0} (t : A → Q .Value) (r : Relation) (l : List A) {a : A} → List·Memᴰ a l
+pub some-leads : (Q : Quantity) → Ordered Q → {A : Type 0} (t : A → Q .Value) (r : Relation) (l : List A) {a : A} → List·Memᴰ a l
     → (b : A) × List·Memᴰ b l × (leads Q t r l b ≡ true)
 unfolding leads
 some-leads Q O t equal l {a} h = (a, h, refl)

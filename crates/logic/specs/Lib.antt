@@ -9,6 +9,7 @@ pub mod Policy
 pub mod Order
 pub mod Formula
 pub mod Verdict
+pub mod Reason
 pub mod Limits
 pub mod Choices
 pub mod TwoShelf

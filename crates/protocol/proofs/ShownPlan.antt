@@ -19,18 +19,12 @@ use Rattle.logic.specs.Order.{Before, differ, agree, Rising, nothing, first, Is
 use Rattle.logic.specs.Formula.{Formula, sat}
 use Rattle.logic.specs.Verdict.{Goal, goal, shown, leader, found-lamp, denial, plan-record, announced, verdict-by, verdict}
 use Rattle.logic.proofs.Tests.{and-both, not-true, none≢some, some-same}
-use Rattle.logic.proofs.Dictionary.{plans-are, plans-rising, before-differs}
+use Rattle.logic.proofs.Dictionary.{plans-are, plans-rising, before-differs, before-one-way}
 use Rattle.logic.proofs.Shown.{goal-led, shown-there, leader-there, leader-leads}
 use Rattle.logic.proofs.Search.{some-plan}
 use Rattle.protocol.specs.Demand2.{In-order, Shows, Best-lamp, Denies, Announces}
 
 -- ---- lists
-
-before-one-way : {l r : List ℕ} → Before l r → Before r l → ⊥
-before-one-way (differ h) (differ k) = omega arith
-before-one-way (differ h) (agree e k) = omega arith
-before-one-way (agree e h) (differ k) = omega arith
-before-one-way (agree e h) (agree f k) = before-one-way h k
 
 module _ {A : Type 0} where
   -- What is found, with what stands before it.
