@@ -1,22 +1,22 @@
 -- A raised total against a bound: the numbers of a node of operator 8 or 9 are small, so that the products fit; in natural numbers the total compares
 -- with the bound as it does in integers; and the raised total that equals the bound is a quotient.
-use Prim.Native.Nat.{ℕ, suc, _+_, _*_, _-_, _/_, _%_, _^_, _≤_, _<_}
+use Prim.Native.Nat.{ℕ, zero, suc, _+_, _*_, _-_, _/_, _%_, _^_, _≤_, _<_}
 use native.Mathlib.Omega.{arith}
-use native.Mathlib.Nat.{le-trans, mul-le-mul, mul-le-mul-left, mul-div-cancel-left, mul-mod-right, div-add-mod}
+use native.Mathlib.Nat.{le-trans, le-of-lt, mul-le-mul, mul-le-mul-left, mul-lt-mul-of-pos-left, lt-of-mul-lt-mul-left, le-div-iff-mul-le, mul-comm, mul-div-cancel-left, mul-mod-right, div-add-mod}
 use mathlib.Core.Path.{_≡_, refl, sym, ap, ap₂, subst, _∙_}
 use mathlib.Core.Logic.{_⊎_, ⊎-elim}
 use mathlib.Core.Bool.{true, false, cond, false≢true}
-use lib.Dec.{eqb}
+use lib.Dec.{eqb, ltb}
 use lib.IntN.{ℤ, pos, negsuc, subℕ}
 use lib.Signed.{mag}
-use borrow.Author.Tests.{eq-eqb, ne-eqb, eqb-true, eqb-false}
+use borrow.Author.Tests.{eq-eqb, ne-eqb, eqb-true, lt-ltb, le-ltb, ltb-true}
 use Rattle.logic.specs.Quantity.{naturals, integers, Relation, less, equal, related}
 use Rattle.logic.specs.Bound.{meets, below, at, above, compared, lamp}
 use Rattle.logic.specs.Formula.{nonnegative}
 use Rattle.logic.proofs.Tests.{same-test}
 use Rattle.logic.proofs.Lowered.{meets-raised}
 use Rattle.logic.proofs.Integers.{subℕ-ge, subℕ-lt}
-use Rattle.logic.proofs.Naturals.{eqb-leb}
+use Rattle.logic.proofs.Naturals.{ltb-leb, eqb-leb}
 use Rattle.lamp.specs.declared.Lamp.{Lamp}
 use Rattle.lamp.specs.promises.Codes.{lamp-code}
 use Rattle.blocks.specs.Bytes.{Bytes}
@@ -41,6 +41,30 @@ module _ (q x w : ℕ) (h : 0 < q) where
 
   times-part : (x % q ≡ 0 → ⊥) → eqb (q * w) x ≡ false
   times-part n = ne-eqb (q * w) x (λ e. n (ap (λ y. y % q) (sym e) ∙ mul-mod-right q w))
+
+  less-whole : x % q ≡ 0 → ltb (q * w) x ≡ ltb w (x / q)
+  less-whole z =
+      let e : x ≡ q * (x / q) = omega (arith, div-add-mod x q) in
+      same-test (ltb (q * w) x) (ltb w (x / q))
+      (λ t. lt-ltb w (x / q) (lt-of-mul-lt-mul-left q (subst (λ y. q * w < y) e (ltb-true (q * w) x t))))
+      (λ t. lt-ltb (q * w) x (subst (λ y. q * w < y) (sym e) (mul-lt-mul-of-pos-left (ltb-true w (x / q) t) h)))
+
+  less-part : (x % q ≡ 0 → ⊥) → ltb (q * w) x ≡ ltb w (x / q + 1)
+  less-part n =
+      same-test (ltb (q * w) x) (ltb w (x / q + 1)) (λ t. lt-ltb w (x / q + 1) (up (ltb-true (q * w) x t))) (λ t. lt-ltb (q * w) x (down (ltb-true w (x / q + 1) t)))
+    where
+      some-rest : (y : ℕ) → (y ≡ 0 → ⊥) → 0 < y
+      some-rest zero z = absurd (z refl)
+      some-rest (suc y) z = omega arith
+
+      up : q * w < x → w < x / q + 1
+      up t = let k : w ≤ x / q = le-div-iff-mul-le h .1 (subst (λ y. y ≤ x) (mul-comm q w) (le-of-lt t)) in omega arith
+
+      down : w < x / q + 1 → q * w < x
+      down t =
+          let k : q * w ≤ q * (x / q) = mul-le-mul-left q (omega arith) in
+          let r : 0 < x % q = some-rest (x % q) n in
+          omega (arith, div-add-mod x q)
 
 -- ---- p, by what is above 0 and below it
 
@@ -185,26 +209,42 @@ module _ (m q : Bytes) (j : ℕ) (b : Bounded m q j) where
   unfolding related
   met x = meets-sides equal x ∙ sym (eqb-leb (raised-left x) raised-right)
 
+  fewer : (x : ℕ) → meets-as less m q j (lowered m q j x) ≡ ltb (raised-left x) raised-right
+  unfolding related
+  fewer x = meets-sides less x ∙ sym (ltb-leb (raised-left x) raised-right)
+
   pub never : {up down : ℕ} → up ≡ raised-right → down ≡ D * under ((node-of q j) .p) → up < down → Exactly m q j false 0
   never e f h =
       record {
+        below = λ x. fewer x ∙ le-ltb (raised-left x) raised-right (omega (arith, e, f, h)) ∙ sym (le-ltb x 0 (omega arith));
         one = λ t. absurd (false≢true t);
         none = λ t x. met x ∙ ne-eqb (raised-left x) raised-right (λ g. omega (arith, e, f, h, g));
       }
 
-  pub exactly : {up down k : ℕ} → up ≡ raised-right → down ≡ D * under ((node-of q j) .p) → k ≡ (node-of q j) .q → down ≤ up
-      → Exactly m q j (eqb ((up - down) % k) 0) ((up - down) / k)
-  exactly {up} {down} {k} e f g l =
-      let h : 0 < k = omega (arith, sizes .some-part) in
-      record {
-        one = λ t x. side x ∙ times-whole k (up - down) x h (eqb-true ((up - down) % k) 0 t);
-        none = λ t x. side x ∙ times-part k (up - down) x h (eqb-false ((up - down) % k) 0 t);
-      }
-    where
-      side : (x : ℕ) → meets-as equal m q j (lowered m q j x) ≡ eqb (k * x) (up - down)
-      side x =
-          let i : (node-of q j) .q * x ≡ k * x = ap (λ z. z * x) (sym g) in
-          met x
-          ∙ same-test (eqb (raised-left x) raised-right) (eqb (k * x) (up - down))
-          (λ t. eq-eqb (k * x) (up - down) (omega (arith, i, e, f, eqb-true (raised-left x) raised-right t)))
-          (λ t. eq-eqb (raised-left x) raised-right (omega (arith, i, e, f, l, eqb-true (k * x) (up - down) t)))
+  -- Where p is not below 0 by more than the totals are raised: a is what they have to be q times.
+  module _ {a k up down : ℕ} (e : up ≡ raised-right) (f : down ≡ D * under ((node-of q j) .p)) (g : k ≡ (node-of q j) .q) (l : down ≤ up) (i : a ≡ up - down) where
+    times : (x : ℕ) → (node-of q j) .q * x ≡ k * x
+    times x = ap (λ z. z * x) (sym g)
+
+    some : 0 < k
+    some = omega (arith, sizes .some-part)
+
+    side : (x : ℕ) → meets-as equal m q j (lowered m q j x) ≡ eqb (k * x) a
+    side x =
+        met x
+        ∙ same-test (eqb (raised-left x) raised-right) (eqb (k * x) a)
+        (λ t. eq-eqb (k * x) a (omega (arith, times x, e, f, eqb-true (raised-left x) raised-right t)))
+        (λ t. eq-eqb (raised-left x) raised-right (omega (arith, times x, e, f, l, eqb-true (k * x) a t)))
+
+    lower-side : (x : ℕ) → meets-as less m q j (lowered m q j x) ≡ ltb (k * x) a
+    lower-side x =
+        fewer x
+        ∙ same-test (ltb (raised-left x) raised-right) (ltb (k * x) a)
+        (λ t. lt-ltb (k * x) a (omega (arith, times x, e, f, ltb-true (raised-left x) raised-right t)))
+        (λ t. lt-ltb (raised-left x) raised-right (omega (arith, times x, e, f, l, ltb-true (k * x) a t)))
+
+    pub exactly : a % k ≡ 0 → Exactly m q j true (a / k)
+    exactly z = record { below = λ x. lower-side x ∙ less-whole k a x some z; one = λ t x. side x ∙ times-whole k a x some z; none = λ t. absurd (false≢true (sym t)) }
+
+    pub between : (a % k ≡ 0 → ⊥) → Exactly m q j false (a / k + 1)
+    between n = record { below = λ x. lower-side x ∙ less-part k a x some n; one = λ t. absurd (false≢true t); none = λ t x. side x ∙ times-part k a x some n }

@@ -80,8 +80,8 @@ fn below_zero(p: i32) -> u64
     (0 - p as i64) as u64
 }
 
-// The denominator to the steps of node j.
-fn whole(m: &[u16; MODEL], q: &[u8; QUESTION], j: u8) -> u64
+// The denominator to the steps of node j: what all paths of a plan weigh together.
+pub fn whole(m: &[u16; MODEL], q: &[u8; QUESTION], j: u8) -> u64
     requires { ⌜ Bounded (now m) (now q) j ⌝ }
     ensures value { λ r. ⌜ r ≡ denominator-of (now (m .entry)) ^ (node-of (now (q .entry)) j .n) ⌝ }
     ensures range { λ r. ⌜ r ≤ 100 ^ 6 ⌝ }
@@ -149,13 +149,13 @@ pub fn meets(m: &[u16; MODEL], q: &[u8; QUESTION], j: u8, x: u64) -> bool
     met_by_lamp(prepared_question::right(q, j), l)
 }
 
-// The one raised total that meets "equal", if there is one.
+// The least raised total that is not below the bound, and whether it is equal to it: then it is the one that meets "equal", else none does.
 pub struct Exact {
     pub whole: bool,
     pub total: u64,
 }
 
-// What a raised total of node j would have to be for the total to be equal to the bound.
+// What a raised total of node j would have to be for the total to be equal to the bound, or what it must be at least to be above it.
 pub fn exact_total(m: &[u16; MODEL], q: &[u8; QUESTION], j: u8) -> Exact
     requires { ⌜ Bounded (now m) (now q) j ⌝ }
     ensures value { λ r. ⌜ Exactly (now (m .entry)) (now (q .entry)) j (r .whole) (r .total) ⌝ }
@@ -168,9 +168,16 @@ pub fn exact_total(m: &[u16; MODEL], q: &[u8; QUESTION], j: u8) -> Exact
         };
     }
     let all = s.up - s.down;
+    let down = all / s.parts;
+    if all % s.parts == 0 {
+        return Exact {
+            whole: true,
+            total: down,
+        };
+    }
     Exact {
-        whole: all % s.parts == 0,
-        total: all / s.parts,
+        whole: false,
+        total: down + 1,
     }
 }
 

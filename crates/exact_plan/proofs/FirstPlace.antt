@@ -1,5 +1,5 @@
 -- The first place of a number among the totals; and the search at the start, before any step.
-use Prim.Native.Nat.{ℕ, _+_, _≤_, _<_}
+use Prim.Native.Nat.{ℕ, _+_, _*_, _≤_, _<_}
 use native.Mathlib.Nat.{zero-add}
 use native.Mathlib.Decide.{ℕ-discrete}
 use native.Mathlib.Omega.{arith}
@@ -8,13 +8,14 @@ use mathlib.Core.List.{List, []}
 use lib.IntN.{ℤ}
 use lib.ListN.{length, take, getD}
 use lib.Seq.{getD-take, length-take-le}
+use Rattle.logic.specs.Limits.{plan-total}
 use Rattle.blocks.specs.Bytes.{Bytes}
 use Rattle.prepared_model.specs.promises.Rows.{model-in}
 use Rattle.evaluation.specs.promises.Path.{steps-of, state-after}
 use Rattle.evaluation.specs.promises.Known.{Knows}
 use Rattle.evaluation.specs.promises.Worth.{worth-of, worth-on}
 use Rattle.exact_plan.specs.promises.Totals.{totals}
-use Rattle.exact_plan.specs.promises.Listing.{Given, Here, Written, First}
+use Rattle.exact_plan.specs.promises.Listing.{Given, Here, Written, Listed, First}
 
 module _ (buf : List ℕ) (len x : ℕ) (fits : len ≤ length buf) where
   -- None of the first i numbers is x.
@@ -47,11 +48,15 @@ module _ {m q : Bytes} {start a d : ℕ} {truth cone table : List ℕ} (G : Give
   unfolding state-after
   begins trail gains v h k K = record { steps = omega arith; deep = omega arith; inside = G .ready .state; whole = refl; state = refl; knows = K }
 
-  -- The list from the start, and the first of it.
-  pub first-listed : (n x : ℕ) {r i : ℕ} {trail trail₁ : List ℕ} {gains₁ : List ℤ} {v₁ buf buf₁ : List ℕ}
+  -- The list from the start stands at the front of the buffer.
+  pub all-listed : (n : ℕ) {r : ℕ} {trail trail₁ : List ℕ} {gains₁ : List ℤ} {v₁ buf buf₁ : List ℕ}
       → Written (totals (model-in m) n start (worth-on m q start a d cone (take 0 trail))) m q start cone 0 0 trail trail₁ gains₁ v₁ buf buf₁ r
-      → First (take r buf₁) x i → First (totals (model-in m) n start (worth-of m q start a d cone)) x i
+      → r ≤ length buf₁ → Listed (totals (model-in m) n start (worth-of m q start a d cone)) buf₁ r
   unfolding steps-of
-  first-listed n x {r} {i} {buf₁ = buf₁} W F =
+  all-listed n {r} {buf₁ = buf₁} W fits =
       let X : List ℕ = totals (model-in m) n start (worth-of m q start a d cone) in
-      subst (λ l. First l x i) (ap (λ k. take k buf₁) (W .count ∙ sym (zero-add (length X))) ∙ W .listed) F
+      record { count = W .count; fits = fits; listed = ap (λ k. take k buf₁) (W .count ∙ sym (zero-add (length X))) ∙ W .listed }
+
+  -- The table's number of plans is their number.
+  pub counted : (n : ℕ) {all : ℕ} → n ≤ 6 → plan-total (model-in m) n start ≤ 65536 → all ≡ getD table (32 * n + start) 0 → all ≡ plan-total (model-in m) n start
+  counted n few within e = e ∙ G .counts .right n start few (G .ready .state) within

@@ -12,4 +12,5 @@ pub mod ListsWritten
 pub mod OutcomesJoined
 pub mod ChoiceByChoice
 pub mod FirstPlace
+pub mod NearestPlace
 pub mod CountsBelowCap

@@ -1,13 +1,14 @@
-// The search for the relation "equal": the totals of all plans in dictionary order, and the first that meets the bound.
+// The list of the totals of all plans in dictionary order; for the relation "equal" the first place of one of them, and those nearest to a number.
 ghost use Prim.Native.Nat.{_+_, _≤_};
 ghost use lib.ListN.{length, take};
 ghost use Rattle.logic.specs.Limits.{plan-total};
 ghost use Rattle.prepared_model.specs.promises.Rows.{model-in};
 ghost use Rattle.evaluation.specs.promises.Worth.{worth-of};
-ghost use Rattle.exact_plan.specs.promises.Totals.{totals};
-ghost use Rattle.exact_plan.specs.promises.Listing.{Given, First};
+ghost use Rattle.exact_plan.specs.promises.Totals as spec;
+ghost use Rattle.exact_plan.specs.promises.Listing.{Given, Listed, First};
 
 mod lists;
+pub mod nearest;
 mod spread;
 
 use crate::lists::Spot;
@@ -23,15 +24,70 @@ use prepared_model::MODEL;
 use prepared_question::QUESTION;
 
 // A list of totals has one of three rooms, by the number of plans, each with 282 numbers beside it for what is made there.
-const FEW: u64 = 1024;
+pub const FEW: u64 = 1024;
 
-const SOME: u64 = 8192;
+pub const SOME: u64 = 8192;
 
-const FEW_ROOM: usize = 1306;
+pub const FEW_ROOM: usize = 1306;
 
-const SOME_ROOM: usize = 8474;
+pub const SOME_ROOM: usize = 8474;
 
-const ROOM: usize = 65818;
+pub const ROOM: usize = 65818;
+
+// What is listed: the totals of all n-step plans from s. A path is worth the value of the condition at the cone's root, which looks d steps ahead, or
+// with no nodes in the cone the raised gain of steps a + 1 to d.
+pub struct Sought {
+    pub s: u8,
+    pub a: u8,
+    pub d: u8,
+    pub n: u8,
+}
+
+// Writes the totals in dictionary order of the plans to the front of a lent buffer, which has room for them and for what is made beside them; gives
+// their number.
+pub fn totals(
+    m: &[u16; MODEL],
+    q: &[u8; QUESTION],
+    truth: &[u8; TRUTHS],
+    cone: &[u8],
+    table: &[u64; COUNTS],
+    buf: &mut [u64],
+    l: Sought,
+) -> usize
+    requires { ⌜ Given (now m) (now q) (l .s) (l .a) (l .d) (now truth) (now cone) (now table) ⌝ }
+    requires { ⌜
+        (l .d ≤ l .n) × (l .n ≤ 6) × (plan-total (model-in (now m)) (l .n) (l .s) ≤ 65536)
+        × (plan-total (model-in (now m)) (l .n) (l .s) + 282 ≤ length (now buf)) ⌝ }
+    ensures effect { λ r.
+        let m = now (m .entry) in let q = now (q .entry) in let cone = now (cone .entry) in
+        ⌜ Listed (spec.totals (model-in m) (l .n) (l .s) (worth-of m q (l .s) (l .a) (l .d) cone)) (now (buf .exit)) r ⌝ }
+{
+    let mut trail = [0u16; STEPS];
+    let mut gains = [0i32; PLACES];
+    let mut v = [0u8; VALUES];
+    learn(q, truth, &trail, &gains, cone, &mut v, 0, l.s);
+    let spot = Spot {
+        start: l.s,
+        a: l.a,
+        d: l.d,
+        h: 0,
+        s: l.s,
+        k: l.n,
+        at: 0,
+    };
+    list(
+        m,
+        q,
+        truth,
+        cone,
+        table,
+        &mut trail,
+        &mut gains,
+        &mut v,
+        buf,
+        spot,
+    )
+}
 
 // The place of the first x among the first `len` numbers; where there is none, len.
 fn find(buf: &[u64], len: usize, x: u64) -> usize
@@ -56,78 +112,47 @@ fn first_within(
     cone: &[u8],
     table: &[u64; COUNTS],
     buf: &mut [u64],
-    start: u8,
-    a: u8,
-    d: u8,
-    n: u8,
+    l: Sought,
     x: u64,
 ) -> usize
-    requires { ⌜ Given (now m) (now q) start a d (now truth) (now cone) (now table) ⌝ }
+    requires { ⌜ Given (now m) (now q) (l .s) (l .a) (l .d) (now truth) (now cone) (now table) ⌝ }
     requires { ⌜
-        (d ≤ n) × (n ≤ 6) × (plan-total (model-in (now m)) n start ≤ 65536)
-        × (plan-total (model-in (now m)) n start + 282 ≤ length (now buf)) ⌝ }
+        (l .d ≤ l .n) × (l .n ≤ 6) × (plan-total (model-in (now m)) (l .n) (l .s) ≤ 65536)
+        × (plan-total (model-in (now m)) (l .n) (l .s) + 282 ≤ length (now buf)) ⌝ }
     ensures value { λ r.
         let m = now (m .entry) in let q = now (q .entry) in let cone = now (cone .entry) in
-        ⌜ First (totals (model-in m) n start (worth-of m q start a d cone)) x r ⌝ }
+        ⌜ First (spec.totals (model-in m) (l .n) (l .s) (worth-of m q (l .s) (l .a) (l .d) cone)) x r ⌝ }
 {
-    let mut trail = [0u16; STEPS];
-    let mut gains = [0i32; PLACES];
-    let mut v = [0u8; VALUES];
-    learn(q, truth, &trail, &gains, cone, &mut v, 0, start);
-    let spot = Spot {
-        start: start,
-        a: a,
-        d: d,
-        h: 0,
-        s: start,
-        k: n,
-        at: 0,
-    };
-    let len = list(
-        m,
-        q,
-        truth,
-        cone,
-        table,
-        &mut trail,
-        &mut gains,
-        &mut v,
-        buf,
-        spot,
-    );
+    let len = totals(m, q, truth, cone, table, buf, l);
     find(buf, len, x)
 }
 
-// The place of the first plan in dictionary order, of all n-step plans from s, whose total is x; where there is none, their number. A path
-// is worth the value of the condition at the cone's root, or with no nodes in the cone the raised gain of steps a + 1 to d. The buffer has
-// one of three lengths, by their number and 282 beside: to clear the longest takes longer than to search few plans.
+// The place of the first plan in dictionary order whose total is x; where there is none, the number of plans. The buffer has one of three lengths, by
+// their number and 282 beside: to clear the longest takes longer than to search few plans.
 pub fn first_equal(
     m: &[u16; MODEL],
     q: &[u8; QUESTION],
     truth: &[u8; TRUTHS],
     cone: &[u8],
     table: &[u64; COUNTS],
-    s: u8,
-    a: u8,
-    d: u8,
-    n: u8,
+    l: Sought,
     x: u64,
 ) -> usize
-    requires { ⌜ Given (now m) (now q) s a d (now truth) (now cone) (now table) ⌝ }
-    requires { ⌜ (d ≤ n) × (n ≤ 6) × (plan-total (model-in (now m)) n s ≤ 65536) ⌝ }
+    requires { ⌜ Given (now m) (now q) (l .s) (l .a) (l .d) (now truth) (now cone) (now table) ⌝ }
+    requires { ⌜ (l .d ≤ l .n) × (l .n ≤ 6) × (plan-total (model-in (now m)) (l .n) (l .s) ≤ 65536) ⌝ }
     ensures value { λ r.
         let m = now (m .entry) in let q = now (q .entry) in let cone = now (cone .entry) in
-        ⌜ First (totals (model-in m) n s (worth-of m q s a d cone)) x r ⌝ }
+        ⌜ First (spec.totals (model-in m) (l .n) (l .s) (worth-of m q (l .s) (l .a) (l .d) cone)) x r ⌝ }
 {
-    let all = plans_counted(table, n, s as usize);
+    let all = plans_counted(table, l.n, l.s as usize);
     if all <= FEW {
         let mut buf = [0u64; FEW_ROOM];
-        return first_within(m, q, truth, cone, table, &mut buf, s, a, d, n, x);
+        return first_within(m, q, truth, cone, table, &mut buf, l, x);
     }
     if all <= SOME {
         let mut buf = [0u64; SOME_ROOM];
-        return first_within(m, q, truth, cone, table, &mut buf, s, a, d, n, x);
+        return first_within(m, q, truth, cone, table, &mut buf, l, x);
     }
     let mut buf = [0u64; ROOM];
-    first_within(m, q, truth, cone, table, &mut buf, s, a, d, n, x)
+    first_within(m, q, truth, cone, table, &mut buf, l, x)
 }

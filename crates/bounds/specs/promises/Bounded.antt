@@ -3,9 +3,9 @@
 use Prim.Native.Nat.{ℕ, suc, _+_, _*_, _-_, _/_, _%_, _^_, _<_, _≤_}
 use mathlib.Core.Path.{_≡_}
 use mathlib.Core.Bool.{Bool, true, false, cond}
-use lib.Dec.{eqb}
+use lib.Dec.{eqb, ltb}
 use lib.IntN.{ℤ, pos, negsuc, subℕ}
-use Rattle.logic.specs.Quantity.{integers, Relation, equal}
+use Rattle.logic.specs.Quantity.{integers, Relation, less, equal}
 use Rattle.logic.specs.Bound.{meets, Lamp, lamp}
 use Rattle.logic.specs.Formula.{relation, nonnegative}
 use Rattle.blocks.specs.Bytes.{Bytes}
@@ -66,7 +66,8 @@ meets-at m q j w = meets-as (relation ((node-of q j) .right)) m q j w
 abbrev pub lamp-at : (m q : Bytes) (j : ℕ) → ℤ → Lamp
 lamp-at m q j w = lamp integers (model-in m) ((node-of q j) .n) ((node-of q j) .p) ((node-of q j) .q) w
 
--- The one raised total that meets "equal", if there is one.
+-- The raised totals below the bound are those less than this one, which alone meets "equal", if it is whole, and else none does.
 pub record Exactly (m q : Bytes) (j : ℕ) (whole : Bool) (total : ℕ) : Type 0 where
+  pub below : (x : ℕ) → meets-as less m q j (lowered m q j x) ≡ ltb x total
   pub one : whole ≡ true → (x : ℕ) → meets-as equal m q j (lowered m q j x) ≡ eqb x total
   pub none : whole ≡ false → (x : ℕ) → meets-as equal m q j (lowered m q j x) ≡ false

@@ -1,31 +1,26 @@
 -- `first_equal`: the table has the number of plans, and each buffer has 282 numbers beside as many.
-use Prim.Native.Nat.{ℕ, _+_, _*_}
+use Prim.Native.Nat.{ℕ}
 use native.Mathlib.Omega.{arith}
-use mathlib.Core.Path.{_≡_, _∙_}
-use lib.ListN.{getD, length-replicate}
-use Rattle.logic.specs.Limits.{plan-total}
-use Rattle.prepared_model.specs.promises.Rows.{model-in}
+use lib.ListN.{length-replicate}
 use Rattle.exact_plan.proofs.ListsWritten.{state-small}
+use Rattle.exact_plan.proofs.FirstPlace.{counted}
 use borrow.Author.Needs.{needs}
 use Rattle.exact_plan.proofs.first_equal.Statement.{statement}
 use Rattle.exact_plan.proofs.first_equal.Tie as tie
 
--- The table's number of plans is their number.
-number : (S : tie.Start) {all : ℕ} → all ≡ getD (S .args .table .now) (32 * S .args .n + S .args .s) 0
-    → all ≡ plan-total (model-in (S .args .m .now)) (S .args .n) (S .args .s)
-number S e = let G = S .pre .0 in
-    e ∙ G .counts .right (S .args .n) (S .args .s) (S .pre .1 .1) (G .ready .state) (S .pre .1 .2)
+cast-plans-counted : tie.Need-cast-plans-counted
+cast-plans-counted c = search needs
 
 plans-counted-requires : tie.Need-plans-counted-requires
-plans-counted-requires c κs = let S = c .before in (S .pre .1 .1, state-small (S .pre .0) (S .pre .0 .ready .state))
+plans-counted-requires c κs = let S = c .before .before in (S .pre .1 .1, state-small (S .pre .0) (S .pre .0 .ready .state))
 
 slice-aggregate-first-within : tie.Need-slice-aggregate-first-within
 slice-aggregate-first-within c = search needs
 
 first-within-requires : tie.Need-first-within-requires
-first-within-requires c κs = let S = c .before .before .before .before in
+first-within-requires c κs = let S = c .before .before .before .before .before in
     let P = S .pre .1 in
-    (S .pre .0, (P .0, P .1, P .2, omega (arith, number S (c .before .before .plans-counted .ensures), length-replicate {A = ℕ} 1306 0)))
+    (S .pre .0, (P .0, P .1, P .2, omega (arith, counted (S .pre .0) (S .args .l .n) (P .1) (P .2) (c .before .before .plans-counted .ensures), length-replicate {A = ℕ} 1306 0)))
 
 returns : tie.Need-returns
 returns c = search needs
@@ -34,9 +29,9 @@ slice-aggregate-first-within-2 : tie.Need-slice-aggregate-first-within-2
 slice-aggregate-first-within-2 c = search needs
 
 first-within-requires-2 : tie.Need-first-within-requires-2
-first-within-requires-2 c κs = let S = c .before .before .before .before .before in
+first-within-requires-2 c κs = let S = c .before .before .before .before .before .before in
     let P = S .pre .1 in
-    (S .pre .0, (P .0, P .1, P .2, omega (arith, number S (c .before .before .before .plans-counted .ensures), length-replicate {A = ℕ} 8474 0)))
+    (S .pre .0, (P .0, P .1, P .2, omega (arith, counted (S .pre .0) (S .args .l .n) (P .1) (P .2) (c .before .before .before .plans-counted .ensures), length-replicate {A = ℕ} 8474 0)))
 
 returns-2 : tie.Need-returns-2
 returns-2 c = search needs
@@ -45,9 +40,9 @@ slice-aggregate-first-within-3 : tie.Need-slice-aggregate-first-within-3
 slice-aggregate-first-within-3 c = search needs
 
 first-within-requires-3 : tie.Need-first-within-requires-3
-first-within-requires-3 c κs = let S = c .before .before .before .before .before in
+first-within-requires-3 c κs = let S = c .before .before .before .before .before .before in
     let P = S .pre .1 in
-    (S .pre .0, (P .0, P .1, P .2, omega (arith, number S (c .before .before .before .plans-counted .ensures), length-replicate {A = ℕ} 65818 0)))
+    (S .pre .0, (P .0, P .1, P .2, omega (arith, counted (S .pre .0) (S .args .l .n) (P .1) (P .2) (c .before .before .before .plans-counted .ensures), length-replicate {A = ℕ} 65818 0)))
 
 returns-3 : tie.Need-returns-3
 returns-3 c = search needs
@@ -56,6 +51,7 @@ pub first-equal-spec : {M : Type 1} → statement M
 first-equal-spec =
     tie.close
     (tie.spec
+    cast-plans-counted
     plans-counted-requires
     slice-aggregate-first-within
     first-within-requires

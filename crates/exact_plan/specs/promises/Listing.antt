@@ -66,6 +66,12 @@ pub record Grows (buf : List ℕ) (at len n k : ℕ) : Type 0 where
   pub small : (x : ℕ) → List·Memᴰ x (part buf at len) → x ≤ 4 * (12000 * 100 ^ 6)
   pub room : Room k n (at + len * n) (length buf)
 
+-- The buffer begins with the list xs, r numbers.
+pub record Listed (xs buf : List ℕ) (r : ℕ) : Type 0 where
+  pub count : r ≡ length xs
+  pub fits : r ≤ length buf
+  pub listed : take r buf ≡ xs
+
 -- r is the first place of x in the list; where there is none, the list's length.
 pub record First (l : List ℕ) (x r : ℕ) : Type 0 where
   pub few : r ≤ length l
