@@ -103,7 +103,7 @@ module _ {m q : Bytes} {j : ℕ} (b : Bounded m q j) (s : ℕ) (h : s < state-co
     abbrev least : Bool
     least = eqb (node .right) 1
 
-    same-relation : relation (node .right) ≡ extreme least
+    pub same-relation : relation (node .right) ≡ extreme least
     same-relation = let c = compares m q j b in extreme-numbered (node .right) (c .relation-from) (c .relation-to) e
 
     sets : Sets M s (formula q j) (bound-as (extreme least) m q j s)
@@ -116,7 +116,7 @@ module _ {m q : Bytes} {j : ℕ} (b : Bounded m q j) (s : ℕ) (h : s < state-co
     abbrev goal-here : Goal
     goal-here = bound-goal M s (bound-as (extreme least) m q j s)
 
-    decides : Decides M s (node .n) (worth-at m q j s) (node .p) (node .q) (extreme least) best-total (best-node m q j s least)
+    pub decides : Decides M s (node .n) (worth-at m q j s) (node .p) (node .q) (extreme least) best-total (best-node m q j s least)
     decides = best-decides M s (node .n) (worth-at m q j s) (node .p) (node .q) (raises-at b s h) (b .prepared .accepted) (inside b s h) least
 
     meets-same : meets-at m q j best-total ≡ meets-as (extreme least) m q j best-total
@@ -150,10 +150,10 @@ module _ {m q : Bytes} {j : ℕ} (b : Bounded m q j) (s : ℕ) (h : s < state-co
   pub totals-count : length all-totals ≡ plan-total M (node .n) s
   totals-count = length-map (plans M (node .n) s) (λ π. total naturals M (node .n) s π f) ∙ plan-count M (node .n) s
 
-  listed : (i : ℕ) → i < plan-total M (node .n) s → List·Memᴰ (plan-at M (node .n) s i) (plans M (node .n) s)
+  pub listed : (i : ℕ) → i < plan-total M (node .n) s → List·Memᴰ (plan-at M (node .n) s i) (plans M (node .n) s)
   listed i l = getD-member (plans M (node .n) s) i (first-plan M (node .n) s) (subst (λ k. i < k) (sym (plan-count M (node .n) s)) l)
 
-  total-at : (i : ℕ) → i < plan-total M (node .n) s → total naturals M (node .n) s (plan-at M (node .n) s i) f ≡ getD all-totals i 0
+  pub total-at : (i : ℕ) → i < plan-total M (node .n) s → total naturals M (node .n) s (plan-at M (node .n) s i) f ≡ getD all-totals i 0
   total-at i l =
       sym (List·getD-map (λ π. total naturals M (node .n) s π f) (plans M (node .n) s) i (first-plan M (node .n) s))
       ∙ inside-same all-totals i _ 0 (subst (λ k. i < k) (sym totals-count) l)

@@ -22,9 +22,9 @@ ghost use Rattle.judging.specs.declared.Verdict.the-variants.{No, Yes, Y
 ghost use Rattle.judging.specs.promises.Announced.{root, root-verdict, no-lamp, Announces, Sums, Spelled, Weighs};
 
 mod conditions;
-mod plans;
-mod truth;
-mod worths;
+pub mod plans;
+pub mod truth;
+pub mod worths;
 
 use crate::plans::Decision;
 use crate::plans::decide;
@@ -128,7 +128,7 @@ fn deny(m: &[u16; MODEL], q: &[u8; QUESTION], j: u8, r: Decision) -> Verdict
 }
 
 // The truth of state formulas on which the root in the start state can depend.
-fn root_truth(m: &[u16; MODEL], q: &[u8; QUESTION], counts: &[u64; COUNTS]) -> [u8; TRUTHS]
+pub fn root_truth(m: &[u16; MODEL], q: &[u8; QUESTION], counts: &[u64; COUNTS]) -> [u8; TRUTHS]
     requires { ⌜ Asked (now m) (now q) (now counts) ⌝ }
     ensures value { λ r. ⌜ Supplied (now (m .entry)) (now (q .entry)) r (root (now (q .entry))) (start-of (now (q .entry))) ⌝ }
 {

@@ -26,6 +26,7 @@ use bounds::exact_total;
 use bounds::meets;
 use bounds::power;
 use evaluation::TRUTHS;
+use exact_plan::Sought;
 use exact_plan::first_equal;
 use limits::COUNTS;
 use limits::plans_counted;
@@ -164,18 +165,13 @@ fn first(
     }
     let mut nodes = [0u8; NODES];
     let w = worth_of(m, q, j, &mut nodes);
-    let place = first_equal(
-        m,
-        q,
-        truth,
-        &nodes[..w.count],
-        counts,
-        s,
-        w.before,
-        w.last,
-        n,
-        total,
-    );
+    let l = Sought {
+        s: s,
+        a: w.before,
+        d: w.last,
+        n: n,
+    };
+    let place = first_equal(m, q, truth, &nodes[..w.count], counts, l, total);
     Decision {
         met: place < all,
         raised: total,

@@ -21,15 +21,14 @@ use Rattle.logic.specs.Bound.{Bound, Lamp, below, at, above, lamp-relati
 use Rattle.logic.specs.Formula.{Formula}
 use Rattle.logic.specs.Verdict.{leads, bound-of}
 use Rattle.logic.specs.Reason.{Reached, Reason, greatest, least, nearest, reached, foremost, standing, reason-for, reason-by, reason, Foremost, Side, Explains}
-use Rattle.logic.specs.promises.Orders.{reversed}
 use Rattle.logic.proofs.Tests.{none≢some, some-same, all-true, all-at, in-keep, keep-member, find-sound, find-there, find-none}
 use Rattle.logic.proofs.Rising.{rising-keep}
 use Rattle.logic.proofs.Dictionary.{plans-are, plans-rising, before-one-way}
-use Rattle.logic.proofs.Best.{Ordered, Le, Lt, Best, here, later}
+use Rattle.logic.proofs.Best.{Ordered, reversed-ordered, Le, Lt, Best, here, later}
 use Rattle.logic.proofs.Integers.{integers-ordered}
 use Rattle.logic.proofs.Lamps.{met-exactly}
-use Rattle.logic.proofs.Shown.{some-leads}
-use Rattle.logic.proofs.Search.{some-plan}
+use Rattle.logic.proofs.Shown.{best-leads, some-leads}
+use Rattle.logic.proofs.Search.{extreme, some-plan}
 
 -- ---- lists
 
@@ -215,6 +214,32 @@ module _ (m : Model) (s : ℕ) (b : Bound) where
               (w .0, ap (reason-for m s b) e ∙ ap least (w .1), foremost-right all-part less (λ v w. leZ w v) (least-first (plans m (b .steps) s)) (w .0) (w .1));
           by-equal = λ e. (_, _, ap (reason-for m s b) e, lower-right, upper-right);
         }
+
+-- ---- by the best of some plans
+
+-- Whole numbers in the order in which the greatest leads, or with `least` true the least.
+abbrev pub order-of : (least : Bool) → ℤ → ℤ → Bool
+order-of true v w = leZ w v
+order-of false v w = leZ v w
+
+abbrev pub ordering : (ℤ → ℤ → Bool) → Quantity
+ordering le = record { Value = ℤ; none = integers .none; plus = integers .plus; times = integers .times; at-most = le }
+
+ordering-ordered : (least : Bool) → Ordered (ordering (order-of least))
+ordering-ordered true = reversed-ordered integers integers-ordered
+ordering-ordered false = integers-ordered
+
+module _ (m : Model) (s : ℕ) (b : Bound) where
+  -- What is reached is the best of the plans, and nothing where there are none.
+  pub foremost-best : (least : Bool) (ps : List (Plan (b .steps))) {π : Plan (b .steps)} → Best (ordering (order-of least)) (total-of m s b) ps π
+      → foremost m s b (extreme least) ps ≡ reached m s b (some (0, π))
+  unfolding foremost leads
+  foremost-best true ps x = ap (reached m s b) (best-leads (ordering (order-of true)) (ordering-ordered true) (total-of m s b) ps x .1)
+  foremost-best false ps x = ap (reached m s b) (best-leads (ordering (order-of false)) (ordering-ordered false) (total-of m s b) ps x .1)
+
+  pub foremost-empty : (r : Relation) {ps : List (Plan (b .steps))} → ps ≡ [] → foremost m s b r ps ≡ none
+  unfolding foremost find
+  foremost-empty r e = ap (λ ps. reached m s b (find (leads integers (total-of m s b) r ps) 1 ps)) e
 
 -- Of every root that sets a bound, on every accepted model.
 pub reason-explains : (m : Model) → Accepted m → (s : ℕ) → s < length (m .states) → (φ : Formula) (b : Bound) → bound-of m s φ ≡ ok b → Explains m s b (reason m s φ)

@@ -1,0 +1,3 @@
+pub mod LedReason
+pub mod NearestPlans
+pub mod PlainRoots
