@@ -11,6 +11,7 @@ use Rattle.logic.specs.Plan.{plans, choices, paths, weight}
 use Rattle.logic.specs.Bound.{total, meets, compared, lamp, one-if, gain-between}
 use Rattle.logic.specs.Formula.{nonnegative, relation, formula-of, formulas, depth, is-path, shallow, sat}
 use Rattle.logic.specs.Verdict.{leads, is-equal, bound-of, goal, shown, leader, verdict}
+use Rattle.logic.specs.Reason.{foremost, standing, reason-for, reason}
 use Rattle.logic.specs.Limits.{path-total, multiply, plan-total, every-plan, limits}
 use Rattle.blocks.specs.Bytes.{Bytes, u16, u32, signed, i16, i32, little-endian, zeros, within}
 use Rattle.blocks.specs.Block.{sum-below, block-count, whole-blocks, word-sum, sums-right, headed, with-word-sum}
@@ -20,9 +21,10 @@ use Rattle.questions.specs.Layout.{node-of, formulas-of, question-of}
 use Rattle.questions.specs.Grounds.{compares, gain-bound, plan-bound, plan-in-range, span, expected-bound, earns-in-range, node-in-range, node-spare, spare-zero, formed, read-question}
 use Rattle.blocks.specs.Splice.{splice}
 use Rattle.verdict_line.specs.Text.{text, decimal, decimal-in, signed-decimal}
-use Rattle.verdict_line.specs.Line.{refused-line, plain-line, lamp-word, optional-word, no-plans-line, yes-plan-line, bounds-plans, verdict-line, printed}
-use Rattle.verdict_line.specs.promises.Chain.{judged-line, line-of, answer-line}
-use Rattle.verdict_line.proofs.LineIsChain.{printed-is}
+use Rattle.verdict_line.specs.Line.{refused-line, plain-line, lamp-word, optional-word, no-plans-line, yes-plan-line, bounds-plans, verdict-line, verdict-says, printed}
+use Rattle.verdict_line.specs.Reasons.{reached-line, reason-text, whynot-says, explained}
+use Rattle.verdict_line.specs.promises.Chain.{judged-text, line-of, answer-text}
+use Rattle.verdict_line.proofs.LineIsChain.{printed-is, explained-is}
 
 -- A block of zeros but for what stands at some places, and the word that makes the sum right.
 unfoldable pub block : List (ℕ × List ℕ) → Bytes
@@ -126,8 +128,8 @@ table =
     ∷ row (replicate 6657 0) "refused 1\n"
     ∷ []
 
-chain-lines : map (λ r. answer-line (r .input)) table ≡ map (λ r. text (r .printed)) table
-unfolding table block two-shelf question first-gain without-wait three-steps coins five-steps flatMap is-empty all any every find keep product join count-from tabulate no-action true-of contradict mask prop-in enabled-actions deadlocked enabled stored outcomes sum related plans choices paths weight nonnegative relation formula-of formulas depth is-path shallow total one-if gain-between sat meets compared lamp leads is-equal bound-of goal shown leader verdict path-total multiply plan-total every-plan limits u16 u32 signed i16 i32 little-endian zeros within sum-below block-count whole-blocks word-sum sums-right headed literals state-mask pre-of post-count post-of cell-at outcome-of entries model-of kinds-right sizes-right mask-in-range literals-in-range action-in-range outcome-in-range cell-in-range fields-right action-spare head-spare row-spare rows-spare cell-spare cells-spare posts-contradict cell-consistent consistent read-model node-of formulas-of question-of compares gain-bound plan-bound plan-in-range span expected-bound earns-in-range node-in-range node-spare spare-zero formed read-question with-word-sum splice text decimal decimal-in signed-decimal refused-line plain-line lamp-word optional-word no-plans-line yes-plan-line bounds-plans verdict-line judged-line line-of answer-line
+chain-lines : map (λ r. answer-text verdict-says (r .input)) table ≡ map (λ r. text (r .printed)) table
+unfolding table block two-shelf question first-gain without-wait three-steps coins five-steps flatMap is-empty all any every find keep product join count-from tabulate no-action true-of contradict mask prop-in enabled-actions deadlocked enabled stored outcomes sum related plans choices paths weight nonnegative relation formula-of formulas depth is-path shallow total one-if gain-between sat meets compared lamp leads is-equal bound-of goal shown leader verdict path-total multiply plan-total every-plan limits u16 u32 signed i16 i32 little-endian zeros within sum-below block-count whole-blocks word-sum sums-right headed literals state-mask pre-of post-count post-of cell-at outcome-of entries model-of kinds-right sizes-right mask-in-range literals-in-range action-in-range outcome-in-range cell-in-range fields-right action-spare head-spare row-spare rows-spare cell-spare cells-spare posts-contradict cell-consistent consistent read-model node-of formulas-of question-of compares gain-bound plan-bound plan-in-range span expected-bound earns-in-range node-in-range node-spare spare-zero formed read-question with-word-sum splice text decimal decimal-in signed-decimal refused-line plain-line lamp-word optional-word no-plans-line yes-plan-line bounds-plans verdict-line judged-text line-of answer-text
 chain-lines = refl
 
 map-same : {A B : Type 0} {f g : A → B} → ((x : A) → f x ≡ g x) → (l : List A) → map f l ≡ map g l
@@ -136,3 +138,25 @@ map-same h (x ∷ l) = ap₂ _∷_ (h x) (map-same h l)
 
 pub input-lines : map (λ r. printed (r .input)) table ≡ map (λ r. text (r .printed)) table
 input-lines = map-same (λ r. printed-is (r .input)) table ∙ chain-lines
+
+-- ---- what whynot prints
+
+-- The question with 50/100.
+unfoldable pub half : Bytes
+half = block ((0, 3 ∷ 0 ∷ 0 ∷ 4 ∷ []) ∷ (8, 2 ∷ 0 ∷ 1 ∷ []) ∷ (20, 6 ∷ []) ∷ (32, 6 ∷ 0 ∷ 1 ∷ []) ∷ (44, 8 ∷ 2 ∷ 2 ∷ 2 ∷ 50 ∷ 0 ∷ 0 ∷ 0 ∷ 100 ∷ []) ∷ [])
+
+unfoldable pub reasons : List Row
+unfolding row
+reasons =
+    row (two-shelf ++ half) "below 45/100 choices 1 2 0\nabove 72/100 choices 0 2 0\n"
+    ∷ row (two-shelf ++ question) "yes 45/100 at plans 3 choices 1 2 0\n"
+    ∷ row (coins ++ five-steps) "refused 25\n"
+    ∷ row question "refused 1\n"
+    ∷ []
+
+chain-reasons : map (λ r. answer-text whynot-says (r .input)) reasons ≡ map (λ r. text (r .printed)) reasons
+unfolding reasons block two-shelf question half coins five-steps flatMap is-empty all any every find keep product join count-from tabulate no-action true-of contradict mask prop-in enabled-actions deadlocked enabled stored outcomes sum related plans choices paths weight nonnegative relation formula-of formulas depth is-path shallow total one-if gain-between sat meets compared lamp leads is-equal bound-of goal shown leader verdict path-total multiply plan-total every-plan limits u16 u32 signed i16 i32 little-endian zeros within sum-below block-count whole-blocks word-sum sums-right headed literals state-mask pre-of post-count post-of cell-at outcome-of entries model-of kinds-right sizes-right mask-in-range literals-in-range action-in-range outcome-in-range cell-in-range fields-right action-spare head-spare row-spare rows-spare cell-spare cells-spare posts-contradict cell-consistent consistent read-model node-of formulas-of question-of compares gain-bound plan-bound plan-in-range span expected-bound earns-in-range node-in-range node-spare spare-zero formed read-question with-word-sum splice text decimal decimal-in signed-decimal refused-line plain-line lamp-word optional-word no-plans-line yes-plan-line bounds-plans verdict-line judged-text line-of answer-text reached-line reason-text whynot-says foremost standing reason-for reason
+chain-reasons = refl
+
+pub input-reasons : map (λ r. explained (r .input)) reasons ≡ map (λ r. text (r .printed)) reasons
+input-reasons = map-same (λ r. explained-is (r .input)) reasons ∙ chain-reasons

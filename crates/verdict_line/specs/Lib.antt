@@ -1,3 +1,4 @@
 pub mod Text
 pub mod Line
+pub mod Reasons
 pub mod promises

@@ -1,4 +1,5 @@
--- The one line that the program `verdict` prints for its input. Document 01, "The program named verdict", and document 02, A.4, for the lamp.
+-- The one line that the program `verdict` prints for its input. Document 01, "The program named verdict", and document 02, A.4, for the lamp. What it
+-- reads and how it comes to a verdict, `whynot` shares (`Reasons`).
 use Prim.Native.Nat.{ℕ, _-_, _^_}
 use mathlib.Core.Bool.{Bool, true, false, cond}
 use mathlib.Core.List.{List, [], _∷_, _++_, flatMap}
@@ -55,32 +56,49 @@ verdict-line m φ (no x) = cond (bounds-plans φ) (no-plans-line (x .count) (x .
 verdict-line m φ yes = plain-line true
 verdict-line m φ (yes-plan x) = yes-plan-line (x .total) (m .denominator ^ x .steps) (x .lamp) (x .count) (x .choices)
 
--- ---- the line of each input
+-- ---- the text of each input
 
--- The line of a verdict on what is held.
-abbrev pub held-line : Option Model → Option Question → Verdict → List ℕ
-held-line (some m) (some q) v = verdict-line m (q .root) v
-held-line (some m) none v = []
-held-line none o v = []
+abbrev pub model-part : Bytes → Bytes
+model-part b = take (length b - 512) b
 
--- The line of the replies, up to the first refusal or the verdict: `rest` is that of the later ones. (Their end is not reached, and there is
+abbrev pub question-part : Bytes → Bytes
+question-part b = drop (length b - 512) b
+
+-- What a program says of a verdict on what is held.
+abbrev pub Says : Type 0
+Says = Model → Question → Verdict → List ℕ
+
+-- The text of the replies, up to the first refusal or the verdict: `rest` is that of the later ones. (Their end is not reached, and there is
 -- no verdict where nothing is held: judge is answered or refused.)
-abbrev pub reply-line : Held → Answer → (rest : List ℕ) → List ℕ
-reply-line h done rest = rest
-reply-line h (judged v) rest = held-line (h .model) (h .question) v
-reply-line h (written bytes) rest = rest
-reply-line h (accepted report) rest = rest
-reply-line h (refuse k) rest = refused-line k
+module _ (says : Says) where
+  abbrev pub held-text : Option Model → Option Question → Verdict → List ℕ
+  held-text (some m) (some q) v = says m q v
+  held-text (some m) none v = []
+  held-text none o v = []
 
-unfoldable pub replies-line : Held → List Reply → List ℕ
-replies-line h [] = []
-replies-line h (r ∷ rs) = reply-line h (r .answer) (replies-line h rs)
+  abbrev pub reply-text : Held → Answer → (rest : List ℕ) → List ℕ
+  reply-text h done rest = rest
+  reply-text h (judged v) rest = held-text (h .model) (h .question) v
+  reply-text h (written bytes) rest = rest
+  reply-text h (accepted report) rest = rest
+  reply-text h (refuse k) rest = refused-line k
 
--- "loads, puts and judges in turn up to the first refusal"
-unfoldable pub printed-for : (model question : Bytes) → List ℕ
-printed-for model question = replies-line (after (load model ∷ put question ∷ [])) (replies-to (load model ∷ put question ∷ judge ∷ []))
+  unfoldable pub replies-text : Held → List Reply → List ℕ
+  replies-text h [] = []
+  replies-text h (r ∷ rs) = reply-text h (r .answer) (replies-text h rs)
 
--- What the program prints, of every input: the last 512 bytes are the question, those before it the model. "Input under 512 bytes or over
--- 13 blocks is refused with 1."
+  -- "loads, puts and judges in turn up to the first refusal"
+  unfoldable pub text-for : (model question : Bytes) → List ℕ
+  text-for model question = replies-text (after (load model ∷ put question ∷ [])) (replies-to (load model ∷ put question ∷ judge ∷ []))
+
+  -- Of every input: the last 512 bytes are the question, those before it the model. "Input under 512 bytes or over 13 blocks is refused
+  -- with 1."
+  unfoldable pub text-of : Bytes → List ℕ
+  text-of b = cond (within 512 6656 (length b)) (text-for (model-part b) (question-part b)) (refused-line 1)
+
+-- What `verdict` prints.
+abbrev pub verdict-says : Says
+verdict-says m q v = verdict-line m (q .root) v
+
 unfoldable pub printed : Bytes → List ℕ
-printed b = cond (within 512 6656 (length b)) (printed-for (take (length b - 512) b) (drop (length b - 512) b)) (refused-line 1)
+printed b = text-of verdict-says b

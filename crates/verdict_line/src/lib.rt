@@ -1,10 +1,13 @@
-// The one line that the program `verdict` prints, formed in a lent buffer.
+// The one line that the program `verdict` prints, formed in a lent buffer; what `whynot` prints of a no (`reasons`).
 ghost use mathlib.Core.List.{_++_, flatMap};
 ghost use Prim.Native.Nat.{_+_, _*_, _≤_};
 ghost use lib.ListN.{length};
 ghost use Rattle.lamp.specs.Said.{said-lamp, said-optional};
 ghost use Rattle.verdict_line.specs.Text.{decimal, signed-decimal, numbered, Put};
 ghost use Rattle.verdict_line.specs.Line.{lamp-word, optional-word, refused-line, plain-line, no-plans-line, yes-plan-line};
+
+pub mod reasons;
+
 use lamp::Lamp;
 use lamp::OptionalLamp;
 
