@@ -1,4 +1,5 @@
--- A question that is another one node by node has its verdict and its limits: both depend only on the bound that each node sets on plans.
+-- A question that is another one node by node has its verdict, the reason of a no, and its limits: they depend only on the bound that each node sets
+-- on plans.
 use Prim.Native.Nat.{ℕ, _-_, _≤_}
 use native.Mathlib.Omega.{arith}
 use mathlib.Core.Path.{_≡_, refl, sym, ap, ap₂, _∙_}
@@ -14,6 +15,7 @@ use Rattle.logic.specs.Quantity.{Relation}
 use Rattle.logic.specs.Bound.{Bound}
 use Rattle.logic.specs.Formula.{Formula, never, on-bound}
 use Rattle.logic.specs.Verdict.{bound-of, bound-goal, goal, is-equal, verdict, verdict-by}
+use Rattle.logic.specs.Reason.{reason-by, reason}
 use Rattle.logic.specs.Limits.{every-plan, path-total, plan-total, limits}
 use Rattle.blocks.specs.Bytes.{Bytes}
 use Rattle.questions.specs.Layout.{start-of, node-count, formulas-of, question-of}
@@ -64,6 +66,13 @@ module _ {S A N : ℕ} {q q′ : Bytes} (h : Shared S A N q q′) (m : Model) wh
       let n : 1 ≤ node-count q′ = h .nodes .formed .some-node in
       verdict-alike m (start-of q) (h .alike (node-count q - 1) (omega (arith, n, h .count)))
       ∙ ap₂ (λ s k. verdict m s (formula q′ (k - 1))) (sym (h .start)) (sym (h .count))
+
+  pub same-reason : reason m (start-of q) (question-of q .root) ≡ reason m (start-of q′) (question-of q′ .root)
+  unfolding question-of reason
+  same-reason =
+      let n : 1 ≤ node-count q′ = h .nodes .formed .some-node in
+      ap (reason-by m (start-of q)) (h .alike (node-count q - 1) (omega (arith, n, h .count)) .bounds m (start-of q))
+      ∙ ap₂ (λ s k. reason m s (formula q′ (k - 1))) (sym (h .start)) (sym (h .count))
 
   test-same : (f : ℕ → Relation → ℕ → Bool) → every-plan f m (formulas-of q) ≡ every-plan f m (formulas-of q′)
   test-same f =

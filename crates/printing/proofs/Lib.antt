@@ -2,5 +2,4 @@ pub mod Claims
 pub mod LineOfVerdict
 pub mod LineAfterCall
 pub mod CutToShown
-pub mod LineByLength
 pub mod Offered

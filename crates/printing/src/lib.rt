@@ -7,8 +7,8 @@ ghost use Rattle.models.specs.Layout.{denominator-of, model-of};
 ghost use Rattle.questions.specs.Layout.{node-count, question-of};
 ghost use Rattle.lamp.specs.Said.{said-optional};
 ghost use Rattle.verdict_line.specs.Text.{Put};
-ghost use Rattle.verdict_line.specs.Line.{no-plans-line, plain-line};
-ghost use Rattle.verdict_line.specs.promises.Chain.{line-of, answer-line};
+ghost use Rattle.verdict_line.specs.Line.{no-plans-line, plain-line, verdict-says};
+ghost use Rattle.verdict_line.specs.promises.Chain.{line-of, answer-text};
 ghost use Rattle.printing.specs.promises.Printed.{plan-root, judging-line, asking-line, loading-line, shown-line, Shown, Loaded, Asked};
 use blocks::BLOCK;
 use lamp::OptionalLamp;
@@ -17,9 +17,7 @@ use plan_judge::Judgement;
 use plan_judge::Taken;
 use plan_judge::Verdict;
 use verdict_line::LINE;
-
-// The most bytes of the input: a model of 12 blocks, and a question.
-const MOST_INPUT: usize = 6656;
+use verdict_line::MOST_INPUT;
 
 // The line of a no.
 fn no_line(out: &mut [u8], q: &[u8], count: u32, lamp: OptionalLamp) -> usize
@@ -115,7 +113,7 @@ fn loading_line(out: &mut [u8], model: &[u8], q: &[u8]) -> usize
 
 // The line that the program verdict prints for its input: a model followed by a question in the last 512 bytes.
 pub fn answer(input: &[u8], out: &mut [u8; LINE]) -> usize
-    ensures effect { λ r. ⌜ Put (answer-line (now (input .entry))) (now (out .entry)) (now (out .exit)) 0 r ⌝ }
+    ensures effect { λ r. ⌜ Put (answer-text verdict-says (now (input .entry))) (now (out .entry)) (now (out .exit)) 0 r ⌝ }
 {
     let n = input.len();
     if n < BLOCK {

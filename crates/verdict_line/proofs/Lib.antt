@@ -2,4 +2,5 @@ pub mod Decimal
 pub mod PutInTurn
 pub mod ExampleLines
 pub mod LineIsChain
+pub mod TextByLength
 pub mod ExampleInputs

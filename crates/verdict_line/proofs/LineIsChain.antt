@@ -7,7 +7,6 @@ use mathlib.Core.List.{List, [], _∷_}
 use lib.ListN.{length}
 use Rattle.logic.specs.Checked.{Checked, ok, refused, _>>=_, _>>_, guard}
 use Rattle.logic.specs.Model.{Model}
-use Rattle.logic.specs.Verdict.{verdict}
 use Rattle.logic.specs.Limits.{limits}
 use Rattle.blocks.specs.Bytes.{Bytes, within}
 use Rattle.models.specs.Grounds.{read-model}
@@ -19,22 +18,18 @@ use Rattle.protocol.proofs.AfterEachCall.{next}
 use Rattle.protocol.proofs.Lists.{empty, with-model, with-question, after-none, after-more, reply-is}
 use Rattle.verdict_line.specs.Line.{Says, verdict-says, model-part, question-part, refused-line, replies-text, text-for, text-of, printed}
 use Rattle.verdict_line.specs.Reasons.{whynot-says, explained}
-use Rattle.verdict_line.specs.promises.Chain.{judged-text, line-of, answer-text}
+use Rattle.verdict_line.specs.promises.Chain.{judging-text, asking-text, loading-text, judged-text, line-of, answer-text}
 
 module _ (says : Says) where
-  -- What is left to do after load, and after put.
-  abbrev pub judging-text : Model → Question → Checked (List ℕ)
-  judging-text m q = limits m (q .nodes) >> ok (says m q (verdict m (q .start) (q .root)))
-
   asks : (m : Model) (q : Question) (c : Checked (Unit {0})) → limits m (q .nodes) ≡ c
-      → replies-text says (with-question m q) (by-chain (with-question m q) judge ∷ []) ≡ line-of (judging-text m q)
+      → replies-text says (with-question m q) (by-chain (with-question m q) judge ∷ []) ≡ line-of (judging-text says m q)
   unfolding replies-text by-chain do-judge line-of
   asks m q (ok u) e = rw e refl
   asks m q (refused k) e = rw e refl
 
   puts : (m : Model) (question : Bytes) (c : Checked Question) → question-for m question ≡ c
       → replies-text says (next (with-model m) (put question)) (by-chain (with-model m) (put question) ∷ by-chain (next (with-model m) (put question)) judge ∷ [])
-      ≡ line-of (c >>= judging-text m)
+      ≡ line-of (c >>= judging-text says m)
   unfolding replies-text by-chain next do-put line-of
   puts m question (ok q) e = rw e (asks m q (limits m (q .nodes)) refl)
   puts m question (refused k) e = rw e refl
@@ -42,7 +37,7 @@ module _ (says : Says) where
   loads : (model question : Bytes) (c : Checked Model) → read-model model ≡ c
       → replies-text says (next (next empty (load model)) (put question))
       (by-chain empty (load model) ∷ by-chain (next empty (load model)) (put question) ∷ by-chain (next (next empty (load model)) (put question)) judge ∷ [])
-      ≡ line-of (c >>= (λ m. question-for m question >>= judging-text m))
+      ≡ line-of (c >>= (λ m. asking-text says m question))
   unfolding replies-text by-chain next line-of
   loads model question (ok m) e = rw e (puts m question (question-for m question) refl)
   loads model question (refused k) e = rw e refl
@@ -53,7 +48,7 @@ module _ (says : Says) where
     three {h′ = h′} {b = b} {c = c} {a′ = a′} e f g i =
         ap₂ (λ k x. replies-text says k (x ∷ b ∷ c ∷ [])) e f ∙ ap₂ (λ x y. replies-text says h′ (a′ ∷ x ∷ y ∷ [])) g i
 
-    for-is : text-for says model question ≡ line-of (read-model model >>= (λ m. question-for m question >>= judging-text m))
+    for-is : text-for says model question ≡ line-of (loading-text says model question)
     unfolding text-for replies-after
     for-is =
         let one : List Call = load model ∷ [] in
@@ -69,7 +64,7 @@ module _ (says : Says) where
     where
       by : (t : Bool)
           → cond t (text-for says (model-part b) (question-part b)) (refused-line 1)
-          ≡ line-of (guard 1 t >> (read-model (model-part b) >>= (λ m. question-for m (question-part b) >>= judging-text m)))
+          ≡ line-of (guard 1 t >> loading-text says (model-part b) (question-part b))
       by true = for-is (model-part b) (question-part b)
       by false = refl
 

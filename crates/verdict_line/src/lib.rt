@@ -11,6 +11,9 @@ pub mod reasons;
 use lamp::Lamp;
 use lamp::OptionalLamp;
 
+// The most bytes of a program's input: a model of 12 blocks, and a question.
+pub const MOST_INPUT: usize = 6656;
+
 // Room for the longest line.
 pub const LINE: usize = 8192;
 

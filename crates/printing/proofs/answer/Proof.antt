@@ -5,7 +5,8 @@ use Prim.Native.Nat.{_-_}
 use lib.ListN.{length}
 use lib.Seq.{length-take-le}
 use Rattle.printing.proofs.CutToShown.{put-as}
-use Rattle.printing.proofs.LineByLength.{too-short, too-long, both-parts}
+use Rattle.verdict_line.specs.Line.{verdict-says}
+use Rattle.verdict_line.proofs.TextByLength.{too-short, too-long, both-parts}
 use borrow.Author.Needs.{needs}
 use Rattle.printing.proofs.answer.Statement.{statement}
 use Rattle.printing.proofs.answer.Tie as tie
@@ -14,13 +15,13 @@ refused-line-requires : tie.Need-refused-line-requires
 refused-line-requires c κs = search needs
 
 returns : tie.Need-returns
-returns c = put-as (too-short (c .before .before .before .before .args .input .now) (c .before .before .if1 .taken)) (c .refused-line .ensures)
+returns c = put-as (too-short verdict-says (c .before .before .before .before .args .input .now) (c .before .before .if1 .taken)) (c .refused-line .ensures)
 
 refused-line-requires-2 : tie.Need-refused-line-requires-2
 refused-line-requires-2 c κs = search needs
 
 returns-2 : tie.Need-returns-2
-returns-2 c = put-as (too-long (c .before .before .before .before .before .args .input .now) (c .before .before .if2 .taken)) (c .refused-line2 .ensures)
+returns-2 c = put-as (too-long verdict-says (c .before .before .before .before .before .args .input .now) (c .before .before .if2 .taken)) (c .refused-line2 .ensures)
 
 slice-aggregate-loading-line : tie.Need-slice-aggregate-loading-line
 slice-aggregate-loading-line c = let b = c .before .before .before .before .before .args .input .now in
@@ -39,7 +40,7 @@ loading-line-requires : tie.Need-loading-line-requires
 loading-line-requires c κs = search needs
 
 returns-3 : tie.Need-returns-3
-returns-3 c = put-as (both-parts (c .before .before .before .before .before .before .before .args .input .now) (omega (arith, c .before .before .before .before .before .if1 .left)) (omega (arith, c .before .before .before .before .if2 .left))) (c .loading-line .ensures)
+returns-3 c = put-as (both-parts verdict-says (c .before .before .before .before .before .before .before .args .input .now) (omega (arith, c .before .before .before .before .before .if1 .left)) (omega (arith, c .before .before .before .before .if2 .left))) (c .loading-line .ensures)
 
 pub answer-spec : {M : Type 1} → statement M
 answer-spec =

@@ -4,18 +4,17 @@ use mathlib.Core.Path.{_≡_}
 use mathlib.Core.Bool.{Bool, true, false, cond}
 use mathlib.Core.List.{List, [], _∷_}
 use lib.ListN.{length}
-use Rattle.logic.specs.Checked.{Checked, ok, _>>=_, _>>_}
+use Rattle.logic.specs.Checked.{Checked}
 use Rattle.logic.specs.promises.Refusal.{refusal}
 use Rattle.logic.specs.Model.{Model}
-use Rattle.logic.specs.Verdict as logic
-use Rattle.logic.specs.Limits.{limits}
 use Rattle.blocks.specs.Bytes.{Bytes}
 use Rattle.models.specs.Layout.{denominator-of, model-of}
 use Rattle.models.specs.Grounds.{read-model}
 use Rattle.questions.specs.Layout.{Question, node-of, node-count}
 use Rattle.questions.specs.promises.Formed.{sets-bound}
 use Rattle.protocol.specs.Calls.{load, put, question-for}
-use Rattle.verdict_line.specs.Line.{plain-line, no-plans-line, yes-plan-line, verdict-line}
+use Rattle.verdict_line.specs.Line.{plain-line, no-plans-line, yes-plan-line, verdict-says}
+use Rattle.verdict_line.specs.promises.Chain.{judging-text, asking-text, loading-text}
 use Rattle.lamp.specs.Said.{said-lamp, said-optional}
 use Rattle.plan_judge.specs.declared.Desk.{Desk}
 use Rattle.judging.specs.declared.Verdict.{Verdict}
@@ -26,13 +25,13 @@ use Rattle.plan_judge.specs.promises.Session.{desk-after}
 -- ---- what is left to do
 
 abbrev pub judging-line : Model → Question → Checked (List ℕ)
-judging-line m q = limits m (q .nodes) >> ok (verdict-line m (q .root) (logic.verdict m (q .start) (q .root)))
+judging-line m q = judging-text verdict-says m q
 
 abbrev pub asking-line : Model → Bytes → Checked (List ℕ)
-asking-line m b = question-for m b >>= judging-line m
+asking-line m b = asking-text verdict-says m b
 
 abbrev pub loading-line : (model question : Bytes) → Checked (List ℕ)
-loading-line b c = read-model b >>= (λ m. asking-line m c)
+loading-line b c = loading-text verdict-says b c
 
 -- ---- the desk after load, and after put
 
