@@ -18,7 +18,7 @@ use Rattle.logic.specs.Model.{Model}
 use Rattle.logic.specs.Quantity.{Relation}
 use Rattle.logic.specs.Verdict.{is-equal}
 use Rattle.logic.specs.Formula.{Formula, Node, relation, formula-of}
-use Rattle.logic.specs.Limits.{every-plan, plan-total, limits}
+use Rattle.logic.specs.Limits.{every-plan, path-total, plan-total, limits}
 use Rattle.logic.proofs.Tests.{same-test, every-intro}
 use Rattle.blocks.specs.Bytes.{Bytes}
 use Rattle.questions.specs.Layout.{node-count, node-of, formulas-of}
@@ -148,3 +148,13 @@ module _ (m : Model) (fs : List Formula) where
   pub limits-plans : every-plan (fits false m) m fs ≡ true → {t : Bool} → every-plan (fits true m) m fs ≡ t → refusal (done t) ≡ refusal (limits m fs)
   unfolding limits fits
   limits-plans e f = ap₂ (λ t u. refusal (guard 24 t >> done u)) (sym e) (sym f)
+
+-- Past the limits.
+pub limits-passed : (m : Model) (fs : List Formula) → refusal (limits m fs) ≡ 0 → limits m fs ≡ ok tt
+unfolding limits
+limits-passed m fs e = by (every-plan (λ n r s. leb (path-total m n s) 1000000) m fs) (every-plan (λ n r s. not (is-equal r) || leb (plan-total m n s) 65536) m fs) e
+  where
+    by : (t u : Bool) → refusal (guard 24 t >> done u) ≡ 0 → (guard 24 t >> done u) ≡ ok tt
+    by true true z = refl
+    by true false z = absurd (omega arith)
+    by false u z = absurd (omega arith)

@@ -44,7 +44,8 @@ use Rattle.plan_judge.specs.View.{view}
 use Rattle.plan_judge.specs.promises.Values.{checking, checked-by}
 use Rattle.plan_judge.specs.promises.State.{held-goal, PlanRoot, plan-on}
 use Rattle.plan_judge.proofs.LoadPutReturn.{said-bytes}
-use Rattle.plan_judge.proofs.StateGrounds.{bind-refused, bind-passed, then-refused, limits-passed, both-asked, both-held, both-passed, goal-refused, root-node, root-goal, asked-goal, goal-is}
+use Rattle.limits.proofs.NodeByNode.{limits-passed}
+use Rattle.plan_judge.proofs.StateGrounds.{bind-refused, bind-passed, then-refused, both-asked, both-held, both-passed, goal-refused, root-node, root-goal, asked-goal, goal-is}
 
 -- ---- the plan on a sheet
 

@@ -29,7 +29,8 @@ use Rattle.plan_judge.specs.View.{view}
 use Rattle.plan_judge.specs.promises.Values.{choices-code, settling, judging, judged-by}
 use Rattle.plan_judge.specs.promises.State.{held-both}
 use Rattle.plan_judge.proofs.LoadPutReturn.{said-bytes, padded-copy}
-use Rattle.plan_judge.proofs.StateGrounds.{Both, limits-passed, both-held, both-refused, both-passed}
+use Rattle.limits.proofs.NodeByNode.{limits-passed}
+use Rattle.plan_judge.proofs.StateGrounds.{Both, both-held, both-refused, both-passed}
 
 -- The choices of a verdict, written over zeros.
 pub choices-told : (v : logic.Verdict) → splice (replicate 1365 0) 0 (shown-choices v) ≡ choices-code v

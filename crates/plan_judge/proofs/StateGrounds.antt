@@ -3,20 +3,19 @@ use Prim.Native.Nat.{ℕ, zero, suc, _-_, _/_, _%_, _<_}
 use native.Mathlib.Omega.{arith}
 use mathlib.Core.Path.{_≡_, refl, sym, ap, ap₂, _∙_}
 use mathlib.Core.Logic.{⊎-elim}
-use mathlib.Core.Bool.{Bool, true, false, cond, not, _||_}
+use mathlib.Core.Bool.{Bool, true, false, cond}
 use mathlib.Core.List.{List}
 use mathlib.Core.Option.{Option, none, some}
-use lib.Dec.{eqb, leb}
+use lib.Dec.{eqb}
 use lib.IntN.{ℤ, pos}
 use lib.ListN.{getD}
 use borrow.Author.Tests.{eq-eqb, ne-eqb}
-use Rattle.logic.specs.Checked.{Checked, ok, refused, _>>=_, _>>_, guard, got}
+use Rattle.logic.specs.Checked.{Checked, ok, refused, _>>=_, _>>_, got}
 use Rattle.logic.specs.promises.Refusal.{refusal, held}
 use Rattle.logic.specs.Model.{Model, Step}
 use Rattle.logic.specs.Bound.{Bound, one-if, gain-between}
 use Rattle.logic.specs.Formula.{Formula, Node, never, sat, relation}
-use Rattle.logic.specs.Limits.{path-total, plan-total, every-plan, limits}
-use Rattle.logic.specs.Verdict.{Goal, bound-of, bound-goal, goal, is-equal}
+use Rattle.logic.specs.Verdict.{Goal, bound-of, bound-goal, goal}
 use Rattle.blocks.specs.Bytes.{Bytes}
 use Rattle.models.specs.Layout.{state-count, action-count, prop-count, model-of}
 use Rattle.models.specs.Grounds.{read-model}
@@ -25,7 +24,6 @@ use Rattle.questions.specs.Grounds.{read-question}
 use Rattle.questions.specs.promises.Formed.{Formed, sets-bound}
 use Rattle.questions.proofs.AcceptedFacts.{accepted, at-plan, at-earns}
 use Rattle.questions.proofs.SetsBound.{sets-which, sets-neither}
-use Rattle.limits.proofs.NodeByNode.{done}
 use Rattle.protocol.specs.Calls.{Held}
 use Rattle.plan_judge.specs.declared.Desk.{Desk}
 use Rattle.plan_judge.specs.View.{question-in, view}
@@ -45,16 +43,6 @@ bind-passed (refused k) f e = e
 pub then-refused : {A B : Type 0} (c : Checked A) (x : Checked B) (k : ℕ) → k ≡ refusal c → (k ≡ 0 → ⊥) → k ≡ refusal (c >> x)
 then-refused (ok a) x k e h = absurd (h e)
 then-refused (refused j) x k e h = e
-
--- Past the limits.
-pub limits-passed : (m : Model) (fs : List Formula) → refusal (limits m fs) ≡ 0 → limits m fs ≡ ok tt
-unfolding limits
-limits-passed m fs e = by (every-plan (λ n r s. leb (path-total m n s) 1000000) m fs) (every-plan (λ n r s. not (is-equal r) || leb (plan-total m n s) 65536) m fs) e
-  where
-    by : (t u : Bool) → refusal (guard 24 t >> done u) ≡ 0 → (guard 24 t >> done u) ≡ ok tt
-    by true true z = refl
-    by true false z = absurd (omega arith)
-    by false u z = absurd (omega arith)
 
 -- ---- the root
 

@@ -13,7 +13,6 @@ use Rattle.models.proofs.ModelOfBytes.{denominator-held}
 use Rattle.blocks.specs.Bytes.{Bytes}
 use Rattle.questions.specs.Layout.{question-of}
 use Rattle.questions.proofs.AcceptedFacts.{accepted}
-use Rattle.verdict_line.specs.Text.{Put}
 use Rattle.verdict_line.specs.promises.Chain.{line-of}
 use Rattle.plan_judge.specs.declared.Desk.{Desk}
 use Rattle.judging.specs.declared.Verdict.{Verdict}
@@ -26,9 +25,6 @@ use Rattle.plan_judge.specs.promises.State.{shown-size}
 use Rattle.printing.specs.promises.Printed.{plan-root, judging-line, shown-line, shown-steps, Shown, Asked}
 use Rattle.printing.proofs.LineOfVerdict.{root-is, few-steps, few-choices, line-is}
 use Rattle.printing.proofs.LineAfterCall.{asked-verdict, Told, judge-told}
-
-pub put-as : {x y out out′ : List ℕ} {at at′ : ℕ} → x ≡ y → Put x out out′ at at′ → Put y out out′ at at′
-put-as {x} {y} {out} {out′} {at} {at′} e p = subst (λ z. Put z out out′ at at′) e p
 
 -- What is printed of judge's answer r, a verdict v, with so many of the choices beside it.
 pub record Printable (m q : Bytes) (r : Judging) (v : Verdict) (count : ℕ) : Type 0 where

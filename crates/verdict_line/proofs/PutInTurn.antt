@@ -16,6 +16,9 @@ use Rattle.logic.proofs.Naturals.{flatMap-last}
 
 -- ---- writes
 
+pub put-as : {x y out out′ : List ℕ} {at at′ : ℕ} → x ≡ y → Put x out out′ at at′ → Put y out out′ at at′
+put-as {x} {y} {out} {out′} {at} {at′} e p = subst (λ z. Put z out out′ at at′) e p
+
 pub put-none : (out : List ℕ) (at : ℕ) → Put [] out out at at
 put-none out at = record { wrote = sym (splice-none out at); next = omega arith }
 

@@ -4,7 +4,7 @@ use mathlib.Core.Path.{sym}
 use Prim.Native.Nat.{_-_}
 use lib.ListN.{length}
 use lib.Seq.{length-take-le}
-use Rattle.printing.proofs.CutToShown.{put-as}
+use Rattle.verdict_line.proofs.PutInTurn.{put-as}
 use Rattle.verdict_line.specs.Line.{verdict-says}
 use Rattle.verdict_line.proofs.TextByLength.{too-short, too-long, both-parts}
 use borrow.Author.Needs.{needs}

@@ -3,7 +3,7 @@ use mathlib.Core.Path.{sym, ap}
 use Rattle.verdict_line.specs.promises.Chain.{line-of}
 use Rattle.printing.specs.promises.Printed.{Asked}
 use Rattle.printing.proofs.LineAfterCall.{put-refused, put-done, asking-is}
-use Rattle.printing.proofs.CutToShown.{put-as}
+use Rattle.verdict_line.proofs.PutInTurn.{put-as}
 use borrow.Author.Needs.{needs}
 use Rattle.printing.proofs.asking_line.Statement.{statement}
 use Rattle.printing.proofs.asking_line.Tie as tie

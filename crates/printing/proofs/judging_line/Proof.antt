@@ -4,7 +4,8 @@ use lib.ListN.{length}
 use lib.Seq.{length-take-le}
 use Rattle.verdict_line.specs.promises.Chain.{line-of}
 use Rattle.printing.proofs.LineAfterCall.{judge-refused}
-use Rattle.printing.proofs.CutToShown.{put-as, Printable, printable}
+use Rattle.verdict_line.proofs.PutInTurn.{put-as}
+use Rattle.printing.proofs.CutToShown.{Printable, printable}
 use borrow.Author.Needs.{needs}
 use Rattle.printing.proofs.judging_line.Statement.{statement}
 use Rattle.printing.proofs.judging_line.Tie as tie

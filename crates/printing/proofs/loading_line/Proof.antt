@@ -3,7 +3,7 @@ use mathlib.Core.Path.{sym, ap}
 use Rattle.verdict_line.specs.promises.Chain.{line-of}
 use Rattle.printing.specs.promises.Printed.{Loaded}
 use Rattle.printing.proofs.LineAfterCall.{load-refused, load-done, loading-is}
-use Rattle.printing.proofs.CutToShown.{put-as}
+use Rattle.verdict_line.proofs.PutInTurn.{put-as}
 use borrow.Author.Needs.{needs}
 use Rattle.printing.proofs.loading_line.Statement.{statement}
 use Rattle.printing.proofs.loading_line.Tie as tie

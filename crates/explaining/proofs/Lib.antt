@@ -1,0 +1,2 @@
+pub mod TextOfExplanation
+pub mod PreparedInput
