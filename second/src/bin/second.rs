@@ -1,7 +1,8 @@
 //! The second implementation's commands; `README.md` describes each.
 
 use second::compare::compare;
-use second::desk::{c_calls, next_call, pairs, verdict_line, Desk, JudgeKind};
+use second::desk::{c_calls, next_call, pairs, reason_calls, verdict_line};
+use second::desk::{whynot_lines, Call, Desk, JudgeKind};
 use second::generate::{bench_cases, stream};
 use second::tally::tally;
 use second::timing::time;
@@ -11,9 +12,11 @@ use std::process::ExitCode;
 
 const USAGE: &str = "usage: second [--plain] COMMAND
   verdict                    a model and a question to their verdict line
+  whynot                     a model and a question to what could have been had instead
   replay                     a stream of calls to a line for each
   ccalls                     the C call on what a stream of calls loads and puts
   pairs DIR COUNT            the models and questions of a stream of calls as files for verdict
+  reason-calls FILE..        what whynot printed for such files, in FILE.whynot, to calls that check the plans
   tally                      a stream of calls to counts of its answers
   floats                     a stream of calls to counts of the answers that judges in floats get wrong
   faults                     a stream of calls to counts of the answers that judges that err about silent states get wrong
@@ -47,9 +50,11 @@ fn main() -> ExitCode {
 fn run(kind: JudgeKind, words: &[&str]) -> io::Result<ExitCode> {
     match words {
         ["verdict"] => print_line(&verdict_line(&read_input()?, kind))?,
+        ["whynot"] => print_line(&whynot_lines(&read_input()?, kind).join("\n"))?,
         ["replay"] => replay(kind, &read_input()?)?,
         ["ccalls"] => ccalls(kind, &read_input()?)?,
         ["pairs", folder, count] => return write_pairs(folder, count),
+        ["reason-calls", files @ ..] => print_reason_calls(files)?,
         ["tally"] => print_tally(&read_input()?)?,
         ["floats"] => print_floats(&read_input()?)?,
         ["faults"] => print_faults(&read_input()?)?,
@@ -108,6 +113,20 @@ fn write_pairs(folder: &str, count: &str) -> io::Result<ExitCode> {
         std::fs::write(format!("{folder}/{number:04}.bin"), pair)?;
     }
     Ok(ExitCode::SUCCESS)
+}
+
+/// For each file with a model and a question, what was printed for it stands
+/// beside it.
+fn print_reason_calls(files: &[&str]) -> io::Result<()> {
+    let mut out = io::BufWriter::new(io::stdout().lock());
+    for file in files {
+        let printed = std::fs::read_to_string(format!("{file}.whynot"))?;
+        let calls = reason_calls(&std::fs::read(file)?, &printed);
+        for record in calls.iter().map(Call::record) {
+            out.write_all(&record)?;
+        }
+    }
+    out.flush()
 }
 
 fn print_tally(stream: &[u8]) -> io::Result<()> {

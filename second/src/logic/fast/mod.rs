@@ -5,9 +5,10 @@
 //! keeps their values along a history, `search` finds least and greatest
 //! totals, `totals` lists all totals for "equal", and `show` turns what was
 //! found into choices. `gains` does all this for totals of gains, which have
-//! no condition.
+//! no condition. `nearest` keeps what lies next to a bound for "why not".
 
 mod gains;
+mod nearest;
 mod need;
 mod program;
 mod search;
@@ -15,8 +16,9 @@ mod show;
 mod totals;
 mod walk;
 
-use super::{Judged, Model, Node, Plan, PlanNode, Question, Relation, Totals};
+use super::{Judged, Model, Node, Plan, PlanNode, Question, Reached, Reason, Relation, Totals};
 use gains::Gains;
+use nearest::{Found, Nearest};
 use program::Program;
 use walk::Walk;
 
@@ -39,6 +41,16 @@ pub fn best_plan(
     totals: &Totals,
 ) -> Option<(i128, Vec<u8>)> {
     Judge::prepare(model, question, totals).best_plan(root)
+}
+
+/// What the root's plans come to: the greatest or the least total, or for
+/// "equal" the nearest ones on either side of the bound.
+pub fn reason(model: &Model, question: &Question, root: &PlanNode, totals: &Totals) -> Reason {
+    let judge = Judge::prepare(model, question, totals);
+    match judge.best_plan(root) {
+        Some((total, choices)) => Reason::best(root.relation, total, choices),
+        None => judge.nearest(root),
+    }
 }
 
 /// The plan's total for the question's root.
@@ -205,6 +217,41 @@ impl<'a> Judge<'a> {
         let wanted = plan.relation == Relation::Greater;
         let (found, choices) = show::best_choices(&mut walk, plan.steps(), wanted);
         Some((self.extreme(plan, program.depth(), found), choices))
+    }
+
+    /// The nearest totals on either side of an "equal" bound, found among plans
+    /// that end where no total changes any more but by a factor.
+    fn nearest(&self, plan: &PlanNode) -> Reason {
+        let (depth, nearest) = match Gains::of(self.model, plan) {
+            Some(mut gains) => {
+                let mut nearest = Nearest::of(plan, self.model.whole(gains.last()));
+                gains.each(self.question.start, &mut |total| nearest.see(total));
+                (gains.last(), nearest)
+            }
+            None => {
+                let program = self.program(plan);
+                let mut nearest = Nearest::of(plan, self.model.whole(program.depth()));
+                totals::each(&mut self.walk(&program), &mut |total| nearest.see(total));
+                (program.depth(), nearest)
+            }
+        };
+        let reached = |found: Option<Found>| found.map(|found| self.reached(plan, depth, found));
+        Reason::Nearest {
+            below: reached(nearest.below),
+            above: reached(nearest.above),
+        }
+    }
+
+    /// A total and its first plan, both lengthened to all steps.
+    fn reached(&self, plan: &PlanNode, depth: usize, found: Found) -> Reached {
+        let (steps, start) = (plan.steps(), self.question.start);
+        let spare_steps = steps - depth.min(steps);
+        let (choices, _) =
+            show::numbered_choices(self.model, self.totals, steps, depth, start, found.number);
+        Reached {
+            total: i128::from(found.total) * i128::from(self.model.whole(spare_steps)),
+            choices,
+        }
     }
 
     fn show_numbered(&self, plan: &PlanNode, program: &Program, number: u64) -> Judged {
