@@ -154,11 +154,6 @@ impl<'a> Gains<'a> {
         None
     }
 
-    /// The number of steps with which the window ends.
-    pub(super) fn last(&self) -> usize {
-        self.last
-    }
-
     /// Shows the totals of all plans that end with the window, in dictionary
     /// order.
     pub(super) fn each(&mut self, state: u8, seen: &mut impl FnMut(i64)) {
