@@ -401,6 +401,9 @@ fn handmade_lines_tell_faults() {
     let asked = said.map(|file| pack(&[&named(&file, "model"), &file]).concat());
     let counts = differences(&asked.collect::<Vec<_>>());
     let told: BTreeSet<Fault> = counts.keys().map(|key| key.0).collect();
-    let missed: Vec<Fault> = ALL.into_iter().filter(|fault| !told.contains(fault)).collect();
+    let missed: Vec<Fault> = ALL
+        .into_iter()
+        .filter(|fault| !told.contains(fault))
+        .collect();
     assert_eq!(missed, NOT_BY_HAND);
 }

@@ -3,6 +3,7 @@
 
 mod bench;
 mod bench_gains;
+mod bench_reasons;
 mod bounds;
 mod cases;
 mod damage;

@@ -259,7 +259,10 @@ fn tossed(rng: &mut Rng) -> Vec<u8> {
             let down = rng.range(1, base - up - usize::from(rolls));
             let down = if rolls { down } else { base - up };
             let mut reward = || rng.range(0, 2) as i32 - 1;
-            text += &format!("outcome {state} {action}: 1 weight {up} reward {}, ", reward());
+            text += &format!(
+                "outcome {state} {action}: 1 weight {up} reward {}, ",
+                reward()
+            );
             text += &format!("0 weight {down} reward {}", reward());
             let left = base - up - down;
             text += &match rolls {
@@ -305,7 +308,10 @@ fn fan(rng: &mut Rng) -> Vec<u8> {
     for (action, needs) in ["!begun", "!begun", "begun !over"].iter().enumerate() {
         text += &format!("action {action} needs {needs}\n{}", POSTS[3]);
     }
-    for (state, action) in [(0, 0), (0, 1)].into_iter().chain((1..17).map(|own| (own, 2))) {
+    for (state, action) in [(0, 0), (0, 1)]
+        .into_iter()
+        .chain((1..17).map(|own| (own, 2)))
+    {
         let base = 1 + 4 * u8::div_ceil(state, 4);
         let weights = rng.pick_or(&[[4, 3, 2, 1], [1, 2, 3, 4], [5, 2, 2, 1]], [4, 3, 2, 1]);
         let mut parts = Vec::new();

@@ -35,7 +35,9 @@ pub fn differences(pairs: &[Vec<u8>]) -> Differences {
         let (model, question) = pair.split_at(pair.len().saturating_sub(BLOCK));
         let model = read_model(model).ok();
         let held = model.and_then(|model| Some((read_question(question, &model).ok()?, model)));
-        let case = held.as_ref().map(|(question, model)| Case::of(model, question, pair));
+        let case = held
+            .as_ref()
+            .map(|(question, model)| Case::of(model, question, pair));
         let root = case.as_ref().and_then(|case| case.root);
         let operator = root.map_or(0, |root| root.summed.operator());
         for fault in ALL {
@@ -62,7 +64,9 @@ fn otherwise(fault: Fault, right: &[String]) -> Vec<String> {
 }
 
 fn lampless(line: &str) -> String {
-    let words = line.split(' ').filter(|word| !["below", "at", "above"].contains(word));
+    let words = line
+        .split(' ')
+        .filter(|word| !["below", "at", "above"].contains(word));
     words.collect::<Vec<&str>>().join(" ")
 }
 

@@ -124,7 +124,9 @@ impl Picker<'_> {
         let total = plan.as_ref().map(|listed| listed.total);
         match (self.fault, total) {
             (Fault::ZeroIsNone, Some(0)) | (Fault::MinusOneIsNone, Some(-1)) => None,
-            (Fault::BegunAtZero, Some(total)) if (greatest && total < 0) || (!greatest && total > 0) => {
+            (Fault::BegunAtZero, Some(total))
+                if (greatest && total < 0) || (!greatest && total > 0) =>
+            {
                 let first = self.plans.first();
                 first.map(|first| Listed {
                     total: 0,
@@ -145,7 +147,9 @@ impl Picker<'_> {
     ) -> Option<&'b Listed> {
         let values = plans.iter().map(|listed| of(listed.total));
         let best = if greatest { values.max() } else { values.min() };
-        let tied = plans.into_iter().filter(|listed| Some(of(listed.total)) == best);
+        let tied = plans
+            .into_iter()
+            .filter(|listed| Some(of(listed.total)) == best);
         let tied: Vec<&Listed> = tied.collect();
         let depth = self.case.depth(&self.root);
         let shown = |listed: &Listed| self.case.first_choices(&listed.plan, depth);
@@ -156,7 +160,8 @@ impl Picker<'_> {
                 .min_by_key(|listed| listed.choices.iter().rev().copied().collect::<Vec<u8>>()),
             Fault::LastAfterDepth => {
                 let first = tied.first().map(|listed| shown(listed));
-                tied.into_iter().rfind(|listed| Some(shown(listed)) == first)
+                tied.into_iter()
+                    .rfind(|listed| Some(shown(listed)) == first)
             }
             _ => tied.first().copied(),
         }
