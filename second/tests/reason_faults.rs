@@ -34,7 +34,7 @@ const SIDES: &[&str] = &["below", "above"];
 const NONE: &[&str] = &["below none", "above none"];
 const BOTH: &[u8] = &[8, 9];
 
-const TOLD: [Row; 35] = [
+const TOLD: [Row; 37] = [
     // Which plan of several, and which total.
     Row {
         lines: PLANS,
@@ -243,6 +243,18 @@ const TOLD: [Row; 35] = [
         fewest: 2,
         faults: &[Fault::FirstHundred],
     },
+    Row {
+        lines: PLANS,
+        operators: &[9],
+        fewest: 20,
+        faults: &[Fault::FromTheStart, Fault::UpToTheEnd],
+    },
+    Row {
+        lines: PLANS,
+        operators: &[8],
+        fewest: 2,
+        faults: &[Fault::ListsByState],
+    },
     // Only conditions of operator 8 have plans in them.
     Row {
         lines: PLANS,
@@ -254,7 +266,12 @@ const TOLD: [Row; 35] = [
         lines: PLANS,
         operators: BOTH,
         fewest: 20,
-        faults: &[Fault::FromStateZero, Fault::TotalCut, Fault::OwnTotal],
+        faults: &[
+            Fault::FromStateZero,
+            Fault::TotalCut,
+            Fault::OwnTotal,
+            Fault::Unweighted,
+        ],
     },
     // What is printed.
     Row {

@@ -4,7 +4,7 @@
 pub enum Fault {
     /// Of the plans with the total the last is printed.
     LastOfTie,
-    /// Of these the first by the last choices, not by the first ones.
+    /// Of the plans with the total the one whose last choices are the lowest.
     TieFromTheBack,
     /// Beyond the steps that matter the highest choices follow.
     LastAfterDepth,
@@ -62,9 +62,9 @@ pub enum Fault {
     BoundCut,
     /// The bound is rounded to the nearest total first.
     BoundRounded,
-    /// The same, downwards, and a total at it counts as above.
+    /// The bound is rounded down, and a total at it counts as above.
     FlooredIsAbove,
-    /// The same, upwards, and a total at it counts as below.
+    /// The bound is rounded up, and a total at it counts as below.
     CeiledIsBelow,
     /// Sides are told by quotients of doubles.
     Doubles,
@@ -102,6 +102,14 @@ pub enum Fault {
     NestedFalse,
     /// The plans are those from state 0.
     FromStateZero,
+    /// Gains are summed from step 1 and not from step l.
+    FromTheStart,
+    /// Gains are summed up to step n and not to step u.
+    UpToTheEnd,
+    /// Each path counts once, whatever its weight.
+    Unweighted,
+    /// Lists of totals are kept for steps and state, the history forgotten.
+    ListsByState,
     /// Totals have no sign.
     TotalsUnsigned,
     /// Totals are cut to 32 bits.
@@ -118,7 +126,7 @@ pub enum Fault {
     OverOneStep,
     /// The total of the steps that matter is printed over D to the n.
     ShortTotal,
-    /// The same over D to these steps.
+    /// The total of the steps that matter is printed over D to these.
     ShortFraction,
     /// Only the choices of the steps that matter are printed.
     ChoicesOnlyAsDeep,
@@ -156,7 +164,7 @@ pub enum Fault {
     RefusalIsNoReason,
 }
 
-pub const ALL: [Fault; 76] = [
+pub const ALL: [Fault; 80] = [
     Fault::LastOfTie,
     Fault::TieFromTheBack,
     Fault::LastAfterDepth,
@@ -207,6 +215,10 @@ pub const ALL: [Fault; 76] = [
     Fault::SilentPathsLost,
     Fault::NestedFalse,
     Fault::FromStateZero,
+    Fault::FromTheStart,
+    Fault::UpToTheEnd,
+    Fault::Unweighted,
+    Fault::ListsByState,
     Fault::TotalsUnsigned,
     Fault::TotalCut,
     Fault::OwnTotal,

@@ -1,8 +1,12 @@
 //! The plans that wrong explainers look at, and the totals that they see.
 
 use super::{Case, Fault};
-use crate::logic::{plain, Model, Node, Plan, PlanNode, Question, SILENT};
+use crate::logic::{plain, Model, Node, Path, Plan, PlanNode, Question};
+use crate::logic::{Summed, SILENT};
 use std::collections::BTreeMap;
+
+/// Histories by the steps taken and the state reached.
+pub(super) type Histories = BTreeMap<(usize, u8), Path>;
 
 /// A plan with its total.
 #[derive(Clone)]
@@ -87,21 +91,57 @@ impl Case<'_> {
         below.all(|plan| *plan == Plan::first(self.model, plan.state(), steps))
     }
 
+    /// The total that an explainer with the fault sees.
     fn total_by(&self, root: &PlanNode, fault: Fault, listed: &Listed) -> i128 {
         match fault {
             Fault::TotalsUnsigned => listed.total.abs(),
             Fault::TotalCut => (listed.total as i32).into(),
-            Fault::SilentPathsLost if listed.choices.contains(&SILENT) => {
-                let paths = listed.plan.paths(self.model).into_iter();
-                let counted = paths.filter(|path| !path.actions.contains(&SILENT));
-                let summand = |path| {
-                    let factor = plain::factor_of(self.model, self.question, root, &path);
-                    i128::from(path.weight) * i128::from(factor)
-                };
-                counted.map(summand).sum()
+            Fault::SilentPathsLost | Fault::Unweighted => self.sum(root, fault, listed),
+            Fault::FromTheStart | Fault::UpToTheEnd if root.sums_gains() => {
+                self.sum(&other_window(root, fault), fault, listed)
             }
+            Fault::ListsByState if !root.sums_gains() => self.sum_by_state(root, &listed.plan, 0),
             _ => listed.total,
         }
+    }
+
+    /// The sum over the plan's paths, some of which may not count or not be
+    /// weighed.
+    fn sum(&self, root: &PlanNode, fault: Fault, listed: &Listed) -> i128 {
+        let paths = listed.plan.paths(self.model).into_iter();
+        let counted =
+            paths.filter(|path| fault != Fault::SilentPathsLost || !path.actions.contains(&SILENT));
+        let summand = |path: Path| {
+            let factor = plain::factor_of(self.model, self.question, root, &path);
+            let weight = match fault {
+                Fault::Unweighted => 1,
+                _ => path.weight,
+            };
+            i128::from(weight) * i128::from(factor)
+        };
+        counted.map(summand).sum()
+    }
+
+    /// The total of a plan's part after some steps, where each history is taken
+    /// for the first one that comes to its state after as many steps.
+    fn sum_by_state(&self, root: &PlanNode, plan: &Plan, taken: usize) -> i128 {
+        let Some(entry) = plan.chosen(self.model) else {
+            return 0;
+        };
+        let history = self.histories.get(&(taken, plan.state()));
+        let mut sum = 0;
+        for (place, outcome) in entry.outcomes.iter().enumerate() {
+            let further = match (plan.below().get(place), history) {
+                (Some(below), _) => self.sum_by_state(root, below, taken + 1),
+                (None, Some(history)) => {
+                    let path = history.extended(entry.action, outcome);
+                    plain::factor_of(self.model, self.question, root, &path).into()
+                }
+                (None, None) => 0,
+            };
+            sum += i128::from(outcome.weight) * further;
+        }
+        sum
     }
 
     /// The plan's choices in its first steps alone.
@@ -136,6 +176,45 @@ fn chooses_by_state(model: &Model, plan: &Plan) -> bool {
         level = level.iter().flat_map(|plan| plan.below()).collect();
     }
     true
+}
+
+/// The root with another window of steps.
+fn other_window(root: &PlanNode, fault: Fault) -> PlanNode {
+    let Summed::Gains { first, last } = root.summed else {
+        return *root;
+    };
+    let (first, last) = match fault {
+        Fault::FromTheStart => (1, last),
+        _ => (first, root.steps),
+    };
+    PlanNode {
+        summed: Summed::Gains { first, last },
+        ..*root
+    }
+}
+
+/// For each number of steps below `steps` and each state the first history that
+/// comes to it, depth first in dictionary order.
+pub(super) fn first_histories(model: &Model, start: u8, steps: usize) -> Histories {
+    let mut found = Histories::new();
+    add_histories(model, Path::standing(start), steps, &mut found);
+    found
+}
+
+fn add_histories(model: &Model, path: Path, steps: usize, found: &mut Histories) {
+    let taken = path.actions.len();
+    let state = path.states.last().copied().unwrap_or(0);
+    // What follows a state after as many steps has been met already.
+    if taken >= steps || found.contains_key(&(taken, state)) {
+        return;
+    }
+    found.insert((taken, state), path.clone());
+    for entry in model.moves(state) {
+        for outcome in &entry.outcomes {
+            let further = path.extended(entry.action, outcome);
+            add_histories(model, further, steps, found);
+        }
+    }
 }
 
 /// Puts "false" for each plan node but the root.

@@ -13,7 +13,7 @@ use crate::blocks::{read_model, read_question, BLOCK};
 use crate::desk::{reason_lines, verdict_line, whynot_lines, JudgeKind};
 use crate::logic::{check_limits, fast, plain, Model, PlanNode, Question};
 use crate::logic::{Relation, Summed, Totals};
-use listed::{all_plans, Listed};
+use listed::{all_plans, first_histories, Histories, Listed};
 use picks::Picker;
 use std::collections::BTreeMap;
 
@@ -110,6 +110,7 @@ struct Case<'a> {
     whole: u64,
     /// None where they are too many.
     plans: Vec<Listed>,
+    histories: Histories,
 }
 
 impl<'a> Case<'a> {
@@ -131,6 +132,7 @@ impl<'a> Case<'a> {
             steps,
             whole: model.whole(steps),
             plans,
+            histories: first_histories(model, question.start, steps),
         }
     }
 

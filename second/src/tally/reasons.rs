@@ -5,8 +5,7 @@ use crate::desk::{whynot_lines, JudgeKind};
 use crate::logic::{fast, Model, PlanNode, Question, Totals};
 use std::collections::BTreeMap;
 
-/// A line with more plans of one total than this many plans to look at is not
-/// told to be a tie.
+/// Ties are looked for among no more plans than this.
 const FEW: u64 = 70_000;
 
 /// For each pair of a model and a question what its lines tell: the operator of
