@@ -361,7 +361,7 @@ fn questions_tell_faults() {
             for fault in row.faults {
                 for line in row.lines {
                     for operator in row.operators {
-                        check(*fault, *line, *operator, row.fewest);
+                        check(*fault, line, *operator, row.fewest);
                     }
                 }
             }

@@ -170,19 +170,8 @@ pub fn bench_cases() -> Vec<Case> {
             &ten_and_silent(),
             &nested_deep("greater", 6),
         ),
-        case(
-            "expected-greater-million",
-            &ten,
-            &bench_gains::greater_root(),
-        ),
-        case("expected-equal-65536", &levels, &bench_gains::equal_root()),
-        case("expected-nested-19", &ten, &bench_gains::nested()),
-        case(
-            "expected-nested-equal",
-            &bench_gains::six_ways(),
-            &bench_gains::nested_equal(),
-        ),
     ];
+    cases.extend(bench_gains::cases(&ten, &levels));
     cases.extend(bench_reasons::cases());
     cases
 }

@@ -17,6 +17,7 @@ mod question;
 mod question_damage;
 mod question_gains;
 mod question_pitfalls;
+mod reason_models;
 mod reasons;
 mod rng;
 mod sheet_damage;

@@ -16,12 +16,12 @@ mod show;
 mod totals;
 mod walk;
 
-use super::{Judged, Model, Node, Plan, PlanNode, Question, Reached, Reason};
-use super::{Relation, Summed, Totals};
+use super::{Judged, Model, Node, Plan, PlanNode, Question, Reason, Relation, Totals};
 use gains::Gains;
-use nearest::{Found, Nearest};
 use program::Program;
 use walk::Walk;
+
+pub use nearest::all_totals;
 
 /// The verdict on a question whose limits have been checked.
 pub fn judge(model: &Model, question: &Question, totals: &Totals) -> Judged {
@@ -52,22 +52,6 @@ pub fn reason(model: &Model, question: &Question, root: &PlanNode, totals: &Tota
         Some((total, choices)) => Reason::best(root.relation, total, choices),
         None => judge.nearest(root),
     }
-}
-
-/// The totals of the root's plans as far as they matter, one for each plan that
-/// ends where no total changes any more but by a factor, in dictionary order.
-pub fn all_totals(
-    model: &Model,
-    question: &Question,
-    root: &PlanNode,
-    totals: &Totals,
-) -> Vec<i128> {
-    let judge = Judge::prepare(model, question, totals);
-    let mut found = Vec::new();
-    let depth = judge.each_total(root, &mut |total| found.push(i128::from(total)));
-    let spare_steps = root.steps() - depth.min(root.steps());
-    let factor = i128::from(model.whole(spare_steps));
-    found.iter().map(|total| factor * total).collect()
 }
 
 /// The plan's total for the question's root.
@@ -234,50 +218,6 @@ impl<'a> Judge<'a> {
         let wanted = plan.relation == Relation::Greater;
         let (found, choices) = show::best_choices(&mut walk, plan.steps(), wanted);
         Some((self.extreme(plan, program.depth(), found), choices))
-    }
-
-    /// The nearest totals on either side of an "equal" bound.
-    fn nearest(&self, plan: &PlanNode) -> Reason {
-        let mut nearest = Nearest::of(plan, self.model.whole(self.depth(plan)));
-        let depth = self.each_total(plan, &mut |total| nearest.see(total));
-        let reached = |found: Option<Found>| found.map(|found| self.reached(plan, depth, found));
-        Reason::Nearest {
-            below: reached(nearest.below),
-            above: reached(nearest.above),
-        }
-    }
-
-    /// After how many steps no total of a node changes any more but by a factor.
-    fn depth(&self, plan: &PlanNode) -> usize {
-        match plan.summed {
-            Summed::Gains { last, .. } => last.into(),
-            Summed::Weights { condition } => {
-                let depth = self.depths.get(usize::from(condition));
-                depth.copied().unwrap_or(0)
-            }
-        }
-    }
-
-    /// Shows the totals of all plans of just so many steps, in dictionary order,
-    /// and gives that number.
-    fn each_total(&self, plan: &PlanNode, seen: &mut impl FnMut(i64)) -> usize {
-        match Gains::of(self.model, plan) {
-            Some(mut gains) => gains.each(self.question.start, seen),
-            None => totals::each(&mut self.walk(&self.program(plan)), seen),
-        }
-        self.depth(plan)
-    }
-
-    /// A total and its first plan, both lengthened to all steps.
-    fn reached(&self, plan: &PlanNode, depth: usize, found: Found) -> Reached {
-        let (steps, start) = (plan.steps(), self.question.start);
-        let spare_steps = steps - depth.min(steps);
-        let (choices, _) =
-            show::numbered_choices(self.model, self.totals, steps, depth, start, found.number);
-        Reached {
-            total: i128::from(found.total) * i128::from(self.model.whole(spare_steps)),
-            choices,
-        }
     }
 
     fn show_numbered(&self, plan: &PlanNode, program: &Program, number: u64) -> Judged {
