@@ -54,8 +54,8 @@ pub fn compare(seed: u64, count: usize) -> Result<usize, Box<Difference>> {
     Ok(compared)
 }
 
-/// The verdicts, the best plan, met or not, and the totals of the first and the
-/// shown plan.
+/// The verdicts, the best plan, met or not, what could have been had instead, and
+/// the totals of the first and the shown plan.
 fn compare_one(model: &Model, question: &Question, totals: &Totals) -> Result<(), Difference> {
     let quick = fast::judge(model, question, totals);
     same(&quick, &plain::judge(model, question))?;
@@ -64,6 +64,8 @@ fn compare_one(model: &Model, question: &Question, totals: &Totals) -> Result<()
     };
     let best = fast::best_plan(model, question, &root, totals);
     same(&best, &plain::best_plan(model, question, &root))?;
+    let reason = fast::reason(model, question, &root, totals);
+    same(&reason, &plain::reason(model, question, &root))?;
     let first = Plan::first(model, question.start, root.steps());
     let shown = Plan::from_choices(model, question.start, root.steps(), &quick.choices);
     for plan in std::iter::once(first).chain(shown) {

@@ -13,6 +13,7 @@ pub mod generate;
 pub mod ground;
 pub mod lamp_faults;
 pub mod logic;
+pub mod reason_faults;
 pub mod sum_faults;
 pub mod tally;
 pub mod text;

@@ -90,6 +90,12 @@ fn lamp_questions() {
     check_questions("lamps", 82);
 }
 
+/// Document 02, A.5: questions that no plan meets, and some others.
+#[test]
+fn whynot_questions() {
+    check_questions("whynot", 73);
+}
+
 #[test]
 fn limit_questions() {
     check_questions("limits", 37);

@@ -1,26 +1,31 @@
 //! The second implementation's commands; `README.md` describes each.
 
 use second::compare::compare;
-use second::desk::{c_calls, next_call, pairs, verdict_line, Desk, JudgeKind};
+use second::desk::{c_calls, next_call, pairs, reason_calls, verdict_line};
+use second::desk::{whynot_lines, Call, Desk, JudgeKind};
 use second::generate::{bench_cases, stream};
-use second::tally::tally;
+use second::tally::{reason_tally, tally};
 use second::timing::time;
-use second::{faults, floats, gain_faults, lamp_faults, sum_faults};
+use second::{faults, floats, gain_faults, lamp_faults, reason_faults, sum_faults};
 use std::io::{self, Read, Write};
 use std::process::ExitCode;
 
 const USAGE: &str = "usage: second [--plain] COMMAND
   verdict                    a model and a question to their verdict line
+  whynot                     a model and a question to what could have been had instead
   replay                     a stream of calls to a line for each
   ccalls                     the C call on what a stream of calls loads and puts
   pairs DIR COUNT            the models and questions of a stream of calls as files for verdict
+  reason-calls FILE..        what whynot printed for such files, in FILE.whynot, to calls that check the plans
+  reason-tally FILE..        such files to counts of what whynot tells about them
   tally                      a stream of calls to counts of its answers
   floats                     a stream of calls to counts of the answers that judges in floats get wrong
   faults                     a stream of calls to counts of the answers that judges that err about silent states get wrong
   gain-faults                a stream of calls to counts of the answers that judges that err about expected gains get wrong
   lamp-faults                a stream of calls to counts of the answers that judges that err about lamps get wrong
+  reason-faults COUNT        as many pairs of a stream of calls to counts of the lines that wrong explainers print
   sum-faults                 a stream of calls to counts of the answers that judges with wrong word sums get wrong
-  generate KIND SEED COUNT   a stream of models, questions, judges, small, sheets, lists, tight or words
+  generate KIND SEED COUNT   a stream of models, questions, judges, small, sheets, lists, tight, words or reasons
   compare SEED COUNT         the fast judge against the plain one
   bench-cases DIR            worst cases as DIR/NAME.bin
   bench FILE..               the time of each case in microseconds";
@@ -47,14 +52,18 @@ fn main() -> ExitCode {
 fn run(kind: JudgeKind, words: &[&str]) -> io::Result<ExitCode> {
     match words {
         ["verdict"] => print_line(&verdict_line(&read_input()?, kind))?,
+        ["whynot"] => print_line(&whynot_lines(&read_input()?, kind).join("\n"))?,
         ["replay"] => replay(kind, &read_input()?)?,
         ["ccalls"] => ccalls(kind, &read_input()?)?,
         ["pairs", folder, count] => return write_pairs(folder, count),
+        ["reason-calls", files @ ..] => print_reason_calls(files)?,
+        ["reason-tally", files @ ..] => print_reason_tally(files)?,
         ["tally"] => print_tally(&read_input()?)?,
         ["floats"] => print_floats(&read_input()?)?,
         ["faults"] => print_faults(&read_input()?)?,
         ["gain-faults"] => print_gain_faults(&read_input()?)?,
         ["lamp-faults"] => print_lamp_faults(&read_input()?)?,
+        ["reason-faults", count] => return print_reason_faults(count),
         ["sum-faults"] => print_sum_faults(&read_input()?)?,
         ["generate", kind, seed, count] => return generate(kind, seed, count),
         ["compare", seed, count] => return compare_judges(seed, count),
@@ -110,6 +119,28 @@ fn write_pairs(folder: &str, count: &str) -> io::Result<ExitCode> {
     Ok(ExitCode::SUCCESS)
 }
 
+/// For each file with a model and a question, what was printed for it stands
+/// beside it.
+fn print_reason_calls(files: &[&str]) -> io::Result<()> {
+    let mut out = io::BufWriter::new(io::stdout().lock());
+    for file in files {
+        let printed = std::fs::read_to_string(format!("{file}.whynot"))?;
+        let calls = reason_calls(&std::fs::read(file)?, &printed);
+        for record in calls.iter().map(Call::record) {
+            out.write_all(&record)?;
+        }
+    }
+    out.flush()
+}
+
+fn print_reason_tally(files: &[&str]) -> io::Result<()> {
+    let pairs: io::Result<Vec<Vec<u8>>> = files.iter().map(std::fs::read).collect();
+    for (words, count) in reason_tally(&pairs?) {
+        print_line(&format!("{count:8} {words}"))?;
+    }
+    Ok(())
+}
+
 fn print_tally(stream: &[u8]) -> io::Result<()> {
     for ((call, _, words), count) in tally(stream) {
         print_line(&format!("{count:8} {call} {words}"))?;
@@ -146,6 +177,17 @@ fn print_lamp_faults(stream: &[u8]) -> io::Result<()> {
         print_line(&format!("{count:8} {call}, operator {operator}: {fault:?}"))?;
     }
     Ok(())
+}
+
+fn print_reason_faults(count: &str) -> io::Result<ExitCode> {
+    let Ok(count) = count.parse() else {
+        return Ok(usage());
+    };
+    let pairs = pairs(&read_input()?, count);
+    for ((fault, line, operator), count) in reason_faults::differences(&pairs) {
+        print_line(&format!("{count:8} {line}, operator {operator}: {fault:?}"))?;
+    }
+    Ok(ExitCode::SUCCESS)
 }
 
 fn print_sum_faults(stream: &[u8]) -> io::Result<()> {

@@ -3,7 +3,7 @@
 use crate::blocks::{read_model, read_question, read_sheet, Sheet};
 use crate::ground::{demand, Ground};
 use crate::logic::{check_limits, fast, plain, Checked, Judged, Model, Plan, PlanNode};
-use crate::logic::{PlanRecord, Question, Totals, Verdict};
+use crate::logic::{PlanRecord, Question, Reason, Totals, Verdict};
 
 /// Which of the two judges a desk uses.
 #[derive(Clone, Copy, Debug, Default, PartialEq, Eq)]
@@ -93,6 +93,17 @@ impl Desk {
             JudgeKind::Plain => plain::judge(model, question),
         };
         Ok(self.judged.insert(judged))
+    }
+
+    /// What the plans of the question's root come to, met or not. Asked after
+    /// judging, which sees to the limits.
+    pub(super) fn reason(&self) -> Result<Reason, Ground> {
+        let root = self.root_plan()?;
+        let (model, question) = (self.model()?, self.question()?);
+        Ok(match self.kind {
+            JudgeKind::Fast => fast::reason(model, question, &root, &Totals::of(model)),
+            JudgeKind::Plain => plain::reason(model, question, &root),
+        })
     }
 
     /// Writes the shown plan's sheet into the first blocks of the buffer and

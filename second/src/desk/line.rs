@@ -17,6 +17,13 @@ pub fn verdict_line(input: &[u8], kind: JudgeKind) -> String {
 
 /// The same, with a refusal kept apart.
 pub fn verdict_of(input: &[u8], kind: JudgeKind) -> Result<String, Ground> {
+    let desk = judged_desk(input, kind)?;
+    let judged = desk.judged().ok_or(Ground::NoShownPlan)?;
+    answer_line(&desk, judged)
+}
+
+/// The desk after the input was loaded, put and judged.
+pub(super) fn judged_desk(input: &[u8], kind: JudgeKind) -> Result<Desk, Ground> {
     if input.len() > MOST_BLOCKS * BLOCK {
         return Err(Ground::Length);
     }
@@ -25,11 +32,12 @@ pub fn verdict_of(input: &[u8], kind: JudgeKind) -> Result<String, Ground> {
     let mut desk = Desk::new(kind);
     desk.load(model)?;
     desk.put(question)?;
-    let judged = desk.judge()?.clone();
-    answer_line(&desk, &judged)
+    desk.judge()?;
+    Ok(desk)
 }
 
-fn answer_line(desk: &Desk, judged: &Judged) -> Result<String, Ground> {
+/// The line for a held verdict.
+pub(super) fn answer_line(desk: &Desk, judged: &Judged) -> Result<String, Ground> {
     let root_is_plan = desk.question()?.root_plan().is_some();
     Ok(match judged.verdict {
         Verdict::No { count, lamp } if root_is_plan => {

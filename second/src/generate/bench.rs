@@ -1,6 +1,7 @@
 //! Worst cases within the limits, for timing.
 
 use super::bench_gains;
+use super::bench_reasons;
 use super::cases::{based_line, most_plans, pack, question, LOW_BITS, POSTS, WEIGHTS};
 
 /// A model followed by a question, under a name.
@@ -12,7 +13,7 @@ pub struct Case {
 
 /// A model of 32 states with ten outcomes each, so that every state has a
 /// million six-step paths.
-fn ten_outcomes() -> Vec<u8> {
+pub(super) fn ten_outcomes() -> Vec<u8> {
     scattered(|_| false)
 }
 
@@ -111,7 +112,7 @@ fn half_silent() -> Vec<u8> {
 /// A model with 65,536 six-step plans of 1,365 choices from state 0: four
 /// outcomes everywhere, and two actions just in the states met after two
 /// steps.
-fn equal_levels() -> Vec<u8> {
+pub(super) fn equal_levels() -> Vec<u8> {
     let mut text = String::from("model D 10\n");
     for (number, name) in ["b0", "b1", "two", "late"].iter().enumerate() {
         text += &format!("proposition {number} {name}\n");
@@ -151,7 +152,7 @@ pub fn bench_cases() -> Vec<Case> {
         "gain 6 steps greater 6",
         "plan 0 steps 6 equal 123457/1000000",
     ]);
-    vec![
+    let mut cases = vec![
         case("greater-million-paths", &ten, &gain_root),
         case("equal-65536-plans", &levels, &equal_root),
         case("formula-39-nodes", &ten, &long_formula()),
@@ -169,19 +170,10 @@ pub fn bench_cases() -> Vec<Case> {
             &ten_and_silent(),
             &nested_deep("greater", 6),
         ),
-        case(
-            "expected-greater-million",
-            &ten,
-            &bench_gains::greater_root(),
-        ),
-        case("expected-equal-65536", &levels, &bench_gains::equal_root()),
-        case("expected-nested-19", &ten, &bench_gains::nested()),
-        case(
-            "expected-nested-equal",
-            &bench_gains::six_ways(),
-            &bench_gains::nested_equal(),
-        ),
-    ]
+    ];
+    cases.extend(bench_gains::cases(&ten, &levels));
+    cases.extend(bench_reasons::cases());
+    cases
 }
 
 /// 39 nodes that are all worked out at the end of each path.

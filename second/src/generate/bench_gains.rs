@@ -2,23 +2,39 @@
 //! that 40 nodes have room for no more than 19 of them that are all needed in
 //! every state: 18 "and" join them, and two "next" and a plan lead there.
 
-use super::bench::words;
-use super::cases::pack;
+use super::bench::{words, Case};
+use super::cases::{pack, question};
+
+/// The cases on a model of a million paths, on one of 65,536 plans, and on one
+/// of certain moves.
+pub(super) fn cases(ten: &[u8], levels: &[u8]) -> Vec<Case> {
+    let case = |name, model: &[u8], nodes: Vec<String>| Case {
+        name,
+        model: model.to_vec(),
+        question: question(0, &nodes),
+    };
+    vec![
+        case("expected-greater-million", ten, greater_root()),
+        case("expected-equal-65536", levels, equal_root()),
+        case("expected-nested-19", ten, nested()),
+        case("expected-nested-equal", &six_ways(), nested_equal()),
+    ]
+}
 
 /// A root that shows the plan of greatest gain in six steps.
-pub(super) fn greater_root() -> Vec<String> {
+fn greater_root() -> Vec<String> {
     words(&["plan gain 1 to 6 steps 6 greater 0/1"])
 }
 
 /// A root whose total is a whole number that no plan has, since all plans are
 /// then looked at.
-pub(super) fn equal_root() -> Vec<String> {
+fn equal_root() -> Vec<String> {
     words(&["plan gain 1 to 6 steps 6 equal 4321/1000"])
 }
 
 /// 19 nodes of operator 9, all of which are to be true: windows from each step
 /// to the last, by turns with bounds that are easily passed from either side.
-pub(super) fn nested() -> Vec<String> {
+fn nested() -> Vec<String> {
     let mut nodes: Vec<String> = Vec::new();
     for own in 0..19 {
         let (first, bound) = (1 + own % 6, 10 + own);
@@ -40,7 +56,7 @@ pub(super) fn nested() -> Vec<String> {
 /// half a point more is asked for, a whole total over D to the 6. A judge that
 /// works out each node in each state looks at all plans, each time; a "not" over
 /// each, so that none can be passed over, would leave room for 12 only.
-pub(super) fn nested_equal() -> Vec<String> {
+fn nested_equal() -> Vec<String> {
     let mut nodes: Vec<String> = Vec::new();
     for own in 0..19 {
         let (first, p) = (1 + own % 6, 2 * own + 1);
@@ -67,7 +83,7 @@ fn after_steps(mut nodes: Vec<String>, steps: usize) -> Vec<String> {
 /// 6 to the 6, that is 46,656, plans of six steps. The moves of state s lead to
 /// the six states from 6s + 3 on, round the 32, so that the 36 plans of two steps
 /// come to 36 states in a row: to all of them.
-pub(super) fn six_ways() -> Vec<u8> {
+fn six_ways() -> Vec<u8> {
     let mut text = String::from("model D 10 N 5\n");
     for state in 0..32usize {
         let bits = (0..5).filter(|bit| state >> bit & 1 == 1);

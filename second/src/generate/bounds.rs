@@ -39,7 +39,7 @@ pub(super) fn close(rng: &mut Rng, summed: Summed, total: i128, whole: u64) -> B
 }
 
 /// A chance in lowest terms, or the nearest below in millionths.
-fn chance(weight: i128, whole: i128) -> Bound {
+pub(super) fn chance(weight: i128, whole: i128) -> Bound {
     lowest(weight, whole, MOST_CHANCE_Q).unwrap_or_else(|| {
         let millionths = (weight * MOST_CHANCE_Q).div_euclid(whole);
         bound(millionths, MOST_CHANCE_Q)
@@ -47,7 +47,7 @@ fn chance(weight: i128, whole: i128) -> Bound {
 }
 
 /// An expected gain in lowest terms, or one of the two nearest with some q.
-fn expected(rng: &mut Rng, total: i128, whole: i128) -> Bound {
+pub(super) fn expected(rng: &mut Rng, total: i128, whole: i128) -> Bound {
     let exact = lowest(total, whole, MOST_GAIN_Q);
     exact.unwrap_or_else(|| {
         let q = match rng.once_in(2) {

@@ -46,7 +46,7 @@ pub(super) fn cases(rng: &mut Rng, questions: usize) -> Option<Cases> {
 /// and action; in some models it may roll away, after which nothing can be
 /// done. D to the 3 is at most 1,000, so that every unit of three steps can be
 /// a bound.
-fn small_model(rng: &mut Rng) -> Vec<u8> {
+pub(super) fn small_model(rng: &mut Rng) -> Vec<u8> {
     let base = rng.range(3, 10);
     let rolls = rng.once_in(3);
     let mut text = format!("model D {base}\nproposition 0 up\nproposition 1 gone\n");
@@ -97,7 +97,7 @@ fn asked(rng: &mut Rng, model: &Model) -> Option<(Vec<u8>, Vec<Vec<u8>>)> {
 }
 
 /// The nodes of a question, the root without its bound.
-fn nodes(rng: &mut Rng, steps: usize, relation: &str) -> Vec<String> {
+pub(super) fn nodes(rng: &mut Rng, steps: usize, relation: &str) -> Vec<String> {
     let last = rng.range(1, steps);
     if rng.once_in(2) {
         let first = rng.range(1, last);

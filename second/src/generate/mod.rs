@@ -3,6 +3,7 @@
 
 mod bench;
 mod bench_gains;
+mod bench_reasons;
 mod bounds;
 mod cases;
 mod damage;
@@ -16,6 +17,8 @@ mod question;
 mod question_damage;
 mod question_gains;
 mod question_pitfalls;
+mod reason_models;
+mod reasons;
 mod rng;
 mod sheet_damage;
 mod streams;
@@ -26,6 +29,7 @@ pub use bench::{bench_cases, Case};
 pub use lists::lists;
 pub use model::{random_model, Size};
 pub use question::{random_question, Scale};
+pub use reasons::reasons;
 pub use rng::Rng;
 pub use streams::{judges, models, questions, sheets, small, AFFORDABLE};
 pub use tight::tight;
@@ -45,6 +49,7 @@ pub fn stream(kind: &str, seed: u64, count: usize) -> Option<Vec<u8>> {
         "lists" => lists(&mut rng, count),
         "tight" => tight(&mut rng, count),
         "words" => words(&mut rng),
+        "reasons" => reasons(&mut rng, count),
         _ => return None,
     };
     calls.truncate(count);

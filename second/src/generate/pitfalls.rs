@@ -49,7 +49,7 @@ pub(super) fn pitfalls(rng: &mut Rng) -> Vec<Call> {
 /// A model with about the largest D and the largest rewards: from the first
 /// state one action stays for certain, the other may leave for the second. A
 /// state has 64 plans of six steps.
-fn far_model(rng: &mut Rng) -> Vec<u8> {
+pub(super) fn far_model(rng: &mut Rng) -> Vec<u8> {
     let base = rng.pick_or(&[100, 100, 100, 99, 98, 97], 100);
     let stays = rng.range(1, base - 1);
     let leaves = base - stays;

@@ -7,6 +7,7 @@ mod limits;
 mod model;
 mod path;
 mod plan;
+mod reason;
 mod verdict;
 
 pub mod fast;
@@ -18,4 +19,5 @@ pub use limits::{check_limits, Totals, MOST_PATHS, MOST_PLANS};
 pub use model::{Action, Literals, Model, Move, Outcome, SILENT};
 pub use path::Path;
 pub use plan::Plan;
+pub use reason::{Reached, Reason};
 pub use verdict::{Checked, Judged, PlanRecord, Verdict};

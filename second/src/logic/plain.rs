@@ -1,8 +1,8 @@
 //! The judge straight from the definitions: every plan in dictionary order,
 //! every path of each, every formula by recursion. Slow, and plain to check.
 
-use super::{Judged, Model, Node, Path, Plan, PlanNode, Question};
-use super::{Relation, Summed, Totals};
+use super::{Judged, Lamp, Model, Node, Path, Plan, PlanNode, Question};
+use super::{Reached, Reason, Relation, Summed, Totals};
 
 /// The verdict on a question.
 pub fn judge(model: &Model, question: &Question) -> Judged {
@@ -20,6 +20,15 @@ pub fn judge(model: &Model, question: &Question) -> Judged {
 pub fn best_plan(model: &Model, question: &Question, root: &PlanNode) -> Option<(i128, Vec<u8>)> {
     let (total, plan) = Reader { model, question }.best_plan(root)?;
     Some((total, plan.choices(model)))
+}
+
+/// What the root's plans come to: the greatest or the least total, or for
+/// "equal" the nearest ones on either side of the bound.
+pub fn reason(model: &Model, question: &Question, root: &PlanNode) -> Reason {
+    match best_plan(model, question, root) {
+        Some((total, choices)) => Reason::best(root.relation, total, choices),
+        None => Reader { model, question }.nearest(root),
+    }
 }
 
 /// The plan's total for the question's root.
@@ -210,6 +219,34 @@ impl Reader<'_> {
             }
         });
         best
+    }
+
+    /// The list of all plans is looked through for each side: a plan on it is
+    /// the nearest if none that lies there is nearer, and none before it is as
+    /// near.
+    fn nearest(&self, node: &PlanNode) -> Reason {
+        let whole = self.model.whole(node.steps());
+        let mut listed: Vec<Reached> = Vec::new();
+        self.each_plan(node, |total, plan| {
+            let choices = plan.choices(self.model);
+            listed.push(Reached { total, choices });
+        });
+        let on = |side: Lamp| {
+            let there = listed
+                .iter()
+                .filter(|plan| node.lamp(plan.total, whole) == side);
+            let totals = there.clone().map(|plan| plan.total);
+            let nearest = match side {
+                Lamp::Below => totals.max(),
+                _ => totals.min(),
+            };
+            let mut there = there.filter(|plan| Some(plan.total) == nearest);
+            there.next().cloned()
+        };
+        Reason::Nearest {
+            below: on(Lamp::Below),
+            above: on(Lamp::Above),
+        }
     }
 
     /// Every plan from the question's start in dictionary order, with its total.

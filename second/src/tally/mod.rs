@@ -2,6 +2,9 @@
 
 mod details;
 mod lamps;
+mod reasons;
+
+pub use reasons::reason_tally;
 
 use crate::desk::{replay, Answer};
 use crate::logic::{Checked, Judged, Verdict};

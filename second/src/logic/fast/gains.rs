@@ -2,7 +2,7 @@
 //! reached: what can still be gained does not depend on the history before.
 
 use super::show::{first_choices, numbered_choices};
-use super::totals::find_sum;
+use super::totals::{each_sum, find_sum};
 use super::wanted_total;
 use crate::logic::{Judged, Model, Move, Outcome, Plan, PlanNode};
 use crate::logic::{Relation, Summed, Totals};
@@ -152,6 +152,14 @@ impl<'a> Gains<'a> {
             }
         }
         None
+    }
+
+    /// Shows the totals of all plans that end with the window, in dictionary
+    /// order.
+    pub(super) fn each(&mut self, state: u8, seen: &mut impl FnMut(i64)) {
+        for entry in self.model.moves(state) {
+            each_sum(self.lists_below(0, entry), seen);
+        }
     }
 
     /// The total of all steps from the total of those that matter.

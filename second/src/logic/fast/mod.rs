@@ -5,9 +5,10 @@
 //! keeps their values along a history, `search` finds least and greatest
 //! totals, `totals` lists all totals for "equal", and `show` turns what was
 //! found into choices. `gains` does all this for totals of gains, which have
-//! no condition.
+//! no condition. `nearest` keeps what lies next to a bound for "why not".
 
 mod gains;
+mod nearest;
 mod need;
 mod program;
 mod search;
@@ -15,10 +16,12 @@ mod show;
 mod totals;
 mod walk;
 
-use super::{Judged, Model, Node, Plan, PlanNode, Question, Relation, Totals};
+use super::{Judged, Model, Node, Plan, PlanNode, Question, Reason, Relation, Totals};
 use gains::Gains;
 use program::Program;
 use walk::Walk;
+
+pub use nearest::all_totals;
 
 /// The verdict on a question whose limits have been checked.
 pub fn judge(model: &Model, question: &Question, totals: &Totals) -> Judged {
@@ -39,6 +42,16 @@ pub fn best_plan(
     totals: &Totals,
 ) -> Option<(i128, Vec<u8>)> {
     Judge::prepare(model, question, totals).best_plan(root)
+}
+
+/// What the root's plans come to: the greatest or the least total, or for
+/// "equal" the nearest ones on either side of the bound.
+pub fn reason(model: &Model, question: &Question, root: &PlanNode, totals: &Totals) -> Reason {
+    let judge = Judge::prepare(model, question, totals);
+    match judge.best_plan(root) {
+        Some((total, choices)) => Reason::best(root.relation, total, choices),
+        None => judge.nearest(root),
+    }
 }
 
 /// The plan's total for the question's root.

@@ -19,6 +19,25 @@ pub(super) fn first_with(walk: &mut Walk, wanted: i64) -> Option<u64> {
     None
 }
 
+/// Shows the totals of all plans of the condition's depth in dictionary order.
+/// The root's own list is not kept.
+pub(super) fn each(walk: &mut Walk, seen: &mut impl FnMut(i64)) {
+    if walk.program.depth() == 0 {
+        return seen(i64::from(walk.answer()));
+    }
+    for entry in walk.model.moves(walk.start) {
+        each_sum(lists_below(walk, 0, entry), seen);
+    }
+}
+
+/// Shows the sums of one number from each list, the last list changing fastest.
+pub(super) fn each_sum(mut lists: Vec<Vec<i64>>, seen: &mut impl FnMut(i64)) {
+    let last = lists.pop().unwrap_or_default();
+    for first in combine(&lists) {
+        last.iter().for_each(|second| seen(first + second));
+    }
+}
+
 /// The place, from 0, of the first of the sums of one number from each list
 /// that is the wanted one, the last list changing fastest; if there is none,
 /// how many sums there are.
