@@ -1,2 +1,4 @@
+pub mod Claims
 pub mod TextOfExplanation
 pub mod PreparedInput
+pub mod Offered

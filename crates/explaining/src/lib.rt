@@ -12,7 +12,6 @@ ghost use Rattle.verdict_line.specs.Text.{Put};
 ghost use Rattle.verdict_line.specs.Reasons.{reached-line, whynot-says};
 ghost use Rattle.verdict_line.specs.promises.Chain.{judging-text, loading-text, line-of, answer-text};
 ghost use Rattle.explaining.specs.promises.Said.{side-said, side-size, explained-said, Few};
-
 use blocks::BLOCK;
 use limits::limit_refusal;
 use plan_choices::CHOICES;
@@ -40,9 +39,7 @@ fn put_side(out: &mut [u8], at: usize, word: &[u8], side: Side, choices: &[u8]) 
 {
     match side {
         Side::Nothing => put_nothing(out, at, word),
-        Side::Something(x) => {
-            put_reached(out, at, word, x.total, x.whole, &choices[..x.size])
-        }
+        Side::Something(x) => { put_reached(out, at, word, x.total, x.whole, &choices[..x.size]) }
     }
 }
 

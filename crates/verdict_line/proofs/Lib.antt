@@ -3,4 +3,5 @@ pub mod PutInTurn
 pub mod ExampleLines
 pub mod LineIsChain
 pub mod TextByLength
+pub mod WhyNo
 pub mod ExampleInputs
