@@ -63,16 +63,16 @@ fn neighbours(
 }
 
 // Whether some plan meets the bound: the least total that is not below it is the one that does.
-fn at_bound(x: Exact, near: Near, all: usize) -> bool
-    ensures value { λ r. ⌜ r ≡ at-bound x near all ⌝ }
+fn at_bound(x: Exact, least: Near, all: usize) -> bool
+    ensures value { λ r. ⌜ r ≡ at-bound x least all ⌝ }
 {
     if !x.whole {
         return false;
     }
-    if near.place == all {
+    if least.place == all {
         return false;
     }
-    near.total == x.total
+    least.total == x.total
 }
 
 // Writes the choices of the plan at a place, and tells what it reaches; nothing where the place is past the last of `all`.

@@ -10,17 +10,17 @@ use Rattle.reasons.proofs.sides.at_bound.Tie as tie
 returns : tie.Need-returns
 unfolding at-bound
 returns c = let A = c .before .before .args in
-    ap (λ (t : Bool). t && (not (eqb (A .near .place) (A .all)) && eqb (A .near .total) (A .x .total))) (sym (not-true (A .x .whole) (c .if1 .taken)))
+    ap (λ (t : Bool). t && (not (eqb (A .least .place) (A .all)) && eqb (A .least .total) (A .x .total))) (sym (not-true (A .x .whole) (c .if1 .taken)))
 
 returns-2 : tie.Need-returns-2
 unfolding at-bound
 returns-2 c = let A = c .before .before .before .before .args in
-    ap₂ (λ (t u : Bool). t && (not u && eqb (A .near .total) (A .x .total))) (sym (not-false (A .x .whole) (c .before .before .if1 .left))) (sym (eq-eqb (A .near .place) (A .all) (c .if2 .taken)))
+    ap₂ (λ (t u : Bool). t && (not u && eqb (A .least .total) (A .x .total))) (sym (not-false (A .x .whole) (c .before .before .if1 .left))) (sym (eq-eqb (A .least .place) (A .all) (c .if2 .taken)))
 
 returns-3 : tie.Need-returns-3
 unfolding at-bound
 returns-3 c = let A = c .before .before .before .before .before .before .args in
-    ap₂ (λ (t u : Bool). t && (not u && eqb (A .near .total) (A .x .total))) (sym (not-false (A .x .whole) (c .before .before .before .before .if1 .left))) (sym (ne-eqb (A .near .place) (A .all) (c .before .before .if2 .left)))
+    ap₂ (λ (t u : Bool). t && (not u && eqb (A .least .total) (A .x .total))) (sym (not-false (A .x .whole) (c .before .before .before .before .if1 .left))) (sym (ne-eqb (A .least .place) (A .all) (c .before .before .if2 .left)))
 
 pub at-bound-spec : {M : Type 1} → statement M
 at-bound-spec = tie.close (tie.spec returns returns-2 returns-3)
