@@ -24,13 +24,13 @@ use prepared_model::MODEL;
 use prepared_question::QUESTION;
 
 // A list of totals has one of three rooms, by the number of plans, each with 282 numbers beside it for what is made there.
-pub const FEW: u64 = 1024;
+const FEW: u64 = 1024;
 
-pub const SOME: u64 = 8192;
+const SOME: u64 = 8192;
 
-pub const FEW_ROOM: usize = 1306;
+const FEW_ROOM: usize = 1306;
 
-pub const SOME_ROOM: usize = 8474;
+const SOME_ROOM: usize = 8474;
 
 pub const ROOM: usize = 65818;
 

@@ -104,8 +104,8 @@ fn nearest_within(
     }
 }
 
-// Of the totals of all plans, those nearest to x on either side of it, each at its first place in dictionary order of the plans. One list is made, in
-// a buffer of one of three lengths.
+// Of the totals of all plans, the nearest below x and the nearest that is not below it, so may be x, each at its first place in dictionary order of the
+// plans. One list is made, in a buffer of one of three lengths.
 pub fn nearest(
     m: &[u16; MODEL],
     q: &[u8; QUESTION],

@@ -21,5 +21,5 @@ whynot-printed =
           (record { ptr = (0, 0); name = 0; now = splice (found .now) 0 line }, length line, record { wrote = refl; next = omega arith });
       prints = λ κ input found left r p. subst (λ l. Put l (found .now) (left .now) 0 r) (sym (explained-is (input .now))) (p tt);
       as-verdict = λ b h. same-text b h;
-      on-no = λ b m q l i j x d. why b m q l i j x d;
+      on-no = λ b x d. why b x d;
     }

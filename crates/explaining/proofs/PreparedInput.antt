@@ -1,9 +1,7 @@
 -- An accepted model and question, prepared: the limits, the verdict and the reason of what is prepared are those of the input.
 use Prim.Native.Nat.{ℕ, _-_}
-use native.Mathlib.Omega.{arith}
-use mathlib.Core.Path.{_≡_, refl, sym, ap, ap₂, subst, _∙_}
+use mathlib.Core.Path.{_≡_, sym, ap, ap₂, subst, _∙_}
 use mathlib.Core.List.{List}
-use lib.ListN.{length}
 use Rattle.logic.specs.Checked.{Checked, ok, refused, _>>=_, _>>_}
 use Rattle.logic.specs.promises.Refusal.{refusal}
 use Rattle.logic.specs.Model.{Model}
@@ -22,10 +20,10 @@ use Rattle.questions.proofs.AcceptedFacts.{accepted}
 use Rattle.prepared_model.specs.promises.Rows.{model-in, Prepares}
 use Rattle.prepared_question.specs.promises.Nodes.{formula}
 use Rattle.prepared_question.specs.promises.Shared.{Shared}
-use Rattle.prepared_question.proofs.SameVerdict.{same-verdict, same-reason, same-limits}
+use Rattle.prepared_question.proofs.SameVerdict.{same-verdict, same-reason}
 use Rattle.limits.proofs.NodeByNode.{limits-passed}
-use Rattle.judging.specs.promises.Asked.{Served}
 use Rattle.judging.specs.promises.Announced.{root}
+use Rattle.judging.proofs.BothPrepared.{asked-prepared}
 use Rattle.reasons.specs.declared.Explanation.{Explanation}
 use Rattle.reasons.specs.promises.Told.{Tells, Tells-of}
 use Rattle.protocol.specs.Calls.{question-for}
@@ -74,19 +72,11 @@ pub question-by-head : (model q : Bytes) → question-for (model-of model) q ≡
 unfolding model-of
 question-by-head model q = ap₂ (λ S A. read-question S A (byte model 4) q) (states-held model) (length-tabulate _ (byte model 3))
 
-module _ (model q : Bytes) (asked : refusal (question-for (model-of model) q) ≡ 0) {a : List ℕ} (p : Prepares model a) where
-  pub asked-prepared : refusal (read-question (state-count a) (action-count a) (prop-count a) q) ≡ 0
-  asked-prepared = rw (p .head 2 (omega arith), p .head 3 (omega arith), p .head 4 (omega arith)) (sym (ap refusal (question-by-head model q)) ∙ asked)
+module _ (model q : Bytes) {a : List ℕ} (p : Prepares model a) where
+  pub asked-by-head : refusal (question-for (model-of model) q) ≡ 0 → refusal (read-question (state-count a) (action-count a) (prop-count a) q) ≡ 0
+  asked-by-head e = asked-prepared model q p (sym (ap refusal (question-by-head model q)) ∙ e)
 
   module _ {q′ : List ℕ} (h : Shared (state-count a) (action-count a) (prop-count a) q q′) where
-    pub limits-prepared : refusal (limits (model-in a) (question-of q′ .nodes)) ≡ refusal (limits (model-of model) (question-of q .nodes))
-    unfolding question-of
-    limits-prepared = sym (ap refusal (same-limits h (model-in a))) ∙ ap (λ M. refusal (limits M (question-of q .nodes))) (p .same)
-
-    pub served : refusal (limits (model-of model) (question-of q .nodes)) ≡ 0 → Served a q′
-    unfolding question-of
-    served e = record { prepared = p .prepared; nodes = h .nodes; within = limits-prepared ∙ e }
-
     -- What is told of what is prepared is told of the input.
     pub tells-input : {r : Explanation} {zs cs ys ds : List ℕ} → Tells-of (model-in a) (start-of q′) (formula q′ (root q′)) r zs cs ys ds
         → Tells (model-of model .denominator) (verdict (model-of model) (question-of q .start) (question-of q .root)) (reason (model-of model) (question-of q .start) (question-of q .root)) r zs cs ys ds

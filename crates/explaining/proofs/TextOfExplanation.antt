@@ -11,10 +11,9 @@ use Rattle.logic.specs.Verdict.{Verdict, no, yes, yes-plan, verdict}
 use Rattle.logic.specs.Reason.{Reached, Reason, greatest, least, nearest, no-reason, reason}
 use Rattle.blocks.specs.Splice.{splice}
 use Rattle.questions.specs.Layout.{Question}
-use Rattle.lamp.specs.promises.Codes.{lamp-code}
 use Rattle.lamp.proofs.Coded.{lamp-said}
 use Rattle.verdict_line.specs.Text.{text}
-use Rattle.verdict_line.specs.Line.{plain-line, yes-plan-line, verdict-line}
+use Rattle.verdict_line.specs.Line.{yes-plan-line, verdict-line}
 use Rattle.verdict_line.specs.Reasons.{reached-line, reason-text, whynot-says}
 use Rattle.reasons.specs.declared.Explanation.{Explanation}
 use Rattle.reasons.specs.promises.Told.{side-code, side-choices, reason-code, front, back, explained-code, front-by, back-by, Tells}

@@ -6,3 +6,4 @@ pub mod BestTotals
 pub mod SearchHanded
 pub mod TableHanded
 pub mod VerdictShown
+pub mod BothPrepared

@@ -43,6 +43,8 @@ use Rattle.best_gain.proofs.TableRows.{zeros}
 use Rattle.best_plan.specs.declared.Found.{Found}
 use Rattle.exact_plan.specs.promises.Totals.{totals}
 use Rattle.exact_plan.specs.promises.Listing as listing
+use Rattle.exact_plan.proofs.CountsBelowCap.{counts-right}
+use Rattle.limits.specs.promises.Totals.{Totals}
 use Rattle.plan_choices.specs.promises.Extended.{extend, by-place, Placed}
 use Rattle.plan_choices.proofs.ExtendedChoices.{extend-choices}
 use Rattle.relevance.specs.promises.Need.{Given}
@@ -251,6 +253,10 @@ module _ {m q : Bytes} {truth : List ℕ} {j s : ℕ} (given : Given m q) (posed
   pub handed-within : d ≤ (node-of q j) .n
   handed-within =
       either c (λ o. omega (arith, l .of-plan o .4, planned c o .deep)) (λ o. omega (arith, l .of-earns o .2, earned c o .range .within))
+
+  -- What the list of all plans' totals asks for.
+  pub handed-listing : {counts : List ℕ} → Totals true (model-in m) counts → listing.Given m q s a d truth (take count nodes) counts
+  handed-listing {counts} t = record { ready = handed-ready; counts = counts-right m counts t; looks = handed-looks; from = handed-from }
 
   -- What a path is worth is what the node says.
   pub handed-worth : worth-of m q s a d (take count nodes) ≡ raised-at m q j s

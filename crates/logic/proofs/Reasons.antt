@@ -6,12 +6,12 @@ use mathlib.Core.Path.{_≡_, refl, sym, ap, subst, _∙_}
 use mathlib.Core.Logic.{_↔_, ⊎-elim}
 use mathlib.Core.Bool.{Bool, true, false, cond, false≢true}
 use mathlib.Core.Option.{Option, none, some}
-use mathlib.Core.List.{List, [], _∷_, List·Memᴰ, List·Memᴰ·head, List·Memᴰ·tail, List·Memᴰ·not-nil, List·Memᴰ·cases-cons}
+use mathlib.Core.List.{List, [], _∷_, List·Memᴰ, List·Memᴰ·head, List·Memᴰ·tail, List·Memᴰ·cases-cons}
 use lib.IntN.{ℤ}
 use lib.ListN.{length, getD}
 use lib.Signed.{leZ}
 use Rattle.logic.specs.Lists.{all, find, keep}
-use Rattle.logic.specs.Checked.{Checked, ok}
+use Rattle.logic.specs.Checked.{ok}
 use Rattle.logic.specs.Model.{Model}
 use Rattle.logic.specs.Quantity.{Quantity, integers, Relation, less, equal, greater}
 use Rattle.logic.specs.Plan.{Plan, plans, choices}
@@ -20,8 +20,8 @@ use Rattle.logic.specs.Accepted.{Accepted}
 use Rattle.logic.specs.Bound.{Bound, Lamp, below, at, above, lamp-relation, meets, lamp, total-of, lamp-by}
 use Rattle.logic.specs.Formula.{Formula}
 use Rattle.logic.specs.Verdict.{leads, bound-of}
-use Rattle.logic.specs.Reason.{Reached, Reason, greatest, least, nearest, reached, foremost, standing, reason-for, reason-by, reason, Foremost, Side, Explains}
-use Rattle.logic.proofs.Tests.{none≢some, some-same, all-true, all-at, in-keep, keep-member, find-sound, find-there, find-none}
+use Rattle.logic.specs.Reason.{Reached, greatest, least, reached, foremost, standing, reason-for, reason-by, reason, Foremost, Side, Explains}
+use Rattle.logic.proofs.Tests.{none≢some, some-same, all-at, in-keep, keep-member, find-sound, find-there, find-none}
 use Rattle.logic.proofs.Rising.{rising-keep}
 use Rattle.logic.proofs.Dictionary.{plans-are, plans-rising, before-one-way}
 use Rattle.logic.proofs.Best.{Ordered, reversed-ordered, Le, Lt, Best, here, later}
@@ -94,7 +94,7 @@ module _ (m : Model) (s : ℕ) (b : Bound) where
   t = total-of m s b
 
   -- The list has the plans that lie on a side, in dictionary order; and on which side a plan lies depends on its total alone.
-  pub record Part (lies : Plan (b .steps) → Type 0) (ps : List (Plan (b .steps))) : Type 0 where
+  record Part (lies : Plan (b .steps) → Type 0) (ps : List (Plan (b .steps))) : Type 0 where
     pub there : (π : Plan (b .steps)) → List·Memᴰ π ps → Is-plan m (b .steps) s π × lies π
     pub all-there : (π : Plan (b .steps)) → Is-plan m (b .steps) s π → lies π → List·Memᴰ π ps
     pub rising : Rising ahead ps
@@ -152,24 +152,24 @@ module _ (m : Model) (s : ℕ) (b : Bound) where
     by-found none e x f = absurd (none≢some f)
     by-found (some y) e x f = found-right y e x f
 
-    pub foremost-right : (x : Reached) → foremost m s b r ps ≡ some x → Foremost m s b lies at-most x
+    foremost-right : (x : Reached) → foremost m s b r ps ≡ some x → Foremost m s b lies at-most x
     unfolding foremost
     foremost-right x f = by-found _ refl x f
 
     -- Something is found where a plan lies there, and only there.
-    pub foremost-there : (π : Plan (b .steps)) → Is-plan m (b .steps) s π → lies π → (x : Reached) × (foremost m s b r ps ≡ some x)
+    foremost-there : (π : Plan (b .steps)) → Is-plan m (b .steps) s π → lies π → (x : Reached) × (foremost m s b r ps ≡ some x)
     unfolding foremost
     foremost-there π i l =
         let w = some-leads integers integers-ordered t r ps (part .all-there π i l) in
         let y = find-there (leads integers t r ps) 1 ps (w .1) (w .2) in
         (_, ap (reached m s b) (y .1))
 
-    pub foremost-nothing : ((π : Plan (b .steps)) → Is-plan m (b .steps) s π → lies π → ⊥) → foremost m s b r ps ≡ none
+    foremost-nothing : ((π : Plan (b .steps)) → Is-plan m (b .steps) s π → lies π → ⊥) → foremost m s b r ps ≡ none
     unfolding foremost
     foremost-nothing h =
         ap (reached m s b) (find-none (leads integers t r ps) 1 ps (λ π i. let w = part .there π i in absurd (h π (w .0) (w .1))))
 
-    pub foremost-side : (foremost m s b r ps ≡ none) ↔ ((π : Plan (b .steps)) → Is-plan m (b .steps) s π → lies π → ⊥)
+    foremost-side : (foremost m s b r ps ≡ none) ↔ ((π : Plan (b .steps)) → Is-plan m (b .steps) s π → lies π → ⊥)
     foremost-side = (λ e π i l. none≢some (sym e ∙ foremost-there π i l .1), foremost-nothing)
 
   -- "less" is for the least, "greater" for the greatest.
@@ -201,7 +201,7 @@ module _ (m : Model) (s : ℕ) (b : Bound) where
     some-member : (π : Plan (b .steps)) × Is-plan m (b .steps) s π
     some-member = let w = some-plan m accepted (b .steps) s inside in (w .0, plans-are m (b .steps) s (w .0) .0 (w .1))
 
-    pub reason-right : Explains m s b (reason-for m s b (b .relation))
+    reason-right : Explains m s b (reason-for m s b (b .relation))
     unfolding reason-for
     reason-right =
         let p = some-member in

@@ -62,8 +62,8 @@ reason m s φ = reason-by m s (bound-of m s φ)
 -- ---- what is claimed of it, in the request's words (proved: `Reasons.reason-explains`)
 
 module _ (m : Model) (s : ℕ) (b : Bound) where
-  -- Of the plans from the start that lie on a side, a total that none of them passes by this order, and the first plan that has it.
-  pub record Foremost (lies : Plan (b .steps) → Type 0) (at-most : ℤ → ℤ → Bool) (x : Reached) : Type 0 where
+  -- Of the plans from the start that lie on a side, a total to which none of them is nearer, by this order, and the first plan that has it.
+  pub record Foremost (lies : Plan (b .steps) → Type 0) (no-nearer : ℤ → ℤ → Bool) (x : Reached) : Type 0 where
     -- "Each total is reached by the plan beside it"
     pub its-plan : Plan (b .steps)
     pub is-plan : Is-plan m (b .steps) s its-plan
@@ -74,15 +74,18 @@ module _ (m : Model) (s : ℕ) (b : Bound) where
     -- "with the first plan that has it": no plan before it has that total
     pub first-one : (ρ : Plan (b .steps)) → Is-plan m (b .steps) s ρ → Before (choices (b .steps) ρ) (choices (b .steps) its-plan) → total-of m s b ρ ≡ x .total → ⊥
     -- "and no plan lies strictly nearer on that side"
-    pub none-nearer : (ρ : Plan (b .steps)) → Is-plan m (b .steps) s ρ → lies ρ → at-most (total-of m s b ρ) (x .total) ≡ true
+    pub none-nearer : (ρ : Plan (b .steps)) → Is-plan m (b .steps) s ρ → lies ρ → no-nearer (total-of m s b ρ) (x .total) ≡ true
 
   -- The side of the bound on which totals have this lamp. "A side without one reads `above none`": exactly where no plan lies there.
-  pub record Side (l : Lamp) (at-most : ℤ → ℤ → Bool) (o : Option Reached) : Type 0 where
-    pub some-there : (x : Reached) → o ≡ some x → Foremost (λ π. lamp-by m s b π ≡ l) at-most x
+  pub record Side (l : Lamp) (no-nearer : ℤ → ℤ → Bool) (o : Option Reached) : Type 0 where
+    pub some-there : (x : Reached) → o ≡ some x → Foremost (λ π. lamp-by m s b π ≡ l) no-nearer x
     pub none-there : (o ≡ none) ↔ ((π : Plan (b .steps)) → Is-plan m (b .steps) s π → lamp-by m s b π ≡ l → ⊥)
 
   pub record Explains (r : Reason) : Type 0 where
+    -- "For "greater" it prints the greatest total": no plan has a greater one
     pub by-greater : b .relation ≡ greater → (x : Reached) × (r ≡ greatest (some x)) × Foremost (λ π. Unit {0}) leZ x
+    -- "for "less" the least": no plan has a smaller one
     pub by-less : b .relation ≡ less → (x : Reached) × (r ≡ least (some x)) × Foremost (λ π. Unit {0}) (λ v w. leZ w v) x
+    -- "For "equal" it prints the nearest totals that some plan reaches on either side": below, none is greater; above, none is smaller
     pub by-equal : b .relation ≡ equal
         → (lower upper : Option Reached) × (r ≡ nearest lower upper) × Side below leZ lower × Side above (λ v w. leZ w v) upper

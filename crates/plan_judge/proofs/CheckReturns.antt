@@ -20,7 +20,7 @@ use Rattle.blocks.specs.Bytes.{Bytes}
 use Rattle.models.specs.Layout.{state-count, action-count, prop-count, model-of}
 use Rattle.prepared_model.specs.promises.Rows.{model-in, Prepares}
 use mathlib.Core.List.{List}
-use Rattle.questions.specs.Layout.{Question, start-of, node-count, node-of, formulas-of, question-of}
+use Rattle.questions.specs.Layout.{Question, start-of, node-count, node-of, question-of}
 use Rattle.questions.specs.Grounds.{read-question}
 use Rattle.questions.specs.promises.Formed.{sets-bound}
 use Rattle.questions.proofs.AcceptedFacts.{accepted}
@@ -32,7 +32,7 @@ use Rattle.protocol.specs.Calls.{Report, same, reported}
 use Rattle.protocol.specs.promises.Chains.{check-on, do-check}
 use Rattle.protocol.proofs.Demand3.{same-self, same-equal}
 use Rattle.prepared_question.specs.promises.Shared.{Shared}
-use Rattle.prepared_question.proofs.SameVerdict.{same-goal, same-limits}
+use Rattle.prepared_question.proofs.SameVerdict.{same-goal}
 use Rattle.plan_choices.proofs.SumIsWeight.{plan-there}
 use Rattle.lamp.specs.promises.Codes.{lamp-code}
 use Rattle.judging.specs.promises.Asked.{Served}
@@ -45,6 +45,7 @@ use Rattle.plan_judge.specs.promises.Values.{checking, checked-by}
 use Rattle.plan_judge.specs.promises.State.{held-goal, PlanRoot, plan-on}
 use Rattle.plan_judge.proofs.LoadPutReturn.{said-bytes}
 use Rattle.limits.proofs.NodeByNode.{limits-passed}
+use Rattle.judging.proofs.BothPrepared.{asked-prepared, limits-prepared, served}
 use Rattle.plan_judge.proofs.StateGrounds.{bind-refused, bind-passed, then-refused, both-asked, both-held, both-passed, goal-refused, root-node, root-goal, asked-goal, goal-is}
 
 -- ---- the plan on a sheet
@@ -129,7 +130,7 @@ module _ (m q : Bytes) (r : PlanRoot m q) (b : Bytes) where
   check-limited k i h = refused-by (check-on M (question-of q) b) k (then-refused (limits M (question-of q .nodes)) _ k i h ∙ sym (ap refusal check-is)) h
 
   pub sheet-asked : {a : List ℕ} → Prepares m a → refusal (read-question (state-count a) (action-count a) (prop-count a) q) ≡ 0
-  sheet-asked p = rw (p .head 2 (omega arith), p .head 3 (omega arith), p .head 4 (omega arith)) (r .asked)
+  sheet-asked p = asked-prepared m q p (r .asked)
 
   -- The model and the question prepared: the goal is the same.
   module _ {a q′ : List ℕ} (p : Prepares m a) (h : Shared (state-count a) (action-count a) (prop-count a) q q′) where
@@ -139,12 +140,10 @@ module _ (m q : Bytes) (r : PlanRoot m q) (b : Bytes) where
         ap sets-bound (ap (λ k. node-of q′ (k - 1) .operator) (h .count) ∙ h .operators (node-count q - 1) (omega arith)) ∙ r .sets
 
     pub sheet-served : refusal (limits M (question-of q .nodes)) ≡ 0 → Served a q′
-    unfolding question-of
-    sheet-served l = record { prepared = p .prepared; nodes = h .nodes; within = sym (ap refusal (same-limits h (model-in a))) ∙ rw (p .same) l }
+    sheet-served l = served m q p h l
 
     pub limits-there : refusal (limits (model-in a) (question-of q′ .nodes)) ≡ refusal (limits M (question-of q .nodes))
-    unfolding question-of
-    limits-there = sym (ap refusal (same-limits h (model-in a))) ∙ ap (λ M. refusal (limits M (formulas-of q))) (p .same)
+    limits-there = limits-prepared m q p h
 
     goal-there : goal M (start-of q′) (question-of q′ .root) ≡ ok g
     unfolding question-of

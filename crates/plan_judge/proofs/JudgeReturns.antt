@@ -17,8 +17,9 @@ use Rattle.questions.specs.Grounds.{read-question}
 use Rattle.questions.specs.Layout.{Question, question-of}
 use Rattle.blocks.specs.Splice.{splice}
 use Rattle.prepared_question.specs.promises.Shared.{Shared}
-use Rattle.prepared_question.proofs.SameVerdict.{same-verdict, same-limits}
+use Rattle.prepared_question.proofs.SameVerdict.{same-verdict}
 use Rattle.judging.specs.promises.Asked.{Served}
+use Rattle.judging.proofs.BothPrepared as both
 use Rattle.judging.specs.promises.Announced.{root-verdict, verdict-code, shown-choices}
 use Rattle.protocol.specs.promises.Chains.{do-judge}
 use Rattle.plan_judge.specs.declared.Desk.{Desk}
@@ -89,13 +90,12 @@ module _ (d : Desk) where
         by (refused k) v = refl
 
   pub asked-prepared : Both d → {a : List ℕ} → Prepares (said-bytes d) a → refusal (read-question (state-count a) (action-count a) (prop-count a) (d .question)) ≡ 0
-  asked-prepared b p = rw (p .head 2 (omega arith), p .head 3 (omega arith), p .head 4 (omega arith)) (b .asked)
+  asked-prepared b p = both.asked-prepared (said-bytes d) (d .question) p (b .asked)
 
   -- The model and the question prepared.
   module _ (b : Both d) {a q′ : List ℕ} (p : Prepares (said-bytes d) a) (h : Shared (state-count a) (action-count a) (prop-count a) (d .question) q′) where
     pub limits-prepared : refusal (limits (model-in a) (question-of q′ .nodes)) ≡ refusal (do-judge (view d))
-    unfolding question-of
-    limits-prepared = sym (ap refusal (same-limits h (model-in a))) ∙ rw (p .same) (ground-limits b)
+    limits-prepared = both.limits-prepared (said-bytes d) (d .question) p h ∙ ground-limits b
 
     same-root : root-verdict (model-in a) q′ ≡ root-verdict (model-of (said-bytes d)) (d .question)
     unfolding question-of
@@ -104,8 +104,7 @@ module _ (d : Desk) where
     -- Where judge is not refused, the verdict is told.
     module _ (e : refusal (do-judge (view d)) ≡ 0) where
       pub served : Served a q′
-      unfolding question-of
-      served = record { prepared = p .prepared; nodes = h .nodes; within = limits-prepared ∙ e }
+      served = both.served (said-bytes d) (d .question) p h (ground-limits b ∙ e)
 
       pub judge-done : (cs : Bytes) → cs ≡ choices-code (root-verdict (model-in a) q′) → (v : Verdict) → v ≡ verdict-code (root-verdict (model-in a) q′) → announced cs v ≡ judged-by d
       unfolding judged-by settling question-of

@@ -15,7 +15,7 @@ use Rattle.logic.specs.Model.{Model}
 use Rattle.logic.specs.Plan.{Plan, plans, choices}
 use Rattle.logic.specs.Bound.{Lamp}
 use Rattle.logic.specs.Accepted.{Accepted}
-use Rattle.logic.specs.Order.{Before, differ, agree, Rising, nothing, first, Is-plan}
+use Rattle.logic.specs.Order.{Before, Rising, nothing, first, Is-plan}
 use Rattle.logic.specs.Formula.{Formula, sat}
 use Rattle.logic.specs.Verdict.{Goal, goal, shown, leader, found-lamp, denial, plan-record, announced, verdict-by, verdict}
 use Rattle.logic.proofs.Tests.{and-both, not-true, none≢some, some-same}

@@ -8,9 +8,8 @@ use lib.Dec.{eqb}
 use lib.IntN.{ℤ}
 use lib.ListN.{length}
 use Rattle.logic.specs.Plan.{plans, choices}
-use Rattle.logic.specs.Bound.{Bound}
 use Rattle.logic.specs.Formula.{relation}
-use Rattle.logic.specs.Verdict.{Verdict, leads, leader, verdict}
+use Rattle.logic.specs.Verdict.{Verdict, leader}
 use Rattle.logic.specs.Reason.{Reached, Reason, greatest, least, reached, foremost, reason-for, reason-by, reason}
 use Rattle.logic.proofs.Search.{extreme}
 use Rattle.blocks.specs.Bytes.{Bytes}
@@ -24,7 +23,6 @@ use Rattle.prepared_question.specs.promises.Nodes.{formula}
 use Rattle.lamp.specs.promises.Codes.{lamp-code}
 use Rattle.bounds.specs.promises.Bounded.{Bounded, lowered, lamp-at}
 use Rattle.judging.specs.promises.Asked.{Asked}
-use Rattle.judging.specs.promises.Announced.{no-lamp}
 use Rattle.judging.specs.promises.Decided.{bound-as, best-raised, best-node, Decided}
 use Rattle.judging.specs.declared.plans.Decision.{Decision}
 use Rattle.judging.proofs.NodeBounds.{sets-at}
@@ -42,7 +40,7 @@ unfolding reason
 reason-at {m} b s = ap (reason-by (model-in m) s) (sets-at b s .asks)
 
 -- The reason of "less" or "greater", by what is reached.
-pub best-reason : (fewest : Bool) → Option Reached → Reason
+best-reason : (fewest : Bool) → Option Reached → Reason
 best-reason true o = least o
 best-reason false o = greatest o
 
@@ -69,7 +67,7 @@ module _ {m q : Bytes} {j : ℕ} (b : Bounded m q j) (s : ℕ) (h : s < state-co
   led-for true o i = ap least i
   led-for false o i = ap greatest i
 
-  pub led-reason : reason (model-in m) s (formula q j) ≡ best-reason fewest (some found)
+  led-reason : reason (model-in m) s (formula q j) ≡ best-reason fewest (some found)
   led-reason =
       reason-at b s ∙ ap (λ r. reason-for (model-in m) s (bound-as r m q j s) r) (same-relation b s h e) ∙ led-for fewest (some found) foremost-led
 

@@ -5,24 +5,24 @@ use native.Mathlib.Omega.{arith}
 use native.Mathlib.Decide.{ℕ-discrete}
 use mathlib.Core.Path.{_≡_, refl, sym, ap, ap₂, subst, _∙_}
 use mathlib.Core.Bool.{Bool, true, false, not, cond, _&&_, false≢true}
-use mathlib.Core.List.{List, [], List·Memᴰ}
+use mathlib.Core.List.{[], List·Memᴰ}
 use mathlib.Core.Option.{Option, none, some}
 use lib.Dec.{T, eqb, leb, ltb}
 use lib.IntN.{ℤ, subℕ}
 use lib.ListN.{getD, length}
 use borrow.Author.Tests.{eq-eqb, ne-eqb, eqb-true, leb-true, le-leb}
 use Rattle.logic.specs.Model.{Model}
-use Rattle.logic.specs.Quantity.{integers, naturals, Relation, less, equal, greater}
+use Rattle.logic.specs.Quantity.{integers, naturals, less, equal, greater}
 use Rattle.logic.specs.Plan.{Plan, plans, choices}
 use Rattle.logic.specs.Bound.{Bound, Lamp, below, at, above, total, meets, lamp, total-of}
-use Rattle.logic.specs.Formula.{Node, relation}
+use Rattle.logic.specs.Formula.{relation}
 use Rattle.logic.specs.Limits.{plan-total}
 use Rattle.logic.specs.Verdict.{verdict}
-use Rattle.logic.specs.Reason.{Reached, Reason, nearest, reached, foremost, standing, reason-for, reason}
+use Rattle.logic.specs.Reason.{Reached, nearest, foremost, standing, reason-for, reason}
 use Rattle.logic.specs.promises.Orders.{order}
 use Rattle.logic.specs.promises.Lamps.{met-by-lamp}
 use Rattle.logic.specs.promises.Extension.{first-plan}
-use Rattle.logic.proofs.Tests.{T→true, true→T, not-true, and-both, member-place}
+use Rattle.logic.proofs.Tests.{T→true, and-both, member-place}
 use Rattle.logic.proofs.Naturals.{ltb-leb}
 use Rattle.logic.proofs.Integers.{integers-ordered}
 use Rattle.logic.proofs.Lowered.{lowered-order}
@@ -43,7 +43,7 @@ use Rattle.exact_plan.specs.promises.Totals.{totals}
 use Rattle.exact_plan.specs.promises.Sides.{on-side, Nearest-in, Around}
 use Rattle.exact_plan.specs.declared.nearest.Near.{Near}
 use Rattle.exact_plan.specs.declared.nearest.Neighbours.{Neighbours}
-use Rattle.judging.specs.promises.Decided.{worth-at, raised-at, bound-as, plan-at, First}
+use Rattle.judging.specs.promises.Decided.{raised-at, bound-as, plan-at, First}
 use Rattle.judging.proofs.NodeBounds.{raises-at, total-most}
 use Rattle.judging.proofs.SearchDecides.{shows, denies, totals-count, listed, total-at, first-led, never-led, equal-yes, equal-no}
 use Rattle.reasons.specs.promises.Told.{raised-totals, near-reached, Placed, at-bound}
@@ -156,7 +156,7 @@ module _ {m q : Bytes} {j : ℕ} (b : Bounded m q j) (s : ℕ) (h : s < state-co
       weighs-there = lowers _ (listed b s h (r .place) in-list) ∙ ap (lowered m q j) (value-at (r .place) in-list ∙ N .its-total some-place)
 
     -- What is reached on this side.
-    pub side-reached : foremost M s B (extreme up) (standing M s B (extreme (not up))) ≡ near-reached m q j s all r
+    side-reached : foremost M s B (extreme up) (standing M s B (extreme (not up))) ≡ near-reached m q j s all r
     unfolding near-reached
     side-reached = go (ℕ-discrete (r .place) all)
       where

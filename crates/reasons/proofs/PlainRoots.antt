@@ -1,6 +1,6 @@
 -- A root that sets no bound: a yes, or a no without a reason.
 use Prim.Native.Nat.{ℕ, _<_}
-use mathlib.Core.Path.{_≡_, refl, sym, ap, ap₂, _∙_}
+use mathlib.Core.Path.{_≡_, refl, sym, ap, _∙_}
 use mathlib.Core.Bool.{Bool, true, false, cond}
 use mathlib.Core.List.{List, []}
 use mathlib.Core.Option.{none}
@@ -8,8 +8,8 @@ use lib.Dec.{eqb}
 use Rattle.logic.specs.Checked.{refused}
 use Rattle.logic.specs.Bound.{one-if}
 use Rattle.logic.specs.Formula.{sat}
-use Rattle.logic.specs.Verdict.{bound-of, Verdict, yes, verdict}
-use Rattle.logic.specs.Reason.{Reason, no-reason, reason-by, reason}
+use Rattle.logic.specs.Verdict.{bound-of, yes}
+use Rattle.logic.specs.Reason.{no-reason, reason-by, reason}
 use Rattle.logic.specs.promises.Total.{value-of}
 use Rattle.blocks.specs.Bytes.{Bytes}
 use Rattle.blocks.specs.Splice.{splice}
@@ -24,11 +24,11 @@ use Rattle.relevance.specs.promises.Need.{Given}
 use Rattle.judging.proofs.SearchDecides.{denies, other-verdict}
 use Rattle.reasons.specs.declared.Explanation.{Explanation}
 use Rattle.reasons.specs.declared.Explanation.the-variants.{Yes, NoReason}
-use Rattle.reasons.specs.promises.Told.{reason-code, front, back, explained-code, front-by, back-by, Tells, Tells-of}
+use Rattle.reasons.specs.promises.Told.{reason-code, front, back, explained-code, front-by, back-by, Tells-of}
 use Rattle.reasons.proofs.LedReason.{tells-reason}
 
 module _ {m q : Bytes} (given : Given m q) (j s : ℕ) (h : j < node-count q) (o : sets-bound ((node-of q j) .operator) ≡ false) where
-  pub plain-reason : reason (model-in m) s (formula q j) ≡ no-reason
+  plain-reason : reason (model-in m) s (formula q j) ≡ no-reason
   unfolding reason bound-of
   plain-reason = let n = sets-neither ((node-of q j) .operator) o in ap (reason-by (model-in m) s) (no-plan-at q j h (n .0) (n .1) (refused 22) _ _)
 

@@ -83,7 +83,7 @@ pub enum Explanation {
 }
 
 // What is said of the plan that leads, of so many choices.
-fn told(m: &[u16; MODEL], q: &[u8; QUESTION], j: u8, r: Decision, size: usize) -> Explanation
+fn of_leader(m: &[u16; MODEL], q: &[u8; QUESTION], j: u8, r: Decision, size: usize) -> Explanation
     requires { ⌜ Bounded (now m) (now q) j × (r .raised ≤ most-of (now m) (now q) j) ⌝ }
     ensures value { λ x. ⌜ x ≡ led-code (now (m .entry)) (now (q .entry)) j (r .met) (r .raised) size ⌝ }
 {
@@ -132,7 +132,7 @@ fn by_leader(
     let d = r.given as usize;
     let n = steps(q, j) as usize;
     let size = extend(m, &places, &scratch, choices, s as usize, d, n);
-    told(m, q, j, r, size)
+    of_leader(m, q, j, r, size)
 }
 
 // What is said of node j, a state formula, in s.

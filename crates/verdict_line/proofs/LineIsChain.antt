@@ -1,6 +1,5 @@
 -- The text that is printed is the chain that contracts cite: after each call that is done the desk holds what the next one asks for, and a
 -- refusal is printed at once.
-use Prim.Native.Nat.{ℕ}
 use mathlib.Core.Path.{_≡_, refl, ap₂, _∙_}
 use mathlib.Core.Bool.{Bool, true, false, cond}
 use mathlib.Core.List.{List, [], _∷_}

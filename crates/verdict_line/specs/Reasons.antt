@@ -39,7 +39,8 @@ explained b = text-of whynot-says b
 
 -- ---- what is claimed of the text
 
--- What is held when an input's model is loaded and its question put, and the answer to judge then.
+-- What is held when an input's model is loaded and its question put, and the answer to judge then. (Input of another length is parted all the same;
+-- load refuses such a model, and judge gives no verdict.)
 abbrev pub held-of : Bytes → Held
 held-of b = after (load (model-part b) ∷ put (question-part b) ∷ [])
 
@@ -47,9 +48,9 @@ abbrev pub judge-answer : Bytes → Answer
 judge-answer b = (yields (held-of b) judge) .answer
 
 -- The text of a no to the question q on the model m.
-pub record Why (m : Model) (q : Question) (line : List ℕ) : Type 0 where
+pub record Why (m : Model) (q : Question) (printed-text : List ℕ) : Type 0 where
   pub said : Reason
-  pub its-text : line ≡ reason-text said
+  pub its-text : printed-text ≡ reason-text said
   -- "a no to a root of operator 8 or 9"
   pub on-bounds : (b : Bound) → bound-of m (q .start) (q .root) ≡ ok b → Explains m (q .start) b said
   -- "to another root"

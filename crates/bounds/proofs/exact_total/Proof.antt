@@ -1,6 +1,6 @@
 -- `exact_total`: what is left of the bound when the part below 0 is taken off, divided by q, and one more where that leaves something over; where that
 -- part is larger, no total is below the bound or meets it.
-use Prim.Native.Nat.{ℕ, _-_, _/_, _≤_, _<_}
+use Prim.Native.Nat.{_-_, _/_, _≤_, _<_}
 use native.Mathlib.Omega.{arith}
 use native.Mathlib.Nat.{div-le-self}
 use mathlib.Core.Path.{refl}

@@ -1,5 +1,5 @@
 -- `first_within`: the list stands at the front of the buffer.
-use mathlib.Core.Path.{ap, subst}
+use mathlib.Core.Path.{subst}
 use Rattle.exact_plan.specs.promises.Listing.{First}
 use borrow.Author.Needs.{needs}
 use Rattle.exact_plan.proofs.first_within.Statement.{statement}

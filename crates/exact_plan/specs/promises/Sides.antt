@@ -1,6 +1,6 @@
 -- The numbers of a list nearest to x on either side of it: the greatest below it, and the least of those that are not below it; each at its first
 -- place.
-use Prim.Native.Nat.{ℕ, _≤_, _<_}
+use Prim.Native.Nat.{ℕ, _<_}
 use mathlib.Core.Path.{_≡_}
 use mathlib.Core.Bool.{Bool, true, false, not, cond, _&&_, _||_}
 use mathlib.Core.List.{List}

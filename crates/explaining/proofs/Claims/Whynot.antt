@@ -3,14 +3,12 @@
 -- (document 02, A.5). A contract that asks something or says less allows more, and this claim fails. (Proved in `Offered`.)
 use Prim.Native.Nat.{ℕ}
 use mathlib.Core.Path.{_≡_}
-use mathlib.Core.Bool.{true}
 use mathlib.Core.Option.{some}
-use lib.ListN.{length}
 use contract.Lifetimes.{Lfts}
 use denote.Ref.{RefT}
 use Rattle.logic.specs.Model.{Model}
 use Rattle.logic.specs.Verdict.{Denial, no}
-use Rattle.blocks.specs.Bytes.{Bytes, within}
+use Rattle.blocks.specs.Bytes.{Bytes}
 use Rattle.questions.specs.Layout.{Question}
 use Rattle.protocol.specs.Calls.{judged}
 use Rattle.verdict_line.specs.Text.{Put}
@@ -27,5 +25,5 @@ pub record Whynot-printed : Type 0 where
   -- "Yes and refusals print as in verdict."
   pub as-verdict : (b : Bytes) → ((x : Denial) → judge-answer b ≡ judged (no x) → ⊥) → explained b ≡ printed b
   -- "explains a no"
-  pub on-no : (b : Bytes) (m : Model) (q : Question) → within 512 6656 (length b) ≡ true → held-of b .model ≡ some m → held-of b .question ≡ some q
-      → (x : Denial) → judge-answer b ≡ judged (no x) → Why m q (explained b)
+  pub on-no : (b : Bytes) (x : Denial) → judge-answer b ≡ judged (no x)
+      → (m : Model) × (q : Question) × (held-of b .model ≡ some m) × (held-of b .question ≡ some q) × Why m q (explained b)

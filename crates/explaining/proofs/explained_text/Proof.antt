@@ -1,13 +1,11 @@
 -- The text of each case.
-use Prim.Native.Nat.{ℕ, _≤_}
+use Prim.Native.Nat.{ℕ}
 use native.Mathlib.Omega.{arith}
 use mathlib.Core.Path.{_≡_, sym, subst}
-use mathlib.Core.List.{List}
-use lib.ListN.{length}
 use lib.Seq.{length-take-le}
 use Rattle.verdict_line.specs.Text.{text}
 use Rattle.verdict_line.proofs.PutInTurn.{put-put}
-use Rattle.explaining.specs.promises.Said.{side-size, explained-said, front-size, back-size, Few}
+use Rattle.explaining.specs.promises.Said.{explained-said, front-size, back-size, Few}
 use Rattle.reasons.specs.declared.Explanation.{Explanation}
 use mir.Syntax.{w64}
 use mir.ValLaws.{toZ-ofZ}

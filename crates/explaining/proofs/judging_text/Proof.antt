@@ -10,10 +10,11 @@ use Rattle.models.specs.Layout.{state-count, action-count, prop-count, model-of
 use Rattle.questions.specs.Layout.{question-of}
 use Rattle.prepared_question.specs.promises.Shared.{Shared}
 use Rattle.prepared_question.proofs.ChildrenBefore.{ordered}
+use Rattle.judging.proofs.BothPrepared.{limits-prepared, served}
 use Rattle.reasons.specs.promises.Told.{Tells}
 use Rattle.verdict_line.specs.Reasons.{whynot-says}
 use Rattle.verdict_line.proofs.PutInTurn.{put-as}
-use Rattle.explaining.proofs.PreparedInput.{asked-prepared, limits-prepared, served, tells-input, judge-refused, judge-passed}
+use Rattle.explaining.proofs.PreparedInput.{asked-by-head, tells-input, judge-refused, judge-passed}
 use Rattle.explaining.proofs.TextOfExplanation.{few, told-text}
 use borrow.Author.Needs.{needs}
 use Rattle.explaining.proofs.judging_text.Statement.{statement}
@@ -24,21 +25,21 @@ shared : (c : tie.After-prepare-question)
     let A = c .before .before .before .before .before .args in
     Shared (state-count a) (action-count a) (prop-count a) (A .q .now) (c .prepare-question .result)
 shared c = let S = c .before .before .before .before .before in
-    c .prepare-question .ensures _ _ _ (asked-prepared (S .args .model .now) (S .args .q .now) (S .pre .1 .1) (c .before .prepare-model .ensures))
+    c .prepare-question .ensures _ _ _ (asked-by-head (S .args .model .now) (S .args .q .now) (c .before .prepare-model .ensures) (S .pre .1 .1))
 
 -- The limits of what is prepared are those of the input.
 limited : (c : tie.After-limit-refusal)
     → let A = c .before .before .before .before .before .before .before .before .args in
     c .limit-refusal .result ≡ refusal (limits (model-of (A .model .now)) (question-of (A .q .now) .nodes))
 limited c = let S = c .before .before .before .before .before .before .before .before in
-    c .limit-refusal .ensures ∙ limits-prepared (S .args .model .now) (S .args .q .now) (S .pre .1 .1) (c .before .before .before .before .prepare-model .ensures) (shared (c .before .before .before))
+    c .limit-refusal .ensures ∙ limits-prepared (S .args .model .now) (S .args .q .now) (c .before .before .before .before .prepare-model .ensures) (shared (c .before .before .before))
 
 prepare-model-requires : tie.Need-prepare-model-requires
 prepare-model-requires c κs = c .before .before .before .pre .1 .0
 
 prepare-question-requires : tie.Need-prepare-question-requires
 prepare-question-requires c κs = let S = c .before .before .before .before in
-    ordered _ _ _ _ (asked-prepared (S .args .model .now) (S .args .q .now) (S .pre .1 .1) (c .prepare-model .ensures))
+    ordered _ _ _ _ (asked-by-head (S .args .model .now) (S .args .q .now) (c .prepare-model .ensures) (S .pre .1 .1))
 
 limit-refusal-requires : tie.Need-limit-refusal-requires
 limit-refusal-requires c κs = (c .before .before .before .prepare-model .ensures .prepared, shared (c .before .before) .nodes)
@@ -61,7 +62,7 @@ slice-aggregate-explained-2 c = search needs
 
 explained-requires : tie.Need-explained-requires
 explained-requires c κs = let S = c .before .before .before .before .before .before .before .before .before .before .before .before .before in
-    (served (S .args .model .now) (S .args .q .now) (S .pre .1 .1) (c .before .before .before .before .before .before .before .before .before .prepare-model .ensures) (shared (c .before .before .before .before .before .before .before .before)) (sym (limited (c .before .before .before .before .before)) ∙ c .before .before .before .before .if1 .left), (omega arith, omega arith))
+    (served (S .args .model .now) (S .args .q .now) (c .before .before .before .before .before .before .before .before .before .prepare-model .ensures) (shared (c .before .before .before .before .before .before .before .before)) (sym (limited (c .before .before .before .before .before)) ∙ c .before .before .before .before .if1 .left), (omega arith, omega arith))
 
 slice-aggregate-explained-text : tie.Need-slice-aggregate-explained-text
 slice-aggregate-explained-text c = search needs
@@ -76,7 +77,7 @@ told : (c : tie.After-explained)
     let q = question-of (S .args .q .now) in
     Tells (m .denominator) (verdict m (q .start) (q .root)) (reason m (q .start) (q .root)) (c .explained .result) (replicate 1365 0) (c .explained .last .1 .1 .0) (replicate 1365 0) (c .explained .last .1 .1 .1 .0)
 told c = let S = c .before .before .before .before .before .before .before .before .before .before .before .before .before .before in
-    tells-input (S .args .model .now) (S .args .q .now) (S .pre .1 .1) (c .before .before .before .before .before .before .before .before .before .before .prepare-model .ensures) (shared (c .before .before .before .before .before .before .before .before .before)) (c .explained .ensures)
+    tells-input (S .args .model .now) (S .args .q .now) (c .before .before .before .before .before .before .before .before .before .before .prepare-model .ensures) (shared (c .before .before .before .before .before .before .before .before .before)) (c .explained .ensures)
 
 explained-text-requires : tie.Need-explained-text-requires
 explained-text-requires c κs = let x = c .before .before .before .before .before in

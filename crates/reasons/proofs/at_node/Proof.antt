@@ -1,14 +1,9 @@
 -- By the node's operator and its relation.
 use mathlib.Core.Path.{_≡_, refl, sym, ap, _∙_}
 use mathlib.Core.Bool.{true}
-use mathlib.Core.List.{[]}
-use Rattle.logic.specs.Formula.{sat}
-use Rattle.prepared_model.specs.promises.Rows.{model-in}
 use Rattle.questions.specs.Layout.{node-of}
 use Rattle.questions.specs.promises.Formed.{sets-bound}
-use Rattle.prepared_question.specs.promises.Nodes.{formula}
 use Rattle.judging.specs.promises.Decided.{Posed}
-use Rattle.judging.proofs.SearchDecides.{other-verdict}
 use Rattle.judging.proofs.SearchHanded.{posed-at, asked-equal, asked-other}
 use Rattle.reasons.proofs.PlainRoots.{tells-plain}
 use borrow.Author.Tests.{eq-eqb, ne-eqb}

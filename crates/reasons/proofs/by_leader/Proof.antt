@@ -1,10 +1,9 @@
 -- The plan that the search found, extended to all steps.
 use Prim.Native.Nat.{ℕ}
 use native.Mathlib.Omega.{arith}
-use mathlib.Core.Path.{_≡_, refl, sym, ap, subst, _∙_}
+use mathlib.Core.Path.{refl, sym, ap, subst, _∙_}
 use lib.ListN.{length}
 use Rattle.blocks.specs.Splice.{splice}
-use Rattle.models.specs.Layout.{state-count}
 use Rattle.prepared_model.specs.promises.Rows.{model-in}
 use Rattle.bounds.specs.promises.Bounded.{Bounded}
 use Rattle.plan_choices.specs.promises.Extended.{extend, by-place, Placed}
@@ -43,8 +42,8 @@ extend-requires c κs = let S = c .before .before .before .before .before .befor
     let n = c .before .before .before .steps .ensures in
     ((S .pre .0 .0 .given .prepared, S .pre .0 .1 .state), (subst (λ (i : ℕ). Placed (S .args .m .now) (d .last .1 .1 .1 .1 .1 .0) i) (sym n) (d .ensures .led (S .pre .1 .0) .table), S .pre .1 .1))
 
-told-requires : tie.Need-told-requires
-told-requires c κs = let S = c .before .before .before .before .before .before .before .before .before .before .before .before .before in
+of-leader-requires : tie.Need-of-leader-requires
+of-leader-requires c κs = let S = c .before .before .before .before .before .before .before .before .before .before .before .before .before in
     (bounded S, led-most (S .pre .0 .0) (bounded S) (S .args .s) (S .pre .0 .1 .state) (c .before .before .before .before .before .before .before .before .before .decide .ensures) (S .pre .1 .0))
 
 same-length : tie.Need-same-length
@@ -57,7 +56,7 @@ returns c = let S = c .before .before .before .before .before .before .before .b
     let x = c .before .before .before .extend .ensures in
     let same = ap (λ (i : ℕ). extend (model-in (S .args .m .now)) (by-place (S .args .m .now) (d .last .1 .1 .1 .1 .1 .0)) (d .result .given) i (S .args .s) (d .last .1 .1 .1 .1 .0) .0) n ∙ d .ensures .led (S .pre .1 .0) .chosen in
     led-told (S .pre .0 .0) (bounded S) (S .args .s) (S .pre .0 .1 .state) (S .pre .1 .0) (d .ensures)
-    (c .told .ensures ∙ ap (led-code (S .args .m .now) (S .args .q .now) (S .args .j) (d .result .met) (d .result .raised)) (x .1 ∙ ap length same)) (x .0 ∙ ap (splice (S .args .choices .now) 0) same)
+    (c .of-leader .ensures ∙ ap (led-code (S .args .m .now) (S .args .q .now) (S .args .j) (d .result .met) (d .result .raised)) (x .1 ∙ ap length same)) (x .0 ∙ ap (splice (S .args .choices .now) 0) same)
 
 pub by-leader-spec : {M : Type 1} → statement M
 by-leader-spec =
@@ -70,6 +69,6 @@ by-leader-spec =
     cast-n
     slice-aggregate-extend
     extend-requires
-    told-requires
+    of-leader-requires
     same-length
     returns)

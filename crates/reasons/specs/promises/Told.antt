@@ -16,16 +16,13 @@ use Rattle.blocks.specs.Bytes.{Bytes}
 use Rattle.blocks.specs.Splice.{splice}
 use Rattle.models.specs.Layout.{denominator-of}
 use Rattle.prepared_model.specs.promises.Rows.{model-in}
-use Rattle.questions.specs.Layout.{start-of, node-of}
-use Rattle.prepared_question.specs.promises.Nodes.{formula}
+use Rattle.questions.specs.Layout.{node-of}
 use Rattle.lamp.specs.promises.Codes.{lamp-code}
 use Rattle.bounds.specs.promises.Bounded.{lowered, most-of, lamp-at}
 use Rattle.bounds.specs.declared.Exact.{Exact}
 use Rattle.exact_plan.specs.promises.Totals.{totals}
 use Rattle.exact_plan.specs.declared.nearest.Near.{Near}
-use Rattle.judging.specs.promises.Announced.{root}
 use Rattle.judging.specs.promises.Decided.{raised-at, plan-at}
-use Rattle.reasons.specs.declared.Reached as code
 use Rattle.reasons.specs.declared.Side.{Side}
 use Rattle.reasons.specs.declared.Side.the-variants.{Nothing, Something}
 use Rattle.reasons.specs.declared.Explanation.{Explanation}

@@ -1,4 +1,4 @@
--- The text as a chain of refusals: what the contracts of `printing::answer` and `explaining::reasons` cite. That it is the text printed is proved
+-- The text as a chain of refusals: what the contracts of `printing::answer` and `explaining::answer` cite. That it is the text printed is proved
 -- (`LineIsChain`).
 use Prim.Native.Nat.{ℕ}
 use mathlib.Core.List.{List}

@@ -8,10 +8,9 @@ use borrow.Author.Tests.{not-true, not-false}
 use Rattle.logic.specs.Limits.{plan-total}
 use Rattle.prepared_model.specs.promises.Rows.{model-in}
 use Rattle.questions.specs.Layout.{node-of}
-use Rattle.exact_plan.proofs.CountsBelowCap.{counts-right}
 use Rattle.bounds.proofs.ProductsFit.{compares}
 use Rattle.judging.proofs.SearchDecides.{few-plans, counted-plans}
-use Rattle.judging.proofs.SearchHanded.{bounded-at, handed-ready, handed-looks, handed-from, handed-within, placed-never, placed-at}
+use Rattle.judging.proofs.SearchHanded.{bounded-at, handed-listing, handed-within, placed-never, placed-at}
 use borrow.Author.Needs.{needs}
 use Rattle.judging.proofs.plans.first.Statement.{statement}
 use Rattle.judging.proofs.plans.first.Tie as tie
@@ -59,12 +58,7 @@ first-equal-requires c κs = let S = c .before .before .before .before .before .
     let w = c .before .worth-of .ensures in
     let n = c .before .before .before .before .before .before .before .steps .ensures in
     let few = few-plans A (S .args .j) (S .args .s) (P .node) (P .sets) (S .pre .1) (P .state) in (
-      record {
-        ready = handed-ready (A .given) P w;
-        counts = counts-right (S .args .m .now) (S .args .counts .now) (A .counted);
-        looks = handed-looks (A .given) P w;
-        from = handed-from (A .given) P w;
-      },
+      handed-listing (A .given) P w (A .counted),
       (
         omega (arith, handed-within (A .given) P w, n),
         omega (arith, few-steps S, n),

@@ -1,19 +1,18 @@
 -- The first plan that meets the bound, or the nearest on either side.
 use Prim.Native.Nat.{ℕ, _+_, _*_, _^_}
 use native.Mathlib.Omega.{arith}
-use mathlib.Core.Path.{_≡_, refl, sym, ap, ap₂, subst, _∙_}
+use mathlib.Core.Path.{_≡_, refl, sym, ap, subst, _∙_}
 use lib.ListN.{getD}
 use Rattle.logic.specs.Limits.{plan-total}
 use Rattle.models.specs.Layout.{denominator-of}
 use Rattle.prepared_model.specs.promises.Rows.{model-in}
 use Rattle.prepared_model.proofs.ReadByPlace.{denominator-is}
 use Rattle.questions.specs.Layout.{node-of}
-use Rattle.lamp.specs.promises.Codes.{lamp-code}
 use Rattle.bounds.specs.promises.Bounded.{Bounded}
 use Rattle.bounds.proofs.ProductsFit.{compares}
 use Rattle.judging.proofs.SearchDecides.{counted-plans}
 use Rattle.judging.proofs.SearchHanded.{bounded-at}
-use Rattle.reasons.specs.promises.Told.{reason-code, front, back, near-reached, at-bound, shown-code, Placed}
+use Rattle.reasons.specs.promises.Told.{reason-code, front, back, at-bound, shown-code, Placed}
 use Rattle.reasons.proofs.LedReason.{tells-shown, tells-reason}
 use Rattle.reasons.proofs.NearestPlans.{both-placed, met-placed, met-verdict, missed-verdict, missed-reason}
 use borrow.Author.Needs.{needs}

@@ -1,18 +1,17 @@
 -- What a search is handed for the node.
 use Prim.Native.Nat.{ℕ, _≤_}
 use native.Mathlib.Omega.{arith}
-use mathlib.Core.Path.{_≡_, refl, sym, subst}
+use mathlib.Core.Path.{refl, sym, subst}
 use lib.Seq.{length-take-le}
 use Rattle.logic.specs.Limits.{plan-total}
 use Rattle.prepared_model.specs.promises.Rows.{model-in}
 use Rattle.questions.specs.Layout.{node-of}
 use Rattle.exact_plan.specs.promises.Totals.{totals}
 use Rattle.exact_plan.specs.promises.Sides.{Around}
-use Rattle.exact_plan.proofs.CountsBelowCap.{counts-right}
 use Rattle.bounds.proofs.ProductsFit.{compares}
 use Rattle.judging.specs.promises.Decided.{raised-at}
 use Rattle.judging.proofs.SearchDecides.{few-plans}
-use Rattle.judging.proofs.SearchHanded.{bounded-at, handed-ready, handed-looks, handed-from, handed-within, handed-worth}
+use Rattle.judging.proofs.SearchHanded.{bounded-at, handed-listing, handed-within, handed-worth}
 use borrow.Author.Needs.{needs}
 use Rattle.reasons.proofs.sides.neighbours.Statement.{statement}
 use Rattle.reasons.proofs.sides.neighbours.Tie as tie
@@ -39,12 +38,7 @@ nearest-requires c κs = let S = c .before .before .before .before in
     let w = c .before .before .worth-of .ensures in
     let n = c .before .steps .ensures in
     let few = few-plans A (S .args .j) (S .args .s) (P .node) (P .sets) (S .pre .2) (P .state) in (
-      record {
-        ready = handed-ready (A .given) P w;
-        counts = counts-right (S .args .m .now) (S .args .counts .now) (A .counted);
-        looks = handed-looks (A .given) P w;
-        from = handed-from (A .given) P w;
-      },
+      handed-listing (A .given) P w (A .counted),
       (
         omega (arith, handed-within (A .given) P w, n),
         omega (arith, few-steps S, n),

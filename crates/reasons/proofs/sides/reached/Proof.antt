@@ -9,7 +9,6 @@ use Rattle.logic.specs.Limits.{plan-total}
 use Rattle.blocks.specs.Splice.{splice}
 use Rattle.blocks.proofs.Splice.{splice-none}
 use Rattle.prepared_model.specs.promises.Rows.{model-in}
-use Rattle.questions.specs.Layout.{node-of}
 use Rattle.bounds.specs.promises.Bounded.{lowered}
 use Rattle.bounds.proofs.ProductsFit.{compares, most-small}
 use Rattle.judging.specs.promises.Decided.{plan-at}

@@ -8,8 +8,8 @@ use Rattle.bounds.proofs.ProductsFit.{most-small}
 use Rattle.bounds.specs.promises.Bounded.{lowered}
 use Rattle.reasons.specs.promises.Told.{led-code}
 use borrow.Author.Needs.{needs}
-use Rattle.reasons.proofs.told.Statement.{statement}
-use Rattle.reasons.proofs.told.Tie as tie
+use Rattle.reasons.proofs.of_leader.Statement.{statement}
+use Rattle.reasons.proofs.of_leader.Tie as tie
 
 lowered-requires : tie.Need-lowered-requires
 lowered-requires c κs = (c .pre .0, le-trans (c .pre .1) (most-small (c .args .m .now) (c .args .q .now) (c .args .j) (c .pre .0)))
@@ -39,7 +39,7 @@ returns-3 : tie.Need-returns-3
 unfolding led-code
 returns-3 c = rw (total-is (c .before .before .before .before), c .before .before .before .whole .ensures .0, c .before .before .if1 .left, sym (c .before .asks-less .ensures) ∙ c .if2 .left) refl
 
-pub told-spec : {M : Type 1} → statement M
-told-spec =
+pub of-leader-spec : {M : Type 1} → statement M
+of-leader-spec =
     tie.close
     (tie.spec lowered-requires whole-requires lamp-of-requires returns asks-less-requires returns-2 returns-3)
