@@ -22,10 +22,10 @@ use reasons::Side;
 use reasons::explained;
 use verdict_line::MOST_INPUT;
 use verdict_line::plain_line;
-use verdict_line::reasons::TEXT;
-use verdict_line::reasons::no_reason_text;
-use verdict_line::reasons::put_nothing;
-use verdict_line::reasons::put_reached;
+use verdict_line::reason_lines::TEXT;
+use verdict_line::reason_lines::no_reason_text;
+use verdict_line::reason_lines::put_nothing;
+use verdict_line::reason_lines::put_reached;
 use verdict_line::refused_line;
 use verdict_line::yes_plan_line;
 

@@ -62,7 +62,8 @@ reason m s φ = reason-by m s (bound-of m s φ)
 -- ---- what is claimed of it, in the request's words (proved: `Reasons.reason-explains`)
 
 module _ (m : Model) (s : ℕ) (b : Bound) where
-  -- Of the plans from the start that lie on a side, a total to which none of them is nearer, by this order, and the first plan that has it.
+  -- Of the plans from the start that lie on a side, a total to which none of them is nearer (`no-nearer v w`: v is no nearer than w), and the first
+  -- plan that has it.
   pub record Foremost (lies : Plan (b .steps) → Type 0) (no-nearer : ℤ → ℤ → Bool) (x : Reached) : Type 0 where
     -- "Each total is reached by the plan beside it"
     pub its-plan : Plan (b .steps)

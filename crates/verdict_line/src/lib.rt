@@ -1,4 +1,4 @@
-// The one line that the program `verdict` prints, formed in a lent buffer; what `whynot` prints of a no (`reasons`).
+// The one line that the program `verdict` prints, formed in a lent buffer; what `whynot` prints of a no (`reason_lines`).
 ghost use mathlib.Core.List.{_++_, flatMap};
 ghost use Prim.Native.Nat.{_+_, _*_, _≤_};
 ghost use lib.ListN.{length};
@@ -6,7 +6,7 @@ ghost use Rattle.lamp.specs.Said.{said-lamp, said-optional};
 ghost use Rattle.verdict_line.specs.Text.{decimal, signed-decimal, numbered, Put};
 ghost use Rattle.verdict_line.specs.Line.{lamp-word, optional-word, refused-line, plain-line, no-plans-line, yes-plan-line};
 
-pub mod reasons;
+pub mod reason_lines;
 
 use lamp::Lamp;
 use lamp::OptionalLamp;

@@ -4,8 +4,8 @@ use borrow.Author.Needs.{needs}
 use Rattle.verdict_line.specs.Text.{text}
 use Rattle.verdict_line.specs.Reasons.{reached-line}
 use Rattle.verdict_line.proofs.PutInTurn.{put-put}
-use Rattle.verdict_line.proofs.reasons.put_nothing.Statement.{statement}
-use Rattle.verdict_line.proofs.reasons.put_nothing.Tie as tie
+use Rattle.verdict_line.proofs.reason_lines.put_nothing.Statement.{statement}
+use Rattle.verdict_line.proofs.reason_lines.put_nothing.Tie as tie
 
 put-text-requires : tie.Need-put-text-requires
 put-text-requires c κs = search needs

@@ -8,8 +8,8 @@ use borrow.Author.Needs.{needs}
 use Rattle.verdict_line.specs.Text.{text, signed-decimal, Put}
 use Rattle.verdict_line.specs.Reasons.{reached-line}
 use Rattle.verdict_line.proofs.PutInTurn.{put-put}
-use Rattle.verdict_line.proofs.reasons.put_reached.Statement.{statement}
-use Rattle.verdict_line.proofs.reasons.put_reached.Tie as tie
+use Rattle.verdict_line.proofs.reason_lines.put_reached.Statement.{statement}
+use Rattle.verdict_line.proofs.reason_lines.put_reached.Tie as tie
 
 put-text-requires : tie.Need-put-text-requires
 put-text-requires c κs = omega (arith, c .before .before .before .before .pre)

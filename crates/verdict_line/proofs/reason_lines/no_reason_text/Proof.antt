@@ -2,8 +2,8 @@
 use borrow.Author.Needs.{needs}
 use Rattle.verdict_line.specs.Text.{text}
 use Rattle.verdict_line.specs.Reasons.{reason-text}
-use Rattle.verdict_line.proofs.reasons.no_reason_text.Statement.{statement}
-use Rattle.verdict_line.proofs.reasons.no_reason_text.Tie as tie
+use Rattle.verdict_line.proofs.reason_lines.no_reason_text.Statement.{statement}
+use Rattle.verdict_line.proofs.reason_lines.no_reason_text.Tie as tie
 
 slice-aggregate-put-text : tie.Need-slice-aggregate-put-text
 slice-aggregate-put-text c = search needs
