@@ -13,7 +13,8 @@ use Rattle.questions.specs.Grounds.{read-question}
 use Rattle.questions.specs.promises.Formed.{Formed}
 use Rattle.questions.proofs.TableNodeByNode.{by-operator}
 use Rattle.questions.proofs.AcceptedFacts.{accepted, at-never, at-prop, at-neg, at-both, at-does, at-next, at-gain, at-plan, at-earns}
-use Rattle.prepared_question.specs.promises.Nodes.{formula, has-left}
+use Rattle.questions.specs.promises.Used.{has-left}
+use Rattle.prepared_question.specs.promises.Nodes.{formula}
 use Rattle.prepared_question.specs.promises.Replaced.{Children-before}
 
 -- What holds of the first n numbers and of n holds of the first n + 1.
@@ -21,7 +22,7 @@ pub one-more : (P : ℕ → Type 0) (n : ℕ) → ((j : ℕ) → j < n → P j) 
 one-more P n f p j h = ⊎-elim (λ (e : j ≡ n). subst P (sym e) p) (λ (g : j < n). f j g) (eq-or-lt-of-le (le-of-suc-le-suc h))
 
 left-before : (i l op : ℕ) → (op ≡ 3 → l < i) → (op ≡ 4 → l < i) → (op ≡ 6 → l < i) → (op ≡ 8 → l < i) → has-left op ≡ true → l < i
-unfolding has-left
+unfolding has-left is-empty
 left-before i l =
     by-operator
     (λ n. (n ≡ 3 → l < i) → (n ≡ 4 → l < i) → (n ≡ 6 → l < i) → (n ≡ 8 → l < i) → has-left n ≡ true → l < i)

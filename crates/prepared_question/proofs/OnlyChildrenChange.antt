@@ -12,21 +12,12 @@ use Rattle.logic.specs.Formula.{depth}
 use Rattle.blocks.specs.Bytes.{Bytes, byte, u16, u32}
 use Rattle.questions.specs.Layout.{node-count, node-at, node-of}
 use Rattle.questions.proofs.TableNodeByNode.{by-operator}
-use Rattle.prepared_question.specs.promises.Nodes.{formula, has-left}
+use Rattle.questions.specs.promises.Used.{has-left}
+use Rattle.prepared_question.specs.promises.Nodes.{formula}
 use Rattle.prepared_question.specs.promises.Replaced.{Children-before, doubled, past, left-for, right-for, Pointed}
 use Rattle.prepared_question.proofs.ChildrenBefore.{one-more}
 
 -- ---- the new cells
-
--- The operators with a child in the left cell, as the code has them.
-pub has-left-is : (op : ℕ) → (eqb op 3 || eqb op 4 || eqb op 6 || eqb op 8) ≡ has-left op
-unfolding has-left
-has-left-is =
-    by-operator (λ n. (eqb n 3 || eqb n 4 || eqb n 6 || eqb n 8) ≡ has-left n) refl refl refl refl refl refl refl refl refl refl
-    (λ k. rw (above k 3 (omega arith), above k 4 (omega arith), above k 6 (omega arith), above k 8 (omega arith)) refl)
-  where
-    above : (k m : ℕ) → m ≤ 8 → eqb (suc (suc (suc (suc (suc (suc (suc (suc (suc (suc k)))))))))) m ≡ false
-    above k m h = ne-eqb _ m (λ e. omega arith)
 
 -- The node that c comes down to, by the three cells that are read.
 pub past-by : (b : Bytes) (c op l r : ℕ) (t : Bool) → op ≡ node-of b c .operator → l ≡ node-of b c .left → r ≡ node-of b c .right

@@ -16,7 +16,7 @@ use Rattle.logic.specs.Plan.{plans}
 use Rattle.logic.specs.Bound.{chance, met-by}
 use Rattle.logic.specs.Verdict.{bound-of}
 use Rattle.logic.specs.Formula.{Formula, never, prop, neg, both, does, next, plan, sat, depth, is-path, shallow, Node, formula-of}
-use Rattle.prepared_question.specs.promises.Nodes.{has-left}
+use Rattle.questions.specs.promises.Used.{has-left}
 use Rattle.prepared_question.specs.promises.Shared.{Same, Alike}
 
 -- ---- one meaning
@@ -108,7 +108,7 @@ node op n left right p q = record { operator = op; n = n; left = left; right = r
 module _ (fs gs : List Formula) (n l r L R : ℕ) (p : ℤ) (q : ℕ) where
   pub alike-node : (op : ℕ) → (has-left op ≡ true → Same (getD fs l never) (getD gs L never)) → (op ≡ 4 → Same (getD fs r never) (getD gs R never))
       → Alike (formula-of fs (node op n l r p q)) (formula-of gs (node op n (cond (has-left op) L l) (cond (eqb op 4) R r) p q))
-  unfolding formula-of has-left
+  unfolding formula-of has-left is-empty
   alike-node zero e f = alike-refl never
   alike-node (suc zero) e f = alike-refl never
   alike-node (suc (suc zero)) e f = alike-refl (prop l)

@@ -19,7 +19,8 @@ use Rattle.questions.specs.promises.Tables.{formulas-before}
 use Rattle.questions.proofs.TableNodeByNode.{before-at, formula-at, formula-here}
 use Rattle.questions.proofs.FormulaByOperator.{row-4}
 use Rattle.questions.proofs.AcceptedFacts.{accepted}
-use Rattle.prepared_question.specs.promises.Nodes.{formula, has-left}
+use Rattle.questions.specs.promises.Used.{has-left}
+use Rattle.prepared_question.specs.promises.Nodes.{formula}
 use Rattle.prepared_question.specs.promises.Shared.{Same, Alike, Shared, Doubled}
 use Rattle.prepared_question.specs.promises.Replaced.{Children-before, doubled, past, left-for, right-for, Pointed}
 use Rattle.prepared_question.proofs.ChildrenBefore.{one-more}
@@ -42,7 +43,7 @@ module _ (A N i : ℕ) (x : Node) (L R : ℕ) (down : x .left < i → L ≤ x .l
       record { some-step = e .some-step; few-steps = e .few-steps; relation-from = rw r (e .relation-from); relation-to = rw r (e .relation-to) }
 
   in-range-node : InRange A N i x → InRange A N i (with-children x L R)
-  unfolding has-left
+  unfolding has-left is-empty
   in-range-node e =
       record {
         operator-from = e .operator-from;
@@ -161,7 +162,7 @@ module _ {q q′ : Bytes} (o : Children-before q) (c : Pointed q q′ (node-coun
 
       -- The halves of an "and" come down to one node: it stands for the "and" too.
       halves : Doubled q′ i → past q′ i ≡ node-of q′ i .left → Kept i
-      unfolding has-left
+      unfolding has-left is-empty
       halves d e =
           let and : x .operator ≡ 4 = sym operator-same ∙ d .0 in
           let l : x .left < i = o .left i h (ap has-left and) in

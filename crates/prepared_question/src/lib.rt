@@ -9,7 +9,8 @@ ghost use Rattle.logic.specs.Formula as formulas;
 ghost use Rattle.questions.specs.Layout.{start-of, node-at, node-of};
 ghost use Rattle.questions.specs.Layout as layout;
 ghost use Rattle.questions.specs.Grounds.{read-question};
-ghost use Rattle.prepared_question.specs.promises.Nodes.{formula, depth-in, has-left};
+ghost use Rattle.questions.specs.promises.Used.{has-left};
+ghost use Rattle.prepared_question.specs.promises.Nodes.{formula, depth-in};
 ghost use Rattle.prepared_question.specs.promises.Shared.{Shared};
 ghost use Rattle.prepared_question.specs.promises.Replaced.{Children-before, left-for, right-for, Pointed};
 ghost use Rattle.prepared_question.specs.promises.Replaced as replaced;
@@ -18,17 +19,15 @@ use questions::AND;
 use questions::EQUAL;
 use questions::LEFT_AT;
 use questions::LESS;
-use questions::NEXT;
 use questions::NODE_COUNT_AT;
 use questions::NODE_SIZE;
 use questions::NODES_AT;
-use questions::NOT;
 use questions::P_AT;
-use questions::PLAN;
 use questions::Q_AT;
 use questions::RIGHT_AT;
 use questions::START_AT;
 use questions::STEPS_AT;
+use questions::used::has_left;
 
 // The bytes of a prepared question: its block, and the depth of each of 40 nodes.
 pub const QUESTION: usize = 552;
@@ -137,13 +136,6 @@ fn past(b: &[u8], c: u8) -> u8
         return l;
     }
     c
-}
-
-// Whether a node has a child in the left cell, by its operator.
-fn has_left(op: u8) -> bool
-    ensures value { λ r. ⌜ r ≡ has-left op ⌝ }
-{
-    (op == NOT) | (op == AND) | (op == NEXT) | (op == PLAN)
 }
 
 // The cells of node i of q; b is what the nodes before it have become.

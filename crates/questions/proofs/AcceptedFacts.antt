@@ -1,4 +1,4 @@
--- What is known of a question that is not refused: its bytes are read as a question, and each of the grounds 1 to 6 and 9 says in plain
+-- What is known of a question that is not refused: its bytes are read as a question, and each of the grounds 1 to 6, 9 and 13 says in plain
 -- facts what it ruled out. The formula at a node is, by its operator, made of the formulas at its children.
 use Prim.Native.Nat.{ℕ, _/_, _%_, _≤_, _<_}
 use native.Mathlib.Omega.{arith}
@@ -19,9 +19,12 @@ use Rattle.blocks.specs.Bytes.{Bytes, within}
 use Rattle.blocks.specs.Block.{whole-blocks, sums-right, headed}
 use Rattle.questions.specs.Layout.{start-of, node-count, node-of, formulas-of, question-of}
 use Rattle.questions.specs.Grounds.{compares, gain-bound, plan-bound, plan-in-range, span, expected-bound, earns-in-range, node-in-range, spare-zero, formed, read-question}
+use Rattle.questions.specs.Children.{All-reached, all-reached}
 use Rattle.questions.specs.promises.Formed.{Compares, GainRange, PlanRange, EarnsRange, InRange, Formed}
 use Rattle.questions.specs.promises.Tables.{formulas-before}
 use Rattle.questions.proofs.TableNodeByNode.{one-block, by-operator, before-at, formula-here}
+use Rattle.questions.proofs.ChildrenMarked.{downward}
+use Rattle.questions.proofs.AllReached.{reached-exactly}
 use Rattle.questions.proofs.FormulaByOperator.{row-1, row-2, row-3, row-4, row-5, row-6, row-7, row-8, row-9, all-shallow}
 use Rattle.blocks.proofs.RangeTests.{at-least, at-most}
 
@@ -147,6 +150,9 @@ in-range-facts A N i x e =
     earns-row : x .operator ≡ 9 → node-in-range A N i x ≡ earns-in-range x
     earns-row o = rw o refl
 
+pub in-range-all : (A N : ℕ) (b : Bytes) → every (node-count b) (λ i. node-in-range A N i (node-of b i)) ≡ true → (i : ℕ) → i < node-count b → InRange A N i (node-of b i)
+in-range-all A N b e i h = in-range-facts A N i (node-of b i) (every-at (λ i. node-in-range A N i (node-of b i)) (node-count b) e h)
+
 -- ---- the question
 
 pub record Accepted (S A N : ℕ) (b : Bytes) : Type 0 where
@@ -154,6 +160,7 @@ pub record Accepted (S A N : ℕ) (b : Bytes) : Type 0 where
   pub read : read-question S A N b ≡ ok (question-of b)
   pub ground-9 : formed (question-of b) ≡ true
   pub formed : Formed S A N b
+  pub reached : All-reached b
 
 pub accepted : (S A N : ℕ) (b : Bytes) → refusal (read-question S A N b) ≡ 0 → Accepted S A N b
 unfolding read-question formed question-of
@@ -165,22 +172,25 @@ accepted S A N b e =
     let g5 = guard-passed 4 (every (node-count b) (λ i. node-in-range A N i (node-of b i))) _ (g4 .1) in
     let g6 = guard-passed 5 (spare-zero b) _ (g5 .1) in
     let g9 = guard-passed 8 (formed (question-of b)) _ (g6 .1) in
+    let g13 = guard-passed 12 (all-reached b) _ (g9 .1) in
     let n = and-right (ltb (start-of b) S) (within 1 40 (node-count b)) (g4 .0) in
+    let range = in-range-all A N b (g5 .0) in
     let root = not-true (is-path (question-of b .root)) (and-left (not (is-path (question-of b .root))) (all shallow (formulas-of b)) (g9 .0)) in
     record {
       size = one-block b (g1 .0);
-      read = rw (g1 .0, g2 .0, g3 .0, g4 .0, g5 .0, g6 .0, g9 .0) refl;
+      read = rw (g1 .0, g2 .0, g3 .0, g4 .0, g5 .0, g6 .0, g9 .0, g13 .0) refl;
       ground-9 = g9 .0;
       formed =
           record {
             starts = ltb-true (start-of b) S (and-left (ltb (start-of b) S) (within 1 40 (node-count b)) (g4 .0));
             some-node = at-least 1 40 (node-count b) n;
             few-nodes = at-most 1 40 (node-count b) n;
-            in-range = λ i h. in-range-facts A N i (node-of b i) (every-at (λ i. node-in-range A N i (node-of b i)) (node-count b) (g5 .0) h);
+            in-range = range;
             root-state = root;
             shallow = λ i h. every-at (λ i. shallow (getD (formulas-of b) i never)) (node-count b)
                 (sym (all-shallow b) ∙ and-right (not (is-path (question-of b .root))) (all shallow (formulas-of b)) (g9 .0)) h;
           };
+      reached = reached-exactly b (downward A N b (at-most 1 40 (node-count b) n) range) .0 (g13 .0);
     }
 
 -- ---- the formulas

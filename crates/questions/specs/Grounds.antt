@@ -1,5 +1,5 @@
--- The grounds on which a question is refused, 1 to 6 and 9, each a test on the whole input, for a model with S states, A actions and N
--- propositions. Document 01, "Refused because of the input" and the table of "Formulas"; document 02, A.3, for operator 9.
+-- The grounds on which a question is refused, 1 to 6, 9 and 13, each a test on the whole input, for a model with S states, A actions and N
+-- propositions. Document 01, "Refused because of the input" and the table of "Formulas"; document 02, A.3, for operator 9, and A.6 for 13.
 use Prim.Native.Nat.{ℕ, _+_, _-_, _/_, _%_}
 use mathlib.Core.Bool.{Bool, true, false, not, _&&_}
 use mathlib.Core.List.{List, [], _∷_}
@@ -14,6 +14,7 @@ use Rattle.logic.specs.Formula.{Node, is-path, shallow}
 use Rattle.blocks.specs.Bytes.{Bytes, byte, zeros, within}
 use Rattle.blocks.specs.Block.{whole-blocks, sums-right, headed}
 use Rattle.questions.specs.Layout.{Question, start-of, node-count, node-at, node-of, question-of}
+use Rattle.questions.specs.Children.{all-reached}
 
 -- 5, "gain", "plan" and operator 9: the steps and the relation.
 unfoldable pub compares : Node → Bool
@@ -97,7 +98,7 @@ spare-zero b = zeros b 4 4 && every (node-count b) (node-spare b) && zeros b (no
 unfoldable pub formed : Question → Bool
 formed q = not (is-path (q .root)) && all shallow (q .nodes)
 
--- The grounds of a question, in document 01's order.
+-- The grounds of a question, in document 01's order; 13 "straight after 9".
 abbrev pub question-grounds : (S A N : ℕ) → Bytes → List Ground
 question-grounds S A N b =
     1 unless whole-blocks 1 1 b
@@ -107,6 +108,7 @@ question-grounds S A N b =
     ∷ 5 unless every (node-count b) (λ i. node-in-range A N i (node-of b i))
     ∷ 6 unless spare-zero b
     ∷ 9 unless formed (question-of b)
+    ∷ 13 unless all-reached b
     ∷ []
 
 -- What a question's bytes are read as.

@@ -1,3 +1,4 @@
 pub mod Layout
+pub mod Children
 pub mod Grounds
 pub mod promises

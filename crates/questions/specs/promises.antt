@@ -2,3 +2,4 @@
 pub mod Formed
 pub mod Tables
 pub mod Passes
+pub mod Used

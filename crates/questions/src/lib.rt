@@ -1,4 +1,4 @@
-// Reading questions: the grounds of refusal 1 to 6 and 9, and the fields of a node. A node's number is a byte, so the readers are total.
+// Reading questions: the grounds of refusal 1 to 6, 9 and 13, and the fields of a node. A node's number is a byte, so the readers are total.
 ghost use mathlib.Core.Path.{_≡_};
 ghost use mathlib.Core.Bool.{true, _&&_};
 ghost use Prim.Native.Nat.{_+_, _-_, _≤_, _<_, max, min};
@@ -14,6 +14,10 @@ ghost use Rattle.questions.specs.Grounds as spec;
 ghost use Rattle.questions.specs.promises.Formed.{sets-bound};
 ghost use Rattle.questions.specs.promises.Tables.{formulas-before, table};
 ghost use Rattle.questions.specs.promises.Passes.{passes, Nodes};
+
+pub mod used;
+
+use crate::used::all_reached;
 
 // The operators of nodes, by document 01's words.
 pub const FALSE: u8 = 1;
@@ -460,6 +464,9 @@ pub fn question_refusal(b: &[u8], states: usize, actions: usize, props: usize) -
     }
     if !formed(b, actions, props, &depths) {
         return 9;
+    }
+    if !all_reached(b) {
+        return 13;
     }
     0
 }

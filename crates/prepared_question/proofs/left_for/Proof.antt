@@ -1,6 +1,6 @@
 -- A child is replaced by the node that it comes down to; what is no child stays.
 use mathlib.Core.Path.{sym, ap, _∙_}
-use Rattle.prepared_question.specs.promises.Nodes.{has-left}
+use Rattle.questions.specs.promises.Used.{has-left}
 use Rattle.prepared_question.specs.promises.Replaced.{past}
 use Rattle.prepared_question.proofs.OnlyChildrenChange.{left-replaced, left-kept}
 use borrow.Author.Needs.{needs}

@@ -22,10 +22,6 @@ pub record Nodes (S A N : ℕ) (q : Bytes) : Type 0 where
   pub formed : Formed S A N q
   pub deep : (j : ℕ) → j < node-count q → depth-in q j ≡ depth (formula q j)
 
--- "not", "and", "next" and "plan" have a child in the left cell; "and" alone has one in the right cell.
-unfoldable pub has-left : ℕ → Bool
-has-left op = getD (false ∷ false ∷ false ∷ true ∷ true ∷ false ∷ true ∷ false ∷ true ∷ []) op false
-
 -- "not", "and" and "next" read their child on the path; a "plan" does not.
 unfoldable pub reads-left : ℕ → Bool
 reads-left op = getD (false ∷ false ∷ false ∷ true ∷ true ∷ false ∷ true ∷ []) op false

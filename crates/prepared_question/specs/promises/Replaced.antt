@@ -7,7 +7,8 @@ use lib.ListN.{length}
 use Rattle.logic.specs.Formula.{depth}
 use Rattle.blocks.specs.Bytes.{Bytes, byte}
 use Rattle.questions.specs.Layout.{node-count, node-at, node-of}
-use Rattle.prepared_question.specs.promises.Nodes.{formula, depth-in, has-left}
+use Rattle.questions.specs.promises.Used.{has-left}
+use Rattle.prepared_question.specs.promises.Nodes.{formula, depth-in}
 
 -- One block of few nodes, of depths that fit a byte; and the children of a node have smaller numbers than its own.
 pub record Children-before (q : Bytes) : Type 0 where

@@ -9,7 +9,8 @@ use Rattle.logic.specs.Formula.{Formula, sat, depth, is-path, shallow}
 use Rattle.logic.specs.Verdict.{bound-of}
 use Rattle.blocks.specs.Bytes.{Bytes}
 use Rattle.questions.specs.Layout.{start-of, node-count, node-of}
-use Rattle.prepared_question.specs.promises.Nodes.{formula, Nodes, has-left}
+use Rattle.questions.specs.promises.Used.{has-left}
+use Rattle.prepared_question.specs.promises.Nodes.{formula, Nodes}
 
 -- True on the same paths, of one depth, and both path formulas or both state formulas.
 pub record Same (φ ψ : Formula) : Type 0 where

@@ -1,6 +1,6 @@
 -- At each return the tests made so far decide the chain of grounds: those before passed, and the last failed. Grounds 1, 4 and 5 are what the later tests ask for.
 use Prim.Native.Nat.{ℕ}
-use mathlib.Core.Path.{_≡_, sym, _∙_}
+use mathlib.Core.Path.{_≡_, refl, sym, _∙_}
 use mathlib.Core.List.{List}
 use lib.Dec.{ltb}
 use lib.ListN.{drop}
@@ -17,6 +17,8 @@ use Rattle.questions.specs.Grounds.{question-grounds, read-question}
 use Rattle.questions.specs.promises.Tables.{table}
 use Rattle.questions.specs.promises.Passes.{passes, Nodes}
 use Rattle.questions.proofs.TableNodeByNode.{one-block}
+use Rattle.questions.proofs.ChildrenMarked.{downward}
+use Rattle.questions.proofs.AcceptedFacts.{in-range-all}
 use Rattle.blocks.proofs.RangeTests.{at-least, at-most}
 use Rattle.questions.proofs.question_refusal.Statement.{statement}
 use Rattle.questions.proofs.question_refusal.Tie as tie
@@ -50,6 +52,9 @@ start-6 c = start-5 (c .before .before .before)
 abbrev start-7 : tie.Else7 → tie.Start
 start-7 c = start-6 (c .before .before .before)
 
+abbrev start-8 : tie.Else8 → tie.Start
+start-8 c = start-7 (c .before .before)
+
 -- Past a test, the refusal is that of the grounds after it.
 
 rest-1 : (c : tie.Else1) → refusal (asked (start-1 c)) ≡ refusal (rest (start-1 c) 1)
@@ -74,6 +79,9 @@ rest-6 c = rest-5 (c .before .before .before) ∙ goes-on (c .before .spare-zero
 
 rest-7 : (c : tie.Else7) → refusal (asked (start-7 c)) ≡ refusal (rest (start-7 c) 7)
 rest-7 c = rest-6 (c .before .before .before) ∙ goes-on (c .before .formed .ensures) 9 (rest (start-7 c) 7) (c .if7 .left)
+
+rest-8 : (c : tie.Else8) → refusal (asked (start-8 c)) ≡ refusal (rest (start-8 c) 8)
+rest-8 c = rest-7 (c .before .before) ∙ goes-on (c .before .all-reached .ensures) 13 (rest (start-8 c) 8) (c .if8 .left)
 
 -- What the tests on nodes are handed.
 nodes : (c : tie.Else4) {l : List ℕ} → let b = start-4 c .args .b .now in l ≡ table depth (formulas-of b) → Nodes b l
@@ -133,8 +141,19 @@ formed-requires c κs = (nodes (c .before .before .before .before .before .befor
 returns-7 : tie.Need-returns-7
 returns-7 c = stops (c .before .formed .ensures) 9 (rest (start-6 (c .before .before .before)) 7) (c .if7 .taken) ∙ sym (rest-6 (c .before .before .before))
 
+-- By ground 5, children have smaller numbers.
+all-reached-requires : tie.Need-all-reached-requires
+unfolding passes
+all-reached-requires c κs = let f = c .before .before .before .before .before .before .before .before .before .before in
+    let S = start-7 c .args in
+    downward (S .actions) (S .props) (S .b .now) (nodes f refl .few) (in-range-all (S .actions) (S .props) (S .b .now)
+    (passed (c .before .before .before .before .before .before .before .nodes-pass .ensures) (c .before .before .before .before .before .before .if5 .left)))
+
 returns-8 : tie.Need-returns-8
-returns-8 c = sym (rest-7 c)
+returns-8 c = stops (c .before .all-reached .ensures) 13 (rest (start-7 (c .before .before)) 8) (c .if8 .taken) ∙ sym (rest-7 (c .before .before))
+
+returns-9 : tie.Need-returns-9
+returns-9 c = sym (rest-8 c)
 
 pub question-refusal-spec : {M : Type 1} → statement M
 question-refusal-spec =
@@ -155,4 +174,6 @@ question-refusal-spec =
     returns-6
     formed-requires
     returns-7
-    returns-8)
+    all-reached-requires
+    returns-8
+    returns-9)
