@@ -5,6 +5,7 @@ use native.Mathlib.Omega.{arith}
 use mathlib.Core.Path.{_≡_, refl, sym, subst}
 use mathlib.Core.Logic.{⊎-elim}
 use mathlib.Core.Bool.{true, false, false≢true}
+use Rattle.logic.specs.Lists.{is-empty}
 use Rattle.logic.specs.Formula.{depth}
 use Rattle.logic.specs.promises.Refusal.{refusal}
 use Rattle.blocks.specs.Bytes.{Bytes}

@@ -8,7 +8,7 @@ use mathlib.Core.List.{List, [], _∷_}
 use lib.Dec.{eqb, leb}
 use lib.IntN.{ℤ}
 use lib.ListN.{getD}
-use Rattle.logic.specs.Lists.{any}
+use Rattle.logic.specs.Lists.{is-empty, any}
 use Rattle.logic.specs.Model.{Model, Step}
 use Rattle.logic.specs.Checked.{ok}
 use Rattle.logic.specs.Quantity.{Relation}

@@ -8,6 +8,7 @@ use mathlib.Core.Bool.{Bool, true, false, cond, _&&_, false≢true}
 use lib.Dec.{eqb}
 use lib.ListN.{getD}
 use borrow.Author.Tests.{eq-eqb, ne-eqb, eqb-true}
+use Rattle.logic.specs.Lists.{is-empty}
 use Rattle.logic.proofs.Tests.{and-left, and-right}
 use Rattle.logic.specs.promises.Refusal.{refusal}
 use Rattle.logic.specs.Formula.{never, both, Node, formula-of, is-path}
