@@ -36,9 +36,12 @@ extern "C" {
  *    7  postconditions that do not contradict, a target where its postcondition is false, weights not summing to the denominator
  *    9  the question's root is a path formula, or the child of a "plan" (operator 8) looks further than the plan's steps
  *   12  the sheet buffer is shorter than the sheet
+ *   13  a node of the question is not reached from its root by following the children of "not", "and", "next" and "plan": a leftover
+ *       that nobody reads
  *   24  over 1,000,000 paths for some node of operator 8 or 9 and some state
  *   25  over 65,536 plans for some such node with relation "equal" and some state
- * The model's grounds are tested before the question's, those before 24 and 25, and 12 last. */
+ * The model's grounds are tested before the question's, those before 24 and 25, and 12 last.
+ * Of the question's, 13 is tested last, after 9. */
 
 /* Judges the question on the model. On yes to a question whose root asks for a plan (operator 8 by its chance, operator 9 by its
  * expected gain), the sheet of the shown plan fills the first blocks of `sheet` (1 to 3 blocks: byte 1 of each is its number, and every

@@ -191,7 +191,7 @@ fn node_fits(
     )
 }
 
-// All nodes are checked, used or not.
+// All nodes are checked; those of a question that is held are all used (ground 13).
 fn nodes_fit(m: &[u16; MODEL], q: &[u8; QUESTION], plans: bool) -> bool
     requires { ⌜ Prepared (now m) × Nodes (state-count (now m)) (action-count (now m)) (prop-count (now m)) (now q) ⌝ }
     ensures value { λ r.

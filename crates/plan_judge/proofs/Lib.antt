@@ -13,4 +13,5 @@ pub mod NumbersListed
 pub mod CSteps
 pub mod CList
 pub mod Offered
+pub mod NodesReached
 pub mod Delivered

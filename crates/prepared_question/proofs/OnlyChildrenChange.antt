@@ -1,9 +1,9 @@
 -- The bytes of a question whose children are replaced: the cells of the children change, and the depths are put behind; no other byte does.
-use Prim.Native.Nat.{ℕ, suc, _+_, _*_, _≤_, _<_}
+use Prim.Native.Nat.{ℕ, _+_, _*_, _≤_, _<_}
 use native.Mathlib.Numerals.{add-one}
 use native.Mathlib.Omega.{arith}
 use mathlib.Core.Path.{_≡_, refl, sym, ap, ap₂, subst, _∙_}
-use mathlib.Core.Bool.{Bool, true, false, cond, _&&_, _||_}
+use mathlib.Core.Bool.{Bool, true, false, cond, _&&_}
 use lib.Dec.{eqb}
 use lib.ListN.{length, set, length-set}
 use lib.Seq.{getD-set-same, getD-set-other}
@@ -11,7 +11,6 @@ use borrow.Author.Tests.{eq-eqb, ne-eqb, eqb-true}
 use Rattle.logic.specs.Formula.{depth}
 use Rattle.blocks.specs.Bytes.{Bytes, byte, u16, u32}
 use Rattle.questions.specs.Layout.{node-count, node-at, node-of}
-use Rattle.questions.proofs.TableNodeByNode.{by-operator}
 use Rattle.questions.specs.promises.Used.{has-left}
 use Rattle.prepared_question.specs.promises.Nodes.{formula}
 use Rattle.prepared_question.specs.promises.Replaced.{Children-before, doubled, past, left-for, right-for, Pointed}

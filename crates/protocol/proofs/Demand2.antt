@@ -26,6 +26,7 @@ use Rattle.protocol.specs.Demand2.{says-yes, Demand-2, Demand-2-always}
 use Rattle.protocol.specs.promises.Chains.{do-judge, answered, by-chain}
 use Rattle.protocol.proofs.AfterEachCall.{Sound, sound}
 use Rattle.protocol.proofs.HeldAccepted.{model-accepted, start-inside}
+use Rattle.protocol.proofs.UsedNodes.{used-nodes}
 use Rattle.protocol.proofs.Refusals.{decided-none}
 use Rattle.protocol.proofs.FirstGround.{yields-is, refuse-first}
 use Rattle.protocol.proofs.ShownPlan.{all-plans, verdict-announces}
@@ -75,6 +76,7 @@ demand-2 h s reply yielding =
           let e : (reply c) .answer ≡ (yields h c) .answer = ap (λ r. r .answer) (yielding c) in
           (λ i. w .0 (sym e ∙ i), λ i. e ∙ w .1 i);
       model-right = λ m e. model-accepted s m e;
+      used-nodes = used-nodes h s reply yielding;
       verdict-right = λ m q e f l.
           record {
             said = verdict m (q .start) (q .root);

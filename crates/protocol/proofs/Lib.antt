@@ -5,6 +5,7 @@ pub mod FirstGround
 pub mod OneWordRefused
 pub mod Lists
 pub mod ShownPlan
+pub mod UsedNodes
 pub mod Demand2
 pub mod TotalsByRoot
 pub mod Demand3

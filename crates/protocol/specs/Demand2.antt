@@ -4,7 +4,7 @@
 --   each count is the one defined there."
 -- Document 01: "Demands 2 and 3 speak of desks that such lists, even empty ones, give back". Document 02, A.4: "The verdict on yes carries that
 -- [below, at or above] for the shown plan, on no to "less" or "greater" for the least or greatest total". The clauses stand beside the parts.
-use Prim.Native.Nat.{ℕ, suc, _<_}
+use Prim.Native.Nat.{ℕ, suc, _-_, _<_}
 use mathlib.Core.Path.{_≡_}
 use mathlib.Core.Logic.{_↔_}
 use mathlib.Core.Bool.{Bool, true, false, cond}
@@ -25,9 +25,11 @@ use Rattle.logic.specs.Formula.{Formula, plan, earns, on-bound, sat}
 use Rattle.logic.specs.Policy.{Policy, policy-weight, policy-gain}
 use Rattle.logic.specs.Verdict.{Goal, goal, Denial, Shown-plan, Verdict, no, yes, yes-plan}
 use Rattle.logic.specs.Limits.{limit-grounds}
-use Rattle.questions.specs.Layout.{Question}
+use Rattle.blocks.specs.Bytes.{Bytes}
+use Rattle.questions.specs.Layout.{Question, node-count}
+use Rattle.questions.specs.Children.{Reaches, All-reached}
 use Rattle.protocol.specs.Tested.{grounds}
-use Rattle.protocol.specs.Calls.{Call, judge, Held, Answer, judged, refuse, Reply, described}
+use Rattle.protocol.specs.Calls.{Call, put, judge, Held, Answer, done, judged, refuse, Reply, question-for, described}
 use Rattle.protocol.specs.History.{after}
 use Rattle.protocol.specs.Replies.{Session}
 
@@ -103,6 +105,16 @@ module _ (m : Model) (s : ℕ) (g : Goal) where
   Announces yes = ⊥
   Announces (yes-plan v) = Shows v
 
+-- ---- the nodes of a question
+
+-- Document 02, A.6: "each node must be reached from the root by following children".
+pub record Used-nodes (h : Held) (reply : Call → Reply) : Type 0 where
+  -- put is done only of a question whose nodes are all reached, and refuses with 13 only one that has a node which is not
+  pub put-done : (b : Bytes) → (reply (put b)) .answer ≡ done → All-reached b
+  pub put-13 : (b : Bytes) → (reply (put b)) .answer ≡ refuse 13 → (j : ℕ) × (j < node-count b) × (Reaches b (node-count b - 1) j → ⊥)
+  -- so a question that is held was read from bytes whose nodes are all reached: "Both "plan" limits thereby concern used nodes only."
+  pub held-reached : (m : Model) (q : Question) → h .model ≡ some m → h .question ≡ some q → (b : Bytes) × (question-for m b ≡ ok q) × All-reached b
+
 -- ---- the whole
 
 -- The question q, held with its model m, is answered by a verdict.
@@ -126,6 +138,7 @@ pub record Demand-2 (h : Held) (reply : Call → Reply) : Type 0 where
   pub refused-by-first : (c : Call) (k : ℕ) → ((reply c) .answer ≡ refuse k) ↔ (first (grounds (described h c)) ≡ some k)
   -- "the published definitions": a model that is held, so any that load accepts, is one of Definition 1
   pub model-right : (m : Model) → h .model ≡ some m → Accepted m
+  pub used-nodes : Used-nodes h reply
   -- where neither 20 nor 21, 24 nor 25 applies
   pub verdict-right : (m : Model) (q : Question) → h .model ≡ some m → h .question ≡ some q → first (limit-grounds m (q .nodes)) ≡ none
       → Judged m q ((reply judge) .answer)

@@ -1,30 +1,30 @@
 -- What is known of a question that is not refused: its bytes are read as a question, and each of the grounds 1 to 6, 9 and 13 says in plain
 -- facts what it ruled out. The formula at a node is, by its operator, made of the formulas at its children.
-use Prim.Native.Nat.{ℕ, _/_, _%_, _≤_, _<_}
+use Prim.Native.Nat.{ℕ, _-_, _/_, _%_, _≤_, _<_}
 use native.Mathlib.Omega.{arith}
 use mathlib.Core.Path.{_≡_, refl, sym, ap, ap₂, _∙_}
-use mathlib.Core.Bool.{true, not, _&&_, false≢true}
+use mathlib.Core.Bool.{Bool, true, false, not, _&&_, false≢true}
 use lib.Dec.{eqb, ltb, leb}
 use lib.IntN.{ℤ, pos, negsuc}
 use lib.ListN.{length, getD}
 use lib.Signed.{mag, leZ}
 use borrow.Author.Tests.{ltb-true, leb-true, eqb-true, not-true}
 use Rattle.logic.specs.Lists.{all, every}
-use Rattle.logic.specs.Checked.{ok}
+use Rattle.logic.specs.Checked.{Checked, ok, refused, _>>_, guard}
 use Rattle.logic.specs.promises.Refusal.{refusal}
 use Rattle.logic.specs.Formula.{never, prop, neg, both, does, next, gain, plan, earns, Node, depth, is-path, shallow, relation, nonnegative}
-use Rattle.logic.proofs.Checked.{guard-passed}
+use Rattle.logic.proofs.Checked.{not-ok, guard-passed}
 use Rattle.logic.proofs.Tests.{and-left, and-right, every-at}
 use Rattle.blocks.specs.Bytes.{Bytes, within}
 use Rattle.blocks.specs.Block.{whole-blocks, sums-right, headed}
 use Rattle.questions.specs.Layout.{start-of, node-count, node-of, formulas-of, question-of}
 use Rattle.questions.specs.Grounds.{compares, gain-bound, plan-bound, plan-in-range, span, expected-bound, earns-in-range, node-in-range, spare-zero, formed, read-question}
-use Rattle.questions.specs.Children.{All-reached, all-reached}
+use Rattle.questions.specs.Children.{Reaches, All-reached, all-reached}
 use Rattle.questions.specs.promises.Formed.{Compares, GainRange, PlanRange, EarnsRange, InRange, Formed}
 use Rattle.questions.specs.promises.Tables.{formulas-before}
 use Rattle.questions.proofs.TableNodeByNode.{one-block, by-operator, before-at, formula-here}
 use Rattle.questions.proofs.ChildrenMarked.{downward}
-use Rattle.questions.proofs.AllReached.{reached-exactly}
+use Rattle.questions.proofs.AllReached.{reached-exactly, unreached}
 use Rattle.questions.proofs.FormulaByOperator.{row-1, row-2, row-3, row-4, row-5, row-6, row-7, row-8, row-9, all-shallow}
 use Rattle.blocks.proofs.RangeTests.{at-least, at-most}
 
@@ -192,6 +192,28 @@ accepted S A N b e =
           };
       reached = reached-exactly b (downward A N b (at-most 1 40 (node-count b) n) range) .0 (g13 .0);
     }
+
+-- A question refused with 13 has a node that is not reached: none of the grounds before 13 applies to it.
+pub leftover : (S A N : ℕ) (b : Bytes) → read-question S A N b ≡ refused 13 → (j : ℕ) × (j < node-count b) × (Reaches b (node-count b - 1) j → ⊥)
+unfolding read-question
+leftover S A N b e =
+    let g1 = later 1 (whole-blocks 1 1 b) _ (λ h. omega (arith, h)) e in
+    let g2 = later 2 (sums-right b) _ (λ h. omega (arith, h)) (g1 .1) in
+    let g3 = later 3 (headed b 0 3 0) _ (λ h. omega (arith, h)) (g2 .1) in
+    let g4 = later 4 (ltb (start-of b) S && within 1 40 (node-count b)) _ (λ h. omega (arith, h)) (g3 .1) in
+    let g5 = later 5 (every (node-count b) (λ i. node-in-range A N i (node-of b i))) _ (λ h. omega (arith, h)) (g4 .1) in
+    let g6 = later 6 (spare-zero b) _ (λ h. omega (arith, h)) (g5 .1) in
+    let g9 = later 9 (formed (question-of b)) _ (λ h. omega (arith, h)) (g6 .1) in
+    let few = at-most 1 40 (node-count b) (and-right (ltb (start-of b) S) (within 1 40 (node-count b)) (g4 .0)) in
+    unreached b (downward A N b few (in-range-all A N b (g5 .0))) (failed (all-reached b) (g9 .1))
+  where
+    later : {A : Type 0} (k : ℕ) (t : Bool) (c : Checked A) → (k ≡ 13 → ⊥) → (guard k t >> c) ≡ refused 13 → (t ≡ true) × (c ≡ refused 13)
+    later k true c n e = (refl, e)
+    later k false c n e = absurd (n (let h : k ≡ 13 = cc in h))
+
+    failed : (t : Bool) → (guard 13 t >> ok (question-of b)) ≡ refused 13 → t ≡ false
+    failed true e = absurd (not-ok (sym e))
+    failed false e = refl
 
 -- ---- the formulas
 

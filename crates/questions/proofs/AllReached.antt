@@ -3,9 +3,9 @@
 use Prim.Native.Nat.{ℕ, zero, suc, _+_, _-_, _≤_, _<_}
 use native.Mathlib.Decide.{decLt, ℕ-discrete}
 use native.Mathlib.Omega.{arith}
-use mathlib.Core.Path.{_≡_, refl, sym, ap, subst, _∙_}
+use mathlib.Core.Path.{_≡_, refl, sym, subst, _∙_}
 use mathlib.Core.Logic.{_↔_}
-use mathlib.Core.Bool.{Bool, true, false, _||_, false≢true}
+use mathlib.Core.Bool.{Bool, true, false, _&&_, _||_, false≢true}
 use mathlib.Core.List.{List, List·Memᴰ}
 use lib.Dec.{eqb}
 use lib.ListN.{getD}
@@ -19,6 +19,15 @@ use Rattle.questions.specs.promises.Used.{Downward, Child-of-first, Mark
 or-true : (a b : Bool) → b ≡ true → (a || b) ≡ true
 or-true true b e = refl
 or-true false b e = e
+
+fails-somewhere : (f : ℕ → Bool) (n : ℕ) → every n f ≡ false → (i : ℕ) × (i < n) × (f i ≡ false)
+unfolding every
+fails-somewhere f zero e = absurd (false≢true (sym e))
+fails-somewhere f (suc n) e = by (every n f) (f n) refl refl e (fails-somewhere f n)
+  where
+    by : (t u : Bool) → every n f ≡ t → f n ≡ u → (t && u) ≡ false → (every n f ≡ false → (i : ℕ) × (i < n) × (f i ≡ false)) → (i : ℕ) × (i < suc n) × (f i ≡ false)
+    by true u h g e r = (n, omega arith, g ∙ e)
+    by false u h g e r = let w = r h in (w .0, omega (arith, w .1), w .2)
 
 -- ---- the test and the words
 
@@ -53,6 +62,13 @@ module _ (b : Bytes) where
       (λ e j h. reaches-true (node-count b) (node-count b - 1) j (every-at (reaches b (node-count b) (node-count b - 1)) (node-count b) e h)),
       (λ r. every-intro (reaches b (node-count b) (node-count b - 1)) (node-count b) (λ j h. true-reaches (r j h) (node-count b) (omega arith) (omega arith))),
     )
+
+    -- Where the test fails, some node is not reached.
+    pub unreached : all-reached b ≡ false → (j : ℕ) × (j < node-count b) × (Reaches b (node-count b - 1) j → ⊥)
+    unfolding all-reached
+    unreached e =
+        let w = fails-somewhere (reaches b (node-count b) (node-count b - 1)) (node-count b) e in
+        (w .0, w .1, λ r. false≢true (sym (w .2) ∙ true-reaches r (node-count b) (omega arith) (omega arith)))
 
     -- ---- by parents
 

@@ -6,7 +6,6 @@ ghost use Rattle.questions.specs.Layout.{node-of};
 ghost use Rattle.questions.specs.Children.{children};
 ghost use Rattle.questions.specs.Children as spec;
 ghost use Rattle.questions.specs.promises.Used.{has-left, mark-each, Downward, Marks};
-use blocks::buffers::store;
 use crate::AND;
 use crate::NEXT;
 use crate::NODES;
@@ -17,6 +16,7 @@ use crate::node_count;
 use crate::operator;
 use crate::right;
 use crate::root;
+use blocks::buffers::store;
 
 // Whether a node has a child in the left cell, by its operator.
 pub fn has_left(op: u8) -> bool

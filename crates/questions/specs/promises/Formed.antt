@@ -1,5 +1,6 @@
 -- What judging asks of a question, whoever made it: a block that put accepts has it, and so has what judging makes of one for itself. It is
--- what grounds 4, 5 and 9 rule out, as plain facts. (Grounds 1 to 3 and 6 concern the block and not the question in it.)
+-- what grounds 4, 5 and 9 rule out, as plain facts. (Grounds 1 to 3 and 6 concern the block and not the question in it. What judging makes may
+-- have nodes that nobody uses: ground 13 is asked of what is put.)
 use Prim.Native.Nat.{ℕ, _/_, _%_, _≤_, _<_}
 use mathlib.Core.Path.{_≡_}
 use mathlib.Core.Bool.{Bool, true, false, _||_}
