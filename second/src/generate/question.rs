@@ -31,14 +31,14 @@ pub fn random_question(rng: &mut Rng, model: &Model, totals: &Totals, scale: Sca
         },
     };
     let silent = (0..model.states()).any(|state| model.is_silent(state as u8));
-    let root = match drawer.rng.below(44) {
-        0..=9 => drawer.gains_root(),
-        10..=13 => drawer.about_gains(),
-        14..=15 => drawer.one_window(),
-        16..=17 => drawer.left_of_an_and(),
-        18 => drawer.tower(),
-        19 => drawer.chain(),
-        20 => drawer.shared(),
+    let root = match drawer.rng.below(46) {
+        0..=11 => drawer.gains_root(),
+        12..=16 => drawer.about_gains(),
+        17..=18 => drawer.one_window(),
+        19..=20 => drawer.left_of_an_and(),
+        21 => drawer.tower(),
+        22 => drawer.chain(),
+        23 => drawer.shared(),
         _ if silent && drawer.rng.below(8) < 3 => drawer.about_silent_steps(),
         _ => drawer.any_root(),
     };

@@ -269,11 +269,14 @@ fn with_root(asked: &Question, root: PlanNode) -> Question {
 fn nested_nodes(rng: &mut Rng, model: &Model, steps: usize, relation: &str) -> Vec<String> {
     let below = rng.pick_or(&["less", "equal", "greater"], "greater");
     let chance = rng.below(usize::from(model.denominator) + 1);
-    let mut nodes = vec!["proposition 0".to_string(), "next 0".to_string()];
-    nodes.push(match rng.once_in(2) {
-        true => format!("plan gain 1 to 1 steps 1 {below} 0/1"),
-        false => format!("plan 1 steps 1 {below} {chance}/{}", model.denominator),
-    });
+    let mut nodes = match rng.once_in(2) {
+        true => vec![format!("plan gain 1 to 1 steps 1 {below} 0/1")],
+        false => vec![
+            "proposition 0".to_string(),
+            "next 0".to_string(),
+            format!("plan 1 steps 1 {below} {chance}/{}", model.denominator),
+        ],
+    };
     for _ in 0..rng.range(1, steps) {
         nodes.push(format!("next {}", nodes.len() - 1));
     }
