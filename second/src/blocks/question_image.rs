@@ -37,6 +37,13 @@ impl NodeImage {
     pub fn children(mut self) -> Vec<u8> {
         self.children_mut().map(|child| *child).collect()
     }
+
+    /// Gives the children other numbers; a child for which there is none stays.
+    pub fn renumber(&mut self, number: impl Fn(u8) -> Option<u8>) {
+        for child in self.children_mut() {
+            *child = number(*child).unwrap_or(*child);
+        }
+    }
 }
 
 /// The fields of a question block, used or not.
@@ -81,6 +88,24 @@ impl QuestionImage {
         found
     }
 
+    /// The question without the nodes that are not reached, the others renumbered
+    /// in their order.
+    pub fn used_only(&self) -> QuestionImage {
+        let reached = self.reached();
+        let numbers = numbers_among(&reached);
+        let mut used = QuestionImage {
+            start: self.start,
+            ..QuestionImage::default()
+        };
+        let kept = self.counted().iter().zip(&reached).filter(|node| *node.1);
+        for ((place, (node, _)), count) in used.nodes.iter_mut().zip(kept).zip(1..) {
+            *place = *node;
+            place.renumber(|child| numbers.get(usize::from(child)).copied());
+            used.count = count;
+        }
+        used
+    }
+
     /// Reads the fields of one block.
     pub fn unpack(bytes: &[u8]) -> Self {
         let mut image = QuestionImage {
@@ -104,6 +129,17 @@ impl QuestionImage {
         fix_word_sums(&mut bytes);
         bytes
     }
+}
+
+/// For each node how many before it are kept: its number among those.
+fn numbers_among(kept: &[bool]) -> Vec<u8> {
+    let mut before = 0;
+    let mut numbers = Vec::new();
+    for keep in kept {
+        numbers.push(before);
+        before += u8::from(*keep);
+    }
+    numbers
 }
 
 /// Marks the children that exist.

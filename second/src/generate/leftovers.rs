@@ -1,47 +1,10 @@
-//! Nodes that no root reaches (document 02, A.6): how a question is rid of them,
-//! and how it comes by some. Each kind of leftover is one that some wrong judge
-//! takes for used.
+//! Nodes that no root reaches (document 02, A.6), left over on purpose. Each kind
+//! of leftover is one that some wrong judge takes for used.
 
 use super::rng::Rng;
 use crate::blocks::{read_question, NodeImage, QuestionImage};
 use crate::ground::Ground;
 use crate::logic::{Model, Question};
-
-/// The question without the nodes that are not reached, the others renumbered
-/// in their order.
-pub(super) fn used_only(image: &QuestionImage) -> QuestionImage {
-    let reached = image.reached();
-    let numbers = numbers_among(&reached);
-    let mut used = QuestionImage {
-        start: image.start,
-        ..QuestionImage::default()
-    };
-    let kept = image.counted().iter().zip(&reached).filter(|node| *node.1);
-    for ((place, (node, _)), count) in used.nodes.iter_mut().zip(kept).zip(1..) {
-        *place = *node;
-        used.count = count;
-        renumber(place, |child| numbers.get(usize::from(child)).copied());
-    }
-    used
-}
-
-/// For each node how many before it are kept: its number among those.
-fn numbers_among(kept: &[bool]) -> Vec<u8> {
-    let mut before = 0;
-    let mut numbers = Vec::new();
-    for keep in kept {
-        numbers.push(before);
-        before += u8::from(*keep);
-    }
-    numbers
-}
-
-/// Gives the children other numbers; a child without one stays.
-fn renumber(node: &mut NodeImage, number: impl Fn(u8) -> Option<u8>) {
-    for child in node.children_mut() {
-        *child = number(*child).unwrap_or(*child);
-    }
-}
 
 /// The question with one more node, which has this number; those from there on
 /// move up by one. None if there is no room, or the root would be another.
@@ -55,7 +18,7 @@ pub(super) fn inserted(image: &QuestionImage, place: u8, node: NodeImage) -> Opt
     wider.nodes[own] = node;
     wider.count += 1;
     for later in &mut wider.nodes[own + 1..=count] {
-        renumber(later, |child| child.checked_add(u8::from(child >= place)));
+        later.renumber(|child| child.checked_add(u8::from(child >= place)));
     }
     Some(wider)
 }
@@ -83,8 +46,23 @@ const WAYS: &[Way] = &[
 
 /// The question with one node left over, or several, in one of the ways.
 pub(super) fn with_leftovers(rng: &mut Rng, image: &QuestionImage) -> Option<QuestionImage> {
-    let drawn = rng.pick(WAYS).and_then(|way| way(rng, image));
+    let rare = by_window(rng, image).or_else(|| high(rng, image));
+    let rare = rare.filter(|_| rng.once_in(2));
+    let drawn = rare.or_else(|| rng.pick(WAYS).and_then(|way| way(rng, image)));
     drawn.or_else(|| anywhere(rng, image))
+}
+
+/// One whose number is the left byte of a used node of operator 9. Few questions
+/// have so many nodes before such a one.
+fn by_window(rng: &mut Rng, image: &QuestionImage) -> Option<QuestionImage> {
+    numbered_like(rng, image, WINDOW)
+}
+
+/// One with a number from 32 on, where marks in 32 bits begin anew.
+fn high(rng: &mut Rng, image: &QuestionImage) -> Option<QuestionImage> {
+    let root = image.count.checked_sub(1).filter(|root| *root >= 32)?;
+    let place = rng.byte(32, root);
+    inserted(image, place, leftover(rng, place))
 }
 
 /// The same packed, if 13 is the only ground against it.
@@ -225,6 +203,14 @@ fn twin(rng: &mut Rng, image: &QuestionImage) -> Option<QuestionImage> {
 /// of steps or of points, or as the zero of a spare byte.
 fn named(rng: &mut Rng, image: &QuestionImage) -> Option<QuestionImage> {
     let field = rng.below(9);
+    numbered_like(rng, image, field)
+}
+
+/// The field of a window of steps, among those of `no_child`.
+const WINDOW: usize = 2;
+
+/// One whose number some used node has in a field.
+fn numbered_like(rng: &mut Rng, image: &QuestionImage, field: usize) -> Option<QuestionImage> {
     let numbered = (0u8..).zip(image.counted());
     let found = numbered.filter_map(|(own, node)| no_child(node, field).filter(|v| *v <= own));
     let places: Vec<u8> = found.collect();
@@ -238,7 +224,7 @@ fn no_child(node: &NodeImage, field: usize) -> Option<u8> {
     match field {
         0 => of(&[2], node.left),
         1 => of(&[5], node.left),
-        2 => of(&[9], node.left),
+        WINDOW => of(&[9], node.left),
         3 => of(&[7], node.right),
         4 => of(&[8], node.right),
         5 => of(&[9], node.right),

@@ -49,7 +49,7 @@ fn pool(rng: &mut Rng) -> Pool {
         left_over: Vec::new(),
         sheets: Vec::new(),
     };
-    if rng.once_in(3) {
+    if rng.once_in(2) {
         add_lamps(rng, &mut pool);
     }
     for turn in 0..2 {

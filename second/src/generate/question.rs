@@ -2,7 +2,6 @@
 //! just missed.
 
 use super::bounds;
-use super::leftovers::used_only;
 use super::rng::Rng;
 use crate::blocks::{read_question, QuestionImage};
 use crate::logic::{fast, Bound, Model, Node, Outcome, Path, Plan, PlanNode};
@@ -48,7 +47,7 @@ pub fn random_question(rng: &mut Rng, model: &Model, totals: &Totals, scale: Sca
 
 /// The question without the nodes that are not reached.
 fn used(question: &Question, model: &Model) -> Question {
-    let packed = used_only(&QuestionImage::from(question)).pack();
+    let packed = QuestionImage::from(question).used_only().pack();
     read_question(&packed, model).unwrap_or(Question {
         start: question.start,
         nodes: vec![Node::False],

@@ -42,7 +42,7 @@ pub fn reasons(rng: &mut Rng, count: usize) -> Vec<Call> {
         for _ in 0..4 {
             if let Some(asked) = drawn.question(rng) {
                 let refused = left_over(rng, &asked, &drawn.model);
-                calls.extend(refused.filter(|_| rng.once_in(24)).map(Call::Put));
+                calls.extend(refused.filter(|_| rng.once_in(32)).map(Call::Put));
                 let packed = QuestionImage::from(&asked).pack();
                 calls.extend([Call::Put(packed), Call::Judge]);
             }

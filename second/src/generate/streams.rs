@@ -282,7 +282,7 @@ pub fn sheets(rng: &mut Rng, count: usize) -> Vec<Call> {
             let sheet = any_sheet(rng, &model, &question, &totals, turn);
             calls.push(Call::Check(sheet));
         }
-        if rng.once_in(12) {
+        if rng.once_in(10) {
             calls.extend(lamps(rng));
         }
     }
