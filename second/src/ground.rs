@@ -17,6 +17,8 @@ pub enum Ground {
     /// The sheet's weight, or its total of gains, is not its plan's.
     Total = 11,
     ShortBuffer = 12,
+    /// A node that is not reached from the root by following children.
+    Leftover = 13,
     NoModel = 20,
     NoQuestion = 21,
     RootNotPlan = 22,

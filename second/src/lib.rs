@@ -12,6 +12,7 @@ pub mod gain_faults;
 pub mod generate;
 pub mod ground;
 pub mod lamp_faults;
+pub mod leftover_faults;
 pub mod logic;
 pub mod reason_faults;
 pub mod sum_faults;

@@ -6,7 +6,8 @@ use second::desk::{whynot_lines, Call, Desk, JudgeKind};
 use second::generate::{bench_cases, stream};
 use second::tally::{reason_tally, tally};
 use second::timing::time;
-use second::{faults, floats, gain_faults, lamp_faults, reason_faults, sum_faults};
+use second::{faults, floats, gain_faults, lamp_faults, leftover_faults};
+use second::{reason_faults, sum_faults};
 use std::io::{self, Read, Write};
 use std::process::ExitCode;
 
@@ -23,6 +24,7 @@ const USAGE: &str = "usage: second [--plain] COMMAND
   faults                     a stream of calls to counts of the answers that judges that err about silent states get wrong
   gain-faults                a stream of calls to counts of the answers that judges that err about expected gains get wrong
   lamp-faults                a stream of calls to counts of the answers that judges that err about lamps get wrong
+  leftover-faults            a stream of calls to counts of the answers that judges that err about leftover nodes get wrong
   reason-faults COUNT        as many pairs of a stream of calls to counts of the lines that wrong explainers print
   sum-faults                 a stream of calls to counts of the answers that judges with wrong word sums get wrong
   generate KIND SEED COUNT   a stream of models, questions, judges, small, sheets, lists, tight, words or reasons
@@ -61,6 +63,7 @@ fn run(kind: JudgeKind, words: &[&str]) -> io::Result<ExitCode> {
         ["tally"] => print_tally(&read_input()?)?,
         ["floats"] => print_floats(&read_input()?)?,
         ["faults"] => print_faults(&read_input()?)?,
+        ["leftover-faults"] => print_leftover_faults(&read_input()?)?,
         ["gain-faults"] => print_gain_faults(&read_input()?)?,
         ["lamp-faults"] => print_lamp_faults(&read_input()?)?,
         ["reason-faults", count] => return print_reason_faults(count),
@@ -160,6 +163,13 @@ fn print_floats(stream: &[u8]) -> io::Result<()> {
 
 fn print_faults(stream: &[u8]) -> io::Result<()> {
     for ((fault, call), count) in faults::differences(stream) {
+        print_line(&format!("{count:8} {call} {fault:?}"))?;
+    }
+    Ok(())
+}
+
+fn print_leftover_faults(stream: &[u8]) -> io::Result<()> {
+    for ((fault, call), count) in leftover_faults::differences(stream) {
         print_line(&format!("{count:8} {call} {fault:?}"))?;
     }
     Ok(())

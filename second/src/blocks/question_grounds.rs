@@ -1,12 +1,22 @@
-//! Reading a question against a model: grounds 1 to 6 and 9.
+//! Reading a question against a model: grounds 1 to 6, 9 and 13.
 
 use super::frame::check_frame;
 use super::question_image::{NodeImage, QuestionImage};
 use crate::ground::{demand, Ground};
 use crate::logic::{Bound, Model, Node, PlanNode, Question, Relation, Summed};
 
-/// The accepted question in these bytes, or the first ground against it.
+/// The accepted question in these bytes, or the first ground against it. All its
+/// nodes are reached from its root: both limits concern used nodes only.
 pub fn read_question(bytes: &[u8], model: &Model) -> Result<Question, Ground> {
+    let question = read_formula(bytes, model)?;
+    let reached = QuestionImage::unpack(bytes).reached();
+    demand(reached.iter().all(|found| *found), Ground::Leftover)?;
+    Ok(question)
+}
+
+/// The same where nodes may be left over (grounds 1 to 6 and 9): these grounds
+/// ask all nodes, used or not.
+pub fn read_formula(bytes: &[u8], model: &Model) -> Result<Question, Ground> {
     check_frame(bytes, 1..=1, |_| (3, 0))?;
     let image = QuestionImage::unpack(bytes);
     let start_right = usize::from(image.start) < model.states();

@@ -43,6 +43,22 @@ impl Desk {
         }
     }
 
+    /// The desk as it would be without its question, or without its verdict, so
+    /// that `leftover_faults` can lay desks that lost them beside a right one.
+    pub fn without_question(&self) -> Desk {
+        Desk {
+            question: None,
+            ..self.without_verdict()
+        }
+    }
+
+    pub fn without_verdict(&self) -> Desk {
+        Desk {
+            judged: None,
+            ..self.clone()
+        }
+    }
+
     /// The held model.
     pub fn model(&self) -> Result<&Model, Ground> {
         self.model.as_ref().ok_or(Ground::NoModel)

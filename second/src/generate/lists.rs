@@ -1,9 +1,11 @@
 //! Random lists of all five calls.
 
 use super::lamps::cases;
+use super::leftovers::left_over;
 use super::question::{random_question, Scale};
 use super::rng::Rng;
-use super::streams::{any_model, any_question, any_sheet, canary, few_states, good_model, stretch};
+use super::streams::{any_model, any_question, any_sheet, canary};
+use super::streams::{few_states, good_model, one_left_over, stretch};
 use crate::blocks::QuestionImage;
 use crate::desk::Call;
 
@@ -11,6 +13,8 @@ use crate::desk::Call;
 struct Pool {
     loads: Vec<Vec<u8>>,
     puts: Vec<Vec<u8>>,
+    /// Some of these with nodes left over, which leave the desk as it is.
+    left_over: Vec<Vec<u8>>,
     /// Sheets with the place of the put that they were made for.
     sheets: Vec<(usize, Vec<u8>)>,
 }
@@ -26,6 +30,7 @@ const SCALE: Scale = Scale {
 pub fn lists(rng: &mut Rng, count: usize) -> Vec<Call> {
     let mut calls = vec![Call::Judge, canary(rng), Call::Judge];
     calls.extend([Call::Put(vec![0; 512]), Call::Check(vec![0; 512])]);
+    calls.push(Call::Put(one_left_over()));
     rng.shuffle(&mut calls);
     while calls.len() < count {
         let pool = pool(rng);
@@ -41,9 +46,10 @@ fn pool(rng: &mut Rng) -> Pool {
     let mut pool = Pool {
         loads: Vec::new(),
         puts: Vec::new(),
+        left_over: Vec::new(),
         sheets: Vec::new(),
     };
-    if rng.once_in(3) {
+    if rng.once_in(2) {
         add_lamps(rng, &mut pool);
     }
     for turn in 0..2 {
@@ -63,6 +69,7 @@ fn pool(rng: &mut Rng) -> Pool {
             if rng.once_in(6) {
                 stretch(rng, &mut question, &model, &totals);
             }
+            pool.left_over.extend(left_over(rng, &question, &model));
             pool.puts.push(QuestionImage::from(&question).pack());
         }
         let harm = rng.below(100) + turn;
@@ -88,8 +95,9 @@ fn add_lamps(rng: &mut Rng, pool: &mut Pool) {
 
 fn call(rng: &mut Rng, pool: &Pool, last_put: &mut usize) -> Call {
     let one_of = |place: usize, inputs: &[Vec<u8>]| inputs.get(place).cloned().unwrap_or_default();
-    match rng.below(24) {
+    match rng.below(25) {
         0 => Call::Load(one_of(rng.below(pool.loads.len()), &pool.loads)),
+        24 => Call::Put(one_of(rng.below(pool.left_over.len()), &pool.left_over)),
         1..=6 => {
             *last_put = rng.below(pool.puts.len());
             Call::Put(one_of(*last_put, &pool.puts))

@@ -3,6 +3,7 @@
 
 use super::bounds;
 use super::rng::Rng;
+use crate::blocks::{read_question, QuestionImage};
 use crate::logic::{fast, Bound, Model, Node, Outcome, Path, Plan, PlanNode};
 use crate::logic::{Question, Relation, Summed, Totals};
 
@@ -15,7 +16,7 @@ pub struct Scale {
 }
 
 /// Draws nodes one after another; children are any earlier nodes, so that
-/// nodes are shared and some are left unused.
+/// nodes are shared. Those that the root does not reach are dropped in the end.
 pub fn random_question(rng: &mut Rng, model: &Model, totals: &Totals, scale: Scale) -> Question {
     let start = random_start(rng, model);
     let mut drawer = Drawer {
@@ -29,16 +30,28 @@ pub fn random_question(rng: &mut Rng, model: &Model, totals: &Totals, scale: Sca
         },
     };
     let silent = (0..model.states()).any(|state| model.is_silent(state as u8));
-    let root = match drawer.rng.below(40) {
-        0..=9 => drawer.gains_root(),
-        10..=13 => drawer.about_gains(),
-        14..=15 => drawer.one_window(),
-        16 => drawer.left_of_an_and(),
+    let root = match drawer.rng.below(46) {
+        0..=11 => drawer.gains_root(),
+        12..=16 => drawer.about_gains(),
+        17..=18 => drawer.one_window(),
+        19..=20 => drawer.left_of_an_and(),
+        21 => drawer.tower(),
+        22 => drawer.chain(),
+        23 => drawer.shared(),
         _ if silent && drawer.rng.below(8) < 3 => drawer.about_silent_steps(),
         _ => drawer.any_root(),
     };
     drawer.question.nodes.push(root);
-    drawer.question
+    used(&drawer.question, model)
+}
+
+/// The question without the nodes that are not reached.
+fn used(question: &Question, model: &Model) -> Question {
+    let packed = QuestionImage::from(question).used_only().pack();
+    read_question(&packed, model).unwrap_or(Question {
+        start: question.start,
+        nodes: vec![Node::False],
+    })
 }
 
 /// Any state, but mostly one in which there is something to choose.
@@ -69,11 +82,18 @@ impl Drawer<'_> {
             let node = self.node();
             self.question.nodes.push(node);
         }
+        if self.rng.once_in(2) {
+            self.gather();
+        }
         self.root()
     }
 
-    /// An earlier node, mostly a late one.
+    /// An earlier node, mostly a late one, or one that is no child so far.
     fn child(&mut self) -> Option<u8> {
+        if self.rng.once_in(2) {
+            let unused = self.unused();
+            return self.rng.pick(&unused);
+        }
         let count = self.question.nodes.len();
         let near = count.saturating_sub(3);
         let first = if self.rng.once_in(3) { 0 } else { near };
@@ -97,9 +117,11 @@ impl Drawer<'_> {
             28 => self.gains_from(self.question.start),
             _ => None,
         };
-        drawn.unwrap_or_else(|| {
-            Node::Proposition(self.rng.below(self.model.propositions.into()) as u8)
-        })
+        drawn.unwrap_or_else(|| self.proposition())
+    }
+
+    pub(super) fn proposition(&mut self) -> Node {
+        Node::Proposition(self.rng.below(self.model.propositions.into()) as u8)
     }
 
     /// A plan over a "do", a gain or a proposition, at the start or some steps
@@ -109,7 +131,7 @@ impl Drawer<'_> {
         let first = match self.rng.below(5) {
             0..=1 => self.act_at_an_end(),
             2..=3 => self.close_gain(nexts),
-            _ => Node::Proposition(self.rng.below(self.model.propositions.into()) as u8),
+            _ => self.proposition(),
         };
         self.question.nodes.push(first);
         if self.rng.once_in(3) {
@@ -136,7 +158,7 @@ impl Drawer<'_> {
         Some(Node::And(self.child()?, self.child()?))
     }
 
-    fn act(&mut self) -> Node {
+    pub(super) fn act(&mut self) -> Node {
         Node::Do(self.rng.below(self.model.actions.len()) as u8)
     }
 
@@ -162,7 +184,7 @@ impl Drawer<'_> {
 
     /// A gain at, just below or just above what some path gains from a place
     /// on.
-    fn close_gain(&mut self, place: usize) -> Node {
+    pub(super) fn close_gain(&mut self, place: usize) -> Node {
         let steps = self.rng.range(1, 6 - place.min(5));
         let path = self.random_path(place + steps);
         Node::Gain {
@@ -197,8 +219,10 @@ impl Drawer<'_> {
         }
         let mut root = None;
         for _ in 0..8 {
-            let condition = self.rng.pick(&conditions);
-            root = match condition {
+            // The last one mostly has the most nodes below it.
+            let last = conditions.last().copied();
+            let condition = last.filter(|_| self.rng.once_in(2));
+            root = match condition.or(self.rng.pick(&conditions)) {
                 Some(condition) => self.plan_over(condition),
                 None => self.plan_over_any(),
             };

@@ -2,13 +2,14 @@
 
 use super::damage::Patches;
 use super::gain_damage::{node_at_ends, P_ENDS, Q_ENDS};
+use super::leftover_damage::{faulty, left_over, left_over_beside};
 use super::rng::Rng;
 use crate::blocks::{NodeImage, QuestionImage, BLOCK};
 
 /// A question that is being damaged.
 #[derive(Clone)]
 pub(super) struct Draft {
-    image: QuestionImage,
+    pub(super) image: QuestionImage,
     patches: Patches,
 }
 
@@ -24,7 +25,7 @@ impl Draft {
         self.patches.apply(self.image.pack())
     }
 
-    fn count(&self) -> usize {
+    pub(super) fn count(&self) -> usize {
         usize::from(self.image.count).clamp(1, 40)
     }
 
@@ -32,6 +33,14 @@ impl Draft {
     fn node(&mut self, rng: &mut Rng) -> (u8, &mut NodeImage) {
         let number = rng.below(self.count());
         (number as u8, &mut self.image.nodes[number])
+    }
+
+    /// One that has no child, so that another in its place leaves none over.
+    fn leaf(&mut self, rng: &mut Rng) -> &mut NodeImage {
+        let numbered = self.image.counted().iter().enumerate();
+        let leaves = numbered.filter(|node| node.1.children().is_empty());
+        let places: Vec<usize> = leaves.map(|node| node.0).collect();
+        &mut self.image.nodes[rng.pick_or(&places, 0)]
     }
 }
 
@@ -68,6 +77,13 @@ pub(super) const HARMS: &[Harm] = &[
     shorter_plan,
     shorter_plan,
     deeper_condition,
+    left_over,
+    left_over,
+    left_over,
+    left_over_beside,
+    left_over_beside,
+    faulty,
+    faulty,
 ];
 
 fn node_count(rng: &mut Rng, draft: &mut Draft) {
@@ -89,7 +105,7 @@ fn steps(rng: &mut Rng, draft: &mut Draft) {
 /// A "do" of an action, of none, or of the silent move, which cannot be asked.
 fn act(rng: &mut Rng, draft: &mut Draft) {
     let action = rng.pick_or(&[255, 255, 254, 8, 7, 0], 255);
-    *draft.node(rng).1 = NodeImage {
+    *draft.leaf(rng) = NodeImage {
         operator: 5,
         left: action,
         ..NodeImage::default()
@@ -155,22 +171,24 @@ fn gain_ends(rng: &mut Rng, draft: &mut Draft) {
     };
 }
 
-/// A root of operator 9 with one field about an end of its range.
+/// A root of operator 9 with one field about an end of its range. It has no
+/// child, and so it is the whole question; now and then the other nodes are left
+/// over.
 fn expected_root(rng: &mut Rng, draft: &mut Draft) {
-    let root = draft.count() - 1;
-    draft.image.nodes[root] = node_at_ends(rng);
-}
-
-/// The same in place of any node, or of a whole question.
-fn expected_anywhere(rng: &mut Rng, draft: &mut Draft) {
-    if rng.once_in(3) {
+    if !rng.once_in(8) {
         draft.image = QuestionImage {
             start: draft.image.start,
             count: 1,
             ..QuestionImage::default()
         };
     }
-    *draft.node(rng).1 = node_at_ends(rng);
+    let root = draft.count() - 1;
+    draft.image.nodes[root] = node_at_ends(rng);
+}
+
+/// The same in place of any node that has no child.
+fn expected_anywhere(rng: &mut Rng, draft: &mut Draft) {
+    *draft.leaf(rng) = node_at_ends(rng);
 }
 
 fn beyond_count(rng: &mut Rng, draft: &mut Draft) {
@@ -219,18 +237,21 @@ fn shorter_plan(rng: &mut Rng, draft: &mut Draft) {
     }
 }
 
-/// A root that plans over the deepest thing there is.
+/// A root that plans over what the last root planned over, one step later.
 fn deeper_condition(rng: &mut Rng, draft: &mut Draft) {
-    let root = draft.count() - 1;
-    if root > 0 {
-        let steps = rng.byte(1, 6);
-        draft.image.nodes[root] = NodeImage {
-            operator: 8,
-            steps,
-            left: rng.below(root) as u8,
-            right: 3,
-            p: 1,
-            q: 2,
+    let count = draft.count();
+    let root = draft.image.nodes[count - 1];
+    if let (8, Some(place)) = (root.operator, draft.image.nodes.get_mut(count)) {
+        *place = NodeImage {
+            steps: rng.byte(1, 6),
+            left: count as u8 - 1,
+            ..root
         };
+        draft.image.nodes[count - 1] = NodeImage {
+            operator: 6,
+            left: root.left,
+            ..NodeImage::default()
+        };
+        draft.image.count = count as u8 + 1;
     }
 }

@@ -16,15 +16,9 @@ pub(super) fn window(node: &Node) -> Option<u8> {
 }
 
 impl Drawer<'_> {
-    /// A root that sums gains, by a window that mostly tells plans apart; now
-    /// and then after some nodes that nobody uses.
+    /// A root that sums gains, by a window that mostly tells plans apart. It has
+    /// no child, and so no other node stands beside it.
     pub(super) fn gains_root(&mut self) -> Node {
-        if self.rng.once_in(4) {
-            for _ in 0..self.rng.range(1, 4) {
-                let node = self.node();
-                self.question.nodes.push(node);
-            }
-        }
         let start = self.question.start;
         let mut root = None;
         for _ in 0..8 {

@@ -5,6 +5,7 @@
 use super::bounds::{chance, expected};
 use super::cases::question;
 use super::lamps::{nodes, small_model};
+use super::leftovers::left_over;
 use super::model::Size;
 use super::pitfalls::far_model;
 use super::question::{random_question, Scale};
@@ -14,7 +15,7 @@ use super::streams::{any_question, few_states, good_model, AFFORDABLE};
 use crate::blocks::{read_model, read_question, QuestionImage};
 use crate::desk::Call;
 use crate::logic::{fast, plain, Bound, Model, Node, PlanNode, Question};
-use crate::logic::{Relation, Summed, Totals};
+use crate::logic::{Relation, Summed, Totals, Verdict};
 
 /// Random questions with so few plans that all can be listed.
 const FEW: Scale = Scale {
@@ -40,6 +41,8 @@ pub fn reasons(rng: &mut Rng, count: usize) -> Vec<Call> {
         }
         for _ in 0..4 {
             if let Some(asked) = drawn.question(rng) {
+                let refused = left_over(rng, &asked, &drawn.model);
+                calls.extend(refused.filter(|_| rng.once_in(32)).map(Call::Put));
                 let packed = QuestionImage::from(&asked).pack();
                 calls.extend([Call::Put(packed), Call::Judge]);
             }
@@ -93,14 +96,14 @@ impl Drawn {
     }
 
     /// A question with a bound that is mostly not met; now and then its plan is
-    /// not the root, or another one stands before it that nobody uses.
+    /// not the root, or another one stands before it.
     fn question(&self, rng: &mut Rng) -> Option<Question> {
         let mut asked = self.unbound(rng)?;
-        let root = self.rebound(rng, &asked)?;
+        let mut root = self.rebound(rng, &asked)?;
         asked.nodes.pop();
-        if rng.once_in(8) {
+        if rng.once_in(5) {
             let other = self.rebound(rng, &with_root(&asked, root))?;
-            asked.nodes.push(Node::Plan(other));
+            root = self.beside(&mut asked, root, other);
         }
         asked.nodes.push(Node::Plan(root));
         let plan = asked.root() as u8;
@@ -113,9 +116,32 @@ impl Drawn {
         self.affords(&asked).then_some(asked)
     }
 
-    /// Whether the plain judge can answer the question.
+    /// The root with a condition that also asks, at the start of each path,
+    /// whether the other plan is met, or that it is not: what is so. The totals
+    /// stay what they are. A root of operator 9 has no condition, and no other
+    /// plan beside it.
+    fn beside(&self, asked: &mut Question, root: PlanNode, other: PlanNode) -> PlanNode {
+        let Summed::Weights { condition } = root.summed else {
+            return root;
+        };
+        let judged = fast::judge(&self.model, &with_root(asked, other), &self.totals);
+        asked.nodes.push(Node::Plan(other));
+        if let Verdict::No { .. } = judged.verdict {
+            asked.nodes.push(Node::Not(asked.root() as u8));
+        }
+        let both = Node::And(condition, asked.root() as u8);
+        asked.nodes.push(both);
+        let condition = asked.root() as u8;
+        PlanNode {
+            summed: Summed::Weights { condition },
+            ..root
+        }
+    }
+
+    /// Whether a block has room for the question and the plain judge can answer
+    /// it.
     fn affords(&self, asked: &Question) -> bool {
-        plain::cost(&self.model, asked, &self.totals) <= 5 * AFFORDABLE
+        asked.nodes.len() <= 40 && plain::cost(&self.model, asked, &self.totals) <= 5 * AFFORDABLE
     }
 
     /// A question with a plan root, whose bound does not matter.
@@ -243,11 +269,14 @@ fn with_root(asked: &Question, root: PlanNode) -> Question {
 fn nested_nodes(rng: &mut Rng, model: &Model, steps: usize, relation: &str) -> Vec<String> {
     let below = rng.pick_or(&["less", "equal", "greater"], "greater");
     let chance = rng.below(usize::from(model.denominator) + 1);
-    let mut nodes = vec!["proposition 0".to_string(), "next 0".to_string()];
-    nodes.push(match rng.once_in(2) {
-        true => format!("plan gain 1 to 1 steps 1 {below} 0/1"),
-        false => format!("plan 1 steps 1 {below} {chance}/{}", model.denominator),
-    });
+    let mut nodes = match rng.once_in(2) {
+        true => vec![format!("plan gain 1 to 1 steps 1 {below} 0/1")],
+        false => vec![
+            "proposition 0".to_string(),
+            "next 0".to_string(),
+            format!("plan 1 steps 1 {below} {chance}/{}", model.denominator),
+        ],
+    };
     for _ in 0..rng.range(1, steps) {
         nodes.push(format!("next {}", nodes.len() - 1));
     }

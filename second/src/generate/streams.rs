@@ -2,6 +2,7 @@
 
 use super::cases::{self, Ends};
 use super::lamps::lamps;
+use super::leftovers::left_over;
 use super::model::{random_model, Size};
 use super::pitfalls::pitfalls;
 use super::question::{random_choices, random_question, Scale};
@@ -85,7 +86,7 @@ pub(super) fn good_model(rng: &mut Rng, size: Size) -> Option<(Vec<u8>, Model, T
 
 /// Puts of accepted, damaged and doubly damaged questions.
 pub fn questions(rng: &mut Rng, count: usize) -> Vec<Call> {
-    let mut calls = vec![Call::Put(vec![0; BLOCK])];
+    let mut calls = vec![Call::Put(vec![0; BLOCK]), Call::Put(one_left_over())];
     let mut turn = 0;
     while calls.len() < count {
         let size = size(rng);
@@ -97,6 +98,29 @@ pub fn questions(rng: &mut Rng, count: usize) -> Vec<Call> {
             turn += 1;
             calls.push(Call::Put(any_question(rng, &model, &totals, turn)));
         }
+    }
+    calls
+}
+
+/// A question with a node left over, in whatever model: for a desk without one.
+pub(super) fn one_left_over() -> Vec<u8> {
+    cases::question(0, &["false".to_string(), "false".to_string()])
+}
+
+/// Now and then the question with nodes left over, which is refused, and a call
+/// on what the desk still holds. The question itself is put next: it is the same
+/// without the leftovers.
+fn now_and_then_left_over(rng: &mut Rng, question: &Question, model: &Model) -> Vec<Call> {
+    let refused = rng.once_in(12).then(|| left_over(rng, question, model));
+    let Some(refused) = refused.flatten() else {
+        return Vec::new();
+    };
+    let mut calls = vec![Call::Put(refused)];
+    match rng.below(6) {
+        0 => calls.push(Call::Judge),
+        1..=2 => calls.push(Call::Write(vec![0; 3 * BLOCK])),
+        3 => calls.push(Call::Check(vec![0; BLOCK])),
+        _ => {}
     }
     calls
 }
@@ -137,6 +161,7 @@ pub fn judges(rng: &mut Rng, count: usize) -> Vec<Call> {
         calls.push(Call::Load(bytes));
         for _ in 0..6 {
             let question = judged_question(rng, &model, &totals);
+            calls.extend(now_and_then_left_over(rng, &question, &model));
             let packed = QuestionImage::from(&question).pack();
             calls.extend([Call::Put(packed), Call::Judge]);
         }
@@ -251,7 +276,13 @@ pub fn sheets(rng: &mut Rng, count: usize) -> Vec<Call> {
         };
         calls.push(Call::Put(QuestionImage::from(&question).pack()));
         calls.extend(sheet_calls(rng, &model, &question, &totals, turn));
-        if rng.once_in(12) {
+        if let Some(refused) = left_over(rng, &question, &model).filter(|_| turn % 3 == 0) {
+            // The verdict and the question stay, and so do their sheets' answers.
+            calls.extend([Call::Put(refused), canary(rng), Call::Judge]);
+            let sheet = any_sheet(rng, &model, &question, &totals, turn);
+            calls.push(Call::Check(sheet));
+        }
+        if rng.once_in(10) {
             calls.extend(lamps(rng));
         }
     }
@@ -429,6 +460,7 @@ pub fn small(rng: &mut Rng, count: usize) -> Vec<Call> {
         for _ in 0..8 {
             let question = random_question(rng, &model, &totals, SMALL);
             if plain::cost(&model, &question, &totals) <= AFFORDABLE {
+                calls.extend(now_and_then_left_over(rng, &question, &model));
                 calls.push(Call::Put(QuestionImage::from(&question).pack()));
                 calls.push(Call::Judge);
                 calls.push(Call::Write(vec![0; 3 * BLOCK]));

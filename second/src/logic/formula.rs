@@ -166,8 +166,7 @@ impl Question {
         }
     }
 
-    /// All plan nodes of both kinds with their numbers, reached from the root
-    /// or not.
+    /// All plan nodes of both kinds with their numbers.
     pub fn plan_nodes(&self) -> impl Iterator<Item = (usize, PlanNode)> + '_ {
         let numbered = self.nodes.iter().enumerate();
         numbered.filter_map(|(number, node)| match node {

@@ -2,6 +2,7 @@
 //! the field of operator 9 that was refused.
 
 use super::lamps::{lamp_words, verdict_lamp_words};
+use super::leftovers::put_words;
 use crate::blocks::{NodeImage, QuestionImage, Sheet};
 use crate::desk::{Answer, Call, Desk};
 use crate::ground::Ground;
@@ -12,8 +13,15 @@ use crate::logic::{Question, Relation, Summed, Totals, Verdict};
 /// the call.
 pub(super) fn details(call: &Call, answer: &Answer, desk: &Desk) -> Vec<String> {
     match (call, answer) {
-        (Call::Put(bytes), Answer::Put(Err(Ground::Range))) => wrong_fields(bytes),
-        (Call::Put(bytes), Answer::Put(Err(Ground::Formula))) => asked_for_gains(bytes),
+        (Call::Put(bytes), Answer::Put(right)) => {
+            let mut found = put_words(bytes, *right, desk);
+            found.extend(match right {
+                Err(Ground::Range) => wrong_fields(bytes),
+                Err(Ground::Formula) => asked_for_gains(bytes),
+                _ => Vec::new(),
+            });
+            found
+        }
         _ => match (desk.model(), desk.question()) {
             (Ok(model), Ok(question)) => held_details(call, answer, model, question),
             _ => Vec::new(),

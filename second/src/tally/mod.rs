@@ -2,6 +2,7 @@
 
 mod details;
 mod lamps;
+mod leftovers;
 mod reasons;
 
 pub use reasons::reason_tally;
