@@ -191,7 +191,8 @@ fn node_fits(
     )
 }
 
-// All nodes are checked; those of a question that is held are all used (ground 13).
+// All nodes are checked. Each was used in the question that was put (ground 13); those that preparing leaves over are "and" nodes, which set no
+// bound.
 fn nodes_fit(m: &[u16; MODEL], q: &[u8; QUESTION], plans: bool) -> bool
     requires { ⌜ Prepared (now m) × Nodes (state-count (now m)) (action-count (now m)) (prop-count (now m)) (now q) ⌝ }
     ensures value { λ r.

@@ -199,6 +199,15 @@ module _ (f : ℕ → Bool) where
   pub every-false : (n : ℕ) {i : ℕ} → i < n → f i ≡ false → every n f ≡ false
   every-false n h e = not-true (every n f) (λ a. false≢true (sym e ∙ every-at n a h))
 
+  pub every-fails : (n : ℕ) → every n f ≡ false → (i : ℕ) × (i < n) × (f i ≡ false)
+  unfolding every
+  every-fails zero e = absurd (false≢true (sym e))
+  every-fails (suc n) e = by (every n f) refl e (every-fails n)
+    where
+      by : (t : Bool) → every n f ≡ t → (t && f n) ≡ false → (every n f ≡ false → (i : ℕ) × (i < n) × (f i ≡ false)) → (i : ℕ) × (i < suc n) × (f i ≡ false)
+      by true h e r = (n, omega arith, e)
+      by false h e r = let w = r h in (w .0, omega (arith, w .1), w .2)
+
   pub some-below-at : (n : ℕ) {i : ℕ} → i < n → f i ≡ true → some-below n f ≡ true
   unfolding some-below
   some-below-at zero h e = absurd (not-suc-le-zero h)

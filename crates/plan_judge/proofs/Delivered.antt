@@ -9,7 +9,7 @@ use Rattle.plan_judge.proofs.Claims.Ran.{Of-the-code}
 use Rattle.plan_judge.proofs.Claims.Delivery.{Delivery}
 use Rattle.plan_judge.proofs.EveryList.{every-answer, every-list, ran-there, code-yields}
 use Rattle.plan_judge.proofs.CodeDemand1.{demand-1-of-the-code}
-use Rattle.plan_judge.proofs.NodesReached.{used-nodes, others-not-held}
+use Rattle.plan_judge.proofs.NodesReached.{held-reached, others-not-held}
 use Rattle.plan_judge.proofs.Offered.{c-call-told, shown-choices-told}
 
 session-of-the-code : Of-the-code session
@@ -24,8 +24,8 @@ delivered =
       some-session = (session, session-of-the-code);
       demand-2 = λ session h. demand-2-always session (code-yields session h);
       demand-3 = λ session h. demand-3-always session (code-yields session h);
-      used-nodes = used-nodes;
-      others-not-held = others-not-held;
+      held-reached = held-reached;
+      others-not-held = λ d m h n a l. others-not-held d m h n (demand-1-of-the-code .its-result a) l;
       c-call = c-call-told;
       shown-choices = shown-choices-told;
     }

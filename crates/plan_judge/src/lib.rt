@@ -171,7 +171,7 @@ fn held_bytes(model: &[u8], blocks: usize) -> usize
     n
 }
 
-// The ground on which a question is refused for the model in these bytes: 1 to 6 and 9; 0 where there is none.
+// The ground on which a question is refused for the model in these bytes: 1 to 6, 9 and 13; 0 where there is none.
 fn question_ground(b: &[u8], model: &[u8]) -> u32
     ensures value { λ r.
         let model = now (model .entry) in let b = now (b .entry) in
@@ -183,7 +183,7 @@ fn question_ground(b: &[u8], model: &[u8]) -> u32
     questions::question_refusal(b, states, actions, props)
 }
 
-// Puts a question, which clears the verdict; or refuses it by grounds 20, then 1 to 6 and 9.
+// Puts a question, which clears the verdict; or refuses it by grounds 20, then 1 to 6, 9 and 13.
 pub fn put(d: Desk, b: &[u8]) -> Taking
     ensures value { λ r. ⌜ r ≡ put-by d (now (b .entry)) ⌝ }
 {

@@ -9,7 +9,6 @@ ghost use Rattle.logic.specs.Formula as formulas;
 ghost use Rattle.questions.specs.Layout.{start-of, node-at, node-of};
 ghost use Rattle.questions.specs.Layout as layout;
 ghost use Rattle.questions.specs.Grounds.{read-question};
-ghost use Rattle.questions.specs.promises.Used.{has-left};
 ghost use Rattle.prepared_question.specs.promises.Nodes.{formula, depth-in};
 ghost use Rattle.prepared_question.specs.promises.Shared.{Shared};
 ghost use Rattle.prepared_question.specs.promises.Replaced.{Children-before, left-for, right-for, Pointed};

@@ -12,6 +12,7 @@ use Rattle.logic.specs.promises.Refusal.{held}
 use Rattle.logic.specs.Model.{Model}
 use Rattle.logic.specs.Verdict.{Verdict, verdict}
 use Rattle.logic.specs.Limits.{limits}
+use Rattle.logic.proofs.Checked.{got-some}
 use Rattle.logic.proofs.Tests.{none≢some, some-same}
 use Rattle.models.specs.Grounds.{read-model}
 use Rattle.questions.specs.Layout.{Question}
@@ -164,11 +165,6 @@ after-next cs (query c) = after-same (query c) refl cs refl (λ m since i. refl)
 cond-some : {A : Type 0} (t : Bool) {a b : A} → cond t (some a) none ≡ some b → a ≡ b
 cond-some true e = some-same e
 cond-some false e = absurd (none≢some e)
-
-got-some : {A : Type 0} (c : Checked A) {a : A} → got c ≡ some a → c ≡ ok a
-unfolding got
-got-some (ok a) e = ap ok (some-same e)
-got-some (refused k) e = absurd (none≢some e)
 
 module _ (m : Model) (q : Question) (v : Verdict) where
   told-since : (n : Model) (o : Option (Question × List Call)) → (held-since n o) .model ≡ some m → (held-since n o) .question ≡ some q → (held-since n o) .verdict ≡ some v

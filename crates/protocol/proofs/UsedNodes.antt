@@ -8,11 +8,11 @@ use lib.ListN.{length}
 use Rattle.logic.specs.Checked.{Checked, ok, refused, _>>=_}
 use Rattle.logic.specs.promises.Refusal.{refusal, held}
 use Rattle.logic.specs.Model.{Model}
-use Rattle.logic.proofs.Checked.{not-ok}
+use Rattle.logic.proofs.Checked.{not-ok, ok-same}
 use Rattle.blocks.specs.Bytes.{Bytes}
-use Rattle.questions.specs.Layout.{Question}
+use Rattle.questions.specs.Layout.{Question, question-of}
 use Rattle.questions.specs.Children.{All-reached}
-use Rattle.questions.proofs.AcceptedFacts.{accepted, leftover}
+use Rattle.questions.proofs.AcceptedFacts.{Accepted, accepted, leftover}
 use Rattle.protocol.specs.Calls.{Call, put, Held, Answer, done, refuse, Reply, says, question-for, yields}
 use Rattle.protocol.specs.Demand2.{Used-nodes}
 use Rattle.protocol.specs.promises.Chains.{do-put, answered, by-chain}
@@ -20,8 +20,15 @@ use Rattle.protocol.proofs.AfterEachCall.{Sound}
 use Rattle.protocol.proofs.Refusals.{refused-same}
 use Rattle.protocol.proofs.FirstGround.{yields-is}
 
-pub read-reached : (m : Model) (b : Bytes) {q : Question} → question-for m b ≡ ok q → All-reached b
-read-reached m b e = accepted (length (m .states)) (length (m .actions)) (m .propositions) b (ap refusal e) .reached
+module _ (m : Model) (b : Bytes) {q : Question} (e : question-for m b ≡ ok q) where
+  was-accepted : Accepted (length (m .states)) (length (m .actions)) (m .propositions) b
+  was-accepted = accepted (length (m .states)) (length (m .actions)) (m .propositions) b (ap refusal e)
+
+  pub read-reached : All-reached b
+  read-reached = was-accepted .reached
+
+  read-same : q ≡ question-of b
+  read-same = ok-same (sym e ∙ was-accepted .read)
 
 -- What put answers, by what its bytes are read as.
 abbrev told : Checked Question → Answer
@@ -61,6 +68,6 @@ used-nodes h s reply yielding =
     record {
       put-done = λ b e. let w = put-read h b (sym (ap (λ r. r .answer) (yielding (put b))) ∙ e) in read-reached (w .0) b (w .2);
       put-13 = λ b e. let w = put-refused h b (sym (ap (λ r. r .answer) (yielding (put b))) ∙ e) in
-          leftover (length (w .0 .states)) (length (w .0 .actions)) (w .0 .propositions) b (w .1);
-      held-reached = λ m q e f. let c = s .question-read m q e f in (c .0, c .1, read-reached m (c .0) (c .1));
+          leftover (length (w .0 .states)) (length (w .0 .actions)) (w .0 .propositions) b (ap refusal (w .1));
+      held-reached = λ m q e f. let c = s .question-read m q e f in (c .0, c .1, read-same m (c .0) (c .1), read-reached m (c .0) (c .1));
     }

@@ -1,5 +1,6 @@
 -- Of demand 1, document 00: "every call on every input finishes with its result or a numbered refusal". These are the numbers that document
--- 01 lists for each call; of document 02, 8 no longer occurs (A.1), and put has 13 (A.6). (The demand itself speaks of desk values: plan_judge/proofs/Claims/Demand1.)
+-- 01 lists for each call; by document 02, 8 no longer occurs (A.1), and put has 13 (A.6). (The demand itself speaks of desk values:
+-- plan_judge/proofs/Claims/Demand1.)
 use Prim.Native.Nat.{ℕ}
 use mathlib.Core.List.{List, [], _∷_}
 use Rattle.protocol.specs.Calls.{Call, load, put, judge, query, write, check}

@@ -26,7 +26,7 @@ use Rattle.logic.specs.Policy.{Policy, policy-weight, policy-gain}
 use Rattle.logic.specs.Verdict.{Goal, goal, Denial, Shown-plan, Verdict, no, yes, yes-plan}
 use Rattle.logic.specs.Limits.{limit-grounds}
 use Rattle.blocks.specs.Bytes.{Bytes}
-use Rattle.questions.specs.Layout.{Question, node-count}
+use Rattle.questions.specs.Layout.{Question, node-count, question-of}
 use Rattle.questions.specs.Children.{Reaches, All-reached}
 use Rattle.protocol.specs.Tested.{grounds}
 use Rattle.protocol.specs.Calls.{Call, put, judge, Held, Answer, done, judged, refuse, Reply, question-for, described}
@@ -112,8 +112,10 @@ pub record Used-nodes (h : Held) (reply : Call → Reply) : Type 0 where
   -- put is done only of a question whose nodes are all reached, and refuses with 13 only one that has a node which is not
   pub put-done : (b : Bytes) → (reply (put b)) .answer ≡ done → All-reached b
   pub put-13 : (b : Bytes) → (reply (put b)) .answer ≡ refuse 13 → (j : ℕ) × (j < node-count b) × (Reaches b (node-count b - 1) j → ⊥)
-  -- so a question that is held was read from bytes whose nodes are all reached: "Both "plan" limits thereby concern used nodes only."
-  pub held-reached : (m : Model) (q : Question) → h .model ≡ some m → h .question ≡ some q → (b : Bytes) × (question-for m b ≡ ok q) × All-reached b
+  -- so a question that is held is that of bytes which were accepted, with all nodes reached: "Both "plan" limits thereby concern used nodes
+  -- only", since they look at these nodes
+  pub held-reached : (m : Model) (q : Question) → h .model ≡ some m → h .question ≡ some q
+      → (b : Bytes) × (question-for m b ≡ ok q) × (q ≡ question-of b) × All-reached b
 
 -- ---- the whole
 

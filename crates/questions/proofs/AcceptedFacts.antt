@@ -10,17 +10,18 @@ use lib.ListN.{length, getD}
 use lib.Signed.{mag, leZ}
 use borrow.Author.Tests.{ltb-true, leb-true, eqb-true, not-true}
 use Rattle.logic.specs.Lists.{all, every}
-use Rattle.logic.specs.Checked.{Checked, ok, refused, _>>_, guard}
+use Rattle.logic.specs.Checked.{ok, _>>_, guard}
 use Rattle.logic.specs.promises.Refusal.{refusal}
 use Rattle.logic.specs.Formula.{never, prop, neg, both, does, next, gain, plan, earns, Node, depth, is-path, shallow, relation, nonnegative}
-use Rattle.logic.proofs.Checked.{not-ok, guard-passed}
-use Rattle.logic.proofs.Tests.{and-left, and-right, every-at}
+use Rattle.logic.proofs.Checked.{guard-other, guard-passed}
+use Rattle.logic.proofs.Tests.{and-left, and-right, and-both, every-at}
 use Rattle.blocks.specs.Bytes.{Bytes, within}
 use Rattle.blocks.specs.Block.{whole-blocks, sums-right, headed}
 use Rattle.questions.specs.Layout.{start-of, node-count, node-of, formulas-of, question-of}
 use Rattle.questions.specs.Grounds.{compares, gain-bound, plan-bound, plan-in-range, span, expected-bound, earns-in-range, node-in-range, spare-zero, formed, read-question}
 use Rattle.questions.specs.Children.{Reaches, All-reached, all-reached}
 use Rattle.questions.specs.promises.Formed.{Compares, GainRange, PlanRange, EarnsRange, InRange, Formed}
+use Rattle.questions.specs.promises.Used.{Downward}
 use Rattle.questions.specs.promises.Tables.{formulas-before}
 use Rattle.questions.proofs.TableNodeByNode.{one-block, by-operator, before-at, formula-here}
 use Rattle.questions.proofs.ChildrenMarked.{downward}
@@ -162,57 +163,64 @@ pub record Accepted (S A N : ℕ) (b : Bytes) : Type 0 where
   pub formed : Formed S A N b
   pub reached : All-reached b
 
+-- A question whose refusal is r, which is none of the numbers from 1 to 9: these grounds passed, and r is left to 13.
+record Before-13 (S A N : ℕ) (b : Bytes) (r : ℕ) : Type 0 where
+  ground-1 : whole-blocks 1 1 b ≡ true
+  ground-2 : sums-right b ≡ true
+  ground-3 : headed b 0 3 0 ≡ true
+  ground-4 : (ltb (start-of b) S && within 1 40 (node-count b)) ≡ true
+  ground-5 : every (node-count b) (λ i. node-in-range A N i (node-of b i)) ≡ true
+  ground-6 : spare-zero b ≡ true
+  ground-9 : formed (question-of b) ≡ true
+  last : refusal (guard 13 (all-reached b) >> ok (question-of b)) ≡ r
+
+before-13 : (S A N : ℕ) (b : Bytes) {r : ℕ} → ((k : ℕ) → 1 ≤ k → k ≤ 9 → k ≡ r → ⊥) → refusal (read-question S A N b) ≡ r → Before-13 S A N b r
+unfolding read-question
+before-13 S A N b n e =
+    let g1 = guard-other 1 (whole-blocks 1 1 b) _ (n 1 (omega arith) (omega arith)) e in
+    let g2 = guard-other 2 (sums-right b) _ (n 2 (omega arith) (omega arith)) (g1 .1) in
+    let g3 = guard-other 3 (headed b 0 3 0) _ (n 3 (omega arith) (omega arith)) (g2 .1) in
+    let g4 = guard-other 4 (ltb (start-of b) S && within 1 40 (node-count b)) _ (n 4 (omega arith) (omega arith)) (g3 .1) in
+    let g5 = guard-other 5 (every (node-count b) (λ i. node-in-range A N i (node-of b i))) _ (n 5 (omega arith) (omega arith)) (g4 .1) in
+    let g6 = guard-other 6 (spare-zero b) _ (n 6 (omega arith) (omega arith)) (g5 .1) in
+    let g9 = guard-other 9 (formed (question-of b)) _ (n 9 (omega arith) (omega arith)) (g6 .1) in
+    record { ground-1 = g1 .0; ground-2 = g2 .0; ground-3 = g3 .0; ground-4 = g4 .0; ground-5 = g5 .0; ground-6 = g6 .0; ground-9 = g9 .0; last = g9 .1 }
+
+module _ {S A N : ℕ} {b : Bytes} {r : ℕ} (g : Before-13 S A N b r) where
+  counted : within 1 40 (node-count b) ≡ true
+  counted = and-right (ltb (start-of b) S) (within 1 40 (node-count b)) (g .ground-4)
+
+  children-down : Downward b
+  children-down = downward A N b (at-most 1 40 (node-count b) counted) (in-range-all A N b (g .ground-5))
+
 pub accepted : (S A N : ℕ) (b : Bytes) → refusal (read-question S A N b) ≡ 0 → Accepted S A N b
 unfolding read-question formed question-of
 accepted S A N b e =
-    let g1 = guard-passed 0 (whole-blocks 1 1 b) _ e in
-    let g2 = guard-passed 1 (sums-right b) _ (g1 .1) in
-    let g3 = guard-passed 2 (headed b 0 3 0) _ (g2 .1) in
-    let g4 = guard-passed 3 (ltb (start-of b) S && within 1 40 (node-count b)) _ (g3 .1) in
-    let g5 = guard-passed 4 (every (node-count b) (λ i. node-in-range A N i (node-of b i))) _ (g4 .1) in
-    let g6 = guard-passed 5 (spare-zero b) _ (g5 .1) in
-    let g9 = guard-passed 8 (formed (question-of b)) _ (g6 .1) in
-    let g13 = guard-passed 12 (all-reached b) _ (g9 .1) in
-    let n = and-right (ltb (start-of b) S) (within 1 40 (node-count b)) (g4 .0) in
-    let range = in-range-all A N b (g5 .0) in
-    let root = not-true (is-path (question-of b .root)) (and-left (not (is-path (question-of b .root))) (all shallow (formulas-of b)) (g9 .0)) in
+    let g = before-13 S A N b (λ k h l z. omega (arith, h, z)) e in
+    let g13 = guard-passed 12 (all-reached b) _ (g .last) in
+    let f = and-both (not (is-path (question-of b .root))) (all shallow (formulas-of b)) (g .ground-9) in
     record {
-      size = one-block b (g1 .0);
-      read = rw (g1 .0, g2 .0, g3 .0, g4 .0, g5 .0, g6 .0, g9 .0, g13 .0) refl;
-      ground-9 = g9 .0;
+      size = one-block b (g .ground-1);
+      read = rw (g .ground-1, g .ground-2, g .ground-3, g .ground-4, g .ground-5, g .ground-6, g .ground-9, g13 .0) refl;
+      ground-9 = g .ground-9;
       formed =
           record {
-            starts = ltb-true (start-of b) S (and-left (ltb (start-of b) S) (within 1 40 (node-count b)) (g4 .0));
-            some-node = at-least 1 40 (node-count b) n;
-            few-nodes = at-most 1 40 (node-count b) n;
-            in-range = range;
-            root-state = root;
-            shallow = λ i h. every-at (λ i. shallow (getD (formulas-of b) i never)) (node-count b)
-                (sym (all-shallow b) ∙ and-right (not (is-path (question-of b .root))) (all shallow (formulas-of b)) (g9 .0)) h;
+            starts = ltb-true (start-of b) S (and-left (ltb (start-of b) S) (within 1 40 (node-count b)) (g .ground-4));
+            some-node = at-least 1 40 (node-count b) (counted g);
+            few-nodes = at-most 1 40 (node-count b) (counted g);
+            in-range = in-range-all A N b (g .ground-5);
+            root-state = not-true (is-path (question-of b .root)) (f .0);
+            shallow = λ i h. every-at (λ i. shallow (getD (formulas-of b) i never)) (node-count b) (sym (all-shallow b) ∙ f .1) h;
           };
-      reached = reached-exactly b (downward A N b (at-most 1 40 (node-count b) n) range) .0 (g13 .0);
+      reached = reached-exactly b (children-down g) .0 (g13 .0);
     }
 
--- A question refused with 13 has a node that is not reached: none of the grounds before 13 applies to it.
-pub leftover : (S A N : ℕ) (b : Bytes) → read-question S A N b ≡ refused 13 → (j : ℕ) × (j < node-count b) × (Reaches b (node-count b - 1) j → ⊥)
-unfolding read-question
-leftover S A N b e =
-    let g1 = later 1 (whole-blocks 1 1 b) _ (λ h. omega (arith, h)) e in
-    let g2 = later 2 (sums-right b) _ (λ h. omega (arith, h)) (g1 .1) in
-    let g3 = later 3 (headed b 0 3 0) _ (λ h. omega (arith, h)) (g2 .1) in
-    let g4 = later 4 (ltb (start-of b) S && within 1 40 (node-count b)) _ (λ h. omega (arith, h)) (g3 .1) in
-    let g5 = later 5 (every (node-count b) (λ i. node-in-range A N i (node-of b i))) _ (λ h. omega (arith, h)) (g4 .1) in
-    let g6 = later 6 (spare-zero b) _ (λ h. omega (arith, h)) (g5 .1) in
-    let g9 = later 9 (formed (question-of b)) _ (λ h. omega (arith, h)) (g6 .1) in
-    let few = at-most 1 40 (node-count b) (and-right (ltb (start-of b) S) (within 1 40 (node-count b)) (g4 .0)) in
-    unreached b (downward A N b few (in-range-all A N b (g5 .0))) (failed (all-reached b) (g9 .1))
+-- A question refused with 13 has a node that is not reached.
+pub leftover : (S A N : ℕ) (b : Bytes) → refusal (read-question S A N b) ≡ 13 → (j : ℕ) × (j < node-count b) × (Reaches b (node-count b - 1) j → ⊥)
+leftover S A N b e = let g = before-13 S A N b (λ k h l z. omega (arith, l, z)) e in unreached b (children-down g) (failed (all-reached b) (g .last))
   where
-    later : {A : Type 0} (k : ℕ) (t : Bool) (c : Checked A) → (k ≡ 13 → ⊥) → (guard k t >> c) ≡ refused 13 → (t ≡ true) × (c ≡ refused 13)
-    later k true c n e = (refl, e)
-    later k false c n e = absurd (n (let h : k ≡ 13 = cc in h))
-
-    failed : (t : Bool) → (guard 13 t >> ok (question-of b)) ≡ refused 13 → t ≡ false
-    failed true e = absurd (not-ok (sym e))
+    failed : (t : Bool) → refusal (guard 13 t >> ok (question-of b)) ≡ 13 → t ≡ false
+    failed true e = absurd (omega (arith, e))
     failed false e = refl
 
 -- ---- the formulas

@@ -1,7 +1,5 @@
 // Which nodes are used, and ground 13: a node that is not reached from the root by following children.
 ghost use mathlib.Core.Path.{_≡_};
-ghost use Prim.Native.Nat.{_<_};
-ghost use lib.ListN.{getD};
 ghost use Rattle.questions.specs.Layout.{node-of};
 ghost use Rattle.questions.specs.Children.{children};
 ghost use Rattle.questions.specs.Children as spec;
@@ -52,7 +50,8 @@ fn children_marked(b: &[u8]) -> [u8; NODES]
     marks
 }
 
-// Whether every node is reached from the root, where children have smaller numbers: whether every node before the root is some node's child.
+// Ground 13. Children have smaller numbers than their node (ground 5), so that from a node to a parent, to a parent of that and so on one comes
+// to the root: all nodes are reached if each before the root is some node's child.
 pub fn all_reached(b: &[u8]) -> bool
     requires { ⌜ Downward (now b) ⌝ }
     ensures value { λ r. ⌜ r ≡ spec.all-reached (now (b .entry)) ⌝ }

@@ -68,6 +68,15 @@ leftover =
     ∷ (56, 8 ∷ 2 ∷ 3 ∷ 2 ∷ 45 ∷ 0 ∷ 0 ∷ 0 ∷ 100 ∷ [])
     ∷ [])
 
+-- The same, and the node that nobody uses is a "plan" of one step over node 2, which looks two steps ahead: 9 comes before 13.
+unfoldable pub deep-leftover : Bytes
+deep-leftover =
+    block
+    ((0, 3 ∷ 0 ∷ 0 ∷ 5 ∷ [])
+    ∷ (8, 2 ∷ 0 ∷ 1 ∷ []) ∷ (20, 6 ∷ []) ∷ (32, 6 ∷ 0 ∷ 1 ∷ []) ∷ (44, 8 ∷ 1 ∷ 2 ∷ 3 ∷ 0 ∷ 0 ∷ 0 ∷ 0 ∷ 1 ∷ [])
+    ∷ (56, 8 ∷ 2 ∷ 2 ∷ 2 ∷ 45 ∷ 0 ∷ 0 ∷ 0 ∷ 100 ∷ [])
+    ∷ [])
+
 -- Propositions 0 and 1, "and" of both, "not". Proposition 1 is reached as the right child alone.
 unfoldable pub not-both : Bytes
 not-both = block ((0, 3 ∷ 0 ∷ 0 ∷ 4 ∷ []) ∷ (8, 2 ∷ []) ∷ (20, 2 ∷ 0 ∷ 1 ∷ []) ∷ (32, 4 ∷ 0 ∷ 0 ∷ 1 ∷ []) ∷ (44, 3 ∷ 0 ∷ 2 ∷ []) ∷ [])
@@ -134,6 +143,7 @@ table =
     ∷ row (two-shelf ++ first-gain) "yes -200/100 below plans 0 choices 0 2 0\n"
     ∷ row (two-shelf ++ not-both) "yes\n"
     ∷ row (two-shelf ++ leftover) "refused 13\n"
+    ∷ row (two-shelf ++ deep-leftover) "refused 9\n"
     ∷ row (two-shelf ++ replicate 512 1) "refused 2\n"
     ∷ row (without-wait [] ++ three-steps) "yes 720/1000 at plans 7 choices 1 2 255 2 1 2 0\n"
     ∷ row (without-wait (2 ∷ 10 ∷ []) ++ three-steps) "refused 6\n"
@@ -145,7 +155,7 @@ table =
     ∷ []
 
 chain-lines : map (λ r. answer-text verdict-says (r .input)) table ≡ map (λ r. text (r .printed)) table
-unfolding table block two-shelf question first-gain leftover not-both without-wait three-steps coins five-steps flatMap is-empty all any every find keep product join count-from tabulate no-action true-of contradict mask prop-in enabled-actions deadlocked enabled stored outcomes sum related plans choices paths weight nonnegative relation formula-of formulas depth is-path shallow total one-if gain-between sat meets compared lamp leads is-equal bound-of goal shown leader verdict path-total multiply plan-total every-plan limits u16 u32 signed i16 i32 little-endian zeros within sum-below block-count whole-blocks word-sum sums-right headed literals state-mask pre-of post-count post-of cell-at outcome-of entries model-of kinds-right sizes-right mask-in-range literals-in-range action-in-range outcome-in-range cell-in-range fields-right action-spare head-spare row-spare rows-spare cell-spare cells-spare posts-contradict cell-consistent consistent read-model node-of formulas-of question-of compares gain-bound plan-bound plan-in-range span expected-bound earns-in-range node-in-range node-spare spare-zero formed children reaches all-reached read-question with-word-sum splice text decimal decimal-in signed-decimal refused-line plain-line lamp-word optional-word no-plans-line yes-plan-line bounds-plans verdict-line judged-text line-of answer-text
+unfolding table block two-shelf question first-gain leftover deep-leftover not-both without-wait three-steps coins five-steps flatMap is-empty all any every find keep product join count-from tabulate no-action true-of contradict mask prop-in enabled-actions deadlocked enabled stored outcomes sum related plans choices paths weight nonnegative relation formula-of formulas depth is-path shallow total one-if gain-between sat meets compared lamp leads is-equal bound-of goal shown leader verdict path-total multiply plan-total every-plan limits u16 u32 signed i16 i32 little-endian zeros within sum-below block-count whole-blocks word-sum sums-right headed literals state-mask pre-of post-count post-of cell-at outcome-of entries model-of kinds-right sizes-right mask-in-range literals-in-range action-in-range outcome-in-range cell-in-range fields-right action-spare head-spare row-spare rows-spare cell-spare cells-spare posts-contradict cell-consistent consistent read-model node-of formulas-of question-of compares gain-bound plan-bound plan-in-range span expected-bound earns-in-range node-in-range node-spare spare-zero formed children reaches all-reached read-question with-word-sum splice text decimal decimal-in signed-decimal refused-line plain-line lamp-word optional-word no-plans-line yes-plan-line bounds-plans verdict-line judged-text line-of answer-text
 chain-lines = refl
 
 map-same : {A B : Type 0} {f g : A → B} → ((x : A) → f x ≡ g x) → (l : List A) → map f l ≡ map g l

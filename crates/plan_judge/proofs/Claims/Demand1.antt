@@ -46,7 +46,7 @@ pub record Refused (d : Desk) (c : Call) (r : Reply) (e : Desk) (k : ℕ) : Type
   pub same-desk : e ≡ d
   -- "and each lent buffer"
   pub same-buffer : r .buffer ≡ lent c
-  -- a number that document 01 lists for this call
+  -- a number that the documents list for this call
   pub number : any (eqb k) (listed c) ≡ true
 
 pub record Demand-1 : Type 0 where

@@ -34,7 +34,7 @@ told-on size m q = do
   limits m (q .nodes)
   told-of (q .start) size (verdict m (q .start) (q .root))
 
--- The whole: grounds 1 to 7 of the model, 1 to 6 and 9 of the question, 24 and 25, and 12 last.
+-- The whole: grounds 1 to 7 of the model, 1 to 6, 9 and 13 of the question, 24 and 25, and 12 last.
 unfoldable pub c-chain : (model question : Bytes) (size : ℕ) → Checked Told
 c-chain model question size = do
   m ← read-model model

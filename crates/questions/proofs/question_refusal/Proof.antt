@@ -10,7 +10,7 @@ use Rattle.logic.specs.Grounds.{decided}
 use Rattle.logic.specs.Formula.{depth}
 use Rattle.logic.specs.promises.Refusal.{refusal}
 use Rattle.logic.proofs.Tests.{and-right}
-use Rattle.blocks.specs.Bytes.{Bytes, within}
+use Rattle.blocks.specs.Bytes.{within}
 use Rattle.blocks.proofs.GroundByGround.{passed, goes-on, stops}
 use Rattle.questions.specs.Layout.{Question, start-of, node-count, formulas-of, question-of}
 use Rattle.questions.specs.Grounds.{question-grounds, read-question}

@@ -1,4 +1,4 @@
--- How the code finds the nodes that are reached: it marks the children of all nodes.
+-- How the code finds out whether all nodes are reached: it marks the children of all nodes.
 use Prim.Native.Nat.{ℕ, _≤_, _<_}
 use mathlib.Core.Path.{_≡_}
 use mathlib.Core.Logic.{_↔_}
