@@ -25,7 +25,7 @@ delivered =
       demand-2 = λ session h. demand-2-always session (code-yields session h);
       demand-3 = λ session h. demand-3-always session (code-yields session h);
       held-reached = held-reached;
-      others-not-held = λ d m h n a l. others-not-held d m h n (demand-1-of-the-code .its-result a) l;
+      others-not-held = λ d m h n {c} a l. others-not-held d m h n c (demand-1-of-the-code .its-result a) l;
       c-call = c-call-told;
       shown-choices = shown-choices-told;
     }

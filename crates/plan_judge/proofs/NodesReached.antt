@@ -41,5 +41,5 @@ module _ (d : Desk) (m : Model) (e : (view d) .model ≡ some m) (n : All-reache
   not-held none h = refl
   not-held (some q) h = absurd (n (held-reached d q h))
 
-  pub others-not-held : {c : Call} {r : Reply} → r ≡ yields (view d) c → any (eqb 21) (listed c) ≡ true → r .answer ≡ refuse 21
-  others-not-held {c} h l = ap (λ r. r .answer) h ∙ asks-question (view d) m e (not-held ((view d) .question) refl) c l
+  pub others-not-held : (c : Call) {r : Reply} → r ≡ yields (view d) c → any (eqb 21) (listed c) ≡ true → r .answer ≡ refuse 21
+  others-not-held c h l = ap (λ r. r .answer) h ∙ asks-question (view d) m e (not-held ((view d) .question) refl) c l
