@@ -150,11 +150,13 @@ fn question_ranges() {
 
 #[test]
 fn question_sizes() {
-    let falses =
-        |count: usize| -> String { (0..count).map(|own| format!("{own} false\n")).collect() };
-    assert_eq!(put("start 0", &falses(40)), 0);
-    assert_eq!(put("start 0 nodes 41", &falses(40)), 4);
-    assert_eq!(put("start 0 nodes 39", &falses(40)), 6);
+    let nots = |count: usize| -> String {
+        let more = (1..count).map(|own| format!("{own} not {}\n", own - 1));
+        "0 false\n".to_string() + &more.collect::<String>()
+    };
+    assert_eq!(put("start 0", &nots(40)), 0);
+    assert_eq!(put("start 0 nodes 41", &nots(40)), 4);
+    assert_eq!(put("start 0 nodes 39", &nots(40)), 6);
     assert_eq!(put("start 0", ""), 4);
     assert_eq!(put("start 2", "0 false"), 0);
     assert_eq!(put("start 3", "0 false"), 4);
@@ -164,11 +166,11 @@ fn question_sizes() {
 #[test]
 fn depths() {
     for steps in 1..=6 {
-        let nexts: String = (1..=6)
-            .map(|own| format!("{own} next {}\n", own - 1))
-            .collect();
         for depth in 0..=6 {
-            let nodes = format!("0 proposition 0\n{nexts}7 plan {depth} steps {steps} less 1/2");
+            let nexts = (1..=depth).map(|own| format!("{own} next {}\n", own - 1));
+            let nexts: String = nexts.collect();
+            let root = format!("{} plan {depth} steps {steps} less 1/2", depth + 1);
+            let nodes = format!("0 proposition 0\n{nexts}{root}");
             let wanted = if depth <= steps { 0 } else { 9 };
             assert_eq!(put("start 0", &nodes), wanted, "{depth} {steps}");
             let deep = format!("0 gain {} steps less 0\n1 not 0\n", depth.max(1));

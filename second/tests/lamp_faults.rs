@@ -110,16 +110,17 @@ const TOLD: [Row; 24] = [
         operators: BOTH,
         faults: &[Fault::FromStateZero],
     },
+    // A root of operator 9 has no child, and so no plan stands below it.
     Row {
         streams: VERDICTS,
         answers: &[YES, NO],
-        operators: BOTH,
+        operators: &[8],
         faults: &[Fault::OfThePlanBelow, Fault::OtherBound],
     },
     Row {
         streams: &[("sheets", 40)],
         answers: &[CHECK],
-        operators: BOTH,
+        operators: &[8],
         faults: &[Fault::OtherBound],
     },
     // A sheet after a yes, and after a no.

@@ -218,9 +218,13 @@ fn wrong_totals(total: i128) -> impl Iterator<Item = u64> {
 /// Each stream reaches the grounds that it is made for.
 #[test]
 fn grounds_reached() {
-    let wanted: [(&str, &str, &[u8]); 6] = [
+    let wanted: [(&str, &str, &[u8]); 10] = [
         ("models", "load", &[0, 1, 2, 3, 4, 5, 6, 7]),
-        ("questions", "put", &[0, 1, 2, 3, 4, 5, 6, 9, 20]),
+        ("questions", "put", &[0, 1, 2, 3, 4, 5, 6, 9, 13, 20]),
+        ("judges", "put", &[0, 13]),
+        ("small", "put", &[0, 13]),
+        ("sheets", "put", &[0, 13]),
+        ("lists", "put", &[0, 5, 6, 9, 13, 20]),
         ("judges", "judge", &[0, 24, 25]),
         ("sheets", "check", &[0, 1, 2, 3, 4, 5, 6, 10, 11, 20, 22]),
         ("sheets", "write", &[0, 12, 20, 22, 23]),

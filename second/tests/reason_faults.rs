@@ -34,7 +34,7 @@ const SIDES: &[&str] = &["below", "above"];
 const NONE: &[&str] = &["below none", "above none"];
 const BOTH: &[u8] = &[8, 9];
 
-const TOLD: [Row; 37] = [
+const TOLD: [Row; 38] = [
     // Which plan of several, and which total.
     Row {
         lines: PLANS,
@@ -185,7 +185,14 @@ const TOLD: [Row; 37] = [
         lines: &["below", "above", "below none", "above none"],
         operators: BOTH,
         fewest: 4,
-        faults: &[Fault::DistanceCut, Fault::OtherBound],
+        faults: &[Fault::DistanceCut],
+    },
+    // A root of operator 9 has no child, and so no other plan stands beside it.
+    Row {
+        lines: &["below", "above", "below none", "above none"],
+        operators: &[8],
+        fewest: 4,
+        faults: &[Fault::OtherBound],
     },
     Row {
         lines: &["below", "above", "below none", "above none"],
@@ -317,7 +324,7 @@ const TOLD: [Row; 37] = [
     },
     Row {
         lines: PLANS,
-        operators: BOTH,
+        operators: &[8],
         fewest: 1,
         faults: &[Fault::FirstNodeExplained],
     },
@@ -394,6 +401,7 @@ fn handmade_lines_tell_faults() {
     let folders = [
         "coin",
         "lamps",
+        "leftovers",
         "limits",
         "mary",
         "refusals",

@@ -35,7 +35,7 @@ pub fn lists(rng: &mut Rng, count: usize) -> Vec<Call> {
     while calls.len() < count {
         let pool = pool(rng);
         let mut last_put = 0;
-        for _ in 0..rng.range(20, 60) {
+        for _ in 0..rng.range(16, 48) {
             calls.push(call(rng, &pool, &mut last_put));
         }
     }
@@ -81,7 +81,7 @@ fn pool(rng: &mut Rng) -> Pool {
 
 /// Adds a model with questions whose bounds lie next to plans' totals.
 fn add_lamps(rng: &mut Rng, pool: &mut Pool) {
-    let Some(cases) = cases(rng, 2) else {
+    let Some(cases) = cases(rng, 3) else {
         return;
     };
     pool.loads.push(cases.model);

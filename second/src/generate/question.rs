@@ -38,7 +38,7 @@ pub fn random_question(rng: &mut Rng, model: &Model, totals: &Totals, scale: Sca
         21 => drawer.tower(),
         22 => drawer.chain(),
         23 => drawer.shared(),
-        _ if silent && drawer.rng.below(8) < 3 => drawer.about_silent_steps(),
+        _ if silent && drawer.rng.below(16) < 7 => drawer.about_silent_steps(),
         _ => drawer.any_root(),
     };
     drawer.question.nodes.push(root);

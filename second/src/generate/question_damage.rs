@@ -67,6 +67,7 @@ pub(super) const HARMS: &[Harm] = &[
     gain_ends,
     expected_root,
     expected_root,
+    expected_root,
     expected_anywhere,
     |rng, draft| draft.patches.spoil(rng, 4..8),
     |rng, draft| draft.patches.spoil(rng, 488..510),

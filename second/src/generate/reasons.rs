@@ -42,7 +42,7 @@ pub fn reasons(rng: &mut Rng, count: usize) -> Vec<Call> {
         for _ in 0..4 {
             if let Some(asked) = drawn.question(rng) {
                 let refused = left_over(rng, &asked, &drawn.model);
-                calls.extend(refused.filter(|_| rng.once_in(32)).map(Call::Put));
+                calls.extend(refused.filter(|_| rng.once_in(48)).map(Call::Put));
                 let packed = QuestionImage::from(&asked).pack();
                 calls.extend([Call::Put(packed), Call::Judge]);
             }
@@ -72,7 +72,7 @@ struct Drawn {
 
 impl Drawn {
     fn any(rng: &mut Rng) -> Option<Drawn> {
-        let (bytes, source) = match rng.below(48) {
+        let (bytes, source) = match rng.below(49) {
             0..=14 => (tossed(rng), Source::Steps(&[1, 2, 3, 3, 3])),
             15..=23 => (stairs(rng), Source::Steps(&[1, 1, 2, 3, 4, 5, 5])),
             24..=30 => (small_model(rng), Source::Steps(&[2, 3, 3])),
@@ -101,7 +101,7 @@ impl Drawn {
         let mut asked = self.unbound(rng)?;
         let mut root = self.rebound(rng, &asked)?;
         asked.nodes.pop();
-        if rng.once_in(5) {
+        if rng.once_in(4) {
             let other = self.rebound(rng, &with_root(&asked, root))?;
             root = self.beside(&mut asked, root, other);
         }

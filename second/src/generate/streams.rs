@@ -111,7 +111,9 @@ pub(super) fn one_left_over() -> Vec<u8> {
 /// on what the desk still holds. The question itself is put next: it is the same
 /// without the leftovers.
 fn now_and_then_left_over(rng: &mut Rng, question: &Question, model: &Model) -> Vec<Call> {
-    let refused = rng.once_in(12).then(|| left_over(rng, question, model));
+    // There are few with so many nodes that a mark in 32 bits is not enough.
+    let times = if question.nodes.len() > 32 { 3 } else { 14 };
+    let refused = rng.once_in(times).then(|| left_over(rng, question, model));
     let Some(refused) = refused.flatten() else {
         return Vec::new();
     };
@@ -168,7 +170,7 @@ pub fn judges(rng: &mut Rng, count: usize) -> Vec<Call> {
         if rng.once_in(16) {
             calls.extend(pitfalls(rng));
         }
-        if rng.once_in(16) {
+        if rng.once_in(14) {
             calls.extend(lamps(rng));
         }
     }
@@ -276,7 +278,7 @@ pub fn sheets(rng: &mut Rng, count: usize) -> Vec<Call> {
         };
         calls.push(Call::Put(QuestionImage::from(&question).pack()));
         calls.extend(sheet_calls(rng, &model, &question, &totals, turn));
-        if let Some(refused) = left_over(rng, &question, &model).filter(|_| turn % 3 == 0) {
+        if let Some(refused) = left_over(rng, &question, &model).filter(|_| turn % 6 == 0) {
             // The verdict and the question stay, and so do their sheets' answers.
             calls.extend([Call::Put(refused), canary(rng), Call::Judge]);
             let sheet = any_sheet(rng, &model, &question, &totals, turn);
@@ -469,7 +471,7 @@ pub fn small(rng: &mut Rng, count: usize) -> Vec<Call> {
         if rng.once_in(12) {
             calls.extend(pitfalls(rng));
         }
-        if rng.once_in(12) {
+        if rng.once_in(11) {
             calls.extend(lamps(rng));
         }
     }

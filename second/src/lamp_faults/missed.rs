@@ -7,6 +7,9 @@ use std::cell::OnceCell;
 
 /// The totals of more (plan, path) pairs than this are not listed.
 const AFFORDABLE: u64 = 20_000;
+/// Nor those of conditions that have more nodes than this when they are followed
+/// as trees, once for each pair: a tower of "and" has far more.
+const AFFORDABLE_NODES: u128 = 1_000_000;
 
 /// The best total of a node's plans from the question's start; 0 for "equal".
 pub(super) fn best(model: &Model, question: &Question, node: PlanNode) -> i128 {
@@ -124,7 +127,8 @@ impl<'a> Missed<'a> {
         let pairs = totals.plans(steps, start);
         let pairs = pairs.saturating_mul(totals.paths(steps, start));
         let mut found = Vec::new();
-        if pairs > AFFORDABLE || !self.is_alone() {
+        let nodes = plain::cost(model, question, &totals);
+        if pairs > AFFORDABLE || nodes > AFFORDABLE_NODES || !self.is_alone() {
             return found;
         }
         let mut plan = Plan::first(model, start, steps);
