@@ -145,7 +145,7 @@ const TOLD: [Row; 24] = [
         faults: &[Fault::PathsEnd],
     },
     Row {
-        streams: &[("small", 5), ("judges", 2)],
+        streams: &[("small", 3), ("judges", 2)],
         answers: &[NO],
         operators: BOTH,
         faults: &[Fault::SilentPassedOver],

@@ -60,7 +60,6 @@ const TOLD: [Row; 13] = [
             ("judges", 40),
             ("sheets", 20),
             ("lists", 40),
-            ("reasons", 2),
         ],
         call: "put",
         faults: &[
@@ -108,7 +107,13 @@ const TOLD: [Row; 13] = [
         ],
     },
     Row {
-        streams: &[("questions", 20), ("small", 10), ("judges", 40), ("sheets", 2), ("lists", 10)],
+        streams: &[
+            ("questions", 20),
+            ("small", 10),
+            ("judges", 40),
+            ("sheets", 2),
+            ("lists", 10),
+        ],
         call: "put",
         faults: &[Fault::ThirtyLevels],
     },
@@ -167,7 +172,12 @@ const TOLD: [Row; 13] = [
         faults: &[Fault::RefusedHeld],
     },
     Row {
-        streams: &[("small", 20), ("judges", 20), ("sheets", 20), ("lists", 100)],
+        streams: &[
+            ("small", 20),
+            ("judges", 20),
+            ("sheets", 20),
+            ("lists", 100),
+        ],
         call: "check",
         faults: &[
             Fault::ModelDropped,
@@ -189,7 +199,7 @@ const STREAMS: [(&str, usize); 6] = [
     ("judges", 50_000),
     ("sheets", 50_000),
     ("lists", 50_000),
-    ("reasons", 8_000),
+    ("reasons", 9_000),
 ];
 
 #[test]

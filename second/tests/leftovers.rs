@@ -18,7 +18,9 @@ fn two_shelf() -> Vec<u8> {
 
 fn packed(nodes: &[&str]) -> Vec<u8> {
     let numbered = nodes.iter().enumerate();
-    let lines: String = numbered.map(|(own, node)| format!("{own} {node}\n")).collect();
+    let lines: String = numbered
+        .map(|(own, node)| format!("{own} {node}\n"))
+        .collect();
     pack_text(&format!("question start 0\n{lines}")).expect("text")
 }
 
@@ -50,7 +52,10 @@ fn children_by_operator() {
         (&["false", "next 0", "plan 1 steps 1 less 1/2"], 0),
         (&["false", "do 0", "plan 1 steps 1 less 1/2"], 13),
         (&["do 0", "plan 0 steps 1 less 1/2"], 0),
-        (&["false", "gain 1 steps less 0", "plan 1 steps 1 less 1/2"], 13),
+        (
+            &["false", "gain 1 steps less 0", "plan 1 steps 1 less 1/2"],
+            13,
+        ),
         (&["gain 1 steps less 0", "plan 0 steps 1 less 1/2"], 0),
         (&["plan gain 1 to 1 steps 1 less 1/2"], 0),
         (&["plan gain 1 to 1 steps 1 less 1/2", "not 0"], 0),

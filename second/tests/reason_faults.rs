@@ -16,7 +16,7 @@ const STREAMS: [(&str, usize, usize); 4] = [
     ("small", 50_000, 400),
     ("judges", 50_000, 400),
     ("tight", 13_000, 800),
-    ("reasons", 8_000, 2_000),
+    ("reasons", 9_000, 2_250),
 ];
 
 /// The kinds of lines that faults change, the operators of the root, and the

@@ -215,8 +215,8 @@ fn unreadable_lines() {
 fn stream_has_every_line() {
     for seed in 1..=3 {
         let counts = reason_tally(&pairs(
-            &stream("reasons", seed, 8_000).expect("kind"),
-            2_000,
+            &stream("reasons", seed, 9_000).expect("kind"),
+            2_250,
         ));
         let reached = |words: String, fewest: usize| {
             let count = counts.get(&words).copied().unwrap_or(0);

@@ -49,6 +49,8 @@ pub(super) fn cases(rng: &mut Rng, questions: usize) -> Option<Cases> {
 pub(super) fn small_model(rng: &mut Rng) -> Vec<u8> {
     let base = rng.range(3, 10);
     let rolls = rng.once_in(3);
+    // In some models nothing is earned, so that all totals of gains are below 0.
+    let most = if rng.once_in(3) { 3 } else { 6 };
     let mut text = format!("model D {base}\nproposition 0 up\nproposition 1 gone\n");
     text += "state 0:\nstate 1: up\nstate 2: gone\n";
     for action in 0..2 {
@@ -60,7 +62,7 @@ pub(super) fn small_model(rng: &mut Rng) -> Vec<u8> {
             let gone = if rolls { rng.range(1, base - 2) } else { 0 };
             let up = rng.range(1, base - gone - 1);
             let down = base - gone - up;
-            let mut reward = || rng.range(0, 6) as i32 - 3;
+            let mut reward = || rng.range(0, most) as i32 - 3;
             let (won, lost, rolled) = (reward(), reward(), reward());
             text += &format!("outcome {state} {action}: 1 weight {up} reward {won}, ");
             text += &format!("0 weight {down} reward {lost}");

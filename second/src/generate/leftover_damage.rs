@@ -63,12 +63,21 @@ fn out_of_range(rng: &mut Rng, own: u8) -> NodeImage {
     let wrong = [
         with(0),
         with(10),
-        NodeImage { left: 32, ..with(2) },
+        NodeImage {
+            left: 32,
+            ..with(2)
+        },
         NodeImage { left: 8, ..with(5) },
         NodeImage { left, ..with(3) },
         NodeImage { left, ..with(6) },
-        NodeImage { right: left, ..with(4) },
-        NodeImage { right: 4, ..plan(0, 1) },
+        NodeImage {
+            right: left,
+            ..with(4)
+        },
+        NodeImage {
+            right: 4,
+            ..plan(0, 1)
+        },
         plan(0, 7),
         plan(left, 6),
         NodeImage { p: 3, ..plan(0, 1) },

@@ -252,7 +252,15 @@ fn long_plan(rng: &mut Rng, image: &QuestionImage) -> Option<QuestionImage> {
         false => {
             let left = rng.below(place.into()) as u8;
             let operator = 8;
-            inserted(image, place, NodeImage { operator, left, ..gains })
+            inserted(
+                image,
+                place,
+                NodeImage {
+                    operator,
+                    left,
+                    ..gains
+                },
+            )
         }
     }
 }

@@ -35,7 +35,7 @@ pub fn lists(rng: &mut Rng, count: usize) -> Vec<Call> {
     while calls.len() < count {
         let pool = pool(rng);
         let mut last_put = 0;
-        for _ in 0..rng.range(16, 48) {
+        for _ in 0..rng.range(20, 60) {
             calls.push(call(rng, &pool, &mut last_put));
         }
     }
@@ -49,7 +49,7 @@ fn pool(rng: &mut Rng) -> Pool {
         left_over: Vec::new(),
         sheets: Vec::new(),
     };
-    if rng.once_in(2) {
+    if rng.below(5) < 2 {
         add_lamps(rng, &mut pool);
     }
     for turn in 0..2 {
@@ -66,7 +66,7 @@ fn pool(rng: &mut Rng) -> Pool {
                 let sheet = any_sheet(rng, &model, &question, &totals, harm);
                 pool.sheets.push((place, sheet));
             }
-            if rng.once_in(6) {
+            if rng.once_in(14) {
                 stretch(rng, &mut question, &model, &totals);
             }
             pool.left_over.extend(left_over(rng, &question, &model));
@@ -81,7 +81,7 @@ fn pool(rng: &mut Rng) -> Pool {
 
 /// Adds a model with questions whose bounds lie next to plans' totals.
 fn add_lamps(rng: &mut Rng, pool: &mut Pool) {
-    let Some(cases) = cases(rng, 3) else {
+    let Some(cases) = cases(rng, 2) else {
         return;
     };
     pool.loads.push(cases.model);

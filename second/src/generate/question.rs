@@ -30,15 +30,15 @@ pub fn random_question(rng: &mut Rng, model: &Model, totals: &Totals, scale: Sca
         },
     };
     let silent = (0..model.states()).any(|state| model.is_silent(state as u8));
-    let root = match drawer.rng.below(46) {
-        0..=11 => drawer.gains_root(),
-        12..=16 => drawer.about_gains(),
-        17..=18 => drawer.one_window(),
-        19..=20 => drawer.left_of_an_and(),
-        21 => drawer.tower(),
-        22 => drawer.chain(),
-        23 => drawer.shared(),
-        _ if silent && drawer.rng.below(16) < 7 => drawer.about_silent_steps(),
+    let root = match drawer.rng.below(49) {
+        0..=13 => drawer.gains_root(),
+        14..=18 => drawer.about_gains(),
+        19..=21 => drawer.one_window(),
+        22..=23 => drawer.left_of_an_and(),
+        24 => drawer.tower(),
+        25 => drawer.chain(),
+        26 => drawer.shared(),
+        _ if silent && drawer.rng.below(16) < 8 => drawer.about_silent_steps(),
         _ => drawer.any_root(),
     };
     drawer.question.nodes.push(root);

@@ -31,11 +31,10 @@ impl Drawer<'_> {
         let joined = Node::And(left + 1, left + 2);
         self.question.nodes.extend([doubled, node, both, joined]);
         let last = left + 3;
-        match self.rng.below(4) {
+        match self.rng.below(6) {
             0 => Node::Not(last),
             1 => Node::And(last, left + 1),
-            2 => surely(last, Relation::Less),
-            _ => surely(last, Relation::Greater),
+            _ => surely(last, self.relation()),
         }
     }
 
@@ -113,7 +112,7 @@ impl Drawer<'_> {
             self.question.nodes.push(Node::And(0, 1));
         }
         match kind {
-            0 => surely(2, relation),
+            0 => surely(2, self.relation()),
             1 => Node::Not(2),
             _ => Node::And(0, 1),
         }

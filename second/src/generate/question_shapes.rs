@@ -26,7 +26,11 @@ enum Link {
 impl Drawer<'_> {
     /// The last node, or none where there is none.
     fn last(&self) -> Option<u8> {
-        self.question.nodes.len().checked_sub(1).map(|own| own as u8)
+        self.question
+            .nodes
+            .len()
+            .checked_sub(1)
+            .map(|own| own as u8)
     }
 
     fn has_room(&self, more: usize) -> bool {
@@ -131,7 +135,7 @@ impl Drawer<'_> {
         self.question.nodes.push(plan);
         let plan = self.question.root() as u8;
         self.join(shared, plan);
-        match self.rng.below(3) {
+        match self.rng.below(6) {
             0 => Node::Not(self.question.root() as u8),
             1 => Node::And(plan, self.question.root() as u8),
             _ => {
@@ -151,7 +155,13 @@ impl Drawer<'_> {
     /// links of one kind or of all. Its truth is that of a plan at its bottom, or
     /// the contrary.
     pub(super) fn chain(&mut self) -> Node {
-        let all = [Link::Not, Link::Left, Link::Right, Link::Plan, Link::Doubled];
+        let all = [
+            Link::Not,
+            Link::Left,
+            Link::Right,
+            Link::Plan,
+            Link::Doubled,
+        ];
         let kind = self.rng.pick(&all).filter(|_| !self.rng.once_in(4));
         // Node 1 is true, for the links that need such a one.
         self.question.nodes.extend([Node::False, Node::Not(0)]);
@@ -168,19 +178,16 @@ impl Drawer<'_> {
             self.add_link(link);
         }
         let last = self.question.root() as u8;
-        match self.rng.below(3) {
+        match self.rng.below(6) {
             0 => Node::Not(last),
             1 => Node::And(last, last),
-            _ => surely(last, Relation::Greater),
+            _ => surely(last, self.relation()),
         }
     }
 
     fn add_link(&mut self, link: Link) {
         let last = self.question.root() as u8;
-        let relation = match self.rng.once_in(2) {
-            true => Relation::Greater,
-            false => Relation::Less,
-        };
+        let relation = self.relation();
         self.question.nodes.push(match link {
             Link::Not => Node::Not(last),
             Link::Left => Node::And(last, 1),
@@ -194,10 +201,11 @@ impl Drawer<'_> {
 /// Whether a state formula is true now, asked of a plan of one step: its paths
 /// have all the weight or none. "Less" asks whether it is false.
 pub(super) fn surely(condition: u8, relation: Relation) -> Node {
+    let q = if relation == Relation::Equal { 1 } else { 2 };
     Node::Plan(PlanNode {
         steps: 1,
         summed: Summed::Weights { condition },
         relation,
-        bound: Bound { p: 1, q: 2 },
+        bound: Bound { p: 1, q },
     })
 }

@@ -32,7 +32,7 @@ pub fn reasons(rng: &mut Rng, count: usize) -> Vec<Call> {
             continue;
         };
         calls.push(Call::Load(drawn.bytes.clone()));
-        if rng.once_in(6) {
+        if rng.once_in(8) {
             let packed = any_question(rng, &drawn.model, &drawn.totals, calls.len());
             let read = read_question(&packed, &drawn.model);
             if read.map_or(true, |asked| drawn.affords(&asked)) {
@@ -72,9 +72,9 @@ struct Drawn {
 
 impl Drawn {
     fn any(rng: &mut Rng) -> Option<Drawn> {
-        let (bytes, source) = match rng.below(49) {
+        let (bytes, source) = match rng.below(50) {
             0..=14 => (tossed(rng), Source::Steps(&[1, 2, 3, 3, 3])),
-            15..=23 => (stairs(rng), Source::Steps(&[1, 1, 2, 3, 4, 5, 5])),
+            15..=23 => (stairs(rng), Source::Steps(&[1, 2, 3, 4, 5, 5, 5])),
             24..=30 => (small_model(rng), Source::Steps(&[2, 3, 3])),
             31..=41 => {
                 let size = match rng.once_in(3) {
@@ -99,13 +99,14 @@ impl Drawn {
     /// not the root, or another one stands before it.
     fn question(&self, rng: &mut Rng) -> Option<Question> {
         let mut asked = self.unbound(rng)?;
-        let mut root = self.rebound(rng, &asked)?;
+        let root = self.rebound(rng, &asked)?;
         asked.nodes.pop();
-        if rng.once_in(4) {
-            let other = self.rebound(rng, &with_root(&asked, root))?;
-            root = self.beside(&mut asked, root, other);
-        }
         asked.nodes.push(Node::Plan(root));
+        if rng.once_in(3) {
+            let other = self.rebound(rng, &asked)?;
+            let wider = self.beside(&asked, root, other);
+            asked = wider.filter(|wider| self.is_quick(wider)).unwrap_or(asked);
+        }
         let plan = asked.root() as u8;
         match rng.below(24) {
             0 => asked.nodes.push(Node::And(plan, plan)),
@@ -116,26 +117,38 @@ impl Drawn {
         self.affords(&asked).then_some(asked)
     }
 
-    /// The root with a condition that also asks, at the start of each path,
-    /// whether the other plan is met, or that it is not: what is so. The totals
-    /// stay what they are. A root of operator 9 has no condition, and no other
-    /// plan beside it.
-    fn beside(&self, asked: &mut Question, root: PlanNode, other: PlanNode) -> PlanNode {
-        let Summed::Weights { condition } = root.summed else {
-            return root;
-        };
-        let judged = fast::judge(&self.model, &with_root(asked, other), &self.totals);
-        asked.nodes.push(Node::Plan(other));
+    /// The question with a condition that also asks, at the start of each path,
+    /// whether some plan of one step does what cannot be done with the other
+    /// root's bound, or that none does: what is so. The totals stay what they are.
+    /// A root of operator 9 has no condition, and no other plan beside it.
+    fn beside(&self, asked: &Question, root: PlanNode, other: PlanNode) -> Option<Question> {
+        let mut wider = asked.clone();
+        wider.nodes.pop();
+        let condition = root.condition()? as u8;
+        let never = wider.nodes.len() as u8;
+        wider.nodes.push(Node::False);
+        wider.nodes.push(Node::Plan(PlanNode {
+            steps: 1,
+            summed: Summed::Weights { condition: never },
+            ..other
+        }));
+        let judged = fast::judge(&self.model, &wider, &self.totals);
         if let Verdict::No { .. } = judged.verdict {
-            asked.nodes.push(Node::Not(asked.root() as u8));
+            wider.nodes.push(Node::Not(wider.root() as u8));
         }
-        let both = Node::And(condition, asked.root() as u8);
-        asked.nodes.push(both);
-        let condition = asked.root() as u8;
-        PlanNode {
+        let both = Node::And(condition, wider.root() as u8);
+        wider.nodes.push(both);
+        let condition = wider.root() as u8;
+        wider.nodes.push(Node::Plan(PlanNode {
             summed: Summed::Weights { condition },
             ..root
-        }
+        }));
+        Some(wider)
+    }
+
+    /// Whether its plans can be listed in many ways, as `reason_faults` does.
+    fn is_quick(&self, asked: &Question) -> bool {
+        plain::cost(&self.model, asked, &self.totals) <= AFFORDABLE
     }
 
     /// Whether a block has room for the question and the plain judge can answer
@@ -149,7 +162,10 @@ impl Drawn {
         if let Source::Random = self.source {
             return Some(random_question(rng, &self.model, &self.totals, FEW));
         }
-        let all = ["less", "equal", "equal", "greater"];
+        // A greatest total below 0 is rarer than a least one.
+        let all = [
+            "less", "less", "equal", "equal", "equal", "equal", "greater", "greater", "greater",
+        ];
         let relation = rng.pick_or(&all, "equal");
         let mut nodes = match self.source {
             Source::Random => Vec::new(),
@@ -256,12 +272,6 @@ fn far(rng: &mut Rng) -> Bound {
         p: rng.pick_or(&[p, -p, 6_000_000, -6_000_000], p),
         q: rng.pick_or(&[1000, 1000, 999], 1000),
     }
-}
-
-fn with_root(asked: &Question, root: PlanNode) -> Question {
-    let mut asked = asked.clone();
-    asked.nodes.push(Node::Plan(root));
-    asked
 }
 
 /// A condition that some plan of one step meets its bound in the state reached

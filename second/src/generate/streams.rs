@@ -188,7 +188,7 @@ fn judged_question(rng: &mut Rng, model: &Model, totals: &Totals) -> Question {
         _ => SMALL,
     };
     let mut question = random_question(rng, model, totals, scale);
-    if rng.once_in(9) {
+    if rng.once_in(30) {
         stretch(rng, &mut question, model, totals);
     }
     question
@@ -201,7 +201,8 @@ pub(super) fn stretch(rng: &mut Rng, question: &mut Question, model: &Model, tot
         .map(|state| totals.paths(6, state))
         .max()
         .unwrap_or(0);
-    let place = rng.below(question.nodes.len());
+    let plans: Vec<usize> = question.plan_nodes().map(|(number, _)| number).collect();
+    let place = rng.pick_or(&plans, 0);
     if let (false, Some(Node::Plan(plan))) = (
         (3_000..=1_000_000).contains(&most),
         question.nodes.get_mut(place),
@@ -284,7 +285,7 @@ pub fn sheets(rng: &mut Rng, count: usize) -> Vec<Call> {
             let sheet = any_sheet(rng, &model, &question, &totals, turn);
             calls.push(Call::Check(sheet));
         }
-        if rng.once_in(10) {
+        if rng.once_in(8) {
             calls.extend(lamps(rng));
         }
     }

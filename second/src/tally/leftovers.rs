@@ -32,11 +32,17 @@ fn shared_words(image: &QuestionImage) -> BTreeSet<&'static str> {
     children.sort_unstable();
     let doubled = |node: &NodeImage| node.operator == 4 && node.left == node.right;
     let all = [
-        (children.windows(2).any(|pair| pair[0] == pair[1]), "a shared node"),
+        (
+            children.windows(2).any(|pair| pair[0] == pair[1]),
+            "a shared node",
+        ),
         (nodes.iter().any(doubled), "a doubled and"),
         (nodes.len() == 40, "40 nodes"),
     ];
-    all.into_iter().filter(|row| row.0).map(|row| row.1).collect()
+    all.into_iter()
+        .filter(|row| row.0)
+        .map(|row| row.1)
+        .collect()
 }
 
 /// The numbers of the leftovers.
@@ -63,7 +69,8 @@ fn leftover_words(image: &QuestionImage) -> BTreeSet<&'static str> {
     let mut found = BTreeSet::new();
     for own in &places {
         let left = |child: &u8| places.contains(&usize::from(*child));
-        let (chained, over): (Vec<u8>, Vec<u8>) = nodes[*own].children().iter().partition(|c| left(c));
+        let (chained, over): (Vec<u8>, Vec<u8>) =
+            nodes[*own].children().iter().partition(|c| left(c));
         let place = match own {
             0 => "first",
             own if own + 2 == nodes.len() => "before the root",
@@ -106,7 +113,10 @@ fn desk_words(bytes: &[u8], desk: &Desk) -> BTreeSet<&'static str> {
         (desk.judged().is_some(), "a verdict is held"),
         (limited, "over a limit"),
     ];
-    all.into_iter().filter(|row| row.0).map(|row| row.1).collect()
+    all.into_iter()
+        .filter(|row| row.0)
+        .map(|row| row.1)
+        .collect()
 }
 
 fn over_a_limit(bytes: &[u8], model: &Model) -> bool {
