@@ -14,7 +14,7 @@ use std::collections::BTreeSet;
 /// with its counts of calls and of questions.
 const STREAMS: [(&str, usize, usize); 4] = [
     ("small", 50_000, 400),
-    ("judges", 50_000, 400),
+    ("judges", 50_000, 600),
     ("tight", 13_000, 800),
     ("reasons", 9_000, 2_250),
 ];

@@ -188,7 +188,7 @@ fn judged_question(rng: &mut Rng, model: &Model, totals: &Totals) -> Question {
         _ => SMALL,
     };
     let mut question = random_question(rng, model, totals, scale);
-    if rng.once_in(30) {
+    if rng.once_in(10) {
         stretch(rng, &mut question, model, totals);
     }
     question

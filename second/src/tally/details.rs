@@ -161,16 +161,25 @@ fn constant(truth: bool) -> Node {
     })
 }
 
-/// Whether a limit is passed just by nodes of operator 9.
+/// Whether a limit is passed just by nodes of operator 9, or just below the root.
 fn limit_words(model: &Model, question: &Question, ground: Ground) -> Vec<String> {
     let limits = [Ground::TooManyPaths, Ground::TooManyPlans];
-    let mut others = question.clone();
-    others.nodes.retain(|node| !is_gains(node));
-    let without = check_limits(&others, &Totals::of(model));
-    match limits.contains(&ground) && without != Err(ground) {
-        true => vec!["by operator 9 alone".to_string()],
-        false => Vec::new(),
-    }
+    let totals = Totals::of(model);
+    let passed = |nodes: Vec<Node>| {
+        let start = question.start;
+        check_limits(&Question { start, nodes }, &totals) == Err(ground)
+    };
+    let nodes = question.nodes.iter().copied();
+    let others = nodes.filter(|node| !is_gains(node)).collect();
+    let root = question.nodes.last().copied().into_iter().collect();
+    let found = [
+        (!passed(others), "by operator 9 alone"),
+        (!passed(root), "below the root alone"),
+    ];
+    let told = found
+        .iter()
+        .filter(|row| row.0 && limits.contains(&ground));
+    told.map(|row| row.1.to_string()).collect()
 }
 
 /// The fields of nodes of operator 9 that are beyond their ranges.
