@@ -46,21 +46,23 @@ fn references(nodes: &[NodeImage]) -> Vec<u8> {
 /// and what is the root.
 fn marked(fault: Fault, image: &QuestionImage) -> Vec<bool> {
     let nodes = image.counted();
-    let mut found = vec![false; nodes.len()];
-    for root in roots(fault, image) {
-        found[root] = true;
-    }
+    let roots = roots(fault, image);
+    let mut found: Vec<bool> = (0..nodes.len()).map(|own| roots.contains(&own)).collect();
     for (own, node) in nodes.iter().enumerate().rev() {
-        let mark = found[own];
-        for child in children(fault, node) {
-            // A byte that is no child may have any number.
-            match found.get_mut(usize::from(child)) {
-                Some(place) if mark => *place = true,
-                _ => {}
-            }
+        if found[own] {
+            mark(&mut found, &children(fault, node));
         }
     }
     found
+}
+
+/// Marks the nodes that there are; a byte that is no child may have any number.
+fn mark(found: &mut [bool], numbers: &[u8]) {
+    for number in numbers {
+        if let Some(place) = found.get_mut(usize::from(*number)) {
+            *place = true;
+        }
+    }
 }
 
 /// Where the walk begins.
@@ -140,31 +142,26 @@ fn is_unasked(fault: Fault, image: &QuestionImage, reached: &[bool], own: usize)
 /// The nodes that are so many levels below the root, or fewer.
 fn within(image: &QuestionImage, levels: usize) -> Vec<bool> {
     let nodes = image.counted();
-    let mut found = vec![usize::MAX; nodes.len()];
-    if let Some(root) = found.last_mut() {
-        *root = 0;
+    let root = nodes.len().saturating_sub(1);
+    let mut found: Vec<bool> = (0..nodes.len()).map(|own| own == root).collect();
+    for _ in 0..levels {
+        let parents = nodes.iter().zip(&found).filter(|node| *node.1);
+        let children: Vec<u8> = parents.flat_map(|(node, _)| node.children()).collect();
+        mark(&mut found, &children);
     }
-    for (own, node) in nodes.iter().enumerate().rev() {
-        let below = found[own].saturating_add(1);
-        for child in node.children() {
-            let place = &mut found[usize::from(child)];
-            *place = below.min(*place);
-        }
-    }
-    found.into_iter().map(|level| level <= levels).collect()
+    found
 }
 
 /// The nodes that children connect with the root, upwards or downwards.
 fn connected(image: &QuestionImage) -> Vec<bool> {
     let nodes = image.counted();
     let mut found = image.reached();
-    // Each round but the last marks a node more.
+    // Each round over all nodes but the last marks one more.
     for (own, node) in nodes.iter().enumerate().cycle().take(40 * nodes.len()) {
         let mut family = node.children();
         family.push(own as u8);
-        let linked = family.iter().any(|member| found[usize::from(*member)]);
-        for member in family {
-            found[usize::from(member)] |= linked;
+        if family.iter().any(|member| found[usize::from(*member)]) {
+            mark(&mut found, &family);
         }
     }
     found

@@ -176,9 +176,7 @@ fn limit_words(model: &Model, question: &Question, ground: Ground) -> Vec<String
         (!passed(others), "by operator 9 alone"),
         (!passed(root), "below the root alone"),
     ];
-    let told = found
-        .iter()
-        .filter(|row| row.0 && limits.contains(&ground));
+    let told = found.iter().filter(|row| row.0 && limits.contains(&ground));
     told.map(|row| row.1.to_string()).collect()
 }
 
