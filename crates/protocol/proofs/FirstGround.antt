@@ -4,10 +4,10 @@ use Prim.Native.Nat.{ℕ}
 use mathlib.Core.Path.{_≡_, refl, sym, ap, subst, _∙_}
 use mathlib.Core.Logic.{_↔_}
 use mathlib.Core.Bool.{Bool, true, false, not, cond, _&&_, false≢true}
-use mathlib.Core.List.{List, [], _∷_, _++_}
+use mathlib.Core.List.{List, [], _∷_}
 use mathlib.Core.Option.{Option, none, some}
 use lib.Dec.{eqb, leb}
-use lib.ListN.{length, drop}
+use lib.ListN.{length}
 use Rattle.logic.specs.Checked.{Checked, ok, refused, got, _>>=_, _>>_, guard}
 use Rattle.logic.specs.promises.Refusal.{held}
 use Rattle.logic.specs.Lists.{any}
@@ -27,10 +27,10 @@ use Rattle.questions.specs.Grounds.{question-grounds, read-question}
 use Rattle.sheets.specs.Layout.{Sheet, sheet-of}
 use Rattle.sheets.specs.Grounds.{sheet-grounds, read-sheet}
 use Rattle.protocol.specs.Tested.{Tested, value, fails, test, found, tests, grounds, run, _>>=_ as _⊳=_, _>>_ as _⊳_}
-use Rattle.protocol.specs.Calls.{Call, load, put, judge, query, write, check, Held, Report, Answer, done, judged, written, accepted, refuse, Reply, says, lent, shown-sheet, written-bytes, same, accepted-plan, reported, described, replied, yields}
+use Rattle.protocol.specs.Calls.{Call, load, put, judge, query, write, check, write-model, Held, Report, Answer, done, judged, written, accepted, refuse, Reply, says, wrote, written-to, lent, shown-sheet, written-bytes, same, accepted-plan, reported, described, replied, yields}
 use Rattle.protocol.specs.Demand1.{listed}
 use Rattle.protocol.proofs.Refusals.{refused-same, not-refused, plan-only, goal-only}
-use Rattle.protocol.specs.promises.Chains.{do-put, do-judge, sheet-shown, do-write, check-on, do-check, answered, by-chain}
+use Rattle.protocol.specs.promises.Chains.{do-put, do-judge, sheet-shown, do-write, do-write-model, check-on, do-check, answered, by-chain}
 
 -- ---- the first ground that applies
 
@@ -106,35 +106,38 @@ yields-judge h = by (h .model) (h .question)
         tests-then [] (λ v. says (judged v)) (limit-grounds m (q .nodes)) tt (value (says (judged v))) (λ u. ok v) refl
         ∙ ap (λ c. answered [] c (λ v. says (judged v))) (sym (then-bind (limits m (q .nodes)) (ok v)))
 
--- Where a call asks for a goal, it is there, or the ground is 22.
-abbrev filled : Bytes → Bytes → Reply
-filled a b = record { answer = written (length b); buffer = b ++ drop (length b) a }
+-- Bytes are written where the buffer is long enough, or the ground is 12.
+module _ (a b : Bytes) where
+  writes : replied a (run (written-to a b)) ≡ answered a (guard 12 (leb (length b) (length a)) >> ok b) (wrote a)
+  unfolding run
+  writes = by (leb (length b) (length a))
+    where
+      by : (t : Bool) → replied a (cond t (ok (wrote a b)) (refused 12)) ≡ answered a (guard 12 t >> ok b) (wrote a)
+      by true = refl
+      by false = refl
 
+-- Where a call asks for a goal, it is there, or the ground is 22.
 yields-write : (h : Held) (a : Bytes) → yields h (query (write a)) ≡ by-chain h (query (write a))
 unfolding yields described by-chain lent do-write run got shown-sheet sheet-shown
 yields-write h a = by (h .model) (h .question)
   where
-    fits : (t : Bool) (b : Bytes) → replied a (cond t (ok (filled a b)) (refused 12)) ≡ answered a (guard 12 t >> ok b) (filled a)
-    fits true b = refl
-    fits false b = refl
-
     shown : (q : Question) (g : Goal) (o : Option Verdict)
-        → replied a (run (found 23 (shown-sheet o) ⊳= (λ x. tests (12 unless leb (length (written-bytes q g x)) (length a) ∷ []) ⊳ value (filled a (written-bytes q g x)))))
-        ≡ answered a (held 23 o >>= (λ v. sheet-shown v >>= (λ x. guard 12 (leb (length (written-bytes q g x)) (length a)) >> ok (written-bytes q g x)))) (filled a)
+        → replied a (run (found 23 (shown-sheet o) ⊳= (λ x. written-to a (written-bytes q g x))))
+        ≡ answered a (held 23 o >>= (λ v. sheet-shown v >>= (λ x. guard 12 (leb (length (written-bytes q g x)) (length a)) >> ok (written-bytes q g x)))) (wrote a)
     shown q g none = refl
     shown q g (some (no v)) = refl
     shown q g (some yes) = refl
-    shown q g (some (yes-plan v)) = let x : Sheet = record { weight = v .total; choices = v .choices } in fits (leb (length (written-bytes q g x)) (length a)) (written-bytes q g x)
+    shown q g (some (yes-plan v)) = writes a (written-bytes q g (record { weight = v .total; choices = v .choices }))
 
     asked : (m : Model) (q : Question) (c : Checked Goal) → goal m (q .start) (q .root) ≡ c
-        → replied a (run (found 22 (got c) ⊳= (λ g. found 23 (shown-sheet (h .verdict)) ⊳= (λ x. tests (12 unless leb (length (written-bytes q g x)) (length a) ∷ []) ⊳ value (filled a (written-bytes q g x))))))
-        ≡ answered a (c >>= (λ g. held 23 (h .verdict) >>= (λ v. sheet-shown v >>= (λ x. guard 12 (leb (length (written-bytes q g x)) (length a)) >> ok (written-bytes q g x))))) (filled a)
+        → replied a (run (found 22 (got c) ⊳= (λ g. found 23 (shown-sheet (h .verdict)) ⊳= (λ x. written-to a (written-bytes q g x)))))
+        ≡ answered a (c >>= (λ g. held 23 (h .verdict) >>= (λ v. sheet-shown v >>= (λ x. guard 12 (leb (length (written-bytes q g x)) (length a)) >> ok (written-bytes q g x))))) (wrote a)
     asked m q (ok g) e = shown q g (h .verdict)
     asked m q (refused k) e = ap (λ n. record { answer = refuse n; buffer = a }) (sym (goal-only m (q .start) (q .root) .number e))
 
     by : (o : Option Model) (p : Option Question)
-        → replied a (run (found 20 o ⊳= (λ m. found 21 p ⊳= (λ q. found 22 (got (goal m (q .start) (q .root))) ⊳= (λ g. found 23 (shown-sheet (h .verdict)) ⊳= (λ x. tests (12 unless leb (length (written-bytes q g x)) (length a) ∷ []) ⊳ value (filled a (written-bytes q g x))))))))
-        ≡ answered a (held 20 o >>= (λ m. held 21 p >>= (λ q. goal m (q .start) (q .root) >>= (λ g. held 23 (h .verdict) >>= (λ v. sheet-shown v >>= (λ x. guard 12 (leb (length (written-bytes q g x)) (length a)) >> ok (written-bytes q g x))))))) (filled a)
+        → replied a (run (found 20 o ⊳= (λ m. found 21 p ⊳= (λ q. found 22 (got (goal m (q .start) (q .root))) ⊳= (λ g. found 23 (shown-sheet (h .verdict)) ⊳= (λ x. written-to a (written-bytes q g x)))))))
+        ≡ answered a (held 20 o >>= (λ m. held 21 p >>= (λ q. goal m (q .start) (q .root) >>= (λ g. held 23 (h .verdict) >>= (λ v. sheet-shown v >>= (λ x. guard 12 (leb (length (written-bytes q g x)) (length a)) >> ok (written-bytes q g x))))))) (wrote a)
     by none p = refl
     by (some m) none = refl
     by (some m) (some q) = asked m q (goal m (q .start) (q .root)) refl
@@ -186,6 +189,16 @@ yields-check h b = by (h .model) (h .question)
     by (some m) none = refl
     by (some m) (some q) = asked m q (goal m (q .start) (q .root)) refl
 
+yields-write-model : (h : Held) (a : Bytes) → yields h (query (write-model a)) ≡ by-chain h (query (write-model a))
+unfolding yields described by-chain lent do-write-model run
+yields-write-model h a = by (h .model)
+  where
+    by : (o : Option Model)
+        → replied a (run (found 20 o ⊳= (λ m. written-to a (h .blocks))))
+        ≡ answered a (held 20 o >>= (λ m. guard 12 (leb (length (h .blocks)) (length a)) >> ok (h .blocks))) (wrote a)
+    by none = refl
+    by (some m) = writes a (h .blocks)
+
 -- The calls as described are the chains.
 pub yields-is : (h : Held) (c : Call) → yields h c ≡ by-chain h c
 yields-is h (load b) = yields-load h b
@@ -193,6 +206,7 @@ yields-is h (put b) = yields-put h b
 yields-is h judge = yields-judge h
 yields-is h (query (write a)) = yields-write h a
 yields-is h (query (check b)) = yields-check h b
+yields-is h (query (write-model a)) = yields-write-model h a
 
 -- ---- refusals
 
@@ -228,17 +242,17 @@ all-listed h judge = by (h .model) (h .question)
 all-listed h (query (write a)) = by (h .model) (h .question)
   where
     shown : (q : Question) (g : Goal) (o : Option Sheet)
-        → is-listed (listed (query (write a))) (found 23 o ⊳= (λ x. tests (12 unless leb (length (written-bytes q g x)) (length a) ∷ []) ⊳ value (filled a (written-bytes q g x)))) ≡ true
+        → is-listed (listed (query (write a))) (found 23 o ⊳= (λ x. written-to a (written-bytes q g x))) ≡ true
     shown q g none = refl
     shown q g (some x) = refl
 
     asked : (q : Question) (o : Option Goal)
-        → is-listed (listed (query (write a))) (found 22 o ⊳= (λ g. found 23 (shown-sheet (h .verdict)) ⊳= (λ x. tests (12 unless leb (length (written-bytes q g x)) (length a) ∷ []) ⊳ value (filled a (written-bytes q g x))))) ≡ true
+        → is-listed (listed (query (write a))) (found 22 o ⊳= (λ g. found 23 (shown-sheet (h .verdict)) ⊳= (λ x. written-to a (written-bytes q g x)))) ≡ true
     asked q none = refl
     asked q (some g) = shown q g (shown-sheet (h .verdict))
 
     by : (o : Option Model) (p : Option Question)
-        → is-listed (listed (query (write a))) (found 20 o ⊳= (λ m. found 21 p ⊳= (λ q. found 22 (got (goal m (q .start) (q .root))) ⊳= (λ g. found 23 (shown-sheet (h .verdict)) ⊳= (λ x. tests (12 unless leb (length (written-bytes q g x)) (length a) ∷ []) ⊳ value (filled a (written-bytes q g x))))))) ≡ true
+        → is-listed (listed (query (write a))) (found 20 o ⊳= (λ m. found 21 p ⊳= (λ q. found 22 (got (goal m (q .start) (q .root))) ⊳= (λ g. found 23 (shown-sheet (h .verdict)) ⊳= (λ x. written-to a (written-bytes q g x)))))) ≡ true
     by none p = refl
     by (some m) none = refl
     by (some m) (some q) = asked q (got (goal m (q .start) (q .root)))
@@ -259,6 +273,11 @@ all-listed h (query (check b)) = by (h .model) (h .question)
     by none p = refl
     by (some m) none = refl
     by (some m) (some q) = asked m q (got (goal m (q .start) (q .root)))
+all-listed h (query (write-model a)) = by (h .model)
+  where
+    by : (o : Option Model) → is-listed (listed (query (write-model a))) (found 20 o ⊳= (λ m. written-to a (h .blocks))) ≡ true
+    by none = refl
+    by (some m) = refl
 
 -- A refusal by the tests has a listed number.
 listed-number : (l : List ℕ) (c : Tested Reply) → is-listed l c ≡ true → (k : ℕ) → run c ≡ refused k → any (eqb k) l ≡ true

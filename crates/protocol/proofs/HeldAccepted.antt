@@ -17,9 +17,9 @@ use Rattle.protocol.proofs.AfterEachCall.{Sound}
 module _ {h : Held} (sound : Sound h) (m : Model) (held-model : h .model ≡ some m) where
   pub model-accepted : Accepted m
   model-accepted =
-      let b = sound .model-read m held-model in
-      let p = passed-all (b .0) (ap refusal (b .1)) in
-      subst Accepted (ok-same (sym (read-passed (b .0) p) ∙ b .1)) (accepted (b .0) p)
+      let e = sound .model-read m held-model in
+      let p = passed-all (h .blocks) (ap refusal e) in
+      subst Accepted (ok-same (sym (read-passed (h .blocks) p) ∙ e)) (accepted (h .blocks) p)
 
   pub start-inside : (q : Question) → h .question ≡ some q → q .start < length (m .states)
   unfolding question-of

@@ -3,6 +3,7 @@ use mathlib.Core.Path.{_≡_, refl, ap, _∙_}
 use mathlib.Core.List.{List, [], _∷_, _++_}
 use mathlib.Core.Option.{none, some}
 use Rattle.logic.specs.Model.{Model}
+use Rattle.blocks.specs.Bytes.{Bytes}
 use Rattle.questions.specs.Layout.{Question}
 use Rattle.protocol.specs.Calls.{Call, Held, yields}
 use Rattle.protocol.specs.History.{last-left, held-from, after}
@@ -11,13 +12,15 @@ use Rattle.protocol.proofs.AfterEachCall.{next, after-next}
 use Rattle.protocol.proofs.FirstGround.{yields-is}
 
 abbrev pub empty : Held
-empty = record { model = none; question = none; verdict = none }
+empty = record { model = none; blocks = []; question = none; verdict = none }
 
-abbrev pub with-model : Model → Held
-with-model m = record { model = some m; question = none; verdict = none }
+-- The model is read from the bytes b.
+module _ (b : Bytes) where
+  abbrev pub with-model : Model → Held
+  with-model m = record { model = some m; blocks = b; question = none; verdict = none }
 
-abbrev pub with-question : Model → Question → Held
-with-question m q = record { model = some m; question = some q; verdict = none }
+  abbrev pub with-question : Model → Question → Held
+  with-question m q = record { model = some m; blocks = b; question = some q; verdict = none }
 
 pub after-none : after [] ≡ empty
 unfolding after last-left held-from

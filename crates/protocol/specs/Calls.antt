@@ -1,5 +1,5 @@
--- The five calls, and what each yields by what the desk holds. Document 01, "The desk", "Refused because of the input" and "Refused because
--- of the state". The desk is document 01's word for the judge's state.
+-- The six calls, and what each yields by what the desk holds. Document 01, "The desk", "Refused because of the input" and "Refused because
+-- of the state"; document 02, A.7, for the sixth, write-model. The desk is document 01's word for the judge's state.
 use Prim.Native.Nat.{ℕ}
 use mathlib.Core.Bool.{Bool, _&&_}
 use mathlib.Core.List.{[], _∷_, _++_}
@@ -24,9 +24,9 @@ use Rattle.sheets.specs.Layout.{Sheet, sheet-of, sheet-bytes}
 use Rattle.sheets.specs.Grounds.{sheet-grounds}
 use Rattle.protocol.specs.Tested.{Tested, value, _>>=_, _>>_, found, tests, run}
 
--- A query leaves the desk as it is: write with the contents of the lent buffer, check with a sheet.
+-- A query leaves the desk as it is: write (of the sheet) and write-model with the contents of the lent buffer, check with a sheet.
 pub data Query : Type 0 where
-  write check : Bytes → Query
+  write check write-model : Bytes → Query
 
 -- Each call with its input.
 pub data Call : Type 0 where
@@ -41,10 +41,12 @@ lent (put b) = []
 lent judge = []
 lent (query (write a)) = a
 lent (query (check b)) = []
+lent (query (write-model a)) = a
 
--- What the desk holds.
+-- What the desk holds. The blocks are the bytes that the model was read from; without a model there are none.
 pub record Held : Type 0 where
   pub model : Option Model
+  pub blocks : Bytes
   pub question : Option Question
   pub verdict : Option Verdict
 
@@ -67,6 +69,16 @@ pub record Reply : Type 0 where
 
 abbrev pub says : Answer → Reply
 says a = record { answer = a; buffer = [] }
+
+-- The reply to a call that wrote b into the lent buffer, found so: b fills the first bytes, and no byte beyond changes.
+abbrev pub wrote : (found b : Bytes) → Reply
+wrote a b = record { answer = written (length b); buffer = b ++ drop (length b) a }
+
+-- Writing b into the lent buffer: ground 12, "buffer shorter than the sheet" and, by document 02, A.7, "too short for the model".
+abbrev pub written-to : (found b : Bytes) → Tested Reply
+written-to a b = do
+  tests (12 unless leb (length b) (length a) ∷ [])
+  value (wrote a b)
 
 -- A question is read for the model's numbers of states, actions and propositions.
 abbrev pub question-for : Model → Bytes → Checked Question
@@ -118,8 +130,7 @@ described h (query (write a)) = do
   q ← found 21 (h .question)
   g ← found 22 (got (goal m (q .start) (q .root)))
   x ← found 23 (shown-sheet (h .verdict))
-  tests (12 unless leb (length (written-bytes q g x)) (length a) ∷ [])
-  value (record { answer = written (length (written-bytes q g x)); buffer = written-bytes q g x ++ drop (length (written-bytes q g x)) a })
+  written-to a (written-bytes q g x)
 described h (query (check b)) = do
   m ← found 20 (h .model)
   q ← found 21 (h .question)
@@ -127,6 +138,10 @@ described h (query (check b)) = do
   tests (limit-grounds m (q .nodes))
   π ← accepted-plan m q g b
   value (says (accepted (reported g π)))
+-- Document 02, A.7: "Given a desk with a model, write its blocks to the lent buffer. .. (20 first; 12 also for a buffer too short for the model.)"
+described h (query (write-model a)) = do
+  m ← found 20 (h .model)
+  written-to a (h .blocks)
 
 -- ---- what each call yields
 

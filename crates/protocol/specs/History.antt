@@ -4,17 +4,27 @@ use mathlib.Core.Bool.{Bool, true, false, cond, _&&_}
 use mathlib.Core.List.{List, [], _∷_}
 use mathlib.Core.Option.{Option, none, some}
 use Rattle.logic.specs.Lists.{any}
-use Rattle.logic.specs.Checked.{Checked, ok, refused, got}
+use Rattle.logic.specs.Checked.{Checked, ok, refused, _>>=_, got}
 use Rattle.logic.specs.Model.{Model}
 use Rattle.logic.specs.Verdict.{Verdict, verdict}
 use Rattle.logic.specs.Limits.{limits}
+use Rattle.blocks.specs.Bytes.{Bytes}
 use Rattle.models.specs.Grounds.{read-model}
 use Rattle.questions.specs.Layout.{Question}
 use Rattle.protocol.specs.Calls.{Call, load, put, judge, query, Held, question-for}
 
--- What a call that is done leaves on the desk: a load its model, a put its question.
-unfoldable pub loaded : Call → Option Model
-loaded (load b) = got (read-model b)
+-- What a call that is done leaves on the desk: a load its model, with the bytes that it was read from; a put its question.
+pub record Loaded : Type 0 where
+  pub blocks : Bytes
+  pub model : Model
+
+abbrev pub read-loaded : Bytes → Checked Loaded
+read-loaded b = do
+  m ← read-model b
+  ok (record { blocks = b; model = m })
+
+unfoldable pub loaded : Call → Option Loaded
+loaded (load b) = got (read-loaded b)
 loaded (put b) = none
 loaded (query c) = none
 loaded judge = none
@@ -49,13 +59,13 @@ passed (refused k) = false
 unfoldable pub verdict-since : Model → Question → List Call → Option Verdict
 verdict-since m q since = cond (any is-judge since && passed (limits m (q .nodes))) (some (verdict m (q .start) (q .root))) none
 
-unfoldable pub held-since : Model → Option (Question × List Call) → Held
-held-since m none = record { model = some m; question = none; verdict = none }
-held-since m (some x) = record { model = some m; question = some (x .0); verdict = verdict-since m (x .0) (x .1) }
+unfoldable pub held-since : Loaded → Option (Question × List Call) → Held
+held-since l none = record { model = some (l .model); blocks = l .blocks; question = none; verdict = none }
+held-since l (some x) = record { model = some (l .model); blocks = l .blocks; question = some (x .0); verdict = verdict-since (l .model) (x .0) (x .1) }
 
-unfoldable pub held-from : Option (Model × List Call) → Held
-held-from none = record { model = none; question = none; verdict = none }
-held-from (some x) = held-since (x .0) (last-left (asked (x .0)) (x .1))
+unfoldable pub held-from : Option (Loaded × List Call) → Held
+held-from none = record { model = none; blocks = []; question = none; verdict = none }
+held-from (some x) = held-since (x .0) (last-left (asked (x .0 .model)) (x .1))
 
 -- The desk's contents after a list of calls.
 unfoldable pub after : List Call → Held

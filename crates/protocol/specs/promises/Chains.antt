@@ -1,8 +1,8 @@
 -- The calls as chains of refusals: what the code's contracts cite. That they are the calls as described is proved (`FirstGround`).
 use Prim.Native.Nat.{ℕ}
-use mathlib.Core.List.{[], _++_}
+use mathlib.Core.List.{[]}
 use lib.Dec.{leb}
-use lib.ListN.{length, drop}
+use lib.ListN.{length}
 use Rattle.logic.specs.Checked.{Checked, ok, refused, _>>=_, _>>_, guard}
 use Rattle.logic.specs.promises.Refusal.{held}
 use Rattle.logic.specs.Model.{Model}
@@ -14,7 +14,7 @@ use Rattle.models.specs.Grounds.{read-model}
 use Rattle.questions.specs.Layout.{Question}
 use Rattle.sheets.specs.Layout.{Sheet}
 use Rattle.sheets.specs.Grounds.{read-sheet}
-use Rattle.protocol.specs.Calls.{Call, load, put, judge, query, write, check, Held, Report, done, judged, written, accepted, refuse, Reply, says, question-for, written-bytes, same, reported}
+use Rattle.protocol.specs.Calls.{Call, load, put, judge, query, write, check, write-model, Held, Report, done, judged, accepted, refuse, Reply, says, wrote, question-for, written-bytes, same, reported}
 
 unfoldable pub do-put : Held → Bytes → Checked Question
 do-put h b = do
@@ -45,6 +45,13 @@ do-write h size = do
   guard 12 (leb (length (written-bytes q g x)) size)
   ok (written-bytes q g x)
 
+-- The bytes of the held model, for a buffer of this size.
+unfoldable pub do-write-model : Held → ℕ → Checked Bytes
+do-write-model h size = do
+  m ← held 20 (h .model)
+  guard 12 (leb (length (h .blocks)) size)
+  ok (h .blocks)
+
 -- What check does with a sheet where a model and a question are held.
 unfoldable pub check-on : Model → Question → Bytes → Checked Report
 check-on m q b = do
@@ -70,5 +77,6 @@ unfoldable pub by-chain : Held → Call → Reply
 by-chain h (load b) = answered [] (read-model b) (λ m. says done)
 by-chain h (put b) = answered [] (do-put h b) (λ q. says done)
 by-chain h judge = answered [] (do-judge h) (λ v. says (judged v))
-by-chain h (query (write a)) = answered a (do-write h (length a)) (λ b. record { answer = written (length b); buffer = b ++ drop (length b) a })
+by-chain h (query (write a)) = answered a (do-write h (length a)) (wrote a)
 by-chain h (query (check b)) = answered [] (do-check h b) (λ r. says (accepted r))
+by-chain h (query (write-model a)) = answered a (do-write-model h (length a)) (wrote a)
