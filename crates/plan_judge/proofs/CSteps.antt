@@ -4,10 +4,10 @@ use Prim.Native.Nat.{ℕ, _+_, _≤_}
 use native.Mathlib.Omega.{arith}
 use mathlib.Core.Path.{_≡_, refl, sym, ap, ap₂, subst, _∙_}
 use mathlib.Core.Bool.{Bool, true, false}
-use mathlib.Core.List.{[], _++_}
+use mathlib.Core.List.{[]}
 use mathlib.Core.Option.{Option, none, some}
 use lib.Dec.{leb}
-use lib.ListN.{length, drop}
+use lib.ListN.{length}
 use Rattle.logic.specs.Checked.{Checked, ok, refused, _>>=_, _>>_, guard}
 use Rattle.logic.specs.promises.Refusal.{held}
 use Rattle.logic.specs.Model.{Model}
@@ -21,7 +21,7 @@ use Rattle.blocks.specs.Bytes.{Bytes}
 use Rattle.models.specs.Grounds.{read-model}
 use Rattle.questions.specs.Layout.{Question}
 use Rattle.sheets.specs.Layout.{sheet-bytes}
-use Rattle.protocol.specs.Calls.{load, put, judge, query, write, Held, done, judged, written, says, question-for}
+use Rattle.protocol.specs.Calls.{load, put, judge, query, write, Held, done, judged, says, wrote, question-for}
 use Rattle.protocol.specs.promises.Chains.{do-put, do-judge, do-write, sheet-shown, answered, by-chain}
 use Rattle.plan_judge.specs.declared.Desk.{Desk}
 use Rattle.plan_judge.specs.declared.Taking.{Taking}
@@ -140,8 +140,12 @@ verdict-goal m s φ p e = by (goal m s φ) refl (sat m φ s []) e
     by (refused j) i true z = let y : _≡_ {A = ℕ} 0 1 = cc in absurd (omega arith)
     by (refused j) i false z = let y : _≡_ {A = ℕ} 0 1 = cc in absurd (omega arith)
 
--- A shown plan is written as it is told.
-module _ (size : ℕ) (m : Model) (q : Question) (p : logic.Shown-plan) where
+-- A shown plan, held with its model (of whatever blocks) and its question.
+abbrev pub held-shown : Model → Bytes → Question → logic.Verdict → Held
+held-shown m blocks q v = record { model = some m; blocks = blocks; question = some q; verdict = some v }
+
+-- It is written as it is told.
+module _ (size : ℕ) (m : Model) (blocks : Bytes) (q : Question) (p : logic.Shown-plan) where
   abbrev sheet : ℕ → Bytes
   sheet steps = sheet-bytes steps (q .start) (p .total) (p .choices)
 
@@ -152,8 +156,7 @@ module _ (size : ℕ) (m : Model) (q : Question) (p : logic.Shown-plan) where
   yes-with b = ok (record { answer = true; sheet = b })
 
   told-plan : (g : Goal) → goal m (q .start) (q .root) ≡ ok g → g .steps ≡ p .steps
-      → told-write (record { model = some m; question = some q; verdict = some (logic.yes-plan p) }) size
-      ≡ told-of (q .start) size (logic.yes-plan p)
+      → told-write (held-shown m blocks q (logic.yes-plan p)) size ≡ told-of (q .start) size (logic.yes-plan p)
   unfolding told-write do-write sheet-shown told-of
   told-plan g i j = ap (λ c. c >>= (λ g. fitted (g .steps)) >>= yes-with) i ∙ ap (λ s. fitted s >>= yes-with) j ∙ by (leb (length (sheet (p .steps))) size)
     where
@@ -161,12 +164,11 @@ module _ (size : ℕ) (m : Model) (q : Question) (p : logic.Shown-plan) where
       by true = refl
       by false = refl
 
--- A shown plan, held with its question, is written as it is told.
-pub shown-written : (m : Model) (q : Question) (size : ℕ) (p : logic.Shown-plan) → logic.yes-plan p ≡ verdict m (q .start) (q .root)
-    → told-write (record { model = some m; question = some q; verdict = some (logic.yes-plan p) }) size ≡ told-of (q .start) size (logic.yes-plan p)
-shown-written m q size p e =
+pub shown-written : (m : Model) (blocks : Bytes) (q : Question) (size : ℕ) (p : logic.Shown-plan) → logic.yes-plan p ≡ verdict m (q .start) (q .root)
+    → told-write (held-shown m blocks q (logic.yes-plan p)) size ≡ told-of (q .start) size (logic.yes-plan p)
+shown-written m blocks q size p e =
     let g = verdict-goal m (q .start) (q .root) p e in
-    told-plan size m q p (g .0) (g .1) (g .2)
+    told-plan size m blocks q p (g .0) (g .1) (g .2)
 
 -- What a verdict is told as, from what is held.
 module _ (h : Held) (size : ℕ) (v : logic.Verdict) (e : do-judge h ≡ ok v) where
@@ -206,12 +208,12 @@ module _ (h : Held) (size : ℕ) (v : logic.Verdict) (e : do-judge h ≡ ok v) w
 
   -- Written from what is then held.
   told-written : (p : logic.Shown-plan) → v ≡ logic.yes-plan p
-      → told-write (record { model = h .model; question = h .question; verdict = some v }) size ≡ told-judge h size
+      → told-write (record { model = h .model; blocks = h .blocks; question = h .question; verdict = some v }) size ≡ told-judge h size
   told-written p i =
       let j = judged-from in
-      ap₂ (λ o p. told-write (record { model = o; question = p; verdict = some v }) size) (j .held-model) (j .held-question)
-      ∙ ap (λ l. told-write (record { model = some (j .model); question = some (j .question); verdict = some l }) size) i
-      ∙ shown-written (j .model) (j .question) size p (sym i ∙ j .said)
+      ap₂ (λ o p. told-write (record { model = o; blocks = h .blocks; question = p; verdict = some v }) size) (j .held-model) (j .held-question)
+      ∙ ap (λ l. told-write (held-shown (j .model) (h .blocks) (j .question) l) size) i
+      ∙ shown-written (j .model) (h .blocks) (j .question) size p (sym i ∙ j .said)
       ∙ sym (j .told ∙ ap (told-of (j .question .start) size) i)
 
 told-refused : (h : Held) (size k : ℕ) → do-judge h ≡ refused k → told-judge h size ≡ refused k
@@ -288,7 +290,7 @@ module _ (d : Desk) (r : Judging) (i : r ≡ judged-by d) where
       told-same (ap (λ h. told-write h (length found)) (ap view (x .3) ∙ view-settling d (x .0) (x .1)) ∙ by (x .0) (x .1) (sym (x .2) ∙ e)) t
     where
       by : (l : logic.Verdict) → do-judge (view d) ≡ ok l → verdict-code l ≡ YesPlan p
-          → told-write (record { model = (view d) .model; question = (view d) .question; verdict = some l }) (length found)
+          → told-write (record { model = (view d) .model; blocks = (view d) .blocks; question = (view d) .question; verdict = some l }) (length found)
           ≡ told-judge (view d) (length found)
       by (logic.no y) j z = let n : _≡_ {A = ℕ} 0 1 = cc in absurd (omega arith)
       by logic.yes j z = let y : _≡_ {A = ℕ} 0 1 = cc in absurd (omega arith)
@@ -307,7 +309,7 @@ module _ (d : Desk) (found left : Bytes) (r : Written) (i : r ≡ written-by d (
 
   pub write-few : (k : ℕ) → r ≡ Written.Refused k → k ≤ 25
   unfolding by-chain
-  write-few k a = few (view d) (query (write found)) k (ap (λ c. (answered found c (λ b. record { answer = written (length b); buffer = b ++ drop (length b) found })) .answer) (write-refused k a))
+  write-few k a = few (view d) (query (write found)) k (ap (λ c. (answered found c (wrote found)) .answer) (write-refused k a))
 
   pub write-tells : (k : ℕ) → r ≡ Written.Refused k → Tells (told-write (view d) (length found)) found left (100 + k)
   unfolding told-write filled-by

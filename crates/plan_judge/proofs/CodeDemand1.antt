@@ -60,6 +60,7 @@ asks-nothing =
       of-judge = λ d. tt;
       of-write = λ κ d a. tt;
       of-check = λ κ d b. tt;
+      of-write-model = λ κ d a. tt;
       of-shown-choices = λ d. tt;
       of-c-call = λ κ model question sheet. tt;
     }

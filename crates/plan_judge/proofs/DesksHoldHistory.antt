@@ -30,15 +30,15 @@ use Rattle.blocks.specs.Block.{whole-blocks, block-count}
 use Rattle.models.specs.Grounds.{read-model}
 use Rattle.questions.specs.Layout.{Question}
 use Rattle.questions.specs.Grounds.{read-question}
-use Rattle.protocol.specs.Calls.{Call, load, put, judge, query, write, check, Held, Report, done, judged, written, accepted, says, yields}
-use Rattle.protocol.specs.promises.Chains.{do-put, do-judge, do-write, do-check, answered, by-chain}
+use Rattle.protocol.specs.Calls.{Call, load, put, judge, query, write, check, write-model, Held, Report, done, judged, accepted, says, wrote, yields}
+use Rattle.protocol.specs.promises.Chains.{do-put, do-judge, do-write, do-write-model, do-check, answered, by-chain}
 use Rattle.protocol.specs.History.{last-left, held-from, after}
 use Rattle.protocol.proofs.AfterEachCall.{settled, next, after-next}
 use Rattle.protocol.proofs.FirstGround.{yields-is}
 use Rattle.protocol.proofs.Demand3.{held-some, then-ok}
 use Rattle.plan_judge.specs.declared.Desk.{Desk}
-use Rattle.plan_judge.specs.View.{model-bytes, question-in, choices-in, verdict-in, verdict-on, view}
-use Rattle.plan_judge.specs.promises.Values.{padded, nothing, taking, holding, loaded-by, asking, put-by, choices-code, settling, judging, judged-by, writing, written-by, filling, filled-by, checking, checked-by}
+use Rattle.plan_judge.specs.View.{model-bytes, blocks-in, question-in, choices-in, verdict-in, verdict-on, view}
+use Rattle.plan_judge.specs.promises.Values.{padded, nothing, taking, holding, loaded-by, asking, put-by, choices-code, settling, judging, judged-by, writing, written-by, filling, filled-by, model-written-by, model-filled-by, checking, checked-by}
 use Rattle.judging.specs.promises.Announced.{verdict-code}
 use Rattle.plan_judge.specs.Said.{said-taken, said-verdict, said-judgement, said-written, said-checking}
 use Rattle.plan_judge.specs.promises.Session.{asked, step, desk-after, session}
@@ -61,13 +61,18 @@ reply-put d b = by (do-put (view d) b)
     by (ok q) = refl
     by (refused k) = refl
 
+reply-filled : (a : Bytes) (c : Checked Bytes) → record { answer = said-written (writing c); buffer = filling a c } ≡ answered a c (wrote a)
+unfolding said-written
+reply-filled a (ok b) = refl
+reply-filled a (refused k) = refl
+
 reply-write : (d : Desk) (a : Bytes) → (step d (query (write a))) .reply ≡ by-chain (view d) (query (write a))
-unfolding step asked written-by filled-by by-chain said-written
-reply-write d a = by (do-write (view d) (length a))
-  where
-    by : (c : Checked Bytes) → record { answer = said-written (writing c); buffer = filling a c } ≡ answered a c (λ b. record { answer = written (length b); buffer = b ++ drop (length b) a })
-    by (ok b) = refl
-    by (refused k) = refl
+unfolding step asked written-by filled-by by-chain
+reply-write d a = reply-filled a (do-write (view d) (length a))
+
+reply-write-model : (d : Desk) (a : Bytes) → (step d (query (write-model a))) .reply ≡ by-chain (view d) (query (write-model a))
+unfolding step asked model-written-by model-filled-by by-chain
+reply-write-model d a = reply-filled a (do-write-model (view d) (length a))
 
 reply-check : (d : Desk) (b : Bytes) → (step d (query (check b))) .reply ≡ by-chain (view d) (query (check b))
 unfolding step asked checked-by by-chain said-checking
@@ -153,6 +158,7 @@ by-step d (put b) = reply-put d b
 by-step d judge = reply-judge d
 by-step d (query (write a)) = reply-write d a
 by-step d (query (check b)) = reply-check d b
+by-step d (query (write-model a)) = reply-write-model d a
 
 -- Of every desk the reply is the one described by what it holds.
 pub replies : (d : Desk) (c : Call) → (step d c) .reply ≡ yields (view d) c
@@ -188,36 +194,38 @@ pad-full b e = let z : 512 - length b ≡ 0 = omega arith in ap (λ n. b ++ repl
 
 -- A desk's contents by its model.
 abbrev viewed : Desk → Option Model → Held
-viewed d o = record { model = o; question = question-in (d .asked) (d .question) o; verdict = cond (d .judged) (verdict-on o (question-in (d .asked) (d .question) o) (d .choices) (d .verdict)) none }
+viewed d o = record { model = o; blocks = blocks-in o (model-bytes d); question = question-in (d .asked) (d .question) o; verdict = cond (d .judged) (verdict-on o (question-in (d .asked) (d .question) o) (d .choices) (d .verdict)) none }
 
-view-nothing : view nothing ≡ record { model = none; question = none; verdict = none }
-unfolding view model-bytes nothing got read-model whole-blocks within block-count question-in
+view-nothing : view nothing ≡ record { model = none; blocks = []; question = none; verdict = none }
+unfolding view model-bytes blocks-in nothing got read-model whole-blocks within block-count question-in
 view-nothing = refl
 
-pub view-holding : (b : Bytes) (m : Model) → read-model b ≡ ok m → view (holding b) ≡ record { model = some m; question = none; verdict = none }
-unfolding view question-in holding got
-view-holding b m e = ap (viewed (holding b)) (ap got (ap read-model (holding-bytes b e) ∙ e))
+pub view-holding : (b : Bytes) (m : Model) → read-model b ≡ ok m → view (holding b) ≡ record { model = some m; blocks = b; question = none; verdict = none }
+unfolding view question-in blocks-in holding got
+view-holding b m e =
+    ap (viewed (holding b)) (ap got (ap read-model (holding-bytes b e) ∙ e))
+    ∙ ap (λ c. record { model = some m; blocks = c; question = none; verdict = none }) (holding-bytes b e)
 
 module _ (d : Desk) (b : Bytes) where
-  pub view-asking : (q : Question) → do-put (view d) b ≡ ok q → view (asking d b) ≡ record { model = (view d) .model; question = some q; verdict = none }
+  pub view-asking : (q : Question) → do-put (view d) b ≡ ok q → view (asking d b) ≡ record { model = (view d) .model; blocks = (view d) .blocks; question = some q; verdict = none }
   unfolding do-put view asking question-in got model-bytes padded
   view-asking q e =
       let u = bind-ok (held 20 ((view d) .model)) _ e in
       let m : (view d) .model ≡ some (u .0) = held-some 20 ((view d) .model) (u .1) in
       let p : padded 512 b ≡ b = pad-full b (question-length (length (u .0 .states)) (length (u .0 .actions)) (u .0 .propositions) b (u .2)) in
-      ap₂ (λ o c. record { model = (view d) .model; question = question-in true c o; verdict = none }) m p
-      ∙ ap (λ r. record { model = (view d) .model; question = got r; verdict = none }) (u .2)
+      ap₂ (λ o c. record { model = (view d) .model; blocks = (view d) .blocks; question = question-in true c o; verdict = none }) m p
+      ∙ ap (λ r. record { model = (view d) .model; blocks = (view d) .blocks; question = got r; verdict = none }) (u .2)
 
-pub view-settling : (d : Desk) (v : logic.Verdict) → do-judge (view d) ≡ ok v → view (settling d v) ≡ record { model = (view d) .model; question = (view d) .question; verdict = some v }
+pub view-settling : (d : Desk) (v : logic.Verdict) → do-judge (view d) ≡ ok v → view (settling d v) ≡ record { model = (view d) .model; blocks = (view d) .blocks; question = (view d) .question; verdict = some v }
 unfolding view settling question-in model-bytes
-view-settling d v e = ap (λ o. record { model = (view d) .model; question = (view d) .question; verdict = o }) (verdict-back (view d) v e)
+view-settling d v e = ap (λ o. record { model = (view d) .model; blocks = (view d) .blocks; question = (view d) .question; verdict = o }) (verdict-back (view d) v e)
 
 -- Each call leaves the contents that it says.
 kept-load : (d : Desk) (b : Bytes) → view ((step d (load b)) .desk) ≡ next (view d) (load b)
 unfolding step loaded-by next
 kept-load d b = by (read-model b) refl
   where
-    by : (c : Checked Model) → read-model b ≡ c → view ((taking d c (holding b)) .desk) ≡ settled (view d) c (λ m. record { model = some m; question = none; verdict = none })
+    by : (c : Checked Model) → read-model b ≡ c → view ((taking d c (holding b)) .desk) ≡ settled (view d) c (λ m. record { model = some m; blocks = b; question = none; verdict = none })
     by (ok m) e = view-holding b m e
     by (refused k) e = refl
 
@@ -226,7 +234,7 @@ unfolding step put-by next
 kept-put d b = by (do-put (view d) b) refl
   where
     by : (c : Checked Question) → do-put (view d) b ≡ c
-        → view ((taking d c (asking d b)) .desk) ≡ settled (view d) c (λ q. record { model = (view d) .model; question = some q; verdict = none })
+        → view ((taking d c (asking d b)) .desk) ≡ settled (view d) c (λ q. record { model = (view d) .model; blocks = (view d) .blocks; question = some q; verdict = none })
     by (ok q) e = view-asking d b q e
     by (refused k) e = refl
 
@@ -235,7 +243,7 @@ unfolding step judged-by next
 kept-judge d = by (do-judge (view d)) refl
   where
     by : (c : Checked logic.Verdict) → do-judge (view d) ≡ c
-        → view ((judging d c) .desk) ≡ settled (view d) c (λ v. record { model = (view d) .model; question = (view d) .question; verdict = some v })
+        → view ((judging d c) .desk) ≡ settled (view d) c (λ v. record { model = (view d) .model; blocks = (view d) .blocks; question = (view d) .question; verdict = some v })
     by (ok v) e = view-settling d v e
     by (refused k) e = refl
 

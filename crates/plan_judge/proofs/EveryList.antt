@@ -4,7 +4,7 @@ use mathlib.Core.Path.{_≡_, refl, sym, ap, ap₂, subst, _∙_}
 use mathlib.Core.List.{List, [], _∷_, _++_, append-nil, append-assoc}
 use lib.ListN.{length}
 use Rattle.blocks.specs.Bytes.{Bytes}
-use Rattle.protocol.specs.Calls.{Query, write, check, Call, load, put, judge, query, Reply, says, yields}
+use Rattle.protocol.specs.Calls.{Query, write, check, write-model, Call, load, put, judge, query, Reply, says, yields}
 use Rattle.protocol.specs.History.{after}
 use Rattle.protocol.specs.Replies.{Session}
 use Rattle.plan_judge.specs.declared.Desk.{Desk}
@@ -13,22 +13,27 @@ use Rattle.plan_judge.specs.declared.Judging.{Judging}
 use Rattle.plan_judge.specs.declared.Written.{Written}
 use Rattle.plan_judge.specs.declared.Checking.{Checking}
 use Rattle.plan_judge.specs.View.{view}
-use Rattle.plan_judge.specs.promises.Values.{nothing, loaded-by, put-by, judged-by, written-by, filled-by, checked-by}
+use Rattle.plan_judge.specs.promises.Values.{nothing, loaded-by, put-by, judged-by, written-by, filled-by, model-written-by, model-filled-by, checked-by}
 use Rattle.plan_judge.specs.Said.{said-taken, said-judgement, said-written, said-checking}
 use Rattle.plan_judge.specs.promises.Session.{asked, step, desk-after}
 use Rattle.protocol.specs.Replies.{replies-after, replies-to}
 use Rattle.plan_judge.proofs.DesksHoldHistory.{replies, desk-holds}
-use Rattle.plan_judge.proofs.Claims.Ran.{Slice, Asked, writes, checks, Answered, loads, puts, judges, asks, Ran, began, further, Described, Of-the-code}
+use Rattle.plan_judge.proofs.Claims.Ran.{Slice, Asked, writes, checks, writes-model, Answered, loads, puts, judges, asks, Ran, began, further, Described, Of-the-code}
 use Rattle.plan_judge.proofs.Claims.Demand1.{Next}
 use Rattle.plan_judge.proofs.Claims.Delivery.{There}
 
 -- ---- one call
 
+-- The reply to a call that writes.
+abbrev after-writing : Written → Bytes → Reply
+after-writing r left = record { answer = said-written r; buffer = left }
+
 -- The contracts ask nothing and give the values of `Session`'s step.
 asked-step : {d : Desk} {c : Query} {r : Reply} → Asked d c r → r ≡ asked d c
 unfolding asked
-asked-step (writes κ a b r p) = ap₂ (λ (x : Written) (y : Bytes). record { answer = said-written x; buffer = y }) (p tt .0) (p tt .1)
+asked-step (writes κ a b r p) = ap₂ after-writing (p tt .0) (p tt .1)
 asked-step (checks κ b r p) = ap (λ (x : Checking). says (said-checking x)) (p tt)
+asked-step (writes-model κ a b r p) = ap₂ after-writing (p tt .0) (p tt .1)
 
 pub stepped : {d : Desk} {c : Call} {r : Reply} {e : Desk} → Answered d c r e → (r ≡ (step d c) .reply) × (e ≡ (step d c) .desk)
 unfolding step
@@ -91,6 +96,8 @@ answer-there d judge = record { reply = _; desk = _; answered = judges (judged-b
 answer-there d (query (write a)) =
     record { reply = _; desk = _; answered = asks (writes ([], tt) (slice a) (slice (filled-by d a)) (written-by d (length a)) (λ _. (refl, refl))) }
 answer-there d (query (check b)) = record { reply = _; desk = _; answered = asks (checks ([], tt) (slice b) (checked-by d b) (λ _. refl)) }
+answer-there d (query (write-model a)) =
+    record { reply = _; desk = _; answered = asks (writes-model ([], tt) (slice a) (slice (model-filled-by d a)) (model-written-by d (length a)) (λ _. (refl, refl))) }
 
 there-after : (before : List Call) → There before → (cs : List Call) → There (before ++ cs)
 there-after before t [] = subst There (sym (append-nil before)) t

@@ -4,6 +4,7 @@ pub mod LoadPutReturn
 pub mod StateGrounds
 pub mod SizeOfPlan
 pub mod WriteReturns
+pub mod WriteModelReturns
 pub mod CheckReturns
 pub mod JudgeReturns
 pub mod EveryList

@@ -10,7 +10,7 @@ use Rattle.logic.proofs.Checked.{got-some}
 use Rattle.blocks.specs.Bytes.{Bytes}
 use Rattle.questions.specs.Layout.{Question}
 use Rattle.questions.specs.Children.{All-reached}
-use Rattle.protocol.specs.Calls.{Call, load, put, judge, query, write, check, Held, refuse, Reply, question-for, described, yields}
+use Rattle.protocol.specs.Calls.{Call, load, put, judge, query, write, check, write-model, Held, refuse, Reply, question-for, described, yields}
 use Rattle.protocol.specs.Demand1.{listed}
 use Rattle.protocol.specs.Tested.{run}
 use Rattle.protocol.proofs.UsedNodes.{read-reached}
@@ -35,6 +35,7 @@ asks-question h m e f (put b) l = absurd (false≢true l)
 asks-question h m e f judge l = rw (e, f) refl
 asks-question h m e f (query (write a)) l = rw (e, f) refl
 asks-question h m e f (query (check b)) l = rw (e, f) refl
+asks-question h m e f (query (write-model a)) l = absurd (false≢true l)
 
 module _ (d : Desk) (m : Model) (e : (view d) .model ≡ some m) (n : All-reached (d .question) → ⊥) where
   not-held : (o : Option Question) → (view d) .question ≡ o → o ≡ none

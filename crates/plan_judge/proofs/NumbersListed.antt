@@ -6,7 +6,7 @@ use lib.Dec.{eqb, leb}
 use borrow.Author.Tests.{leb-true}
 use Rattle.logic.specs.Lists.{all}
 use Rattle.logic.proofs.Tests.{all-at, any-some, eqb-eq}
-use Rattle.protocol.specs.Calls.{Call, load, put, judge, query, write, check, Held, refuse}
+use Rattle.protocol.specs.Calls.{Call, load, put, judge, query, write, check, write-model, Held, refuse}
 use Rattle.protocol.specs.Demand1.{listed}
 use Rattle.protocol.specs.promises.Chains.{by-chain}
 use Rattle.protocol.proofs.FirstGround.{yields-is, refuse-listed}
@@ -18,6 +18,7 @@ all-few (put b) = refl
 all-few judge = refl
 all-few (query (write a)) = refl
 all-few (query (check b)) = refl
+all-few (query (write-model a)) = refl
 
 pub few : (h : Held) (c : Call) (k : ℕ) → (by-chain h c) .answer ≡ refuse k → k ≤ 25
 few h c k e =

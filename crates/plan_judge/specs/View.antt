@@ -1,9 +1,9 @@
--- What a desk value holds, whoever put it together: the model if its bytes are those of a model that load accepts, the question if its bytes are
--- accepted for that model, the verdict if it was judged and, for a yes with a plan, the choices begin with those of one. Demand 1 is about any desk
+-- What a desk value holds, whoever put it together: the model, with its blocks, if its bytes are those of a model that load accepts, the question
+-- if its bytes are accepted for that model, the verdict if it was judged and, for a yes with a plan, the choices begin with those of one. Demand 1 is about any desk
 -- value; on desks that calls gave back this is what was loaded, put and judged (proved: `DesksHoldHistory`).
 use Prim.Native.Nat.{ℕ, _*_}
 use mathlib.Core.Bool.{Bool, cond}
-use mathlib.Core.List.{List}
+use mathlib.Core.List.{List, []}
 use mathlib.Core.Option.{Option, none, some}
 use lib.ListN.{take}
 use Rattle.logic.specs.Checked.{Checked, ok, refused, _>>=_, got}
@@ -24,6 +24,11 @@ use Rattle.judging.specs.declared.Verdict.the-variants.{No, Yes, YesPlan}
 -- The bytes that a desk has for a model.
 unfoldable pub model-bytes : Desk → Bytes
 model-bytes d = take (512 * d .blocks) (d .model)
+
+-- The blocks of the model that is held.
+unfoldable pub blocks-in : Option Model → Bytes → Bytes
+blocks-in none b = []
+blocks-in (some m) b = b
 
 -- The question in a block, if one was asked, for the model that is held.
 unfoldable pub question-in : Bool → Bytes → Option Model → Option Question
@@ -51,4 +56,4 @@ unfoldable pub view : Desk → Held
 view d =
     let m : Option Model = got (read-model (model-bytes d)) in
     let q : Option Question = question-in (d .asked) (d .question) m in
-    record { model = m; question = q; verdict = cond (d .judged) (verdict-on m q (d .choices) (d .verdict)) none }
+    record { model = m; blocks = blocks-in m (model-bytes d); question = q; verdict = cond (d .judged) (verdict-on m q (d .choices) (d .verdict)) none }

@@ -21,7 +21,7 @@ ghost use Rattle.judging.specs.promises.Asked.{Served};
 ghost use Rattle.judging.specs.promises.Announced.{Spelled, Weighs};
 ghost use Rattle.plan_judge.specs.View.{choices-in, view};
 ghost use Rattle.plan_judge.specs.promises.State.{held-size};
-ghost use Rattle.plan_judge.specs.promises.Values.{unjudged, nothing, loaded-by, put-by, judging, judged-by, written-by, filled-by, checking, checked-by};
+ghost use Rattle.plan_judge.specs.promises.Values.{unjudged, nothing, loaded-by, put-by, judging, judged-by, written-by, filled-by, model-written-by, model-filled-by, checking, checked-by};
 ghost use Rattle.plan_judge.specs.promises.State.{held-both, held-goal, plan-size, size-in, shown-size, shown-total, PlanRoot, plan-on};
 
 pub mod c_call;
@@ -78,7 +78,7 @@ pub struct Judging {
     pub desk: Desk,
 }
 
-// The answer of write: the number of bytes written.
+// The answer of write and write_model: the number of bytes written.
 pub enum Written {
     Bytes(usize),
     Refused(u32),
@@ -393,6 +393,23 @@ pub fn write(d: Desk, buf: &mut [u8]) -> Written
     let cs = d.choices;
     let end = blocks_end(MODEL_BYTES, d.blocks);
     Written::Bytes(sheets::writer::write_sheet(buf, &m[..end], n, s, w, &cs[..count]))
+}
+
+// Writes the blocks of the held model into the first bytes of a lent buffer; or refuses by ground 20, then 12, and leaves the buffer.
+pub fn write_model(d: Desk, buf: &mut [u8]) -> Written
+    ensures value { λ r. ⌜ r ≡ model-written-by d (length (now (buf .entry))) ⌝ }
+    ensures frame { λ _. ⌜ now (buf .exit) ≡ model-filled-by d (now (buf .entry)) ⌝ }
+{
+    let n = held_bytes(&d.model, d.blocks);
+    if n == 0 {
+        return Written::Refused(20);
+    }
+    if buf.len() < n {
+        return Written::Refused(12);
+    }
+    let m = d.model;
+    blocks::buffers::copy(buf, &m[..n]);
+    Written::Bytes(n)
 }
 
 // The first ground, 1 to 6 or 10, on which a sheet is refused for a question that asks for a plan; 0 where it has one.

@@ -139,17 +139,17 @@ module _ {h : Held} (sound-held : Sound h) (x : Plan-question h) where
   root = root-of (x .model) s (x .question .root) (x .asked) (x .plan-root)
 
   -- The bytes that the held model and question were read from.
-  model-bytes : (b : Bytes) × (read-model b ≡ ok (x .model))
-  model-bytes = sound-held .model-read (x .model) (x .held-model)
-
   abbrev b : Bytes
-  b = model-bytes .0
+  b = h .blocks
+
+  model-read : read-model b ≡ ok (x .model)
+  model-read = sound-held .model-read (x .model) (x .held-model)
 
   passed : refusal (read-model b) ≡ 0
-  passed = ap refusal (model-bytes .1)
+  passed = ap refusal model-read
 
   same-model : x .model ≡ model-of b
-  same-model = ok-same (sym (model-bytes .1) ∙ read-passed b (passed-all b passed))
+  same-model = ok-same (sym model-read ∙ read-passed b (passed-all b passed))
 
   question-bytes : (c : Bytes) × (read-question (length (x .model .states)) (length (x .model .actions)) (x .model .propositions) c ≡ ok (x .question))
   question-bytes = sound-held .question-read (x .model) (x .question) (x .held-model) (x .held-question)

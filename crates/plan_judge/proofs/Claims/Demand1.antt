@@ -20,6 +20,7 @@ use Rattle.plan_judge.proofs.put.Reads as put-reads
 use Rattle.plan_judge.proofs.judge.Reads as judge-reads
 use Rattle.plan_judge.proofs.write.Reads as write-reads
 use Rattle.plan_judge.proofs.check.Reads as check-reads
+use Rattle.plan_judge.proofs.write_model.Reads as write-model-reads
 use Rattle.plan_judge.proofs.shown_choices.Reads as shown-reads
 use Rattle.plan_judge.proofs.c_call.plan_judge.Reads as c-reads
 
@@ -31,6 +32,7 @@ pub record Asks-nothing : Type 0 where
   pub of-judge : (d : Desk) → judge-reads.Pre tt (d, tt)
   pub of-write : (κ : Lfts 1) (d : Desk) (a : Slice) → write-reads.Pre κ (d, (a, tt))
   pub of-check : (κ : Lfts 1) (d : Desk) (b : Slice) → check-reads.Pre κ (d, (b, tt))
+  pub of-write-model : (κ : Lfts 1) (d : Desk) (a : Slice) → write-model-reads.Pre κ (d, (a, tt))
   pub of-shown-choices : (d : Desk) → shown-reads.Pre tt (d, tt)
   pub of-c-call : (κ : Lfts 3) (model question sheet : Slice) → c-reads.Pre κ (model, (question, (sheet, tt)))
 

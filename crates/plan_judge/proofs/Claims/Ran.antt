@@ -8,7 +8,7 @@ use mathlib.Core.List.{List, [], _∷_, _++_}
 use contract.Lifetimes.{Lfts}
 use denote.Ref.{RefT}
 use Rattle.blocks.specs.Bytes.{Bytes}
-use Rattle.protocol.specs.Calls.{Query, write, check, Call, load, put, judge, query, Reply, says}
+use Rattle.protocol.specs.Calls.{Query, write, check, write-model, Call, load, put, judge, query, Reply, says}
 use Rattle.protocol.specs.History.{after}
 use Rattle.protocol.specs.Replies.{Session}
 use Rattle.plan_judge.specs.declared.Desk.{Desk}
@@ -25,6 +25,7 @@ use Rattle.plan_judge.proofs.put.Reads as put-reads
 use Rattle.plan_judge.proofs.judge.Reads as judge-reads
 use Rattle.plan_judge.proofs.write.Reads as write-reads
 use Rattle.plan_judge.proofs.check.Reads as check-reads
+use Rattle.plan_judge.proofs.write_model.Reads as write-model-reads
 
 -- A slice of bytes that is lent to a call, wherever it lies and for however long.
 abbrev pub Slice : Type 0
@@ -38,6 +39,9 @@ pub data Asked (d : Desk) : Query → Reply → Type 0 where
   checks : (κ : Lfts 1) (b : Slice) (r : Checking)
       → (check-reads.Pre κ (d, (b, tt)) → check-reads.Post κ (d, (b, tt)) r (d, (b, tt)))
       → Asked d (check (b .now)) (says (said-checking r))
+  writes-model : (κ : Lfts 1) (found left : Slice) (r : Written)
+      → (write-model-reads.Pre κ (d, (found, tt)) → write-model-reads.Post κ (d, (found, tt)) r (d, (left, tt)))
+      → Asked d (write-model (found .now)) (record { answer = said-written r; buffer = left .now })
 
 -- The call c on the desk d is answered r and gives back the desk e, as the contract of its function says: the answer in document 01's
 -- words, the lent buffer's bytes at the return, and the desk; after a query the caller goes on with d. Refused calls are among these: the

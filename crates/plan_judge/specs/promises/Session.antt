@@ -2,12 +2,12 @@
 -- contract the value of `Values`.
 use mathlib.Core.List.{List, [], _∷_}
 use lib.ListN.{length}
-use Rattle.protocol.specs.Calls.{Query, write, check, Call, load, put, judge, query, Reply, says}
+use Rattle.protocol.specs.Calls.{Query, write, check, write-model, Call, load, put, judge, query, Reply, says}
 use Rattle.protocol.specs.Replies.{Session}
 use Rattle.plan_judge.specs.declared.Desk.{Desk}
 use Rattle.plan_judge.specs.View.{view}
 use Rattle.plan_judge.specs.Said.{said-taken, said-judgement, said-written, said-checking}
-use Rattle.plan_judge.specs.promises.Values.{nothing, loaded-by, put-by, judged-by, written-by, filled-by, checked-by}
+use Rattle.plan_judge.specs.promises.Values.{nothing, loaded-by, put-by, judged-by, written-by, filled-by, model-written-by, model-filled-by, checked-by}
 
 pub record Outcome : Type 0 where
   pub reply : Reply
@@ -17,6 +17,7 @@ pub record Outcome : Type 0 where
 unfoldable pub asked : Desk → Query → Reply
 asked d (write a) = record { answer = said-written (written-by d (length a)); buffer = filled-by d a }
 asked d (check b) = says (said-checking (checked-by d b))
+asked d (write-model a) = record { answer = said-written (model-written-by d (length a)); buffer = model-filled-by d a }
 
 unfoldable pub step : Desk → Call → Outcome
 step d (load b) = let r = loaded-by d b in record { reply = says (said-taken (r .answer)); desk = r .desk }

@@ -8,7 +8,7 @@ use Rattle.logic.specs.Verdict as logic
 use Rattle.blocks.specs.Bytes.{Bytes}
 use Rattle.models.specs.Grounds.{read-model}
 use Rattle.protocol.specs.Calls.{Report}
-use Rattle.protocol.specs.promises.Chains.{do-put, do-judge, do-write, do-check}
+use Rattle.protocol.specs.promises.Chains.{do-put, do-judge, do-write, do-write-model, do-check}
 use Rattle.lamp.specs.declared.OptionalLamp.the-variants.{Missing}
 use Rattle.lamp.specs.promises.Codes.{lamp-code, optional-code}
 use Rattle.plan_judge.specs.declared.Desk.{Desk}
@@ -80,7 +80,7 @@ judging d (refused k) = record { answer = Judgement.Refused k; choices = replica
 unfoldable pub judged-by : Desk → Judging
 judged-by d = judging d (do-judge (view d))
 
--- ---- write and check, which leave the desk
+-- ---- write, write_model and check, which leave the desk
 
 abbrev pub writing : Checked Bytes → Written
 writing (ok b) = Filled (length b)
@@ -96,6 +96,12 @@ filling a (refused k) = a
 
 unfoldable pub filled-by : Desk → Bytes → Bytes
 filled-by d a = filling a (do-write (view d) (length a))
+
+unfoldable pub model-written-by : Desk → ℕ → Written
+model-written-by d size = writing (do-write-model (view d) size)
+
+unfoldable pub model-filled-by : Desk → Bytes → Bytes
+model-filled-by d a = filling a (do-write-model (view d) (length a))
 
 abbrev pub checking : Checked Report → Checking
 checking (ok r) = Accepted (record { met = r .met; lamp = lamp-code (r .lamp) })
