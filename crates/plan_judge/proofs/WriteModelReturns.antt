@@ -42,6 +42,9 @@ module _ (d : Desk) (a : Bytes) where
     pub cut-held : take n (d .model) ≡ said-bytes d
     cut-held = said-cut (d .model) (d .blocks) n (held-are ∙ length-take (512 * d .blocks) (d .model))
 
+    pub cut-size : n ≡ length (take n (d .model))
+    cut-size = held-are ∙ ap length (sym cut-held)
+
     blocks-are : (view d) .blocks ≡ said-bytes d
     unfolding view blocks-in model-bytes
     blocks-are = ap (λ o. blocks-in o (said-bytes d)) (model-some d passed)
