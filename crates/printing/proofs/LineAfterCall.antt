@@ -20,6 +20,7 @@ use Rattle.questions.proofs.AcceptedFacts.{accepted}
 use Rattle.protocol.specs.Calls.{Call, load, put, judge, question-for}
 use Rattle.protocol.specs.promises.Chains.{do-put, do-judge}
 use Rattle.protocol.specs.History.{loaded, asked, is-judge, or-else, last-left, passed, verdict-since, held-since, held-from, after}
+use Rattle.protocol.proofs.AfterEachCall.{with-blocks}
 use Rattle.verdict_line.specs.Line.{verdict-line}
 use Rattle.plan_judge.specs.declared.Desk.{Desk}
 use Rattle.plan_judge.specs.declared.Taken.the-variants.{Done, Refused}
@@ -75,9 +76,9 @@ module _ (m : Bytes) (e : refusal (read-model m) ≡ 0) where
   loading-is q = ap (λ c. c >>= (λ x. asking-line x q)) model-read
 
   -- The history by what was read of the model.
-  load-after : (cs : List Call) → last-left loaded cs ≡ none → after (load m ∷ cs) ≡ held-since (model-of m) (last-left (asked (model-of m)) cs)
+  load-after : (cs : List Call) → last-left loaded cs ≡ none → after (load m ∷ cs) ≡ held-since (record { blocks = m; model = model-of m }) (last-left (asked (model-of m)) cs)
   unfolding after last-left loaded or-else got held-from
-  load-after cs n = ap₂ (λ o c. held-from (or-else o (got c) cs)) n model-read
+  load-after cs n = ap₂ (λ o c. held-from (or-else o (got (with-blocks m c)) cs)) n model-read
 
   loaded-view : (view (desk-after nothing (load m ∷ []))) .model ≡ some (model-of m)
   unfolding last-left held-since
@@ -121,11 +122,11 @@ module _ (m q : Bytes) (e : refusal (read-model m) ≡ 0) (i : refusal (question
   asking-is = ap (λ c. c >>= judging-line M) question-read
 
   put-after : (cs : List Call) → last-left loaded (put q ∷ cs) ≡ none → last-left (asked M) cs ≡ none
-      → after (load m ∷ put q ∷ cs) ≡ record { model = some M; question = some Q; verdict = verdict-since M Q cs }
+      → after (load m ∷ put q ∷ cs) ≡ record { model = some M; blocks = m; question = some Q; verdict = verdict-since M Q cs }
   unfolding last-left asked or-else got held-since
-  put-after cs n a = load-after m e (put q ∷ cs) n ∙ ap₂ (λ o c. held-since M (or-else o (got c) cs)) a question-read
+  put-after cs n a = load-after m e (put q ∷ cs) n ∙ ap₂ (λ o c. held-since (record { blocks = m; model = M }) (or-else o (got c) cs)) a question-read
 
-  pub asked-view : view (desk-after nothing (load m ∷ put q ∷ [])) ≡ record { model = some M; question = some Q; verdict = none }
+  pub asked-view : view (desk-after nothing (load m ∷ put q ∷ [])) ≡ record { model = some M; blocks = m; question = some Q; verdict = none }
   unfolding last-left loaded or-else verdict-since any
   asked-view = desk-holds (load m ∷ put q ∷ []) ∙ put-after [] refl refl
 

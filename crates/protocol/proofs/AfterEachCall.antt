@@ -91,7 +91,7 @@ module _ (c : Call) (e : is-judge c ≡ false) where
 -- ---- each call
 
 -- What a load leaves, by what its bytes are read as.
-abbrev with-blocks : Bytes → Checked Model → Checked Loaded
+abbrev pub with-blocks : Bytes → Checked Model → Checked Loaded
 with-blocks b c = c >>= (λ m. ok (record { blocks = b; model = m }))
 
 read-with : (b : Bytes) {r : Checked Model} → read-model b ≡ r → read-loaded b ≡ with-blocks b r

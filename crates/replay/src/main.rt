@@ -1,6 +1,7 @@
 // Replays a list of calls from standard input on a desk that begins empty, and prints a line for each: what second/README.md describes, so
 // that the two can be compared. A record that is cut short, too long or of another operation ends the list.
 ghost use Prim.Native.Nat.{_+_, _≤_};
+ghost use mathlib.Core.Path.{_≡_};
 ghost use lib.ListN.{length};
 use libc::STDIN_FILENO;
 use libc::STDOUT_FILENO;
@@ -9,6 +10,7 @@ use plan_judge::Denial;
 use plan_judge::Desk;
 use plan_judge::Judgement;
 use plan_judge::Judging;
+use plan_judge::MODEL_BYTES;
 use plan_judge::PlanRecord;
 use plan_judge::Report;
 use plan_judge::Taken;
@@ -206,11 +208,42 @@ fn write(desk: Desk, buffer: &mut [u8], out: &mut [u8; LINE]) {
     say(out, end);
 }
 
+fn write_model(desk: Desk, buffer: &mut [u8], out: &mut [u8; LINE]) {
+    let a = plan_judge::write_model(desk, buffer);
+    let name = verdict_line::put_text(out, 0, b"write-model");
+    let next = put_written(out, name, a);
+    let end = put_sums(out, next, buffer);
+    say(out, end);
+}
+
 fn check(desk: Desk, input: &[u8], out: &mut [u8; LINE]) {
     let a = plan_judge::check(desk, input);
     let name = verdict_line::put_text(out, 0, b"check");
     let end = put_checked(out, name, a);
     say(out, end);
+}
+
+// ---- a desk put together by hand
+
+// A desk that no call gave back: the number of blocks that it says it has, in 8 bytes, then its room for a model, whatever that holds.
+fn by_hand(input: &[u8]) -> Desk
+    requires { ⌜ length (now input) ≡ 6152 ⌝ }
+{
+    let mut d = plan_judge::empty();
+    d.blocks = blocks::u64_at(input, 0) as usize;
+    let mut m = [0u8; MODEL_BYTES];
+    blocks::buffers::copy(&mut m, &input[8..]);
+    d.model = m;
+    d
+}
+
+fn lay(desk: Desk, input: &[u8], out: &mut [u8; LINE]) -> Turn {
+    if input.len() != 8 + MODEL_BYTES {
+        return Turn { going: false, desk };
+    }
+    let name = verdict_line::put_text(out, 0, b"desk");
+    say(out, name);
+    going_on(by_hand(input))
 }
 
 // ---- the list
@@ -232,6 +265,11 @@ fn call(desk: Desk, operation: u8, input: &mut [u8], out: &mut [u8; LINE]) -> Tu
             check(desk, input, out);
             going_on(desk)
         }
+        6 => {
+            write_model(desk, input, out);
+            going_on(desk)
+        }
+        7 => lay(desk, input, out),
         _ => Turn { going: false, desk },
     }
 }

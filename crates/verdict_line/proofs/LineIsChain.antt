@@ -20,25 +20,25 @@ use Rattle.verdict_line.specs.Reasons.{whynot-says, explained}
 use Rattle.verdict_line.specs.promises.Chain.{judging-text, asking-text, loading-text, judged-text, line-of, answer-text}
 
 module _ (says : Says) where
-  asks : (m : Model) (q : Question) (c : Checked (Unit {0})) → limits m (q .nodes) ≡ c
-      → replies-text says (with-question m q) (by-chain (with-question m q) judge ∷ []) ≡ line-of (judging-text says m q)
+  asks : (m : Model) (b : Bytes) (q : Question) (c : Checked (Unit {0})) → limits m (q .nodes) ≡ c
+      → replies-text says (with-question b m q) (by-chain (with-question b m q) judge ∷ []) ≡ line-of (judging-text says m q)
   unfolding replies-text by-chain do-judge line-of
-  asks m q (ok u) e = rw e refl
-  asks m q (refused k) e = rw e refl
+  asks m b q (ok u) e = rw e refl
+  asks m b q (refused k) e = rw e refl
 
-  puts : (m : Model) (question : Bytes) (c : Checked Question) → question-for m question ≡ c
-      → replies-text says (next (with-model m) (put question)) (by-chain (with-model m) (put question) ∷ by-chain (next (with-model m) (put question)) judge ∷ [])
+  puts : (m : Model) (b question : Bytes) (c : Checked Question) → question-for m question ≡ c
+      → replies-text says (next (with-model b m) (put question)) (by-chain (with-model b m) (put question) ∷ by-chain (next (with-model b m) (put question)) judge ∷ [])
       ≡ line-of (c >>= judging-text says m)
   unfolding replies-text by-chain next do-put line-of
-  puts m question (ok q) e = rw e (asks m q (limits m (q .nodes)) refl)
-  puts m question (refused k) e = rw e refl
+  puts m b question (ok q) e = rw e (asks m b q (limits m (q .nodes)) refl)
+  puts m b question (refused k) e = rw e refl
 
   loads : (model question : Bytes) (c : Checked Model) → read-model model ≡ c
       → replies-text says (next (next empty (load model)) (put question))
       (by-chain empty (load model) ∷ by-chain (next empty (load model)) (put question) ∷ by-chain (next (next empty (load model)) (put question)) judge ∷ [])
       ≡ line-of (c >>= (λ m. asking-text says m question))
   unfolding replies-text by-chain next line-of
-  loads model question (ok m) e = rw e (puts m question (question-for m question) refl)
+  loads model question (ok m) e = rw e (puts m model question (question-for m question) refl)
   loads model question (refused k) e = rw e refl
 
   module _ (model question : Bytes) where

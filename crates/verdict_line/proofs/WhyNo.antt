@@ -56,14 +56,14 @@ module _ (b : Bytes) where
 
   not-asked : {m : Model} {k : ℕ} → read-model (model-part b) ≡ ok m → question-for m (question-part b) ≡ refused k → judge-answer b ≡ refuse 21
   unfolding next do-put by-chain do-judge
-  not-asked {m} e f = answer-by {h = with-model m} (held-is ∙ rw (e, f) refl)
+  not-asked {m} e f = answer-by {h = with-model (model-part b) m} (held-is ∙ rw (e, f) refl)
 
   module _ (m : Model) (q : Question) (e : read-model (model-part b) ≡ ok m) (f : question-for m (question-part b) ≡ ok q) where
-    both-held : held-of b ≡ with-question m q
+    both-held : held-of b ≡ with-question (model-part b) m q
     unfolding next do-put
     both-held = held-is ∙ rw (e, f) refl
 
-    answers : judge-answer b ≡ by-chain (with-question m q) judge .answer
+    answers : judge-answer b ≡ by-chain (with-question (model-part b) m q) judge .answer
     answers = answer-by both-held
 
     answers-verdict : limits m (q .nodes) ≡ ok tt → judge-answer b ≡ judged (verdict m (q .start) (q .root))
