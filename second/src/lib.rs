@@ -14,6 +14,7 @@ pub mod ground;
 pub mod lamp_faults;
 pub mod leftover_faults;
 pub mod logic;
+pub mod model_faults;
 pub mod reason_faults;
 pub mod sum_faults;
 pub mod tally;

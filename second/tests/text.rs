@@ -19,7 +19,7 @@ fn shown_and_packed() {
         while let Some(call) = next_call(&mut rest) {
             match call {
                 Call::Load(input) | Call::Put(input) | Call::Check(input) => round_trip(&input),
-                Call::Judge | Call::Write(_) => {}
+                Call::Judge | Call::Write(_) | Call::WriteModel(_) | Call::ByHand(_) => {}
             }
         }
     }

@@ -28,7 +28,7 @@ fn whole_stream(seed: u64) -> Vec<u8> {
 fn input(call: &Call) -> &[u8] {
     match call {
         Call::Load(bytes) | Call::Put(bytes) | Call::Check(bytes) => bytes,
-        Call::Judge | Call::Write(_) => &[],
+        Call::Judge | Call::Write(_) | Call::WriteModel(_) | Call::ByHand(_) => &[],
     }
 }
 

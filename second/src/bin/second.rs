@@ -7,7 +7,7 @@ use second::generate::{bench_cases, stream};
 use second::tally::{reason_tally, tally};
 use second::timing::time;
 use second::{faults, floats, gain_faults, lamp_faults, leftover_faults};
-use second::{reason_faults, sum_faults};
+use second::{model_faults, reason_faults, sum_faults};
 use std::io::{self, Read, Write};
 use std::process::ExitCode;
 
@@ -25,9 +25,10 @@ const USAGE: &str = "usage: second [--plain] COMMAND
   gain-faults                a stream of calls to counts of the answers that judges that err about expected gains get wrong
   lamp-faults                a stream of calls to counts of the answers that judges that err about lamps get wrong
   leftover-faults            a stream of calls to counts of the answers that judges that err about leftover nodes get wrong
+  model-faults               a stream of calls to counts of the answers that desks that err about writing models get wrong
   reason-faults COUNT        as many pairs of a stream of calls to counts of the lines that wrong explainers print
   sum-faults                 a stream of calls to counts of the answers that judges with wrong word sums get wrong
-  generate KIND SEED COUNT   a stream of models, questions, judges, small, sheets, lists, tight, words or reasons
+  generate KIND SEED COUNT   a stream of models, questions, judges, small, sheets, lists, tight, words, reasons or stored
   compare SEED COUNT         the fast judge against the plain one
   bench-cases DIR            worst cases as DIR/NAME.bin
   bench FILE..               the time of each case in microseconds";
@@ -66,6 +67,7 @@ fn run(kind: JudgeKind, words: &[&str]) -> io::Result<ExitCode> {
         ["leftover-faults"] => print_leftover_faults(&read_input()?)?,
         ["gain-faults"] => print_gain_faults(&read_input()?)?,
         ["lamp-faults"] => print_lamp_faults(&read_input()?)?,
+        ["model-faults"] => print_model_faults(&read_input()?)?,
         ["reason-faults", count] => return print_reason_faults(count),
         ["sum-faults"] => print_sum_faults(&read_input()?)?,
         ["generate", kind, seed, count] => return generate(kind, seed, count),
@@ -170,6 +172,13 @@ fn print_faults(stream: &[u8]) -> io::Result<()> {
 
 fn print_leftover_faults(stream: &[u8]) -> io::Result<()> {
     for ((fault, call), count) in leftover_faults::differences(stream) {
+        print_line(&format!("{count:8} {call} {fault:?}"))?;
+    }
+    Ok(())
+}
+
+fn print_model_faults(stream: &[u8]) -> io::Result<()> {
+    for ((fault, call), count) in model_faults::differences(stream) {
         print_line(&format!("{count:8} {call} {fault:?}"))?;
     }
     Ok(())

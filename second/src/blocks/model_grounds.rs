@@ -3,13 +3,13 @@
 //! spare.
 
 use super::frame::check_frame;
-use super::model_image::{ActionImage, ModelImage, OutcomeImage, POSTS};
+use super::model_image::{ActionImage, ModelImage, OutcomeImage, MODEL_BLOCKS, POSTS};
 use crate::ground::{demand, Ground};
 use crate::logic::{Action, Literals, Model, Move};
 
 /// The accepted model in these bytes, or the first ground against it.
 pub fn read_model(bytes: &[u8]) -> Result<Model, Ground> {
-    check_frame(bytes, 2..=12, label)?;
+    check_frame(bytes, 2..=MODEL_BLOCKS, label)?;
     let image = ModelImage::unpack(bytes);
     demand(sizes_right(&image), Ground::Counts)?;
     demand(ranges_right(&image), Ground::Range)?;

@@ -10,6 +10,8 @@ pub const ACTIONS: usize = 8;
 pub const POSTS: usize = 4;
 /// How many states a row block holds.
 pub const ROW_STATES: usize = 3;
+/// The most blocks that a model has: the head, and rows for 32 states.
+pub const MODEL_BLOCKS: usize = 12;
 
 const MASKS_AT: usize = 8;
 const ACTIONS_AT: usize = 136;

@@ -1,6 +1,6 @@
-//! Load, put, judge, write and check.
+//! Load, put, judge, write, check and write-model.
 
-use crate::blocks::{read_model, read_question, read_sheet, Sheet};
+use crate::blocks::{read_model, read_question, read_sheet, ModelImage, Sheet, BLOCK};
 use crate::ground::{demand, Ground};
 use crate::logic::{check_limits, fast, plain, Checked, Judged, Model, Plan, PlanNode};
 use crate::logic::{PlanRecord, Question, Reason, Totals, Verdict};
@@ -30,6 +30,19 @@ impl Desk {
         Desk {
             kind,
             ..Desk::default()
+        }
+    }
+
+    /// The desk that a caller put together by hand: a room for a model and the
+    /// number of blocks that it is said to have, no question and no verdict. It
+    /// holds a model if load would accept just these blocks. A number that
+    /// passes the room means the whole room.
+    pub fn by_hand(&self, blocks: u64, room: &[u8]) -> Desk {
+        let blocks = usize::try_from(blocks).unwrap_or(usize::MAX);
+        let said = room.get(..blocks.saturating_mul(BLOCK)).unwrap_or(room);
+        Desk {
+            model: read_model(said).ok(),
+            ..Desk::new(self.kind)
         }
     }
 
@@ -133,10 +146,14 @@ impl Desk {
             total: stored(record.total),
             choices: choices.to_vec(),
         };
-        let packed = sheet.pack();
-        let place = buffer.get_mut(..packed.len()).ok_or(Ground::ShortBuffer)?;
-        place.copy_from_slice(&packed);
-        Ok(packed.len())
+        fill(buffer, &sheet.pack())
+    }
+
+    /// Writes the held model's blocks into the first bytes of the buffer and
+    /// gives the number of bytes written. They are packed from the model's
+    /// fields; no bytes of a load are kept.
+    pub fn write_model(&self, buffer: &mut [u8]) -> Result<usize, Ground> {
+        fill(buffer, &ModelImage::from(self.model()?).pack())
     }
 
     /// The figures and choices of the plan that a yes shows.
@@ -165,6 +182,13 @@ impl Desk {
         demand(total == root.summed.claimed(sheet.total), Ground::Total)?;
         Ok(Checked::by(&root, total, model.whole(root.steps())))
     }
+}
+
+/// Copies packed blocks into the first bytes of a buffer that is long enough.
+fn fill(buffer: &mut [u8], packed: &[u8]) -> Result<usize, Ground> {
+    let place = buffer.get_mut(..packed.len()).ok_or(Ground::ShortBuffer)?;
+    place.copy_from_slice(packed);
+    Ok(packed.len())
 }
 
 /// A total in a sheet's eight bytes, in two's complement. The largest, of six

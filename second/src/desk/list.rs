@@ -2,7 +2,8 @@
 
 use super::calls::Desk;
 use super::line::{lamp_after_count, list_choices};
-use crate::bytes::u32_at;
+use crate::blocks::{BLOCK, MODEL_BLOCKS};
+use crate::bytes::{u32_at, u64_at};
 use crate::ground::Ground;
 use crate::logic::{Checked, Judged, Verdict};
 use std::fmt;
@@ -16,13 +17,24 @@ pub enum Call {
     /// With the lent buffer as it was before.
     Write(Vec<u8>),
     Check(Vec<u8>),
+    /// With the lent buffer as it was before.
+    WriteModel(Vec<u8>),
+    /// No call of the documents: from here on the desk is one put together by
+    /// hand. Eight bytes say how many blocks its model has, the others are its
+    /// room for a model.
+    ByHand(Vec<u8>),
 }
+
+/// The bytes of a desk by hand that say how many blocks its model has, and those
+/// of its room for one.
+const SAID: usize = 8;
+pub const ROOM: usize = MODEL_BLOCKS * BLOCK;
 
 /// The bytes before a record's input: the operation and a length.
 const RECORD_HEAD: usize = 5;
 
-/// Takes the next whole record off the stream. A record that is cut short, or
-/// of no known operation, ends it.
+/// Takes the next whole record off the stream. A record that is cut short, of no
+/// known operation, or of a desk by hand with another length, ends it.
 pub fn next_call(stream: &mut &[u8]) -> Option<Call> {
     let operation = *stream.first()?;
     let length = usize::try_from(u32_at(stream.get(..RECORD_HEAD)?, 1)).ok()?;
@@ -35,6 +47,8 @@ pub fn next_call(stream: &mut &[u8]) -> Option<Call> {
         3 => Some(Call::Judge),
         4 => Some(Call::Write(input)),
         5 => Some(Call::Check(input)),
+        6 => Some(Call::WriteModel(input)),
+        7 if input.len() == SAID + ROOM => Some(Call::ByHand(input)),
         _ => None,
     }
 }
@@ -59,6 +73,24 @@ impl Call {
             Call::Judge => "judge",
             Call::Write(_) => "write",
             Call::Check(_) => "check",
+            Call::WriteModel(_) => "write-model",
+            Call::ByHand(_) => "desk",
+        }
+    }
+
+    /// A desk by hand whose model is said to have so many blocks. A room that is
+    /// too short is filled with zeros, one that is too long is cut.
+    pub fn by_hand(blocks: u64, room: &[u8]) -> Call {
+        let mut input = [&blocks.to_le_bytes(), room].concat();
+        input.resize(SAID + ROOM, 0);
+        Call::ByHand(input)
+    }
+
+    /// What a desk by hand says of its blocks, and its room; none for a call.
+    pub fn said(&self) -> Option<(u64, &[u8])> {
+        match self {
+            Call::ByHand(input) => Some((u64_at(input, 0), input.get(SAID..)?)),
+            _ => None,
         }
     }
 
@@ -70,6 +102,8 @@ impl Call {
             Call::Judge => (3, &[]),
             Call::Write(bytes) => (4, bytes),
             Call::Check(bytes) => (5, bytes),
+            Call::WriteModel(bytes) => (6, bytes),
+            Call::ByHand(bytes) => (7, bytes),
         };
         let length = u32::try_from(input.len()).unwrap_or(u32::MAX);
         let mut record = vec![operation];
@@ -90,11 +124,21 @@ impl Call {
                 Answer::Write(written, buffer)
             }
             Call::Check(bytes) => Answer::Check(desk.check(bytes)),
+            Call::WriteModel(before) => {
+                let mut buffer = before.clone();
+                let written = desk.write_model(&mut buffer);
+                Answer::WriteModel(written, buffer)
+            }
+            Call::ByHand(_) => {
+                let (blocks, room) = self.said().unwrap_or_default();
+                *desk = desk.by_hand(blocks, room);
+                Answer::ByHand
+            }
         }
     }
 }
 
-/// What a call answers; a write with the buffer after it.
+/// What a call answers; what writes, with the buffer after it.
 #[derive(Clone, Debug, PartialEq, Eq)]
 pub enum Answer {
     Load(Result<(), Ground>),
@@ -102,6 +146,9 @@ pub enum Answer {
     Judge(Result<Judged, Ground>),
     Write(Result<usize, Ground>, Vec<u8>),
     Check(Result<Checked, Ground>),
+    WriteModel(Result<usize, Ground>, Vec<u8>),
+    /// A desk by hand answers nothing.
+    ByHand,
 }
 
 impl fmt::Display for Answer {
@@ -111,11 +158,11 @@ impl fmt::Display for Answer {
             Answer::Put(answer) => write!(out, "put {}", done(answer)),
             Answer::Judge(Ok(judged)) => write!(out, "judge {}", verdict_words(judged)),
             Answer::Judge(Err(ground)) => write!(out, "judge {}", refused(*ground)),
-            Answer::Write(answer, buffer) => {
-                let (a, b) = adler(buffer);
-                let words = answer.map_or_else(refused, |bytes| bytes.to_string());
-                write!(out, "write {words} {a} {b}")
+            Answer::Write(answer, buffer) => write!(out, "write {}", written(answer, buffer)),
+            Answer::WriteModel(answer, buffer) => {
+                write!(out, "write-model {}", written(answer, buffer))
             }
+            Answer::ByHand => write!(out, "desk"),
             Answer::Check(Ok(checked)) => {
                 let met = if checked.met { "met" } else { "unmet" };
                 write!(out, "check accepted {met} {}", checked.lamp.word())
@@ -131,6 +178,13 @@ fn refused(ground: Ground) -> String {
 
 fn done(answer: &Result<(), Ground>) -> String {
     answer.map_or_else(refused, |()| "done".to_string())
+}
+
+/// The number of bytes written, or the refusal, and the sums of the buffer.
+fn written(answer: &Result<usize, Ground>, buffer: &[u8]) -> String {
+    let (a, b) = adler(buffer);
+    let words = answer.map_or_else(refused, |bytes| bytes.to_string());
+    format!("{words} {a} {b}")
 }
 
 fn verdict_words(judged: &Judged) -> String {

@@ -1,4 +1,4 @@
-//! The desk and its five calls, and lists of calls.
+//! The desk and its six calls, and lists of calls.
 
 mod c_call;
 mod calls;
@@ -10,6 +10,6 @@ mod why;
 pub use c_call::c_calls;
 pub use calls::{stored, Desk, JudgeKind};
 pub use line::{verdict_line, verdict_of};
-pub use list::{adler, next_call, replay, Answer, Call};
+pub use list::{adler, next_call, replay, Answer, Call, ROOM};
 pub use pairs::pairs;
 pub use why::{reason_calls, reason_lines, whynot_lines};

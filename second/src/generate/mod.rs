@@ -24,6 +24,10 @@ mod reason_models;
 mod reasons;
 mod rng;
 mod sheet_damage;
+mod stored;
+mod stored_among;
+mod stored_hand;
+mod stored_models;
 mod streams;
 mod tight;
 mod words;
@@ -34,13 +38,16 @@ pub use model::{random_model, Size};
 pub use question::{random_question, Scale};
 pub use reasons::reasons;
 pub use rng::Rng;
+pub use stored::stored;
 pub use streams::{judges, models, questions, sheets, small, AFFORDABLE};
 pub use tight::tight;
 pub use words::words;
 
 use crate::desk::Call;
+use stored_among::with_models;
 
-/// The stream of a kind, or none if there is no such kind.
+/// The stream of a kind, or none if there is no such kind. Beside its so many
+/// calls, `lists` has others between them that write the model.
 pub fn stream(kind: &str, seed: u64, count: usize) -> Option<Vec<u8>> {
     let mut rng = Rng::new(seed);
     let mut calls = match kind {
@@ -53,8 +60,12 @@ pub fn stream(kind: &str, seed: u64, count: usize) -> Option<Vec<u8>> {
         "tight" => tight(&mut rng, count),
         "words" => words(&mut rng),
         "reasons" => reasons(&mut rng, count),
+        "stored" => stored(&mut rng, count),
         _ => return None,
     };
     calls.truncate(count);
+    if kind == "lists" {
+        calls = with_models(seed, calls);
+    }
     Some(calls.iter().flat_map(Call::record).collect())
 }

@@ -35,6 +35,21 @@ impl Size {
 
 /// A random accepted model, up to a size.
 pub fn random_model(rng: &mut Rng, size: Size) -> ModelImage {
+    let image = sizes(rng, size);
+    completed(rng, image, size.posts)
+}
+
+/// The same with just so many states.
+pub(super) fn model_of_states(rng: &mut Rng, size: Size, states: u8) -> ModelImage {
+    let image = ModelImage {
+        states,
+        ..sizes(rng, size)
+    };
+    completed(rng, image, size.posts)
+}
+
+/// A model's sizes, and nothing else.
+fn sizes(rng: &mut Rng, size: Size) -> ModelImage {
     // A model of one state or one action has little to tell.
     let least = if rng.once_in(8) { 1 } else { 2 };
     let mut image = ModelImage {
@@ -52,6 +67,11 @@ pub fn random_model(rng: &mut Rng, size: Size) -> ModelImage {
     if rng.once_in(8) {
         image.actions = size.actions;
     }
+    image
+}
+
+/// A model of these sizes, with up to so many postconditions.
+fn completed(rng: &mut Rng, mut image: ModelImage, posts: usize) -> ModelImage {
     image.rows = vec![Default::default(); ModelImage::rows_for(image.states)];
     let used_bits = u32::MAX >> (32 - u32::from(image.propositions));
     for state in 0..usize::from(image.states) {
@@ -63,7 +83,7 @@ pub fn random_model(rng: &mut Rng, size: Size) -> ModelImage {
         agree_on(rng, &mut image, bit);
     }
     for action in 0..usize::from(image.actions) {
-        image.moves[action] = random_action(rng, &image, size.posts);
+        image.moves[action] = random_action(rng, &image, posts);
     }
     silence.apply(rng, &mut image, bit);
     fill_rows(rng, &mut image);

@@ -4,9 +4,11 @@ mod details;
 mod lamps;
 mod leftovers;
 mod reasons;
+mod stored;
 
 pub use reasons::reason_tally;
 
+use crate::blocks::BLOCK;
 use crate::desk::{replay, Answer};
 use crate::logic::{Checked, Judged, Verdict};
 use std::collections::BTreeMap;
@@ -18,9 +20,12 @@ pub type Tally = BTreeMap<(&'static str, u8, String), usize>;
 /// Replays a stream from the empty desk and counts its answers.
 pub fn tally(stream: &[u8]) -> Tally {
     let mut counts = Tally::new();
+    let mut past = stored::Past::default();
     replay(stream, |call, answer, desk| {
         let (name, number, words) = key(answer);
-        for about in details::details(call, answer, desk) {
+        let mut found = details::details(call, answer, desk);
+        found.extend(past.words(call, answer, desk));
+        for about in found {
             let words = format!("{words}: {about}");
             *counts.entry((name, number, words)).or_default() += 1;
         }
@@ -31,6 +36,7 @@ pub fn tally(stream: &[u8]) -> Tally {
 
 /// The call, the number of its refusal or 0, and the answer in words.
 fn key(answer: &Answer) -> (&'static str, u8, String) {
+    let blocks;
     let (call, refusal, words) = match answer {
         Answer::Load(answer) => ("load", answer.err(), "done"),
         Answer::Put(answer) => ("put", answer.err(), "done"),
@@ -41,6 +47,11 @@ fn key(answer: &Answer) -> (&'static str, u8, String) {
         Answer::Write(answer, _) => ("write", answer.err(), "3 blocks"),
         Answer::Check(Ok(Checked { met: true, .. })) => ("check", None, "accepted met"),
         Answer::Check(answer) => ("check", answer.err(), "accepted unmet"),
+        Answer::WriteModel(answer, _) => {
+            blocks = format!("{} blocks", answer.unwrap_or(0) / BLOCK);
+            ("write-model", answer.err(), blocks.as_str())
+        }
+        Answer::ByHand => ("desk", None, "by hand"),
     };
     match refusal {
         None => (call, 0, words.to_string()),
