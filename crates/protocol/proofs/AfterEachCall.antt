@@ -104,7 +104,7 @@ after-load cs b (ok m) e = ap held-from (last-left-new loaded cs (load b) (ap go
 after-load cs b (refused k) e = after-same (load b) refl cs (ap got (read-with b e)) (λ l since i. refl)
 
 -- With a model held, its contents by what was asked since.
-held-loaded : (l : Loaded) (o : Option (Question × List Call)) → ((held-since l o) .model ≡ some (l .model)) × ((held-since l o) .blocks ≡ l .blocks)
+pub held-loaded : (l : Loaded) (o : Option (Question × List Call)) → ((held-since l o) .model ≡ some (l .model)) × ((held-since l o) .blocks ≡ l .blocks)
 unfolding held-since
 held-loaded l none = (refl, refl)
 held-loaded l (some x) = (refl, refl)

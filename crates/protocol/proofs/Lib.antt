@@ -6,6 +6,7 @@ pub mod OneWordRefused
 pub mod Lists
 pub mod ShownPlan
 pub mod UsedNodes
+pub mod ModelWritten
 pub mod Demand2
 pub mod TotalsByRoot
 pub mod Demand3

@@ -56,6 +56,16 @@ module _ {A : Type 0} (a : A) where
       by true h e = h e
       by false h e = ap some (refused-same e)
 
+  -- Where a value is accepted, no ground applies.
+  pub decided-ok : (gs : List Ground) {b : A} → decided gs a ≡ ok b → first gs ≡ none
+  unfolding first
+  decided-ok [] e = refl
+  decided-ok (g ∷ gs) {b} e = by (g .passes) (λ i. decided-ok gs i) e
+    where
+      by : (t : Bool) → (decided gs a ≡ ok b → first gs ≡ none) → (guard (g .number) t >> decided gs a) ≡ ok b → cond t (first gs) (some (g .number)) ≡ none
+      by true h e = h e
+      by false h e = absurd (not-ok e)
+
   -- What is accepted is the value.
   pub decided-value : (gs : List Ground) {b : A} → decided gs a ≡ ok b → a ≡ b
   decided-value [] e = ok-same e
