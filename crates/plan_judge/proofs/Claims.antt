@@ -2,5 +2,6 @@
 pub mod Ran
 pub mod Demand1
 pub mod Offered
+pub mod ModelsWritten
 pub mod Delivery
 pub mod OneWord

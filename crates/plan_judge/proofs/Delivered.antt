@@ -10,6 +10,7 @@ use Rattle.plan_judge.proofs.Claims.Delivery.{Delivery}
 use Rattle.plan_judge.proofs.EveryList.{every-answer, every-list, ran-there, code-yields}
 use Rattle.plan_judge.proofs.CodeDemand1.{demand-1-of-the-code}
 use Rattle.plan_judge.proofs.NodesReached.{held-reached, others-not-held}
+use Rattle.plan_judge.proofs.ModelsWrittenBack.{models-written}
 use Rattle.plan_judge.proofs.Offered.{c-call-told, shown-choices-told}
 
 session-of-the-code : Of-the-code session
@@ -26,6 +27,7 @@ delivered =
       demand-3 = λ session h. demand-3-always session (code-yields session h);
       held-reached = held-reached;
       others-not-held = λ d m h n {c} a l. others-not-held d m h n c (demand-1-of-the-code .its-result a) l;
+      models-written = models-written;
       c-call = c-call-told;
       shown-choices = shown-choices-told;
     }

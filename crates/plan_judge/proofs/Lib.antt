@@ -15,4 +15,5 @@ pub mod CSteps
 pub mod CList
 pub mod Offered
 pub mod NodesReached
+pub mod ModelsWrittenBack
 pub mod Delivered

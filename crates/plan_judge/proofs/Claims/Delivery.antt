@@ -1,5 +1,5 @@
 -- What the delivery claims of the code, whole: the three demands of document 00, the claim about every list of calls (document 01, "The
--- desk"), and what is offered beside the five calls. That each function meets its contract and returns is what the checker proves of it;
+-- desk"), what requests of document 02 add to them, and what is offered beside the six calls. That each function meets its contract and returns is what the checker proves of it;
 -- these statements begin at the contracts. (Proved in `Delivered`.)
 use mathlib.Core.Path.{_≡_}
 use mathlib.Core.Bool.{true}
@@ -20,6 +20,7 @@ use Rattle.plan_judge.specs.View.{view}
 use Rattle.plan_judge.proofs.Claims.Ran.{Answered, Ran, Described, Of-the-code}
 use Rattle.plan_judge.proofs.Claims.Demand1.{Demand-1}
 use Rattle.plan_judge.proofs.Claims.Offered.{C-call-told, Shown-choices-told}
+use Rattle.plan_judge.proofs.Claims.ModelsWritten.{Models-written}
 
 -- What a list of calls leads to.
 pub record There (cs : List Call) : Type 0 where
@@ -41,5 +42,7 @@ pub record Delivery : Type 0 where
   pub held-reached : (d : Desk) (q : Question) → (view d) .question ≡ some q → All-reached (d .question)
   pub others-not-held : (d : Desk) (m : Model) → (view d) .model ≡ some m → (All-reached (d .question) → ⊥)
       → {c : Call} {r : Reply} {e : Desk} → Answered d c r e → any (eqb 21) (listed c) ≡ true → r .answer ≡ refuse 21
+  -- document 02, A.7
+  pub models-written : Models-written
   pub c-call : C-call-told
   pub shown-choices : Shown-choices-told

@@ -1,4 +1,4 @@
--- What is offered beside the five calls: of the C call and of `shown_choices`, their own contracts allow some result, and whatever they
+-- What is offered beside the six calls: of the C call and of `shown_choices`, their own contracts allow some result, and whatever they
 -- allow is the value described (`Ran` explains `Pre` and `Post`). A contract that asks something or says less allows more, and these claims
 -- fail. (Proved in `Offered`.)
 use Prim.Native.Nat.{ℕ}
