@@ -32,7 +32,7 @@ const PUTS: &[(&str, usize)] = &[
     ("lists", 10),
 ];
 
-const TOLD: [Row; 13] = [
+const TOLD: [Row; 14] = [
     // Accepted questions are refused, or most leftovers are accepted.
     Row {
         streams: EVERYWHERE,
@@ -188,6 +188,12 @@ const TOLD: [Row; 13] = [
     Row {
         streams: &[("questions", 100), ("lists", 100)],
         call: "put",
+        faults: &[Fault::ModelDropped],
+    },
+    // What is gone cannot be written.
+    Row {
+        streams: &[("lists", 100)],
+        call: "write-model",
         faults: &[Fault::ModelDropped],
     },
 ];

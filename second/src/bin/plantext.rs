@@ -6,6 +6,8 @@ use second::text::{show_blocks, Packer, Part};
 use std::io::{self, Read, Write};
 use std::process::ExitCode;
 
+const USAGE: &str = "usage: plantext pack FILE.. | calls FILE.. | model-calls FILE.. | show | draw";
+
 fn main() -> ExitCode {
     let arguments: Vec<String> = std::env::args().skip(1).collect();
     let words: Vec<&str> = arguments.iter().map(String::as_str).collect();
@@ -14,9 +16,10 @@ fn main() -> ExitCode {
             pack_files(files).and_then(|packer| write_out(&packer.blocks()))
         }
         ["calls", files @ ..] if !files.is_empty() => calls(files),
+        ["model-calls", files @ ..] if !files.is_empty() => model_calls(files),
         ["show"] => show(),
         ["draw"] => draw_picture(),
-        _ => Err("usage: plantext pack FILE.. | calls FILE.. | show | draw".to_string()),
+        _ => Err(USAGE.to_string()),
     };
     match done {
         Ok(()) => ExitCode::SUCCESS,
@@ -53,6 +56,24 @@ fn calls(files: &[&str]) -> Result<(), String> {
     }
     write_out(&stream)
 }
+
+/// Writes calls: each model is loaded, written into a buffer of its own length
+/// and into a longer one, both full of marks, and loaded again.
+fn model_calls(files: &[&str]) -> Result<(), String> {
+    let mut stream = Vec::new();
+    for (_, bytes) in pack_files(files)?.parts() {
+        let marks = |more: usize| Call::WriteModel(vec![MARK; bytes.len() + more]);
+        let load = || Call::Load(bytes.clone());
+        let calls = [load(), marks(0), marks(BEHIND), load()];
+        stream.extend(calls.iter().flat_map(Call::record));
+    }
+    write_out(&stream)
+}
+
+/// A byte that tells whether it was touched, and how many of them stand behind
+/// the model.
+const MARK: u8 = 165;
+const BEHIND: usize = 700;
 
 fn show() -> Result<(), String> {
     write_out(show_blocks(&read_input()?).as_bytes())

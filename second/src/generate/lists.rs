@@ -1,4 +1,5 @@
-//! Random lists of all five calls.
+//! Random lists of the calls of document 01. `stored_among` puts calls that write
+//! models between them.
 
 use super::lamps::cases;
 use super::leftovers::left_over;

@@ -3,6 +3,7 @@
 use super::damage::Patches;
 use super::rng::Rng;
 use crate::blocks::{ModelImage, OutcomeImage, BLOCK};
+use crate::ground::Ground;
 use crate::logic::Literals;
 
 /// A model that is being damaged.
@@ -131,6 +132,21 @@ pub(super) const HARMS: &[Harm] = &[
     silent_row,
     any_byte,
 ];
+
+/// Those that mostly lead to a ground.
+pub(super) fn harms_towards(ground: Ground) -> &'static [Harm] {
+    let places = match ground {
+        Ground::Length => 0..2,
+        Ground::WordSum => 2..3,
+        Ground::Kind => 4..6,
+        Ground::Counts => 6..12,
+        Ground::Range => 12..19,
+        Ground::Spare => 19..29,
+        Ground::Outcomes => 29..33,
+        _ => 0..HARMS.len(),
+    };
+    HARMS.get(places).unwrap_or(HARMS)
+}
 
 /// A count at or about the ends of its range.
 fn size(rng: &mut Rng, now: u8, most: u8) -> u8 {
@@ -411,7 +427,6 @@ mod tests {
     use super::*;
     use crate::blocks::read_model;
     use crate::generate::{random_model, Size};
-    use crate::ground::Ground;
 
     /// What loading says of random models after a harm, for those that had an
     /// action in each state.
@@ -429,6 +444,24 @@ mod tests {
         }
         assert!(answers.len() > 100);
         answers
+    }
+
+    /// Each ground is one that those harms lead to which are said to.
+    #[test]
+    fn harms_lead_to_their_grounds() {
+        for ground in [
+            Ground::Length,
+            Ground::WordSum,
+            Ground::Kind,
+            Ground::Counts,
+            Ground::Range,
+            Ground::Spare,
+            Ground::Outcomes,
+        ] {
+            for harm in harms_towards(ground) {
+                assert!(after(*harm).contains(&Err(ground)), "{ground:?}");
+            }
+        }
     }
 
     /// A precondition that names all propositions cannot be changed so; where

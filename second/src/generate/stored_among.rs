@@ -1,7 +1,7 @@
 //! Models written out among the calls of another stream, which stay as they are.
 
 use super::rng::Rng;
-use super::stored_hand::any_desk;
+use super::stored_hand::{any_desk, right_desk};
 use super::stored_models::Kept;
 use crate::desk::Call;
 
@@ -38,10 +38,13 @@ fn accepted(call: &Call) -> Option<Kept> {
 
 /// Now and then a desk by hand, and writes of what it holds.
 fn by_hand(rng: &mut Rng, held: Option<&Kept>, before: &[u8]) -> Vec<Call> {
-    let Some(kept) = held.filter(|_| rng.once_in(3)) else {
+    let Some(kept) = held.filter(|_| rng.once_in(2)) else {
         return Vec::new();
     };
-    let mut calls = vec![any_desk(rng, kept, before)];
+    let mut calls = vec![match rng.once_in(3) {
+        true => right_desk(rng, kept, before),
+        false => any_desk(rng, kept, before),
+    }];
     for _ in 0..rng.range(1, 3) {
         calls.push(kept.written(rng, before));
     }

@@ -1,7 +1,7 @@
 //! Models to be written out, and buffers to write them to.
 
 use super::model::{fill_rows, model_of_states, Size};
-use super::model_damage::{Draft, HARMS};
+use super::model_damage::{harms_towards, Draft, HARMS};
 use super::question::{random_question, Scale};
 use super::rng::Rng;
 use super::streams::right_sheet;
@@ -83,7 +83,11 @@ impl Kept {
     pub(super) fn refused(&self, rng: &mut Rng, ground: Ground) -> Option<Vec<u8>> {
         let drawn = (0..80).map(|_| {
             let mut draft = Draft::of(self.image.clone());
-            if let Some(harm) = rng.pick(HARMS) {
+            let harms = match rng.once_in(4) {
+                true => HARMS,
+                false => harms_towards(ground),
+            };
+            if let Some(harm) = rng.pick(harms) {
                 harm(rng, &mut draft);
             }
             draft.pack()

@@ -1,7 +1,7 @@
 //! What the calls that write models (document 02, A.7) were about: the buffer,
 //! the model, and how the desk came by it.
 
-use crate::blocks::{ModelImage, BLOCK, MODEL_BLOCKS};
+use crate::blocks::{ModelImage, BLOCK};
 use crate::desk::{Answer, Call, Desk, ROOM};
 use crate::logic::Model;
 
@@ -91,21 +91,16 @@ fn made_words(call: &Call, held: Option<&Model>) -> String {
     format!("by hand, {model}, {count}")
 }
 
+/// The words of the rows that are true.
+fn told(rows: &[(bool, &str)]) -> Vec<String> {
+    let found = rows.iter().filter(|row| row.0);
+    found.map(|row| row.1.to_string()).collect()
+}
+
 /// The buffer beside the model's length, and what the model has.
 fn model_words(model: &Model, buffer: &[u8]) -> Vec<String> {
-    let length = packed_len(model);
-    let lent = buffer.len();
-    let states = model.states();
-    let enabled = |action: u8| {
-        let mut moves = model.moves.iter().flatten();
-        moves.any(|entry| entry.action == action)
-    };
-    let mut rewards = model
-        .moves
-        .iter()
-        .flatten()
-        .flat_map(|entry| &entry.outcomes);
-    let all = [
+    let (length, lent) = (packed_len(model), buffer.len());
+    let mut found = told(&[
         (lent == length, "an exact buffer"),
         (lent + 1 == length, "one byte short"),
         (lent == length + 1, "one byte longer"),
@@ -114,34 +109,39 @@ fn model_words(model: &Model, buffer: &[u8]) -> Vec<String> {
         (lent == ROOM && length < ROOM, "a buffer of 12 blocks"),
         (lent > ROOM, "a buffer of more than 12 blocks"),
         (lent == 0, "an empty buffer"),
-        (
-            (0..states as u8).any(|state| model.is_silent(state)),
-            "silent states",
-        ),
-        (
-            (0..states as u8).all(|state| model.is_silent(state)),
-            "silent states only",
-        ),
+    ]);
+    if lent < length {
+        found.push(format!("{} blocks", length / BLOCK));
+    }
+    found.extend(field_words(model));
+    found
+}
+
+/// What the model has that a wrong writer may lose.
+fn field_words(model: &Model) -> Vec<String> {
+    let states = model.states();
+    let mut numbers = 0..states as u8;
+    let moves = || model.moves.iter().flatten();
+    let enabled = |action: u8| moves().any(|entry| entry.action == action);
+    let rewarded = |reward: i16| {
+        let mut outcomes = moves().flat_map(|entry| &entry.outcomes);
+        outcomes.any(|outcome| outcome.reward == reward)
+    };
+    let silent = |state: u8| model.is_silent(state);
+    told(&[
+        (numbers.clone().any(silent), "silent states"),
+        (numbers.all(silent), "silent states only"),
         (
             !(0..model.actions.len() as u8).all(enabled),
             "an action enabled nowhere",
         ),
-        (
-            rewards.clone().any(|outcome| outcome.reward == -1000),
-            "reward -1000",
-        ),
-        (rewards.any(|outcome| outcome.reward == 1000), "reward 1000"),
+        (rewarded(-1000), "reward -1000"),
+        (rewarded(1000), "reward 1000"),
         (states == 1, "one state"),
         (states == 32, "32 states"),
         (!states.is_multiple_of(3), "a row block with spare states"),
         (unnamed(model), "an unused proposition"),
-    ];
-    let found = all.into_iter().filter(|row| row.0);
-    let mut found: Vec<String> = found.map(|row| row.1.to_string()).collect();
-    if lent < length {
-        found.push(format!("{} blocks", length / BLOCK));
-    }
-    found
+    ])
 }
 
 /// Whether some proposition is true in no state and named by no action.
@@ -158,15 +158,10 @@ fn unnamed(model: &Model) -> bool {
 /// What the desk holds beside the model, or the buffer lent to one without.
 fn desk_words(desk: &Desk, buffer: &[u8]) -> Vec<String> {
     let empty = desk.model().is_err();
-    let all = [
+    told(&[
         (desk.question().is_ok(), "a question is held"),
         (desk.judged().is_some(), "a verdict is held"),
         (empty && buffer.is_empty(), "an empty buffer"),
-        (
-            empty && buffer.len() >= MODEL_BLOCKS * BLOCK,
-            "a long buffer",
-        ),
-    ];
-    let found = all.into_iter().filter(|row| row.0);
-    found.map(|row| row.1.to_string()).collect()
+        (empty && buffer.len() >= ROOM, "a long buffer"),
+    ])
 }
