@@ -404,12 +404,12 @@ pub fn write_model(d: Desk, buf: &mut [u8]) -> Written
     if n == 0 {
         return Written::Refused(20);
     }
-    if buf.len() < n {
-        return Written::Refused(12);
+    if n <= buf.len() {
+        let m = d.model;
+        blocks::buffers::copy(buf, &m[..n]);
+        return Written::Bytes(n);
     }
-    let m = d.model;
-    blocks::buffers::copy(buf, &m[..n]);
-    Written::Bytes(n)
+    Written::Refused(12)
 }
 
 // The first ground, 1 to 6 or 10, on which a sheet is refused for a question that asks for a plan; 0 where it has one.
