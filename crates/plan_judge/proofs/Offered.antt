@@ -1,4 +1,4 @@
--- What is offered beside the five calls is what is claimed of it (`Claims.Offered`): the contracts' own values, and of the C call that its
+-- What is offered beside the six calls is what is claimed of it (`Claims.Offered`): the contracts' own values, and of the C call that its
 -- chain is the list of calls (`CList`).
 use mathlib.Core.Path.{_≡_, refl, sym, ap₂, _∙_}
 use mathlib.Core.Option.{Option, none, some}

@@ -1,1 +1,1 @@
-// Definitions and theorems only: what the five calls yield, lists of calls, and demand 3, in specs/; proofs/ has what follows from them.
+// Definitions and theorems only: what the six calls yield, lists of calls, and demand 3, in specs/; proofs/ has what follows from them.
