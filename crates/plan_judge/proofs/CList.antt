@@ -1,6 +1,5 @@
 -- The chain that the C call's contract cites is what the list load, put, judge, write on an empty desk tells: after each call of the list
 -- that is done, the desk holds what the next one asks for, and a refusal is told on.
-use Prim.Native.Nat.{_+_}
 use mathlib.Core.Path.{_≡_, refl, ap, ap₂, _∙_}
 use mathlib.Core.Bool.{true}
 use mathlib.Core.List.{List, [], _∷_}

@@ -2,28 +2,26 @@
 -- it was made on; the replies to write-model are those described (demand 1), and they write the blocks that are held.
 use Prim.Native.Nat.{ℕ, _≤_}
 use native.Mathlib.Omega.{arith}
-use mathlib.Core.Path.{_≡_, refl, sym, ap, ap₂, subst, _∙_}
-use mathlib.Core.List.{List, _∷_, _++_}
-use mathlib.Core.Option.{Option, none, some}
-use lib.ListN.{length, take, drop}
+use mathlib.Core.Path.{_≡_, refl, sym, ap, subst, _∙_}
+use mathlib.Core.Option.{some}
+use lib.ListN.{length, take, drop, length-append, length-drop}
 use lib.Seq.{take-append-seam, drop-append-seam}
 use Rattle.logic.specs.Checked.{Checked, ok, refused, got}
 use Rattle.logic.specs.Model.{Model}
 use Rattle.logic.proofs.Checked.{got-some}
 use Rattle.blocks.specs.Bytes.{Bytes}
-use Rattle.models.specs.Layout.{model-of}
 use Rattle.models.specs.Grounds.{read-model}
-use Rattle.protocol.specs.Calls.{Call, load, query, write-model, Held, done, written, refuse, Reply, says, wrote, yields}
-use Rattle.protocol.specs.History.{after}
-use Rattle.protocol.proofs.ModelWritten.{None-loaded, blocks-written, was-held, held-last}
+use Rattle.protocol.specs.Calls.{load, query, write-model, done, written, Reply, wrote}
+use Rattle.protocol.proofs.UsedNodes.{refuse≢done}
+use Rattle.protocol.proofs.ModelWritten.{blocks-written, was-held, held-last}
 use Rattle.plan_judge.specs.declared.Desk.{Desk}
 use Rattle.plan_judge.specs.View.{model-bytes, blocks-in, view}
 use Rattle.plan_judge.specs.Said.{said-taken}
 use Rattle.plan_judge.specs.promises.Values.{taking, holding, loaded-by}
 use Rattle.plan_judge.specs.promises.Session.{step}
 use Rattle.plan_judge.proofs.DesksHoldHistory.{view-holding}
-use Rattle.plan_judge.proofs.Claims.Ran.{Answered, Ran}
-use Rattle.plan_judge.proofs.Claims.ModelsWritten.{Wrote, Models-written}
+use Rattle.plan_judge.proofs.Claims.Ran.{Answered}
+use Rattle.plan_judge.proofs.Claims.ModelsWritten.{Filled-with, Models-written}
 use Rattle.plan_judge.proofs.EveryList.{stepped, every-ran}
 use Rattle.plan_judge.proofs.CodeDemand1.{demand-1-of-the-code}
 
@@ -34,9 +32,6 @@ pub record Took (b : Bytes) (e : Desk) : Type 0 where
   pub model : Model
   pub read : read-model b ≡ ok model
   pub desk : e ≡ holding b
-
-refuse≢done : {k : ℕ} → refuse k ≡ done → ⊥
-refuse≢done e = let z : _≡_ {A = ℕ} 0 1 = cc in omega arith
 
 took : {b : Bytes} {d e : Desk} {r : Reply} → Answered d (load b) r e → r .answer ≡ done → Took b e
 unfolding step loaded-by said-taken
@@ -54,24 +49,25 @@ loads {b} {d = d} i a =
 
 -- ---- writing
 
-wrote-is : (b found : Bytes) {s : Reply} → s ≡ wrote found b → Wrote b found s
-wrote-is b found e =
+wrote-is : (b found : Bytes) {s : Reply} → length b ≤ length found → s ≡ wrote found b → Filled-with b found s
+wrote-is b found l e =
     record {
       number = ap (λ r. r .answer) e;
+      size = ap (λ r. length (r .buffer)) e ∙ length-append b (drop (length b) found) ∙ omega (arith, length-drop (length b) found);
       filled = ap (λ r. take (length b) (r .buffer)) e ∙ take-append-seam b (drop (length b) found);
       untouched = ap (λ r. drop (length b) (r .buffer)) e ∙ drop-append-seam b (drop (length b) found);
     }
 
 -- From a desk that holds these blocks of a model.
 writes : {b found : Bytes} {d e : Desk} {s : Reply} {m : Model} → (view d) .model ≡ some m → (view d) .blocks ≡ b → length b ≤ length found
-    → Answered d (query (write-model found)) s e → Wrote b found s
+    → Answered d (query (write-model found)) s e → Filled-with b found s
 writes {b} {found} {d} {m = m} i j l a =
-    wrote-is b found
+    wrote-is b found l
     (demand-1-of-the-code .its-result a
     ∙ blocks-written (view d) found m i (subst (λ c. length c ≤ length found) (sym j) l)
     ∙ ap (wrote found) j)
 
-took-writes : {b found : Bytes} {e f : Desk} {s : Reply} → Took b e → length b ≤ length found → Answered e (query (write-model found)) s f → Wrote b found s
+took-writes : {b found : Bytes} {e f : Desk} {s : Reply} → Took b e → length b ≤ length found → Answered e (query (write-model found)) s f → Filled-with b found s
 took-writes {b} t l a =
     let v = ap view (t .desk) ∙ view-holding b (t .model) (t .read) in
     writes (ap (λ h. h .model) v) (ap (λ h. h .blocks) v) l a
@@ -88,7 +84,7 @@ module _ (d : Desk) where
       ap (λ o. read-model (blocks-in o (model-bytes d))) (ap got r) ∙ r
 
 any-desk : {found : Bytes} {d e : Desk} {s : Reply} {n : ℕ} → Answered d (query (write-model found)) s e → s .answer ≡ written n
-    → (b : Bytes) × (m : Model) × ((view d) .model ≡ some m) × (read-model b ≡ ok m) × (length b ≡ n) × Wrote b found s
+    → (b : Bytes) × (m : Model) × ((view d) .model ≡ some m) × (read-model b ≡ ok m) × (length b ≡ n) × Filled-with b found s
 any-desk {found} {d} {n = n} a i =
     let y = demand-1-of-the-code .its-result a in
     let w = was-held (view d) found (sym (ap (λ r. r .answer) y) ∙ i) in

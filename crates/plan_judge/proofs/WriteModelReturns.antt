@@ -1,23 +1,22 @@
 -- What write_model returns and leaves in the buffer, at each return of the code: ground 20 where no byte of a model is held, then 12, or the
 -- bytes that the desk says it has.
-use Prim.Native.Nat.{ℕ, _*_, _≤_, _<_, min}
+use Prim.Native.Nat.{ℕ, _*_, _≤_, _<_}
 use mathlib.Core.Path.{_≡_, sym, ap, ap₂, _∙_}
-use mathlib.Core.Bool.{Bool, cond}
+use mathlib.Core.Bool.{cond}
 use mathlib.Core.List.{_++_}
-use lib.Dec.{eqb, leb}
+use lib.Dec.{leb}
 use lib.ListN.{length, take, drop, length-take}
 use borrow.Author.Tests.{eq-eqb, le-leb, lt-leb}
-use Rattle.logic.specs.Checked.{Checked, ok, refused, _>>=_, _>>_, guard}
-use Rattle.logic.specs.promises.Refusal.{refusal, held}
+use Rattle.logic.specs.Checked.{Checked, ok, _>>=_, _>>_, guard}
+use Rattle.logic.specs.promises.Refusal.{held}
 use Rattle.blocks.specs.Bytes.{Bytes}
-use Rattle.models.specs.Grounds.{read-model}
 use Rattle.protocol.specs.promises.Chains.{do-write-model}
 use Rattle.plan_judge.specs.declared.Desk.{Desk}
 use Rattle.plan_judge.specs.declared.Written.the-variants.{Bytes as Filled, Refused}
 use Rattle.plan_judge.specs.View.{model-bytes, blocks-in, view}
 use Rattle.plan_judge.specs.promises.State.{held-size}
 use Rattle.plan_judge.specs.promises.Values.{writing, filling, model-written-by, model-filled-by}
-use Rattle.plan_judge.proofs.LoadPutReturn.{said-bytes, said-cut, model-none, model-passed, held-model, model-some}
+use Rattle.plan_judge.proofs.LoadPutReturn.{said-bytes, said-cut, model-none, model-passed, model-some}
 
 -- What is returned and left, by the chain of the call.
 module _ (d : Desk) (a : Bytes) {c : Checked Bytes} (e : do-write-model (view d) (length a) ≡ c) where

@@ -1,6 +1,6 @@
--- What a desk value holds, whoever put it together: the model, with its blocks, if its bytes are those of a model that load accepts, the question
--- if its bytes are accepted for that model, the verdict if it was judged and, for a yes with a plan, the choices begin with those of one. Demand 1 is about any desk
--- value; on desks that calls gave back this is what was loaded, put and judged (proved: `DesksHoldHistory`).
+-- What a desk value holds, whoever put it together: the model, with its blocks, if its bytes are those of a model that load accepts, the
+-- question if its bytes are accepted for that model, the verdict if it was judged and, for a yes with a plan, the choices begin with those of
+-- one. Demand 1 is about any desk value; on desks that calls gave back this is what was loaded, put and judged (proved: `DesksHoldHistory`).
 use Prim.Native.Nat.{ℕ, _*_}
 use mathlib.Core.Bool.{Bool, cond}
 use mathlib.Core.List.{List, []}

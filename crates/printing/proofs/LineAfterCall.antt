@@ -19,8 +19,7 @@ use Rattle.questions.specs.Layout.{Question, question-of}
 use Rattle.questions.proofs.AcceptedFacts.{accepted}
 use Rattle.protocol.specs.Calls.{Call, load, put, judge, question-for}
 use Rattle.protocol.specs.promises.Chains.{do-put, do-judge}
-use Rattle.protocol.specs.History.{loaded, asked, is-judge, or-else, last-left, passed, verdict-since, held-since, held-from, after}
-use Rattle.protocol.proofs.AfterEachCall.{with-blocks}
+use Rattle.protocol.specs.History.{with-blocks, loaded, asked, is-judge, or-else, last-left, passed, verdict-since, held-since, held-from, after}
 use Rattle.verdict_line.specs.Line.{verdict-line}
 use Rattle.plan_judge.specs.declared.Desk.{Desk}
 use Rattle.plan_judge.specs.declared.Taken.the-variants.{Done, Refused}

@@ -19,7 +19,7 @@ use Rattle.questions.specs.Layout.{Question}
 use Rattle.blocks.specs.Bytes.{Bytes}
 use Rattle.protocol.specs.Calls.{Call, load, put, judge, query, Held, question-for}
 use Rattle.protocol.specs.promises.Chains.{do-put, do-judge}
-use Rattle.protocol.specs.History.{Loaded, read-loaded, loaded, asked, is-judge, or-else, last-left, passed, verdict-since, held-since, held-from, after}
+use Rattle.protocol.specs.History.{Loaded, with-blocks, loaded, asked, is-judge, or-else, last-left, passed, verdict-since, held-since, held-from, after}
 
 -- What a call leaves, or the contents as they were if it was refused.
 abbrev pub settled : {A : Type 0} → Held → Checked A → (A → Held) → Held
@@ -90,18 +90,11 @@ module _ (c : Call) (e : is-judge c ≡ false) where
 
 -- ---- each call
 
--- What a load leaves, by what its bytes are read as.
-abbrev pub with-blocks : Bytes → Checked Model → Checked Loaded
-with-blocks b c = c >>= (λ m. ok (record { blocks = b; model = m }))
-
-read-with : (b : Bytes) {r : Checked Model} → read-model b ≡ r → read-loaded b ≡ with-blocks b r
-read-with b e = ap (with-blocks b) e
-
 after-load : (cs : List Call) (b : Bytes) (r : Checked Model) → read-model b ≡ r
     → after (cs ++ (load b ∷ [])) ≡ settled (after cs) r (λ m. record { model = some m; blocks = b; question = none; verdict = none })
 unfolding loaded got asked is-judge after held-from held-since last-left
-after-load cs b (ok m) e = ap held-from (last-left-new loaded cs (load b) (ap got (read-with b e)))
-after-load cs b (refused k) e = after-same (load b) refl cs (ap got (read-with b e)) (λ l since i. refl)
+after-load cs b (ok m) e = ap held-from (last-left-new loaded cs (load b) (ap got (ap (with-blocks b) e)))
+after-load cs b (refused k) e = after-same (load b) refl cs (ap got (ap (with-blocks b) e)) (λ l since i. refl)
 
 -- With a model held, its contents by what was asked since.
 pub held-loaded : (l : Loaded) (o : Option (Question × List Call)) → ((held-since l o) .model ≡ some (l .model)) × ((held-since l o) .blocks ≡ l .blocks)

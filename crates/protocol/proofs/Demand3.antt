@@ -39,7 +39,7 @@ use Rattle.protocol.specs.Calls.{Call, judge, query, write, check, Held,
 use Rattle.protocol.specs.Demand3.{Plan-question, On-condition, On-gain, total, meets-bound, lamp, Claims, Accepts, Differs, Meeting-sheet, Says-yes, Writes-shown, Demand-3}
 use Rattle.protocol.specs.promises.Chains.{sheet-shown, do-write, check-on, do-check, answered, by-chain}
 use Rattle.protocol.proofs.AfterEachCall.{Sound, sound}
-use Rattle.protocol.proofs.Refusals.{first-passes, decided-none, decided-first, decided-value, plan-only}
+use Rattle.protocol.proofs.Refusals.{first-passes, decided-none, decided-first, decided-ok, plan-only}
 use Rattle.protocol.proofs.FirstGround.{yields-is}
 use Rattle.protocol.proofs.Demand2.{judge-yields}
 use Rattle.protocol.proofs.TotalsByRoot.{Root, root-of}
@@ -267,7 +267,7 @@ module _ {h : Held} (reply : Call → Reply) (yielding : (c : Call) → reply c 
   -- A sheet claims what its eight bytes hold.
   claimed-is : (sheet : Bytes) (w : ℤ) (π : Plan n) → Claims reply x sheet w π → signed 63 (weight-of sheet 0) ≡ w
   unfolding read-sheet sheet-of claimed-total
-  claimed-is sheet w π c = ap (λ z. z .weight) (decided-value (sheet-of sheet) (sheet-grounds n s sheet) (c .reads))
+  claimed-is sheet w π c = ap (λ z. z .weight) (decided-ok (sheet-of sheet) (sheet-grounds n s sheet) (c .reads) .1)
 
   module _ (sound : Sound h) (back : (π : Plan n) → List·Memᴰ π (plans (x .model) n s) → Reads-back (x .question) g (record { weight = g .total π; choices = choices n π }))
       (small : (π : Plan n) → List·Memᴰ π (plans (x .model) n s) → mag (g .total π) < 2 ^ 63) where

@@ -2,9 +2,8 @@
 use Prim.Native.Nat.{ℕ, _≤_}
 use native.Mathlib.Omega.{arith}
 use mathlib.Core.Path.{_≡_, refl, sym, ap, ap₂, _∙_}
-use mathlib.Core.Logic.{⊎-elim}
 use mathlib.Core.Bool.{Bool, true, false}
-use mathlib.Core.List.{List, [], _∷_, _++_, List·Memᴰ, List·Memᴰ·head, List·Memᴰ·tail, List·Memᴰ·not-nil, List·Memᴰ·cases-cons}
+use mathlib.Core.List.{List, [], _∷_, _++_, List·Memᴰ, List·Memᴰ·head, List·Memᴰ·tail}
 use mathlib.Core.Option.{Option, none, some}
 use lib.Dec.{leb}
 use lib.ListN.{length}
@@ -16,10 +15,10 @@ use Rattle.logic.specs.Model.{Model}
 use Rattle.blocks.specs.Bytes.{Bytes}
 use Rattle.models.specs.Layout.{model-of}
 use Rattle.models.specs.Grounds.{model-grounds, read-model}
-use Rattle.protocol.specs.Calls.{Call, load, put, judge, query, write-model, Held, Answer, written, refuse, wrote, yields}
-use Rattle.protocol.specs.History.{Loaded, loaded, or-else, last-left, held-from, after}
+use Rattle.protocol.specs.Calls.{Call, load, put, judge, query, write-model, Held, written, refuse, wrote, yields}
+use Rattle.protocol.specs.History.{Loaded, with-blocks, loaded, or-else, last-left, held-from, after}
 use Rattle.protocol.specs.promises.Chains.{do-write-model, answered, by-chain}
-use Rattle.protocol.proofs.AfterEachCall.{with-blocks, held-loaded}
+use Rattle.protocol.proofs.AfterEachCall.{held-loaded}
 use Rattle.protocol.proofs.FirstGround.{yields-is}
 use Rattle.protocol.proofs.Refusals.{decided-none, decided-ok}
 
@@ -57,19 +56,19 @@ load-accepted b e = decided-none (model-of b) (model-grounds b) e
 
 no-ground : (b : Bytes) {m : Model} → read-model b ≡ ok m → first (model-grounds b) ≡ none
 unfolding read-model
-no-ground b e = decided-ok (model-of b) (model-grounds b) e
+no-ground b e = decided-ok (model-of b) (model-grounds b) e .0
 
 -- No call of the list loads anything that is accepted.
 abbrev pub None-loaded : List Call → Type 0
 None-loaded cs = (c : Bytes) → List·Memᴰ (load c) cs → first (model-grounds c) ≡ none → ⊥
 
 -- Then none of them leaves a model.
-leaves-none : (c : Call) → None-loaded (c ∷ []) → loaded c ≡ none
+leaves-none : (c : Call) → ((b : Bytes) → load b ≡ c → first (model-grounds b) ≡ none → ⊥) → loaded c ≡ none
 unfolding loaded got
 leaves-none (load b) n = by (read-model b) refl
   where
     by : (r : Checked Model) → read-model b ≡ r → got (with-blocks b r) ≡ none
-    by (ok m) e = absurd (n b (List·Memᴰ·head refl) (no-ground b e))
+    by (ok m) e = absurd (n b refl (no-ground b e))
     by (refused k) e = refl
 leaves-none (put b) n = refl
 leaves-none judge n = refl
@@ -80,7 +79,7 @@ unfolding last-left or-else
 none-left [] n = refl
 none-left (c ∷ cs) n =
     ap₂ (λ o p. or-else o p cs) (none-left cs (λ b i. n b (List·Memᴰ·tail i)))
-    (leaves-none c (λ b i. n b (⊎-elim (λ e. List·Memᴰ·head e) (λ j. absurd (List·Memᴰ·not-nil j)) (List·Memᴰ·cases-cons i))))
+    (leaves-none c (λ b e. n b (List·Memᴰ·head e)))
 
 pub last-loaded : (before since : List Call) (b : Bytes) → first (model-grounds b) ≡ none → None-loaded since
     → last-left loaded (before ++ (load b ∷ since)) ≡ some (record { blocks = b; model = model-of b }, since)

@@ -5,7 +5,7 @@ use native.Mathlib.Omega.{arith}
 use mathlib.Core.Path.{_≡_, refl, sym, ap, subst, _∙_}
 use mathlib.Core.Bool.{Bool, true, false, cond}
 use mathlib.Core.List.{List, [], _∷_}
-use mathlib.Core.Option.{none, some}
+use mathlib.Core.Option.{Option, none, some}
 use lib.Dec.{eqb}
 use Rattle.logic.specs.Checked.{Checked, ok, refused, _>>=_, _>>_, guard}
 use Rattle.logic.specs.Lists.{all, any, is-empty}
@@ -37,43 +37,37 @@ first-passes f (g ∷ gs) a {k} e = let w = and-both (f (g .number)) _ a in by (
     by false h e = subst (λ n. f n ≡ true) (some-same e) (and-both (f (g .number)) _ a .0)
 
 module _ {A : Type 0} (a : A) where
+  abbrev of-first : Option ℕ → Checked A
+  of-first none = ok a
+  of-first (some k) = refused k
+
   -- The first ground decides.
-  pub decided-none : (gs : List Ground) → first gs ≡ none → decided gs a ≡ ok a
+  decided-is : (gs : List Ground) → decided gs a ≡ of-first (first gs)
   unfolding first
-  decided-none [] e = refl
-  decided-none (g ∷ gs) e = by (g .passes) (λ i. decided-none gs i) e
+  decided-is [] = refl
+  decided-is (g ∷ gs) = by (g .passes) (decided-is gs)
     where
-      by : (t : Bool) → (first gs ≡ none → decided gs a ≡ ok a) → cond t (first gs) (some (g .number)) ≡ none → (guard (g .number) t >> decided gs a) ≡ ok a
-      by true h e = h e
-      by false h e = absurd (none≢some (sym e))
+      by : (t : Bool) → decided gs a ≡ of-first (first gs) → (guard (g .number) t >> decided gs a) ≡ of-first (cond t (first gs) (some (g .number)))
+      by true h = h
+      by false h = refl
+
+  is-some : (o : Option ℕ) {k : ℕ} → of-first o ≡ refused k → o ≡ some k
+  is-some none e = absurd (not-refused e)
+  is-some (some j) e = ap some (refused-same e)
+
+  is-none : (o : Option ℕ) {b : A} → of-first o ≡ ok b → (o ≡ none) × (a ≡ b)
+  is-none none e = (refl, ok-same e)
+  is-none (some j) e = absurd (not-ok e)
+
+  pub decided-none : (gs : List Ground) → first gs ≡ none → decided gs a ≡ ok a
+  decided-none gs e = decided-is gs ∙ ap of-first e
 
   pub decided-first : (gs : List Ground) {k : ℕ} → decided gs a ≡ refused k → first gs ≡ some k
-  unfolding first
-  decided-first [] e = absurd (not-refused e)
-  decided-first (g ∷ gs) {k} e = by (g .passes) (λ i. decided-first gs i) e
-    where
-      by : (t : Bool) → (decided gs a ≡ refused k → first gs ≡ some k) → (guard (g .number) t >> decided gs a) ≡ refused k → cond t (first gs) (some (g .number)) ≡ some k
-      by true h e = h e
-      by false h e = ap some (refused-same e)
+  decided-first gs e = is-some (first gs) (sym (decided-is gs) ∙ e)
 
-  -- Where a value is accepted, no ground applies.
-  pub decided-ok : (gs : List Ground) {b : A} → decided gs a ≡ ok b → first gs ≡ none
-  unfolding first
-  decided-ok [] e = refl
-  decided-ok (g ∷ gs) {b} e = by (g .passes) (λ i. decided-ok gs i) e
-    where
-      by : (t : Bool) → (decided gs a ≡ ok b → first gs ≡ none) → (guard (g .number) t >> decided gs a) ≡ ok b → cond t (first gs) (some (g .number)) ≡ none
-      by true h e = h e
-      by false h e = absurd (not-ok e)
-
-  -- What is accepted is the value.
-  pub decided-value : (gs : List Ground) {b : A} → decided gs a ≡ ok b → a ≡ b
-  decided-value [] e = ok-same e
-  decided-value (g ∷ gs) {b} e = by (g .passes) (λ i. decided-value gs i) e
-    where
-      by : (t : Bool) → (decided gs a ≡ ok b → a ≡ b) → (guard (g .number) t >> decided gs a) ≡ ok b → a ≡ b
-      by true h e = h e
-      by false h e = absurd (not-ok e)
+  -- Where a value is accepted, no ground applies, and it is the value.
+  pub decided-ok : (gs : List Ground) {b : A} → decided gs a ≡ ok b → (first gs ≡ none) × (a ≡ b)
+  decided-ok gs e = is-none (first gs) (sym (decided-is gs) ∙ e)
 
 -- ---- one number only
 

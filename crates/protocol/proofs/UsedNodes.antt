@@ -34,7 +34,7 @@ module _ (m : Model) (b : Bytes) {q : Question} (e : question-for m b ≡ ok q) 
 abbrev told : Checked Question → Answer
 told c = (answered [] c (λ q. says done)) .answer
 
-refuse≢done : {k : ℕ} → refuse k ≡ done → ⊥
+pub refuse≢done : {k : ℕ} → refuse k ≡ done → ⊥
 refuse≢done e = let z : _≡_ {A = ℕ} 0 1 = cc in omega arith
 
 is-read : (c : Checked Question) → told c ≡ done → (q : Question) × (c ≡ ok q)

@@ -13,18 +13,19 @@ use Rattle.models.specs.Grounds.{read-model}
 use Rattle.questions.specs.Layout.{Question}
 use Rattle.protocol.specs.Calls.{Call, load, put, judge, query, Held, question-for}
 
--- What a call that is done leaves on the desk: a load its model, with the bytes that it was read from; a put its question.
+-- A model, and the bytes that it was read from.
 pub record Loaded : Type 0 where
   pub blocks : Bytes
   pub model : Model
 
-abbrev pub read-loaded : Bytes → Checked Loaded
-read-loaded b = do
-  m ← read-model b
+abbrev pub with-blocks : Bytes → Checked Model → Checked Loaded
+with-blocks b c = do
+  m ← c
   ok (record { blocks = b; model = m })
 
+-- What a call that is done leaves on the desk: a load its model, with its bytes; a put its question.
 unfoldable pub loaded : Call → Option Loaded
-loaded (load b) = got (read-loaded b)
+loaded (load b) = got (with-blocks b (read-model b))
 loaded (put b) = none
 loaded (query c) = none
 loaded judge = none

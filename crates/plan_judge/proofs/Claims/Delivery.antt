@@ -1,6 +1,6 @@
 -- What the delivery claims of the code, whole: the three demands of document 00, the claim about every list of calls (document 01, "The
--- desk"), what requests of document 02 add to them, and what is offered beside the six calls. That each function meets its contract and returns is what the checker proves of it;
--- these statements begin at the contracts. (Proved in `Delivered`.)
+-- desk"), what requests of document 02 add to them, and what is offered beside the six calls. That each function meets its contract and
+-- returns is what the checker proves of it; these statements begin at the contracts. (Proved in `Delivered`.)
 use mathlib.Core.Path.{_≡_}
 use mathlib.Core.Bool.{true}
 use mathlib.Core.List.{List}

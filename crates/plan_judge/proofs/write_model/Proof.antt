@@ -42,11 +42,11 @@ same-length c = search needs
 returns-2 : tie.Need-returns-2
 returns-2 c = let T = c .before .before .before .before .before .before in
     let E = T .before in
-    write-model-done (desk E) (lent E) (E .before .held-bytes .result) (E .before .held-bytes .ensures) (E .if1 .left) (T .if2 .taken) (c .before .before .copy .last .0) (c .before .before .copy .ensures)
+    write-model-done (desk E) (lent E) (E .before .held-bytes .result) (E .before .held-bytes .ensures) (E .if1 .left) (omega (arith, T .if2 .taken)) (c .before .before .copy .last .0) (c .before .before .copy .ensures)
 
 returns-3 : tie.Need-returns-3
 returns-3 c = let E = c .before in
-    write-model-short (desk E) (lent E) (E .before .held-bytes .result) (E .before .held-bytes .ensures) (E .if1 .left) (c .if2 .left)
+    write-model-short (desk E) (lent E) (E .before .held-bytes .result) (E .before .held-bytes .ensures) (E .if1 .left) (omega (arith, c .if2 .left))
 
 pub write-model-spec : {M : Type 1} → statement M
 write-model-spec =
