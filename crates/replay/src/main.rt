@@ -1,5 +1,6 @@
 // Replays a list of calls from standard input on a desk that begins empty, and prints a line for each: what second/README.md describes, so
-// that the two can be compared. A record that is cut short, too long or of another operation ends the list.
+// that the two can be compared. Operation 7 is no call: it puts another desk in the place of the last one, so that calls are tried on desks
+// that no call gave back. A record that is cut short, too long or of another operation ends the list.
 ghost use Prim.Native.Nat.{_+_, _≤_};
 ghost use mathlib.Core.Path.{_≡_};
 ghost use lib.ListN.{length};
@@ -237,6 +238,7 @@ fn by_hand(input: &[u8]) -> Desk
     d
 }
 
+// It takes the place of the last desk; a record of another length ends the list.
 fn lay(desk: Desk, input: &[u8], out: &mut [u8; LINE]) -> Turn {
     if input.len() != 8 + MODEL_BYTES {
         return Turn { going: false, desk };
