@@ -27,6 +27,17 @@ pub enum Ground {
     TooManyPlans = 25,
 }
 
+/// Those on which a load is refused, in their order.
+pub const OF_LOADS: [Ground; 7] = [
+    Ground::Length,
+    Ground::WordSum,
+    Ground::Kind,
+    Ground::Counts,
+    Ground::Range,
+    Ground::Spare,
+    Ground::Outcomes,
+];
+
 impl Ground {
     /// The document's number of this ground.
     pub fn number(self) -> u8 {

@@ -427,6 +427,7 @@ mod tests {
     use super::*;
     use crate::blocks::read_model;
     use crate::generate::{random_model, Size};
+    use crate::ground::OF_LOADS;
 
     /// What loading says of random models after a harm, for those that had an
     /// action in each state.
@@ -449,15 +450,7 @@ mod tests {
     /// Each ground is one that those harms lead to which are said to.
     #[test]
     fn harms_lead_to_their_grounds() {
-        for ground in [
-            Ground::Length,
-            Ground::WordSum,
-            Ground::Kind,
-            Ground::Counts,
-            Ground::Range,
-            Ground::Spare,
-            Ground::Outcomes,
-        ] {
+        for ground in OF_LOADS {
             for harm in harms_towards(ground) {
                 assert!(after(*harm).contains(&Err(ground)), "{ground:?}");
             }

@@ -7,7 +7,7 @@ use super::stored_models::Kept;
 use super::streams::canary;
 use crate::blocks::BLOCK;
 use crate::desk::{Call, ROOM};
-use crate::ground::Ground;
+use crate::ground::{Ground, OF_LOADS};
 
 /// Stories about models of 2 to 12 blocks in turn; at first on the empty desk.
 pub fn stored(rng: &mut Rng, count: usize) -> Vec<Call> {
@@ -43,7 +43,7 @@ fn on_the_empty_desk(rng: &mut Rng, kept: &Kept, other: &Kept) -> Vec<Call> {
         .iter()
         .map(|length| Call::WriteModel(vec![7; *length]))
         .collect();
-    for ground in GROUNDS {
+    for ground in OF_LOADS {
         calls.extend(kept.refused(rng, ground).map(Call::Load));
         calls.push(kept.written(rng, &other.bytes));
     }
@@ -77,16 +77,6 @@ fn loaded_again(rng: &mut Rng, kept: &Kept, other: &Kept) -> Vec<Call> {
     calls
 }
 
-const GROUNDS: [Ground; 7] = [
-    Ground::Length,
-    Ground::WordSum,
-    Ground::Kind,
-    Ground::Counts,
-    Ground::Range,
-    Ground::Spare,
-    Ground::Outcomes,
-];
-
 /// Loads are refused on each ground, of the model damaged and of another; what
 /// is written is the model that was loaded before.
 fn after_refusals(rng: &mut Rng, kept: &Kept, other: &Kept) -> Vec<Call> {
@@ -95,7 +85,7 @@ fn after_refusals(rng: &mut Rng, kept: &Kept, other: &Kept) -> Vec<Call> {
     if rng.once_in(2) {
         calls.extend([Call::Put(asked.question), Call::Judge]);
     }
-    let mut grounds = GROUNDS;
+    let mut grounds = OF_LOADS;
     rng.shuffle(&mut grounds);
     for ground in grounds {
         let damaged = if rng.once_in(2) { kept } else { other };
@@ -147,7 +137,7 @@ fn desks_by_hand(rng: &mut Rng, kept: &Kept, other: &Kept) -> Vec<Call> {
             calls.push(kept.written(rng, &other.bytes));
         }
         if rng.once_in(4) {
-            let ground = rng.pick_or(&GROUNDS, Ground::Length);
+            let ground = rng.pick_or(&OF_LOADS, Ground::Length);
             calls.extend(other.refused(rng, ground).map(Call::Load));
             calls.push(kept.written(rng, &other.bytes));
         }
@@ -173,7 +163,7 @@ fn in_any_order(rng: &mut Rng, kept: &Kept, other: &Kept) -> Vec<Call> {
             }
             1 => Call::Load(held.bytes.clone()),
             2 => {
-                let ground = rng.pick_or(&GROUNDS, Ground::Length);
+                let ground = rng.pick_or(&OF_LOADS, Ground::Length);
                 Call::Load(before.refused(rng, ground).unwrap_or_default())
             }
             3 | 4 => Call::Put(asked.question.clone()),

@@ -6,7 +6,7 @@ use super::stored_models::Kept;
 use crate::blocks::BLOCK;
 use crate::bytes::{put, u8_at};
 use crate::desk::{Call, ROOM};
-use crate::ground::Ground;
+use crate::ground::{Ground, OF_LOADS};
 
 /// A desk with a model in its room, mostly said rightly.
 pub(super) fn right_desk(rng: &mut Rng, kept: &Kept, other: &[u8]) -> Call {
@@ -73,20 +73,11 @@ fn any_room(rng: &mut Rng, kept: &Kept, other: &[u8]) -> Vec<u8> {
             filled(rng, &model, other)
         }
         _ => {
-            let ground = rng.pick_or(&LATER, Ground::Kind);
+            // Bytes of the right length, so that the first ground cannot be.
+            let ground = rng.pick_or(&OF_LOADS[1..], Ground::Kind);
             let model = kept.refused(rng, ground).unwrap_or_default();
             let whole = model.get(..kept.bytes.len()).unwrap_or(&model);
             filled(rng, whole, other)
         }
     }
 }
-
-/// The grounds that bytes of the right length can be refused on.
-const LATER: [Ground; 6] = [
-    Ground::WordSum,
-    Ground::Kind,
-    Ground::Counts,
-    Ground::Range,
-    Ground::Spare,
-    Ground::Outcomes,
-];
