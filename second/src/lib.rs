@@ -16,6 +16,7 @@ pub mod leftover_faults;
 pub mod logic;
 pub mod model_faults;
 pub mod reason_faults;
+mod strays;
 pub mod sum_faults;
 pub mod tally;
 pub mod text;

@@ -5,33 +5,11 @@ use crate::blocks::read_formula;
 use crate::desk::{Answer, Call, Desk};
 use crate::ground::Ground;
 
-/// The desks of the judges that err so, as long as they hold something else than
-/// the right one.
-#[derive(Default)]
-pub(super) struct Held {
-    desks: Vec<(Fault, Desk)>,
-}
-
-impl Held {
-    /// The faults with which the call is answered otherwise. `desk` is the right
-    /// one after the call.
-    pub(super) fn wrong(
-        &mut self,
-        call: &Call,
-        right: &Answer,
-        desk: &Desk,
-    ) -> Vec<(Fault, &'static str)> {
-        let mut found = Vec::new();
-        for (fault, wrong) in &mut self.desks {
-            if call.make(wrong) != *right {
-                found.push((*fault, call.name()));
-            }
-        }
-        if let (Call::Put(bytes), Answer::Put(Err(Ground::Leftover))) = (call, right) {
-            self.desks = after_refusal(bytes, desk);
-        }
-        self.desks.retain(|(_, wrong)| wrong != desk);
-        found
+/// The desks that stray by this call. `desk` is the right one after it.
+pub(super) fn strayed(call: &Call, right: &Answer, desk: &Desk) -> Vec<(Fault, Desk)> {
+    match (call, right) {
+        (Call::Put(bytes), Answer::Put(Err(Ground::Leftover))) => after_refusal(bytes, desk),
+        _ => Vec::new(),
     }
 }
 

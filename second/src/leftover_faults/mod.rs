@@ -11,7 +11,8 @@ pub use fault::{Fault, ALL};
 use crate::blocks::{QuestionImage, BLOCK};
 use crate::desk::{replay, Answer, Call, Desk};
 use crate::ground::Ground;
-use held::Held;
+use crate::strays::Strays;
+use held::strayed;
 use std::collections::BTreeMap;
 
 /// How often a judge with a fault answers otherwise, for each call.
@@ -22,9 +23,10 @@ pub type Differences = BTreeMap<(Fault, &'static str), usize>;
 /// carried along until it holds the same as the right one again.
 pub fn differences(stream: &[u8]) -> Differences {
     let mut counts = Differences::new();
-    let mut held = Held::default();
+    let mut strays = Strays::default();
     replay(stream, |call, answer, desk| {
-        let mut found = held.wrong(call, answer, desk);
+        let mut found = strays.wrong(call, answer);
+        strays.follow(strayed(call, answer, desk), desk);
         if let (Call::Put(bytes), Answer::Put(right)) = (call, answer) {
             found.extend(wrong_puts(bytes, *right, desk));
         }

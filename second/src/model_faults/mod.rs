@@ -14,7 +14,8 @@ pub use fields::packed;
 
 use crate::desk::{replay, Answer, Call, Desk};
 use crate::ground::Ground;
-use held::Held;
+use crate::strays::Strays;
+use held::strayed;
 use past::Past;
 use std::collections::BTreeMap;
 
@@ -41,10 +42,11 @@ fn filled(lent: &[u8], bytes: &[u8]) -> Written {
 /// carried along until it holds the same as the right one again.
 pub fn differences(stream: &[u8]) -> Differences {
     let mut counts = Differences::new();
-    let mut held = Held::default();
+    let mut strays = Strays::default();
     let mut past = Past::default();
     replay(stream, |call, answer, desk| {
-        let mut found = held.wrong(call, answer, desk);
+        let mut found = strays.wrong(call, answer);
+        strays.follow(strayed(call, answer, desk), desk);
         if let (Call::WriteModel(lent), Answer::WriteModel(right, after)) = (call, answer) {
             let right = (*right, after.clone());
             found.extend(wrong_writes(lent, &right, desk, &past));
