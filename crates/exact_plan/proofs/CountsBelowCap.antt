@@ -12,7 +12,7 @@ use Rattle.prepared_model.proofs.ReadByPlace.{states-are}
 use Rattle.limits.specs.promises.Totals.{total, limit, Totals}
 use Rattle.exact_plan.specs.promises.Listing.{Counts}
 
-pub counts-right : (m : Bytes) (table : List ℕ) → Totals true (model-in m) table → Counts m table
+pub counts-right : (m : Bytes) (table : List ℕ) → Totals true (model-in m) 7 table → Counts m table
 unfolding total limit
 counts-right m table T =
-    record { right = λ n s h k l. T .at n s h (rw (states-are m) k) ∙ min-eq-right {n = plan-total (model-in m) n s} {m = 65537} (omega arith) }
+    record { right = λ n s h k l. T .at n s (omega arith) (rw (states-are m) k) ∙ min-eq-right {n = plan-total (model-in m) n s} {m = 65537} (omega arith) }

@@ -14,6 +14,7 @@ ghost use Rattle.verdict_line.specs.promises.Chain.{judging-text, loading-text,
 ghost use Rattle.explaining.specs.promises.Said.{side-said, side-size, explained-said, Few};
 use blocks::BLOCK;
 use limits::limit_refusal;
+use limits::plan_totals;
 use plan_choices::CHOICES;
 use prepared_model::prepare_model;
 use prepared_question::prepare_question;
@@ -79,13 +80,14 @@ fn judging_text(out: &mut [u8], model: &[u8], q: &[u8]) -> usize
 {
     let m = prepare_model(model);
     let p = prepare_question(q);
-    let k = limit_refusal(&m, &p);
+    let counts = plan_totals(&m, &p);
+    let k = limit_refusal(&m, &p, &counts);
     if k != 0 {
         return refused_line(out, k);
     }
     let mut choices = [0u8; CHOICES];
     let mut further = [0u8; CHOICES];
-    let e = explained(&m, &p, &mut choices, &mut further);
+    let e = explained(&m, &p, &counts, &mut choices, &mut further);
     explained_text(out, e, &choices, &further)
 }
 

@@ -37,7 +37,7 @@ use Rattle.questions.proofs.FormulaByOperator.{no-plan-at}
 use Rattle.questions.proofs.SetsBound.{sets-neither}
 use Rattle.limits.specs.promises.Totals.{fits}
 use Rattle.limits.specs.promises.Totals as totals
-use Rattle.limits.proofs.NodeByNode.{nodes-all, done}
+use Rattle.limits.proofs.NodeByNode.{nodes-all, bounded-plans, done}
 use Rattle.prepared_question.specs.promises.Nodes.{formula}
 use Rattle.bounds.specs.promises.Bounded.{Bounded, lowered, meets-as, meets-at, lamp-at}
 use Rattle.bounds.proofs.ProductsFit.{compares}
@@ -252,8 +252,12 @@ module _ {m q : Bytes} {counts : List ℕ} (asked : Asked m q counts) (j s : ℕ
       let c = every-at (fits true (model-in m) (x .n) (relation (x .right))) (length (model-in m .states)) b inside-model in
       leb-true (plan-total (model-in m) (x .n) s) 65536 (ap (λ k. not (is-equal (relation k)) || leb (plan-total (model-in m) (x .n) s) 65536) (sym e) ∙ c)
 
+  -- Its plans are counted.
+  pub all-counted : totals.Totals true (model-in m) 7 counts
+  all-counted = asked .counted .all j h (sym (bounded-plans true (node-of q j) o refl) ∙ eq-eqb ((node-of q j) .right) 2 e)
+
   pub counted-plans : (node-of q j) .n ≤ 6 → getD counts (32 * (node-of q j) .n + s) 0 ≡ plan-total (model-in m) ((node-of q j) .n) s
   unfolding totals.total totals.limit
   counted-plans few =
-      asked .counted .at ((node-of q j) .n) s few inside-model
+      all-counted .at ((node-of q j) .n) s (omega arith) inside-model
       ∙ min-eq-right {n = plan-total (model-in m) ((node-of q j) .n) s} {m = 65537} (omega (arith, few-plans))

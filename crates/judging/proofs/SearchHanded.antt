@@ -255,7 +255,7 @@ module _ {m q : Bytes} {truth : List ℕ} {j s : ℕ} (given : Given m q) (posed
       either c (λ o. omega (arith, l .of-plan o .4, planned c o .deep)) (λ o. omega (arith, l .of-earns o .2, earned c o .range .within))
 
   -- What the list of all plans' totals asks for.
-  pub handed-listing : {counts : List ℕ} → Totals true (model-in m) counts → listing.Given m q s a d truth (take count nodes) counts
+  pub handed-listing : {counts : List ℕ} → Totals true (model-in m) 7 counts → listing.Given m q s a d truth (take count nodes) counts
   handed-listing {counts} t = record { ready = handed-ready; counts = counts-right m counts t; looks = handed-looks; from = handed-from }
 
   -- What a path is worth is what the node says.

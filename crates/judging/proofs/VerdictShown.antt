@@ -35,7 +35,7 @@ use Rattle.models.specs.Layout.{state-count}
 use Rattle.prepared_model.specs.promises.Rows.{model-in}
 use Rattle.questions.specs.Layout.{start-of, node-count, node-of, question-of}
 use Rattle.questions.specs.promises.Formed.{sets-bound}
-use Rattle.limits.specs.promises.Totals.{Totals}
+use Rattle.limits.specs.promises.Counted.{Counted}
 use Rattle.prepared_question.specs.promises.Nodes.{formula}
 use Rattle.evaluation.specs.promises.Worth.{worth-of}
 use Rattle.bounds.specs.promises.Bounded.{Bounded, lowered, most-of, meets-at, lamp-at}
@@ -156,7 +156,7 @@ module _ {m q : Bytes} {counts : List ℕ} (asked : Asked m q counts) {j : ℕ} 
 
 -- ---- the root
 
-pub asked-at : {m q : Bytes} {counts : List ℕ} → Served m q → Totals true (model-in m) counts
+pub asked-at : {m q : Bytes} {counts : List ℕ} → Served m q → Counted m q counts
     → Asked m q counts
 asked-at x c =
     record {

@@ -17,6 +17,7 @@ ghost use Rattle.judging.specs.promises.Truth.{Supplied};
 ghost use Rattle.judging.specs.promises.Decided.{Posed, Decided};
 ghost use Rattle.questions.specs.promises.Formed.{sets-bound};
 ghost use Rattle.lamp.specs.promises.Codes.{optional-code};
+ghost use Rattle.limits.specs.promises.Counted.{Counted};
 ghost use Rattle.bounds.specs.promises.Bounded.{Bounded, most-of};
 ghost use Rattle.judging.specs.declared.Verdict.the-variants.{No, Yes, YesPlan};
 ghost use Rattle.judging.specs.promises.Announced.{root, root-verdict, no-lamp, Announces, Sums, Spelled, Weighs};
@@ -39,7 +40,6 @@ use evaluation::TRUTHS;
 use lamp::Lamp;
 use lamp::OptionalLamp;
 use limits::COUNTS;
-use limits::plan_totals;
 use plan_choices::extending::extend;
 use plan_choices::ranking::nth;
 use plan_choices::weighing::plan_weight;
@@ -199,17 +199,21 @@ fn at_node(
 }
 
 // Judges a question: the verdict on its root in its start state, and the choices of a shown plan from the beginning of `choices` on.
-pub fn judged(m: &[u16; MODEL], q: &[u8; QUESTION], choices: &mut [u8]) -> Verdict
-    requires { ⌜ Served (now m) (now q) ⌝ }
+pub fn judged(
+    m: &[u16; MODEL],
+    q: &[u8; QUESTION],
+    counts: &[u64; COUNTS],
+    choices: &mut [u8],
+) -> Verdict
+    requires { ⌜ Served (now m) (now q) × Counted (now m) (now q) (now counts) ⌝ }
     requires { ⌜ 1365 ≤ length (now choices) ⌝ }
     ensures effect { λ r.
         let choices′ = now (choices .exit) in let m = now (m .entry) in let q = now (q .entry) in let choices = now (choices .entry) in
         ⌜ Announces (root-verdict (model-in m) q) r choices choices′ ⌝ }
 {
-    let counts = plan_totals(m);
-    let truth = root_truth(m, q, &counts);
+    let truth = root_truth(m, q, counts);
     let j = count(q) - 1;
-    at_node(m, q, &counts, &truth, choices, j, start(q))
+    at_node(m, q, counts, &truth, choices, j, start(q))
 }
 
 // The raised total of the plan with these choices, by the tables.
@@ -243,13 +247,17 @@ pub struct Weighed {
 }
 
 // The total of the plan with these choices, for the root, which sets a bound on plans, whether it meets the bound, and its lamp.
-pub fn sheet_total(m: &[u16; MODEL], q: &[u8; QUESTION], choices: &[u8]) -> Weighed
-    requires { ⌜ Served (now m) (now q) × (sets-bound (node-of (now q) (root (now q)) .operator) ≡ true) ⌝ }
+pub fn sheet_total(
+    m: &[u16; MODEL],
+    q: &[u8; QUESTION],
+    counts: &[u64; COUNTS],
+    choices: &[u8],
+) -> Weighed
+    requires { ⌜ Served (now m) (now q) × Counted (now m) (now q) (now counts) × (sets-bound (node-of (now q) (root (now q)) .operator) ≡ true) ⌝ }
     requires { ⌜ Spelled (model-in (now m)) (now q) (now choices) ⌝ }
     ensures value { λ r. ⌜ Weighs (model-in (now (m .entry))) (now (q .entry)) (now (choices .entry)) r ⌝ }
 {
-    let counts = plan_totals(m);
-    let truth = root_truth(m, q, &counts);
+    let truth = root_truth(m, q, counts);
     let x = root_total(m, q, &truth, choices);
     let j = count(q) - 1;
     Weighed {

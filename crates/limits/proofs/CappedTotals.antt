@@ -286,5 +286,6 @@ module _ (plans : Bool) (m : List ℕ) (w : Prepared m) where
             ∙ ap₂ (λ n s. min (cap plans) (total plans (model-in m) n s)) en es
         counted n s l g (no q) = getD-set-other table k (32 * n + s) v 0 q ∙ f .counted n s (omega arith) g
 
-  pub filled-all : (table : List ℕ) → Filled plans m table 224 → Totals plans (model-in m) table
-  filled-all table f = record { at = λ n s h g. let k : s < state-count m = rw (states-are m) at g in f .counted n s (omega (arith, w .states)) k }
+  -- So many rows are filled.
+  pub filled-rows : (rows : ℕ) (table : List ℕ) (k : ℕ) → Filled plans m table k → 32 * rows ≤ k → Totals plans (model-in m) rows table
+  filled-rows rows table k f e = record { at = λ n s h g. let i : s < state-count m = rw (states-are m) at g in f .counted n s (omega (arith, w .states)) i }

@@ -120,13 +120,13 @@ module _ (m : Model) (x : Node) (w : sets-bound (x .operator) ≡ true → Compa
       go false e = rw e refl
 
   -- A node with a limit passes where the table's totals are within it.
-  pub bounded-fits : (plans : Bool) (table : List ℕ) → bounded plans x ≡ true → Totals plans m table
+  pub bounded-fits : (plans : Bool) (table : List ℕ) → bounded plans x ≡ true → Totals plans m (x .n + 1) table
       → every (length (m .states)) (λ s. leb (getD table (32 * x .n + s) 0) (limit plans)) ≡ node-fits plans m x
   unfolding fits total limit
   bounded-fits plans table h t =
       let e = bounded-operator plans x h in
       every-same (length (m .states))
-      (λ s l. ap (λ v. leb v (limit plans)) (t .at (x .n) s (w e .few-steps) l) ∙ limit-capped plans (total plans m (x .n) s) ∙ same plans s e (sym (bounded-by plans x e) ∙ h))
+      (λ s l. ap (λ v. leb v (limit plans)) (t .at (x .n) s (omega arith) l) ∙ limit-capped plans (total plans m (x .n) s) ∙ same plans s e (sym (bounded-by plans x e) ∙ h))
       ∙ node-fits-plan plans e
     where
       same : (t : Bool) (s : ℕ) → sets-bound (x .operator) ≡ true → (not t || eqb (x .right) 2) ≡ true

@@ -1,2 +1,3 @@
 -- What the layers above and below promise each other; nobody has to believe it.
 pub mod Totals
+pub mod Counted

@@ -10,10 +10,11 @@ ghost use Rattle.logic.specs.Model.{outcomes};
 ghost use Rattle.logic.specs.Limits.{every-plan, limits};
 ghost use Rattle.models.specs.Layout.{state-count, action-count, prop-count};
 ghost use Rattle.prepared_model.specs.promises.Rows.{choices-in, choice-in, model-in, Prepared};
-ghost use Rattle.questions.specs.Layout.{node-of, formulas-of, question-of};
+ghost use Rattle.questions.specs.Layout.{node-count, node-of, formulas-of, question-of};
 ghost use Rattle.questions.specs.promises.Formed.{Compares, sets-bound};
 ghost use Rattle.prepared_question.specs.promises.Nodes.{Nodes};
 ghost use Rattle.limits.specs.promises.Totals.{gather, step-total, Totals, fits, node-fits};
+ghost use Rattle.limits.specs.promises.Counted.{Needed, Serves, Counted};
 ghost use Rattle.limits.specs.promises.Totals as spec;
 use models::STATES;
 use prepared_model::MODEL;
@@ -31,6 +32,9 @@ const MOST_PATHS: u64 = 1000000;
 
 // The numbers of a table of totals: for 0 to 6 steps, from each of 32 states.
 pub const COUNTS: usize = 224;
+
+// Its rows, one for each number of steps.
+const ROWS: usize = 7;
 
 // The most that is served: plans, or else paths.
 fn limit(plans: bool) -> u64
@@ -109,29 +113,23 @@ fn state_total(m: &[u16; MODEL], plans: bool, table: &[u64; COUNTS], at: usize, 
     total
 }
 
-// The totals of 0 to 6 steps from each state: those of k / 32 steps from the state k % 32 stand at k.
-fn totals(m: &[u16; MODEL], plans: bool) -> [u64; COUNTS]
-    requires { ⌜ Prepared (now m) ⌝ }
-    ensures value { λ r. ⌜ Totals plans (model-in (now (m .entry))) r ⌝ }
+// The totals of fewer than `rows` steps from each state: those of k / 32 steps from the state k % 32 stand at k. Rows that nobody asks for are not
+// counted.
+fn totals(m: &[u16; MODEL], plans: bool, rows: usize) -> [u64; COUNTS]
+    requires { ⌜ Prepared (now m) × (rows ≤ 7) ⌝ }
+    ensures value { λ r. ⌜ Totals plans (model-in (now (m .entry))) rows r ⌝ }
 {
     let states = prepared_model::states(m);
+    let end = STATES * rows;
     let mut table = [1u64; COUNTS];
     let mut k: usize = STATES;
-    while k < COUNTS {
+    while k < end {
         if k % STATES < states {
             table[k] = state_total(m, plans, &table, STATES * (k / STATES - 1), k % STATES);
         }
         k += 1;
     }
     table
-}
-
-// The numbers of plans, for those who count them.
-pub fn plan_totals(m: &[u16; MODEL]) -> [u64; COUNTS]
-    requires { ⌜ Prepared (now m) ⌝ }
-    ensures value { λ r. ⌜ Totals true (model-in (now (m .entry))) r ⌝ }
-{
-    totals(m, true)
 }
 
 // How many plans of n steps there are from s, by that table.
@@ -168,6 +166,54 @@ fn bounded(q: &[u8; QUESTION], i: u8, plans: bool) -> bool
     false
 }
 
+// The rows of a table that node i needs: up to its steps, or none where no limit is set to it.
+fn node_rows(q: &[u8; QUESTION], i: u8, plans: bool) -> usize
+    requires { ⌜ i < 40 ⌝ }
+    ensures value { λ r.
+        let x = node-of (now (q .entry)) i in
+        ⌜ (spec.bounded plans x ≡ true → r ≡ x .n + 1) × (spec.bounded plans x ≡ false → r ≡ 0) ⌝ }
+{
+    if bounded(q, i, plans) {
+        return steps(q, i) as usize + 1;
+    }
+    0
+}
+
+fn larger(x: usize, y: usize) -> usize
+    ensures value { λ r. ⌜ (x ≤ r) × (y ≤ r) × (x ≤ 7 → y ≤ 7 → r ≤ 7) ⌝ }
+{
+    if x < y {
+        return y;
+    }
+    x
+}
+
+// The rows that all nodes need.
+fn rows_needed(q: &[u8; QUESTION], plans: bool) -> usize
+    requires { ⌜ ((i : ℕ) → i < node-count (now q) → sets-bound (node-of (now q) i .operator) ≡ true → Compares (node-of (now q) i)) × (node-count (now q) ≤ 40) ⌝ }
+    ensures value { λ r. ⌜ Needed plans (now (q .entry)) (node-count (now (q .entry))) r ⌝ }
+{
+    let n = prepared_question::count(q);
+    let mut rows: usize = 0;
+    let mut i: u8 = 0;
+    while i < n {
+        rows = larger(rows, node_rows(q, i, plans));
+        i += 1;
+    }
+    rows
+}
+
+// The numbers of plans, for those who count them: where no limit is set to any node, nobody does.
+pub fn plan_totals(m: &[u16; MODEL], q: &[u8; QUESTION]) -> [u64; COUNTS]
+    requires { ⌜ Prepared (now m) × Nodes (state-count (now m)) (action-count (now m)) (prop-count (now m)) (now q) ⌝ }
+    ensures value { λ r. ⌜ Counted (now (m .entry)) (now (q .entry)) r ⌝ }
+{
+    if rows_needed(q, true) == 0 {
+        return totals(m, true, 0);
+    }
+    totals(m, true, ROWS)
+}
+
 fn node_fits(
     m: &[u16; MODEL],
     q: &[u8; QUESTION],
@@ -176,8 +222,8 @@ fn node_fits(
     i: u8,
 ) -> bool
     requires { ⌜
-        Prepared (now m) × Totals plans (model-in (now m)) (now table) × (i < 40)
-        × (sets-bound (node-of (now q) i .operator) ≡ true → Compares (node-of (now q) i)) ⌝ }
+        Prepared (now m) × (spec.bounded plans (node-of (now q) i) ≡ true → Totals plans (model-in (now m)) (node-of (now q) i .n + 1) (now table))
+        × (i < 40) × (sets-bound (node-of (now q) i .operator) ≡ true → Compares (node-of (now q) i)) ⌝ }
     ensures value { λ r. ⌜ r ≡ node-fits plans (model-in (now (m .entry))) (node-of (now (q .entry)) i) ⌝ }
 {
     if !bounded(q, i, plans) {
@@ -193,18 +239,19 @@ fn node_fits(
 
 // All nodes are checked. Each was used in the question that was put (ground 13); those that preparing leaves over are "and" nodes, which set no
 // bound.
-fn nodes_fit(m: &[u16; MODEL], q: &[u8; QUESTION], plans: bool) -> bool
-    requires { ⌜ Prepared (now m) × Nodes (state-count (now m)) (action-count (now m)) (prop-count (now m)) (now q) ⌝ }
+fn nodes_fit(m: &[u16; MODEL], q: &[u8; QUESTION], table: &[u64; COUNTS], plans: bool) -> bool
+    requires { ⌜
+        Prepared (now m) × Nodes (state-count (now m)) (action-count (now m)) (prop-count (now m)) (now q)
+        × Serves plans (now m) (now q) (now table) ⌝ }
     ensures value { λ r.
         let m = now (m .entry) in let q = now (q .entry) in
         ⌜ r ≡ every-plan (fits plans (model-in m)) (model-in m) (formulas-of q) ⌝ }
 {
-    let table = totals(m, plans);
     let n = prepared_question::count(q);
     let mut right = true;
     let mut i: u8 = 0;
     while i < n {
-        right = right & node_fits(m, q, &table, plans, i);
+        right = right & node_fits(m, q, table, plans, i);
         i += 1;
     }
     right
@@ -217,28 +264,32 @@ pub fn paths_fit(m: &[u16; MODEL], q: &[u8; QUESTION]) -> bool
         let m = now (m .entry) in let q = now (q .entry) in
         ⌜ r ≡ every-plan (fits false (model-in m)) (model-in m) (formulas-of q) ⌝ }
 {
-    nodes_fit(m, q, false)
+    let table = totals(m, false, rows_needed(q, false));
+    nodes_fit(m, q, &table, false)
 }
 
 // The test of ground 25: no such node whose relation is "equal" has too many plans.
-pub fn plans_fit(m: &[u16; MODEL], q: &[u8; QUESTION]) -> bool
+pub fn plans_fit(m: &[u16; MODEL], q: &[u8; QUESTION], counts: &[u64; COUNTS]) -> bool
     requires { ⌜ Prepared (now m) × Nodes (state-count (now m)) (action-count (now m)) (prop-count (now m)) (now q) ⌝ }
+    requires { ⌜ Counted (now m) (now q) (now counts) ⌝ }
     ensures value { λ r.
         let m = now (m .entry) in let q = now (q .entry) in
         ⌜ r ≡ every-plan (fits true (model-in m)) (model-in m) (formulas-of q) ⌝ }
 {
-    nodes_fit(m, q, true)
+    nodes_fit(m, q, counts, true)
 }
 
-// The ground, 24 or 25, on which a prepared question is not judged on a prepared model; 0 where there is none.
-pub fn limit_refusal(m: &[u16; MODEL], q: &[u8; QUESTION]) -> u32
+// The ground, 24 or 25, on which a prepared question is not judged on a prepared model; 0 where there is none. The plans are counted by the caller,
+// who judges with the same table.
+pub fn limit_refusal(m: &[u16; MODEL], q: &[u8; QUESTION], counts: &[u64; COUNTS]) -> u32
     requires { ⌜ Prepared (now m) × Nodes (state-count (now m)) (action-count (now m)) (prop-count (now m)) (now q) ⌝ }
+    requires { ⌜ Counted (now m) (now q) (now counts) ⌝ }
     ensures value { λ r. ⌜ r ≡ refusal (limits (model-in (now (m .entry))) ((question-of (now (q .entry))) .nodes)) ⌝ }
 {
     if !paths_fit(m, q) {
         return 24;
     }
-    if !plans_fit(m, q) {
+    if !plans_fit(m, q, counts) {
         return 25;
     }
     0

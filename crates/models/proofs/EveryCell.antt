@@ -1,12 +1,13 @@
 -- What the tests of cells share: the cells of a table as a grid, the used outcomes of a cell, and what the first grounds say of sizes.
-use Prim.Native.Nat.{ℕ, _+_, _*_, _/_, _%_, _^_, _-_, _≤_, _<_}
+use Prim.Native.Nat.{ℕ, zero, suc, _+_, _*_, _/_, _%_, _^_, _-_, _≤_, _<_}
 use native.Mathlib.Omega.{arith}
+use native.Mathlib.Decide.{decLt}
 use mathlib.Core.Path.{_≡_, refl, sym, ap, ap₂, _∙_}
 use mathlib.Core.Bool.{Bool, true, false, _&&_}
 use native.Mathlib.Nat.{div-lt-iff-lt-mul, eq-zero-or-pos}
 use mathlib.Core.Logic.{⊎-elim}
 use mathlib.Core.List.{List}
-use lib.ListN.{length, getD, set}
+use lib.ListN.{length, getD, set, replicate}
 use lib.Seq.{getD-set-same, getD-set-other}
 use lib.Pow.{pow-pos}
 use borrow.Author.Count.{below-more}
@@ -56,6 +57,19 @@ pub filled-more : (f : ℕ → ℕ) (l : List ℕ) (k v : ℕ) → k < length l 
     → (j : ℕ) → j < k + 1 → getD (set l k v) j 0 ≡ f j
 filled-more f l k v h g e =
     below-more (λ j. getD (set l k v) j 0 ≡ f j) k (λ j i. getD-set-other l k j v 0 (omega arith) ∙ g j i) (getD-set-same l k v 0 h ∙ e)
+
+-- A table is right before a place and behind it.
+pub filled-whole : (f : ℕ → ℕ) (l : List ℕ) (k j : ℕ) → ((i : ℕ) → i < k → getD l i 0 ≡ f i) → (k ≤ j → getD l j 0 ≡ f j) → getD l j 0 ≡ f j
+filled-whole f l k j g h = go (decLt j k)
+  where
+    go : Dec (j < k) → getD l j 0 ≡ f j
+    go (yes i) = g j i
+    go (no i) = h (omega arith)
+
+pub zeros-read : (n j : ℕ) → _≡_ {A = ℕ} (getD (replicate n 0) j 0) 0
+zeros-read zero j = refl
+zeros-read (suc n) zero = refl
+zeros-read (suc n) (suc j) = zeros-read n j
 
 -- ---- what is used of a cell
 

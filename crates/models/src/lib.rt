@@ -1,7 +1,7 @@
 // Models: readers of their bytes, and the grounds on which they are refused (document 01, numbers 1 to 7; document 02, A.1, took ground 8
 // away).
 ghost use mathlib.Core.Path.{_≡_};
-ghost use Prim.Native.Nat.{_+_, _*_, _<_};
+ghost use Prim.Native.Nat.{ℕ, _+_, _*_, _/_, _<_, _≤_};
 ghost use mathlib.Core.Bool.{true};
 ghost use Rattle.logic.specs.Model.{true-of};
 ghost use Rattle.logic.specs.promises.Refusal.{refusal};
@@ -232,13 +232,25 @@ fn widened(x: u8) -> usize
     x as usize
 }
 
-// The number of used outcomes of every cell, 8 to a state.
+// Where the cells of the model's states end among all cells.
+fn cells_end(b: &[u8]) -> usize
+    ensures value { λ r. ⌜ (r ≤ 264) × ((k : ℕ) → k < 264 → r ≤ k → state-count (now (b .entry)) ≤ k / 8) ⌝ }
+{
+    let states = state_count(b);
+    if states < CELLS / ACTIONS {
+        return ACTIONS * states;
+    }
+    CELLS
+}
+
+// The number of used outcomes of every cell, 8 to a state: none in the cells of no state.
 fn used_entries(b: &[u8]) -> [u8; CELLS]
     ensures value { λ r. ⌜ Used (now (b .entry)) r ⌝ }
 {
+    let end = cells_end(b);
     let mut used = [0u8; CELLS];
     let mut k: usize = 0;
-    while k < CELLS {
+    while k < end {
         used[k] = entries(b, k / ACTIONS, k % ACTIONS) as u8;
         k += 1;
     }

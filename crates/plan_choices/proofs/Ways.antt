@@ -100,10 +100,10 @@ module _ {m : List ℕ} (w : Prepared m) (s : ℕ) (h : s < state-count m) (i : 
   pub ways-all : (n : ℕ) → ways-left m s i n 0 ≡ ways (model-in m) n s (choice-in m s i)
   ways-all n = ap (multiply (below (model-in m) n)) outcomes-left
 
-  module _ {counts : List ℕ} (totals : Totals true (model-in m) counts) (n : ℕ) (k : n ≤ 6) where
+  module _ {counts : List ℕ} (totals : Totals true (model-in m) 7 counts) (n : ℕ) (k : n ≤ 6) where
     exact : (t : ℕ) → t < state-count m → plan-total (model-in m) n t ≤ 65536 → getD counts (32 * n + t) 0 ≡ plan-total (model-in m) n t
     unfolding total limit
-    exact t l f = totals .at n t k (rw (states-are m) l) ∙ min-eq-right (omega arith)
+    exact t l f = totals .at n t (omega arith) (rw (states-are m) l) ∙ min-eq-right (omega arith)
 
     pub outcome-counted : {j t : ℕ} → t ≡ (step-in m s i j) .target → j < outcomes-in m s i → 0 < ways-left m s i n j → ways-left m s i n j ≤ 65536 → Outcome-counted m counts n s i j t
     unfolding multiply

@@ -92,7 +92,7 @@ module _ (m : List ℕ) (n s i place : ℕ) (old : List ℕ) (at : ℕ) where
 -- A outcome-counted of the loop, for an outcome that leads to t.
 module _ {m : List ℕ} {n s i place : ℕ} {old : List ℕ} {at j size rest next : ℕ} {new : List ℕ}
     (here : Underway m n s i place old at j size rest new next) (l : j < outcomes-in m s i) where
-  pub below-turn : {counts : List ℕ} → Prepared m × Totals true (model-in m) counts → s < state-count m → i < choices-in m s → n ≤ 6
+  pub below-turn : {counts : List ℕ} → Prepared m × Totals true (model-in m) 7 counts → s < state-count m → i < choices-in m s → n ≤ 6
       → {t : ℕ} → t ≡ (step-in m s i j) .target → Outcome-counted m counts n s i j t
   below-turn p h g k e = outcome-counted (p .0) s h i g (p .1) n k e l (omega (arith, here .sized, here .inside)) (omega (arith, here .sized, here .few))
 

@@ -25,7 +25,7 @@ struct Block {
 
 // How many ways there are to continue for n steps after choice i.
 fn ways(m: &[u16; MODEL], counts: &[u64; COUNTS], s: usize, i: usize, n: u8) -> u64
-    requires { ⌜ Prepared (now m) × Totals true (model-in (now m)) (now counts) ⌝ }
+    requires { ⌜ Prepared (now m) × Totals true (model-in (now m)) 7 (now counts) ⌝ }
     requires { ⌜ (s < state-count (now m)) × (i < choices-in (now m) s) × (n < 6) × (plan-total (model-in (now m)) (n + 1) s ≤ 65536) ⌝ }
     ensures value { λ r. ⌜ r ≡ spec.ways (model-in (now (m .entry))) n s (choice-in (now (m .entry)) s i) ⌝ }
     ensures range { λ r. ⌜ r ≤ 65536 ⌝ }
@@ -43,7 +43,7 @@ fn ways(m: &[u16; MODEL], counts: &[u64; COUNTS], s: usize, i: usize, n: u8) -> 
 
 // The choice of plan number i of n + 1 steps: the choices of a state in order, each with as many plans as ways to go on.
 fn block_of(m: &[u16; MODEL], counts: &[u64; COUNTS], s: usize, n: u8, i: u64) -> Block
-    requires { ⌜ Prepared (now m) × Totals true (model-in (now m)) (now counts) ⌝ }
+    requires { ⌜ Prepared (now m) × Totals true (model-in (now m)) 7 (now counts) ⌝ }
     requires { ⌜
         (s < state-count (now m)) × (n < 6) × (plan-total (model-in (now m)) (n + 1) s ≤ 65536)
         × (i < plan-total (model-in (now m)) (n + 1) s) ⌝ }
@@ -85,7 +85,7 @@ fn nth_from(
     i: u64,
     at: usize,
 ) -> usize
-    requires { ⌜ Prepared (now m) × Totals true (model-in (now m)) (now counts) ⌝ }
+    requires { ⌜ Prepared (now m) × Totals true (model-in (now m)) 7 (now counts) ⌝ }
     requires { ⌜
         (s < state-count (now m)) × (n ≤ 6) × (plan-total (model-in (now m)) n s ≤ 65536) × (i < plan-total (model-in (now m)) n s)
         × (at + most-choices n ≤ length (now choices)) ⌝ }
@@ -123,7 +123,7 @@ pub fn nth(
     n: u8,
     i: u64,
 ) -> usize
-    requires { ⌜ Prepared (now m) × Totals true (model-in (now m)) (now counts) ⌝ }
+    requires { ⌜ Prepared (now m) × Totals true (model-in (now m)) 7 (now counts) ⌝ }
     requires { ⌜
         (s < state-count (now m)) × (n ≤ 6) × (plan-total (model-in (now m)) n s ≤ 65536) × (i < plan-total (model-in (now m)) n s)
         × (1365 ≤ length (now choices)) ⌝ }

@@ -20,8 +20,7 @@ use Rattle.protocol.specs.promises.Chains.{do-put, do-judge, do-write, answered
 use Rattle.protocol.proofs.AfterEachCall.{next}
 use Rattle.protocol.proofs.Lists.{empty, with-model, with-question, after-none, after-more, reply-is}
 use Rattle.plan_judge.specs.promises.CChain.{Told, told-of, told-on, c-chain, c-number, c-buffer}
-use Rattle.plan_judge.specs.promises.CSteps.{told-write}
-use Rattle.plan_judge.proofs.CSteps.{held-shown, shown-written}
+use Rattle.plan_judge.proofs.CSteps.{told-write, held-shown, shown-written}
 
 module _ (found : Bytes) where
   -- What is told of a chain.

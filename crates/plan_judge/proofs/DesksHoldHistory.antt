@@ -105,7 +105,7 @@ module _ (m : Model) (q : Question) where
       ap (λ c. verdict-in c (verdict-code (announced m s g (some x)))) (choices-read g e (x .1) (shown-meets m s g x h .0))
       ∙ ap (λ l. some (logic.yes-plan (record { total = p .total; lamp = l; steps = p .steps; count = p .count; choices = p .choices }))) (lamp-said (p .lamp))
 
-  verdict-read : verdict-on (some m) (some q) (choices-code (verdict m s (q .root))) (verdict-code (verdict m s (q .root))) ≡ some (verdict m s (q .root))
+  pub verdict-read : verdict-on (some m) (some q) (choices-code (verdict m s (q .root))) (verdict-code (verdict m s (q .root))) ≡ some (verdict m s (q .root))
   unfolding verdict verdict-on verdict-in verdict-code optional-code said-optional
   verdict-read = by (goal m s (q .root)) refl (sat m (q .root) s [])
     where

@@ -8,7 +8,7 @@ ghost use Rattle.logic.specs.Checked.{refused};
 ghost use Rattle.logic.specs.promises.Refusal.{refusal};
 ghost use Rattle.logic.specs.Choices.{read-plan};
 ghost use Rattle.blocks.specs.Bytes.{byte};
-ghost use Rattle.models.specs.Layout.{state-count, model-of};
+ghost use Rattle.models.specs.Layout.{state-count, action-count, prop-count, model-of};
 ghost use Rattle.prepared_model.specs.promises.Rows.{model-in};
 ghost use Rattle.models.specs.Grounds.{read-model};
 ghost use Rattle.questions.specs.Layout.{start-of, node-of, node-count, question-of};
@@ -17,11 +17,12 @@ ghost use Rattle.questions.specs.promises.Formed.{sets-bound};
 ghost use Rattle.sheets.specs.Layout.{blocks-for, sheet-of};
 ghost use Rattle.sheets.specs.promises.Reader.{Blocks};
 ghost use Rattle.protocol.specs.promises.Chains.{check-on};
+ghost use Rattle.limits.specs.promises.Counted.{Counted};
 ghost use Rattle.judging.specs.promises.Asked.{Served};
 ghost use Rattle.judging.specs.promises.Announced.{Spelled, Weighs};
 ghost use Rattle.plan_judge.specs.View.{choices-in, view};
 ghost use Rattle.plan_judge.specs.promises.State.{held-size};
-ghost use Rattle.plan_judge.specs.promises.Values.{unjudged, nothing, loaded-by, put-by, judging, judged-by, written-by, filled-by, model-written-by, model-filled-by, checking, checked-by};
+ghost use Rattle.plan_judge.specs.promises.Values.{unjudged, nothing, loaded-by, put-by, judge-on, ruling, judging, judged-by, written-by, filled-by, model-written-by, model-filled-by, checking, checked-by};
 ghost use Rattle.plan_judge.specs.promises.State.{held-both, held-goal, plan-size, size-in, shown-size, shown-total, PlanRoot, plan-on};
 
 pub mod c_call;
@@ -32,7 +33,9 @@ pub use judging::PlanRecord;
 pub use judging::Verdict;
 pub use lamp::Lamp;
 pub use lamp::OptionalLamp;
+use limits::COUNTS;
 use limits::limit_refusal;
+use limits::plan_totals;
 use plan_choices::CHOICES;
 use prepared_model::MODEL;
 use prepared_model::prepare_model;
@@ -247,6 +250,37 @@ fn turned_away(d: Desk, k: u32) -> Judging
     }
 }
 
+// What judging came to: the answer, and the choices of a shown plan beside it.
+pub struct Ruling {
+    pub answer: Judgement,
+    pub choices: [u8; CHOICES],
+}
+
+// Judges a question on a model, the bytes of both accepted: grounds 24 and 25, then the verdict.
+fn judged_on(m: &[u8], q: &[u8]) -> Ruling
+    requires { ⌜
+        (refusal (read-model (now m)) ≡ 0)
+        × (refusal (read-question (state-count (now m)) (action-count (now m)) (prop-count (now m)) (now q)) ≡ 0) ⌝ }
+    ensures value { λ r. ⌜ r ≡ ruling (judge-on (model-of (now (m .entry))) (question-of (now (q .entry)))) ⌝ }
+{
+    let model = prepare_model(m);
+    let query = prepare_question(q);
+    let counts = plan_totals(&model, &query);
+    let mut choices = [0u8; CHOICES];
+    let ground = limit_refusal(&model, &query, &counts);
+    if ground != 0 {
+        return Ruling {
+            answer: Judgement::Refused(ground),
+            choices: choices,
+        };
+    }
+    let v = judging::judged(&model, &query, &counts, &mut choices);
+    Ruling {
+        answer: Judgement::Judged(v),
+        choices: choices,
+    }
+}
+
 // Judges the question that is held and sets the verdict; or refuses by grounds 20, 21, 24, 25.
 pub fn judge(d: Desk) -> Judging
     ensures value { λ r. ⌜ r ≡ judged-by d ⌝ }
@@ -258,25 +292,23 @@ pub fn judge(d: Desk) -> Judging
     let m = d.model;
     let q = d.question;
     let n = blocks_end(MODEL_BYTES, d.blocks);
-    let model = prepare_model(&m[..n]);
-    let query = prepare_question(&q);
-    let ground = limit_refusal(&model, &query);
-    if ground != 0 {
-        return turned_away(d, ground);
-    }
-    let mut choices = [0u8; CHOICES];
-    let v = judging::judged(&model, &query, &mut choices);
-    Judging {
-        answer: Judgement::Judged(v),
-        choices: choices,
-        desk: Desk {
-            blocks: d.blocks,
-            model: m,
-            asked: d.asked,
-            question: q,
-            judged: true,
-            verdict: v,
+    let r = judged_on(&m[..n], &q);
+    let a = r.answer;
+    let choices = r.choices;
+    match a {
+        Judgement::Refused(k) => turned_away(d, k),
+        Judgement::Judged(v) => Judging {
+            answer: Judgement::Judged(v),
             choices: choices,
+            desk: Desk {
+                blocks: d.blocks,
+                model: m,
+                asked: d.asked,
+                question: q,
+                judged: true,
+                verdict: v,
+                choices: choices,
+            },
         },
     }
 }
@@ -431,15 +463,20 @@ fn sheet_ground(m: &[u8], q: &[u8], b: &[u8]) -> u32
 }
 
 // The total of the plan on a sheet, whether it meets the bound of the question's root, and its lamp.
-fn sheet_weighed(m: &[u16; MODEL], q: &[u8; QUESTION], b: &[u8]) -> judging::Weighed
+fn sheet_weighed(
+    m: &[u16; MODEL],
+    q: &[u8; QUESTION],
+    counts: &[u64; COUNTS],
+    b: &[u8],
+) -> judging::Weighed
     requires { ⌜
-        Served (now m) (now q) × (sets-bound (node-of (now q) (node-count (now q) - 1) .operator) ≡ true) × Blocks 6 (now b)
+        Served (now m) (now q) × Counted (now m) (now q) (now counts) × (sets-bound (node-of (now q) (node-count (now q) - 1) .operator) ≡ true) × Blocks 6 (now b)
         × Spelled (model-in (now m)) (now q) ((sheet-of (now b)) .choices) ⌝ }
     ensures value { λ r. ⌜ Weighs (model-in (now (m .entry))) (now (q .entry)) ((sheet-of (now (b .entry))) .choices) r ⌝ }
 {
     let mut choices = [0u8; GATHERED];
     let count = sheets::gather(b, &mut choices);
-    judging::sheet_total(m, q, &choices[..count])
+    judging::sheet_total(m, q, counts, &choices[..count])
 }
 
 // Checks a sheet for a question that asks for a plan: grounds 24 and 25, those of the sheet, then 11.
@@ -449,7 +486,8 @@ fn check_on(m: &[u8], q: &[u8], b: &[u8]) -> Checking
 {
     let model = prepare_model(m);
     let query = prepare_question(q);
-    let l = limit_refusal(&model, &query);
+    let counts = plan_totals(&model, &query);
+    let l = limit_refusal(&model, &query, &counts);
     if l != 0 {
         return Checking::Refused(l);
     }
@@ -457,7 +495,7 @@ fn check_on(m: &[u8], q: &[u8], b: &[u8]) -> Checking
     if k != 0 {
         return Checking::Refused(k);
     }
-    let w = sheet_weighed(&model, &query, b);
+    let w = sheet_weighed(&model, &query, &counts, b);
     if sheets::total_at(b) != w.total {
         return Checking::Refused(11);
     }

@@ -9,6 +9,7 @@ ghost use Rattle.models.specs.Layout.{state-count};
 ghost use Rattle.prepared_model.specs.promises.Rows.{model-in};
 ghost use Rattle.questions.specs.Layout.{start-of, node-count, node-of};
 ghost use Rattle.prepared_question.specs.promises.Nodes.{formula};
+ghost use Rattle.limits.specs.promises.Counted.{Counted};
 ghost use Rattle.bounds.specs.promises.Bounded.{Bounded, most-of};
 ghost use Rattle.judging.specs.promises.Asked.{Asked, Served};
 ghost use Rattle.judging.specs.promises.Announced.{root};
@@ -30,7 +31,6 @@ use judging::root_truth;
 use judging::truth::plain_truth;
 use lamp::Lamp;
 use limits::COUNTS;
-use limits::plan_totals;
 use plan_choices::extending::extend;
 use prepared_model::MODEL;
 use prepared_model::STAGES;
@@ -173,18 +173,18 @@ fn at_node(
 pub fn explained(
     m: &[u16; MODEL],
     q: &[u8; QUESTION],
+    counts: &[u64; COUNTS],
     choices: &mut [u8],
     further: &mut [u8],
 ) -> Explanation
-    requires { ⌜ Served (now m) (now q) ⌝ }
+    requires { ⌜ Served (now m) (now q) × Counted (now m) (now q) (now counts) ⌝ }
     requires { ⌜ (1365 ≤ length (now choices)) × (1365 ≤ length (now further)) ⌝ }
     ensures effect { λ r.
         let choices′ = now (choices .exit) in let further′ = now (further .exit) in let m = now (m .entry) in let q = now (q .entry) in
         let choices = now (choices .entry) in let further = now (further .entry) in
         ⌜ Tells-of (model-in m) (start-of q) (formula q (root q)) r choices choices′ further further′ ⌝ }
 {
-    let counts = plan_totals(m);
-    let truth = root_truth(m, q, &counts);
+    let truth = root_truth(m, q, counts);
     let j = count(q) - 1;
-    at_node(m, q, &counts, &truth, choices, further, j, start(q))
+    at_node(m, q, counts, &truth, choices, further, j, start(q))
 }

@@ -9,13 +9,8 @@ use Rattle.judging.proofs.judged.Reads as reads
 use Rattle.judging.proofs.judged.Lts as lts
 use Rattle.judging.proofs.at_node.Reads as at-node-reads
 use Rattle.judging.proofs.root_truth.Reads as root-truth-reads
-use Rattle.limits.proofs.plan_totals.Reads as plan-totals-reads
 use Rattle.prepared_question.proofs.count.Reads as count-reads
 use Rattle.prepared_question.proofs.start.Reads as start-reads
-
--- src/lib.rt:147:18
-plan-totals-requires : tie.Need-plan-totals-requires
-plan-totals-requires c κs = c .before .pre .0 .prepared
 
 -- src/lib.rt:148:17
 root-truth-requires : tie.Need-root-truth-requires
@@ -55,7 +50,6 @@ pub judged-spec : {M : Type 1} → statement M
 judged-spec =
     tie.close
     (tie.spec
-    plan-totals-requires
     root-truth-requires
     count-requires
     sub-j

@@ -19,9 +19,6 @@ use Rattle.judging.proofs.sheet_total.Tie as tie
 given : (S : tie.Start) → Given (S .args .m .now) (S .args .q .now)
 given S = record { prepared = S .pre .0 .0 .prepared; nodes = S .pre .0 .0 .nodes }
 
-plan-totals-requires : tie.Need-plan-totals-requires
-plan-totals-requires c κs = c .before .pre .0 .0 .prepared
-
 root-truth-requires : tie.Need-root-truth-requires
 root-truth-requires c κs = asked-at (c .before .before .before .pre .0 .0) (c .before .plan-totals .ensures)
 
@@ -77,7 +74,6 @@ pub sheet-total-spec : {M : Type 1} → statement M
 sheet-total-spec =
     tie.close
     (tie.spec
-    plan-totals-requires
     root-truth-requires
     root-total-requires
     count-requires

@@ -12,7 +12,7 @@ use Rattle.bounds.specs.promises.Bounded.{lowered, lamp-at}
 use Rattle.bounds.proofs.ProductsFit.{compares}
 use Rattle.judging.specs.promises.Decided.{best-node, plan-at}
 use Rattle.judging.proofs.SearchHanded.{asked-equal, asked-other}
-use Rattle.judging.proofs.SearchDecides.{shows}
+use Rattle.judging.proofs.SearchDecides.{shows, all-counted}
 use Rattle.judging.proofs.VerdictShown.{announces-plan, equal-few, equal-inside, equal-verdict, place-few, met-most, total-small, led-verdict}
 use mir.Syntax.{w64}
 use mir.ValLaws.{toZ-ofZ}
@@ -55,7 +55,7 @@ nth-requires c κs = let S = c .before .before .before .before .before .before .
     let n = c .before .before .before .before .before .steps .ensures in
     let few = equal-few (P .0) (P .1) (S .args .s) here (P .2) e .0 in
     let inside = equal-inside (P .0) (P .1) (S .args .s) here (P .2) e (P .3) in (
-      (P .0 .given .prepared, P .0 .counted),
+      (P .0 .given .prepared, all-counted (P .0) (S .args .j) (S .args .s) (P .1 .node) (P .1 .sets) e here),
       (
         here,
         omega (arith, few-steps S, n),

@@ -11,13 +11,13 @@ use Rattle.models.specs.Layout.{state-count, action-count, prop-count}
 use Rattle.prepared_model.specs.promises.Rows.{model-in, Prepared}
 use Rattle.questions.specs.Layout.{formulas-of}
 use Rattle.prepared_question.specs.promises.Nodes.{Nodes}
-use Rattle.limits.specs.promises.Totals.{Totals}
+use Rattle.limits.specs.promises.Counted.{Counted}
 use Rattle.relevance.specs.promises.Need.{Given}
 
--- What is judged: a question for a model, both prepared, within the limits, with the table of the numbers of plans.
+-- What is judged: a question for a model, both prepared, within the limits, with the numbers of plans where they are counted.
 pub record Asked (m q : Bytes) (counts : List ℕ) : Type 0 where
   pub given : Given m q
-  pub counted : Totals true (model-in m) counts
+  pub counted : Counted m q counts
   pub within : refusal (limits (model-in m) (formulas-of q)) ≡ 0
 
 -- A question for a model, both prepared, within the limits.

@@ -42,9 +42,9 @@ limit false = 1000000
 abbrev pub cap : Bool → ℕ
 cap plans = limit plans + 1
 
--- A table of the totals of 0 to 6 steps, 32 states each.
-pub record Totals (plans : Bool) (m : Model) (table : List ℕ) : Type 0 where
-  pub at : (n s : ℕ) → n ≤ 6 → s < length (m .states) → getD table (32 * n + s) 0 ≡ min (cap plans) (total plans m n s)
+-- A table of the totals of fewer than so many steps, 32 states each.
+pub record Totals (plans : Bool) (m : Model) (rows : ℕ) (table : List ℕ) : Type 0 where
+  pub at : (n s : ℕ) → n < rows → s < length (m .states) → getD table (32 * n + s) 0 ≡ min (cap plans) (total plans m n s)
 
 -- What grounds 24 and 25 ask of each node that sets a bound on plans and each state: for plans, of "equal" nodes only.
 unfoldable pub fits : Bool → Model → ℕ → Relation → ℕ → Bool

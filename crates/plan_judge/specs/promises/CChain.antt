@@ -1,9 +1,10 @@
 -- The C call as a chain of refusals: what its contract cites. That it is the list load, put, judge, write is proved (`CList`).
-use Prim.Native.Nat.{ℕ, _+_}
+use Prim.Native.Nat.{ℕ, _+_, _-_}
 use mathlib.Core.Path.{_≡_}
 use mathlib.Core.Bool.{Bool, true, false, cond}
-use mathlib.Core.List.{[], _++_}
+use mathlib.Core.List.{List, [], _++_}
 use lib.Dec.{leb}
+use lib.IntN.{ℤ}
 use lib.ListN.{length, drop}
 use Rattle.logic.specs.Checked.{Checked, ok, refused, _>>=_, _>>_, guard}
 use Rattle.logic.specs.Model.{Model}
@@ -11,7 +12,7 @@ use Rattle.logic.specs.Limits.{limits}
 use Rattle.logic.specs.Verdict.{Verdict, no, yes, yes-plan, verdict}
 use Rattle.blocks.specs.Bytes.{Bytes}
 use Rattle.models.specs.Grounds.{read-model}
-use Rattle.questions.specs.Layout.{Question}
+use Rattle.questions.specs.Layout.{Question, start-of, node-count, node-of}
 use Rattle.sheets.specs.Layout.{sheet-bytes}
 use Rattle.protocol.specs.Calls.{question-for}
 
@@ -19,6 +20,12 @@ use Rattle.protocol.specs.Calls.{question-for}
 pub record Told : Type 0 where
   pub answer : Bool
   pub sheet : Bytes
+
+-- The sheet of a plan with these choices for the root of a question, told with a buffer of this size: it fits, or ground 12.
+unfoldable pub told-sheet : (q : Bytes) (size : ℕ) → ℤ → List ℕ → Checked Told
+told-sheet q size total cs = do
+  guard 12 (leb (length (sheet-bytes (node-of q (node-count q - 1) .n) (start-of q) total cs)) size)
+  ok (record { answer = true; sheet = sheet-bytes (node-of q (node-count q - 1) .n) (start-of q) total cs })
 
 -- A verdict, told with a buffer of this size: a shown plan's sheet fits it, or ground 12.
 unfoldable pub told-of : (start size : ℕ) → Verdict → Checked Told

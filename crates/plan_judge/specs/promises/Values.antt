@@ -3,10 +3,13 @@ use Prim.Native.Nat.{ℕ, _-_, _/_}
 use mathlib.Core.Bool.{true, false}
 use mathlib.Core.List.{_++_}
 use lib.ListN.{length, drop, replicate}
-use Rattle.logic.specs.Checked.{Checked, ok, refused}
+use Rattle.logic.specs.Checked.{Checked, ok, refused, _>>_}
+use Rattle.logic.specs.Model.{Model}
+use Rattle.logic.specs.Limits.{limits}
 use Rattle.logic.specs.Verdict as logic
 use Rattle.blocks.specs.Bytes.{Bytes}
 use Rattle.models.specs.Grounds.{read-model}
+use Rattle.questions.specs.Layout.{Question}
 use Rattle.protocol.specs.Calls.{Report}
 use Rattle.protocol.specs.promises.Chains.{do-put, do-judge, do-write, do-write-model, do-check}
 use Rattle.lamp.specs.declared.OptionalLamp.the-variants.{Missing}
@@ -19,6 +22,7 @@ use Rattle.judging.specs.declared.Verdict.the-variants.{No, Yes, YesPlan}
 use Rattle.plan_judge.specs.declared.Judgement.{Judgement}
 use Rattle.plan_judge.specs.declared.Judgement.the-variants.{Judged}
 use Rattle.plan_judge.specs.declared.Judging.{Judging}
+use Rattle.plan_judge.specs.declared.Ruling.{Ruling}
 use Rattle.plan_judge.specs.declared.Written.{Written}
 use Rattle.plan_judge.specs.declared.Written.the-variants.{Bytes as Filled}
 use Rattle.plan_judge.specs.declared.Checking.{Checking}
@@ -72,6 +76,15 @@ choices-code (logic.yes-plan x) = padded 1365 (x .choices)
 unfoldable pub settling : Desk → logic.Verdict → Desk
 settling d v =
     record { blocks = d .blocks; model = d .model; asked = d .asked; question = d .question; judged = true; verdict = verdict-code v; choices = choices-code v }
+
+-- Grounds 24 and 25, then the verdict.
+abbrev pub judge-on : Model → Question → Checked logic.Verdict
+judge-on m q = limits m (q .nodes) >> ok (logic.verdict m (q .start) (q .root))
+
+-- What judging comes to.
+abbrev pub ruling : Checked logic.Verdict → Ruling
+ruling (ok v) = record { answer = Judged (verdict-code v); choices = choices-code v }
+ruling (refused k) = record { answer = Judgement.Refused k; choices = replicate 1365 0 }
 
 abbrev pub judging : Desk → Checked logic.Verdict → Judging
 judging d (ok v) = record { answer = Judged (verdict-code v); choices = choices-code v; desk = settling d v }

@@ -9,7 +9,7 @@ use Rattle.logic.specs.Limits.{plan-total}
 use Rattle.prepared_model.specs.promises.Rows.{model-in}
 use Rattle.questions.specs.Layout.{node-of}
 use Rattle.bounds.proofs.ProductsFit.{compares}
-use Rattle.judging.proofs.SearchDecides.{few-plans, counted-plans}
+use Rattle.judging.proofs.SearchDecides.{few-plans, all-counted, counted-plans}
 use Rattle.judging.proofs.SearchHanded.{bounded-at, handed-listing, handed-within, placed-never, placed-at}
 use borrow.Author.Needs.{needs}
 use Rattle.judging.proofs.plans.first.Statement.{statement}
@@ -58,7 +58,7 @@ first-equal-requires c κs = let S = c .before .before .before .before .before .
     let w = c .before .worth-of .ensures in
     let n = c .before .before .before .before .before .before .before .steps .ensures in
     let few = few-plans A (S .args .j) (S .args .s) (P .node) (P .sets) (S .pre .1) (P .state) in (
-      handed-listing (A .given) P w (A .counted),
+      handed-listing (A .given) P w (all-counted A (S .args .j) (S .args .s) (P .node) (P .sets) (S .pre .1) (P .state)),
       (
         omega (arith, handed-within (A .given) P w, n),
         omega (arith, few-steps S, n),

@@ -10,7 +10,7 @@ use Rattle.exact_plan.specs.promises.Totals.{totals}
 use Rattle.exact_plan.specs.promises.Sides.{Around}
 use Rattle.bounds.proofs.ProductsFit.{compares}
 use Rattle.judging.specs.promises.Decided.{raised-at}
-use Rattle.judging.proofs.SearchDecides.{few-plans}
+use Rattle.judging.proofs.SearchDecides.{few-plans, all-counted}
 use Rattle.judging.proofs.SearchHanded.{bounded-at, handed-listing, handed-within, handed-worth}
 use borrow.Author.Needs.{needs}
 use Rattle.reasons.proofs.sides.neighbours.Statement.{statement}
@@ -38,7 +38,7 @@ nearest-requires c κs = let S = c .before .before .before .before in
     let w = c .before .before .worth-of .ensures in
     let n = c .before .steps .ensures in
     let few = few-plans A (S .args .j) (S .args .s) (P .node) (P .sets) (S .pre .2) (P .state) in (
-      handed-listing (A .given) P w (A .counted),
+      handed-listing (A .given) P w (all-counted A (S .args .j) (S .args .s) (P .node) (P .sets) (S .pre .2) (P .state)),
       (
         omega (arith, handed-within (A .given) P w, n),
         omega (arith, few-steps S, n),
