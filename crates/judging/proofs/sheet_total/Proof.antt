@@ -20,36 +20,36 @@ given : (S : tie.Start) → Given (S .args .m .now) (S .args .q .now)
 given S = record { prepared = S .pre .0 .0 .prepared; nodes = S .pre .0 .0 .nodes }
 
 root-truth-requires : tie.Need-root-truth-requires
-root-truth-requires c κs = asked-at (c .before .before .before .pre .0 .0) (c .before .plan-totals .ensures)
+root-truth-requires c κs = asked-at (c .before .pre .0 .0) (c .before .pre .0 .1)
 
 -- The root, to be decided in the start state by the table.
-posed : (c : tie.After-root-truth) → Posed (c .before .before .before .before .args .m .now) (c .before .before .before .before .args .q .now) (c .root-truth .result) (root (c .before .before .before .before .args .q .now)) (start-of (c .before .before .before .before .args .q .now))
-posed c = root-posed (given (c .before .before .before .before)) (c .root-truth .ensures) (c .before .before .before .before .pre .0 .1)
+posed : (c : tie.After-root-truth) → Posed (c .before .before .args .m .now) (c .before .before .args .q .now) (c .root-truth .result) (root (c .before .before .args .q .now)) (start-of (c .before .before .args .q .now))
+posed c = root-posed (given (c .before .before)) (c .root-truth .ensures) (c .before .before .pre .0 .2)
 
-bounded : (c : tie.After-root-truth) → Bounded (c .before .before .before .before .args .m .now) (c .before .before .before .before .args .q .now) (root (c .before .before .before .before .args .q .now))
-bounded c = bounded-at (given (c .before .before .before .before)) (posed c)
+bounded : (c : tie.After-root-truth) → Bounded (c .before .before .args .m .now) (c .before .before .args .q .now) (root (c .before .before .args .q .now))
+bounded c = bounded-at (given (c .before .before)) (posed c)
 
 root-total-requires : tie.Need-root-total-requires
-root-total-requires c κs = (given (c .before .before .before .before .before), posed (c .before))
+root-total-requires c κs = (given (c .before .before .before), posed (c .before))
 
 count-requires : tie.Need-count-requires
 count-requires c κs = search needs
 
 sub-j : tie.Need-sub-j
-sub-j c = omega (arith, c .count .ensures, c .before .before .before .before .before .before .before .pre .0 .0 .nodes .formed .some-node)
+sub-j c = omega (arith, c .count .ensures, c .before .before .before .before .before .pre .0 .0 .nodes .formed .some-node)
 
-at-root : (c : tie.After-count) → c .count .result - 1 ≡ root (c .before .before .before .before .before .before .before .args .q .now)
+at-root : (c : tie.After-count) → c .count .result - 1 ≡ root (c .before .before .before .before .before .args .q .now)
 at-root c = ap (λ (n : ℕ). n - 1) (c .count .ensures)
 
-bounded-here : (c : tie.After-count) → Bounded (c .before .before .before .before .before .before .before .args .m .now) (c .before .before .before .before .before .before .before .args .q .now) (c .count .result - 1)
-bounded-here c = subst (λ (j : ℕ). Bounded (c .before .before .before .before .before .before .before .args .m .now) (c .before .before .before .before .before .before .before .args .q .now) j) (sym (at-root c)) (bounded (c .before .before .before))
+bounded-here : (c : tie.After-count) → Bounded (c .before .before .before .before .before .args .m .now) (c .before .before .before .before .before .args .q .now) (c .count .result - 1)
+bounded-here c = subst (λ (j : ℕ). Bounded (c .before .before .before .before .before .args .m .now) (c .before .before .before .before .before .args .q .now) j) (sym (at-root c)) (bounded (c .before .before .before))
 
 lowered-requires : tie.Need-lowered-requires
 lowered-requires c κs = (bounded-here c, c .before .root-total .ensures .1)
 
 -- The raised total, at the node's number as the code has it.
-small : (c : tie.After-count) → c .before .root-total .result ≤ most-of (c .before .before .before .before .before .before .before .args .m .now) (c .before .before .before .before .before .before .before .args .q .now) (c .count .result - 1)
-small c = let S = c .before .before .before .before .before .before .before in
+small : (c : tie.After-count) → c .before .root-total .result ≤ most-of (c .before .before .before .before .before .args .m .now) (c .before .before .before .before .before .args .q .now) (c .count .result - 1)
+small c = let S = c .before .before .before .before .before in
     subst (λ (j : ℕ). c .before .root-total .result ≤ most-of (S .args .m .now) (S .args .q .now) j) (sym (at-root c))
     (spelled-most (given S) (S .args .choices .now) (bounded (c .before .before .before)) (S .pre .1) (c .before .root-total .ensures .0))
 
@@ -60,7 +60,7 @@ lamp-of-requires : tie.Need-lamp-of-requires
 lamp-of-requires c κs = (bounded-here (c .before .before), small (c .before .before))
 
 returns : tie.Need-returns
-returns c = let S = c .before .before .before .before .before .before .before .before .before .before in
+returns c = let S = c .before .before .before .before .before .before .before .before in
     let m = S .args .m .now in
     let q = S .args .q .now in
     let x = c .before .before .before .before .root-total .result in
