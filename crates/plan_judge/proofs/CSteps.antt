@@ -46,8 +46,9 @@ use Rattle.plan_judge.specs.declared.Ruling.{Ruling}
 use Rattle.plan_judge.specs.View.{choices-in, verdict-in, verdict-on}
 use Rattle.plan_judge.specs.promises.Values.{padded, choices-code, judge-on, ruling}
 use Rattle.plan_judge.specs.promises.State.{PlanRoot, size-in}
-use Rattle.plan_judge.specs.promises.CChain.{Told, told-sheet, told-of, told-on, c-chain, Tells}
+use Rattle.plan_judge.specs.promises.CChain.{Told, Begins, told-sheet, told-of, told-on, c-chain, Tells}
 use Rattle.plan_judge.proofs.DesksHoldHistory.{verdict-read}
+use Rattle.plan_judge.proofs.WriteReturns.{first-choices}
 use Rattle.plan_judge.proofs.NumbersListed.{few}
 use Rattle.plan_judge.proofs.StateGrounds.{root-node, other-goal, asked-goal, goal-is}
 
@@ -165,41 +166,41 @@ shown-written m blocks q size p e =
 -- ---- what judging comes to
 
 module _ (m : Model) (q : Question) (r : Ruling) (i : r ≡ ruling (judge-on m q)) where
-  abbrev V : logic.Verdict
-  V = verdict m (q .start) (q .root)
+  abbrev judged-so : logic.Verdict
+  judged-so = verdict m (q .start) (q .root)
 
   ground-is : (k : ℕ) → r .answer ≡ Judgement.Refused k → limits m (q .nodes) ≡ refused k
   ground-is k a = by (limits m (q .nodes)) (ap (λ (x : Ruling). x .answer) (sym i) ∙ a)
     where
-      by : (c : Checked (Unit {0})) → (ruling (c >> ok V)) .answer ≡ Judgement.Refused k → c ≡ refused k
+      by : (c : Checked (Unit {0})) → (ruling (c >> ok judged-so)) .answer ≡ Judgement.Refused k → c ≡ refused k
       by (ok u) z = let y : _≡_ {A = ℕ} 0 1 = cc in absurd (omega arith)
       by (refused j) z = let y : j ≡ k = cc in ap refused y
 
   pub ground-few : (k : ℕ) → r .answer ≡ Judgement.Refused k → k ≤ 25
   unfolding by-chain do-judge
-  ground-few k a = few (with-question [] m q) judge k (ap (λ c. (answered [] (c >> ok V) (λ v. says (judged v))) .answer) (ground-is k a))
+  ground-few k a = few (with-question [] m q) judge k (ap (λ c. (answered [] (c >> ok judged-so) (λ v. says (judged v))) .answer) (ground-is k a))
 
   pub told-ground : (size k : ℕ) → r .answer ≡ Judgement.Refused k → told-on size m q ≡ refused k
   unfolding told-on
-  told-ground size k a = ap (λ c. c >> told-of (q .start) size V) (ground-is k a)
+  told-ground size k a = ap (λ c. c >> told-of (q .start) size judged-so) (ground-is k a)
 
   -- The verdict is said, with its choices beside it.
   module _ (v : Verdict) (a : r .answer ≡ Judged v) where
-    said : (limits m (q .nodes) ≡ ok tt) × (v ≡ verdict-code V) × (r .choices ≡ choices-code V)
+    said : (limits m (q .nodes) ≡ ok tt) × (v ≡ verdict-code judged-so) × (r .choices ≡ choices-code judged-so)
     said = by (limits m (q .nodes)) refl (ap (λ (x : Ruling). x .answer) (sym i) ∙ a) (ap (λ (x : Ruling). x .choices) i)
       where
-        by : (c : Checked (Unit {0})) → limits m (q .nodes) ≡ c → (ruling (c >> ok V)) .answer ≡ Judged v → r .choices ≡ (ruling (c >> ok V)) .choices
-            → (limits m (q .nodes) ≡ ok tt) × (v ≡ verdict-code V) × (r .choices ≡ choices-code V)
+        by : (c : Checked (Unit {0})) → limits m (q .nodes) ≡ c → (ruling (c >> ok judged-so)) .answer ≡ Judged v → r .choices ≡ (ruling (c >> ok judged-so)) .choices
+            → (limits m (q .nodes) ≡ ok tt) × (v ≡ verdict-code judged-so) × (r .choices ≡ choices-code judged-so)
         by (ok u) j z y = (j, cc, y)
         by (refused k) j z y = let w : _≡_ {A = ℕ} 0 1 = cc in absurd (omega arith)
 
-    told-verdict : (size : ℕ) → told-of (q .start) size V ≡ told-on size m q
+    pub told-verdict : (size : ℕ) → told-of (q .start) size judged-so ≡ told-on size m q
     unfolding told-on
-    told-verdict size = sym (ap (λ c. c >> told-of (q .start) size V) (said .0))
+    told-verdict size = sym (ap (λ c. c >> told-of (q .start) size judged-so) (said .0))
 
     pub no-told : (x : Denial) → v ≡ No x → (found : Bytes) → Tells (told-on (length found) m q) found found 0
     unfolding told-of verdict-code
-    no-told x e found = told-same (told-verdict (length found)) (by V (sym (said .1) ∙ e))
+    no-told x e found = told-same (told-verdict (length found)) (by judged-so (sym (said .1) ∙ e))
       where
         by : (l : logic.Verdict) → verdict-code l ≡ No x → Tells (told-of (q .start) (length found) l) found found 0
         by (logic.no y) z = record { number = refl; buffer = refl }
@@ -208,7 +209,7 @@ module _ (m : Model) (q : Question) (r : Ruling) (i : r ≡ ruling (judge-on m q
 
     pub yes-told : v ≡ Yes → (found : Bytes) → Tells (told-on (length found) m q) found found 1
     unfolding told-of verdict-code
-    yes-told e found = told-same (told-verdict (length found)) (by V (sym (said .1) ∙ e))
+    yes-told e found = told-same (told-verdict (length found)) (by judged-so (sym (said .1) ∙ e))
       where
         by : (l : logic.Verdict) → verdict-code l ≡ Yes → Tells (told-of (q .start) (length found) l) found found 1
         by (logic.no y) z = let n : _≡_ {A = ℕ} 0 1 = cc in absurd (omega arith)
@@ -218,22 +219,21 @@ module _ (m : Model) (q : Question) (r : Ruling) (i : r ≡ ruling (judge-on m q
     -- A plan is shown: its total is said, and its choices stand first.
     pub record Shown (p : PlanRecord) : Type 0 where
       pub plan : logic.Shown-plan
-      pub is : logic.yes-plan plan ≡ V
+      pub is : logic.yes-plan plan ≡ judged-so
       pub total : p .total ≡ plan .total
       pub beside : r .choices ≡ padded 1365 (plan .choices)
       pub found : choices-in m q (r .choices) ≡ ok (plan .choices)
 
     pub shown-plan : (p : PlanRecord) → v ≡ YesPlan p → Shown p
-    unfolding verdict-code choices-code verdict-on
-    shown-plan p e = by V refl (sym (said .1) ∙ e) (said .2) (verdict-read m q)
+    unfolding verdict-code choices-code verdict-on verdict-in
+    shown-plan p e = by judged-so refl (sym (said .1) ∙ e) (said .2) (verdict-read m q)
       where
         read : (l : logic.Shown-plan) (c : Checked (List ℕ)) → verdict-in c (verdict-code (logic.yes-plan l)) ≡ some (logic.yes-plan l) → c ≡ ok (l .choices)
-        unfolding verdict-in
         read l (ok cs) z = let y : cs ≡ l .choices = cc in ap ok y
         read l (refused k) z = let y : _≡_ {A = ℕ} 0 1 = cc in absurd (omega arith)
 
-        by : (l : logic.Verdict) → l ≡ V → verdict-code l ≡ YesPlan p → r .choices ≡ choices-code l
-            → verdict-on (some m) (some q) (choices-code V) (verdict-code V) ≡ some V → Shown p
+        by : (l : logic.Verdict) → l ≡ judged-so → verdict-code l ≡ YesPlan p → r .choices ≡ choices-code l
+            → verdict-on (some m) (some q) (choices-code judged-so) (verdict-code judged-so) ≡ some judged-so → Shown p
         by (logic.no y) j z c w = let n : _≡_ {A = ℕ} 0 1 = cc in absurd (omega arith)
         by logic.yes j z c w = let n : _≡_ {A = ℕ} 0 1 = cc in absurd (omega arith)
         by (logic.yes-plan y) j z c w =
@@ -286,6 +286,24 @@ module _ (model question : Bytes) (passed : refusal (read-model model) ≡ 0)
         ∙ ap (λ s. guard 12 (leb (length (sheet-bytes s (start-of question) (p .total) (p .choices))) size)
         >> ok (record { answer = true; sheet = sheet-bytes s (start-of question) (p .total) (p .choices) })) steps-are
 
+  -- The sheet that is told of the choices beside a verdict with a plan.
+  pub shown-told : (r : Ruling) (i : r ≡ ruling (judge-on M Q)) (v : Verdict) (a : r .answer ≡ Judged v) {x : PlanRecord} → Shown M Q r i v a x
+      → {total : ℤ} (size : ℕ) → total ≡ x .total
+      → told-sheet question size total (take (size-in (choices-in M Q (r .choices))) (r .choices)) ≡ told-on size M Q
+  unfolding size-in
+  shown-told r i v a w size t =
+      sheet-told (w .plan) (w .is) size (t ∙ w .total) (w .beside) (ap size-in (w .found)) ∙ ap (told-of (Q .start) size) (w .is) ∙ told-verdict M Q r i v a size
+
+-- The plan with which choices begin has so many of them.
+pub plan-first : (model question : Bytes) → PlanRoot model question → (cs : List ℕ) → Begins model question cs
+    → let n = size-in (choices-in (model-of model) (question-of question) cs) in
+    (n ≤ length cs) × (choices-in (model-of model) (question-of question) cs ≡ ok (take n cs))
+unfolding size-in
+plan-first model question root cs b =
+    let w = first-choices model question root cs (b .plan) (b .found) in
+    let e : size-in (choices-in (model-of model) (question-of question) cs) ≡ length (b .plan) = ap size-in (b .found) in
+    (omega (arith, w .1), b .found ∙ ap ok (w .2 ∙ ap (λ k. take k cs) (sym e)))
+
 -- The two ways of a sheet: there is room for it, or there is not.
 module _ (question : Bytes) (total : ℤ) (cs found : List ℕ) where
   abbrev sheet-of-plan : Bytes
@@ -294,7 +312,7 @@ module _ (question : Bytes) (total : ℤ) (cs found : List ℕ) where
   sheet-size : length sheet-of-plan ≡ 512 * blocks-for (length cs)
   sheet-size = sheet-length (root-node question .n) (start-of question) total cs
 
-  by-room : Bool → Checked Told
+  abbrev by-room : Bool → Checked Told
   by-room t = guard 12 t >> ok (record { answer = true; sheet = sheet-of-plan })
 
   pub short-told : length found < 512 * blocks-for (length cs) → Tells (told-sheet question (length found) total cs) found found 112

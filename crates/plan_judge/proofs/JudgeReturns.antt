@@ -1,4 +1,4 @@
--- What judge returns, at each of its returns: the grounds of the state and of the limits in their order, then the verdict.
+-- What judge returns, at each of its returns: the grounds of the state, then what judging the bytes comes to: the limits in their order and the verdict.
 use Prim.Native.Nat.{ℕ, _+_}
 use native.Mathlib.Omega.{arith}
 use mathlib.Core.Path.{_≡_, refl, sym, ap, ap₂, _∙_}
@@ -13,21 +13,20 @@ use Rattle.blocks.specs.Bytes.{Bytes}
 use mathlib.Core.List.{List, _++_}
 use Rattle.models.specs.Layout.{state-count, action-count, prop-count, model-of}
 use Rattle.prepared_model.specs.promises.Rows.{model-in, Prepares}
-use Rattle.questions.specs.Grounds.{read-question}
 use Rattle.questions.specs.Layout.{Question, question-of}
 use Rattle.blocks.specs.Splice.{splice}
 use Rattle.prepared_question.specs.promises.Shared.{Shared}
 use Rattle.prepared_question.proofs.SameVerdict.{same-verdict}
-use Rattle.judging.specs.promises.Asked.{Served}
-use Rattle.judging.proofs.BothPrepared as both
 use Rattle.judging.specs.promises.Announced.{root-verdict, verdict-code, shown-choices}
 use Rattle.protocol.specs.promises.Chains.{do-judge}
 use Rattle.plan_judge.specs.declared.Desk.{Desk}
 use Rattle.judging.specs.declared.Verdict.{Verdict}
+use Rattle.plan_judge.specs.declared.Judgement.{Judgement}
 use Rattle.plan_judge.specs.declared.Judgement.the-variants.{Judged}
+use Rattle.plan_judge.specs.declared.Ruling.{Ruling}
 use Rattle.plan_judge.specs.declared.Judging.{Judging}
 use Rattle.plan_judge.specs.View.{view}
-use Rattle.plan_judge.specs.promises.Values.{choices-code, settling, judging, judged-by}
+use Rattle.plan_judge.specs.promises.Values.{choices-code, settling, judge-on, ruling, judging, judged-by}
 use Rattle.plan_judge.specs.promises.State.{held-both}
 use Rattle.plan_judge.proofs.LoadPutReturn.{said-bytes, padded-copy}
 use Rattle.limits.proofs.NodeByNode.{limits-passed}
@@ -63,51 +62,51 @@ module _ (d : Desk) where
       by (ok v) i = absurd (h i)
       by (refused j) i = ap (λ k. judging d (refused k)) i
 
-  -- What judge does with a model and a question.
-  abbrev judge-for : Model → Question → Checked logic.Verdict
-  judge-for m q = limits m (q .nodes) >> ok (logic.verdict m (q .start) (q .root))
-
   pub ground-state : (k : ℕ) → k ≡ refusal (held-both (view d)) → (k ≡ 0 → ⊥) → k ≡ refusal (do-judge (view d))
   unfolding do-judge
-  ground-state k e h = both-refused (view d) judge-for k e h
+  ground-state k e h = both-refused (view d) judge-on k e h
 
-  module _ (b : Both d) where
-    abbrev M : Model
-    M = model-of (said-bytes d)
+  -- What judging the bytes comes to is answered, and a verdict held.
+  module _ (b : Both d) (r : Ruling) (i : r ≡ ruling (judge-on (model-of (said-bytes d)) (question-of (d .question)))) where
+    judge-is : judged-by d ≡ judging d (judge-on (model-of (said-bytes d)) (question-of (d .question)))
+    unfolding judged-by do-judge
+    judge-is = ap (judging d) (both-passed (view d) (model-of (said-bytes d)) (question-of (d .question)) (both-held d b) judge-on)
 
-    abbrev Q : Question
-    Q = question-of (d .question)
-
-    judge-is : do-judge (view d) ≡ (limits M (Q .nodes) >> ok (logic.verdict M (Q .start) (Q .root)))
-    unfolding do-judge
-    judge-is = both-passed (view d) M Q (both-held d b) judge-for
-
-    pub ground-limits : refusal (limits M (Q .nodes)) ≡ refusal (do-judge (view d))
-    ground-limits = by (limits M (Q .nodes)) (logic.verdict M (Q .start) (Q .root)) ∙ sym (ap refusal judge-is)
+    pub ruled-refused : (k : ℕ) → r .answer ≡ Judgement.Refused k → judging d (refused k) ≡ judged-by d
+    ruled-refused k a = by (judge-on (model-of (said-bytes d)) (question-of (d .question))) (ap (λ (x : Ruling). x .answer) (sym i) ∙ a) ∙ sym judge-is
       where
-        by : {A : Type 0} (c : Checked A) (v : logic.Verdict) → refusal c ≡ refusal (c >> ok v)
-        by (ok a) v = refl
-        by (refused k) v = refl
+        by : (c : Checked logic.Verdict) → (ruling c) .answer ≡ Judgement.Refused k → judging d (refused k) ≡ judging d c
+        by (ok v) z = let y : _≡_ {A = ℕ} 0 1 = cc in absurd (omega arith)
+        by (refused j) z = let y : k ≡ j = cc in ap (λ k. judging d (refused k)) y
 
-  pub asked-prepared : Both d → {a : List ℕ} → Prepares (said-bytes d) a → refusal (read-question (state-count a) (action-count a) (prop-count a) (d .question)) ≡ 0
-  asked-prepared b p = both.asked-prepared (said-bytes d) (d .question) p (b .asked)
+    pub ruled-judged : (v : Verdict) → r .answer ≡ Judged v → announced (r .choices) v ≡ judged-by d
+    unfolding settling
+    ruled-judged v a =
+        by (judge-on (model-of (said-bytes d)) (question-of (d .question))) (ap (λ (x : Ruling). x .answer) (sym i) ∙ a) (ap (λ (x : Ruling). x .choices) i)
+        ∙ sym judge-is
+      where
+        by : (c : Checked logic.Verdict) → (ruling c) .answer ≡ Judged v → r .choices ≡ (ruling c) .choices → announced (r .choices) v ≡ judging d c
+        by (ok l) z y = let x : v ≡ verdict-code l = cc in ap₂ announced y x
+        by (refused k) z y = let x : _≡_ {A = ℕ} 0 1 = cc in absurd (omega arith)
 
-  -- The model and the question prepared.
-  module _ (b : Both d) {a q′ : List ℕ} (p : Prepares (said-bytes d) a) (h : Shared (state-count a) (action-count a) (prop-count a) (d .question) q′) where
-    pub limits-prepared : refusal (limits (model-in a) (question-of q′ .nodes)) ≡ refusal (do-judge (view d))
-    limits-prepared = both.limits-prepared (said-bytes d) (d .question) p h ∙ ground-limits b
+-- ---- judging bytes
 
-    same-root : root-verdict (model-in a) q′ ≡ root-verdict (model-of (said-bytes d)) (d .question)
-    unfolding question-of
-    same-root = sym (same-verdict h (model-in a)) ∙ ap (λ M. root-verdict M (d .question)) (p .same)
+module _ (m : Model) (q : Question) where
+  pub ruling-refused : {k : ℕ} → k ≡ refusal (limits m (q .nodes)) → (k ≡ 0 → ⊥) → record { answer = Judgement.Refused k; choices = replicate 1365 0 } ≡ ruling (judge-on m q)
+  ruling-refused {k} e h = by (limits m (q .nodes)) e
+    where
+      by : (c : Checked (Unit {0})) → k ≡ refusal c → record { answer = Judgement.Refused k; choices = replicate 1365 0 } ≡ ruling (c >> ok (logic.verdict m (q .start) (q .root)))
+      by (ok u) i = absurd (h i)
+      by (refused j) i = ap (λ k. record { answer = Judgement.Refused k; choices = replicate 1365 0 }) i
 
-    -- Where judge is not refused, the verdict is told.
-    module _ (e : refusal (do-judge (view d)) ≡ 0) where
-      pub served : Served a q′
-      served = both.served (said-bytes d) (d .question) p h (ground-limits b ∙ e)
+  pub ruling-judged : refusal (limits m (q .nodes)) ≡ 0 → {v : Verdict} {cs : Bytes} → v ≡ verdict-code (logic.verdict m (q .start) (q .root))
+      → cs ≡ choices-code (logic.verdict m (q .start) (q .root)) → record { answer = Judged v; choices = cs } ≡ ruling (judge-on m q)
+  ruling-judged e i j =
+      ap₂ (λ v cs. record { answer = Judged v; choices = cs }) i j
+      ∙ sym (ap (λ c. ruling (c >> ok (logic.verdict m (q .start) (q .root)))) (limits-passed m (q .nodes) e))
 
-      pub judge-done : (cs : Bytes) → cs ≡ choices-code (root-verdict (model-in a) q′) → (v : Verdict) → v ≡ verdict-code (root-verdict (model-in a) q′) → announced cs v ≡ judged-by d
-      unfolding judged-by settling question-of
-      judge-done cs i v j =
-          ap₂ announced (i ∙ ap choices-code same-root) (j ∙ ap verdict-code same-root)
-          ∙ sym (ap (judging d) (judge-is b ∙ ap (λ c. c >> ok (root-verdict (model-of (said-bytes d)) (d .question))) (limits-passed _ _ (ground-limits b ∙ e))))
+-- The root of what is prepared has the verdict of the bytes.
+pub same-root : (model question : Bytes) {a q′ : List ℕ} → Prepares model a → Shared (state-count a) (action-count a) (prop-count a) question q′
+    → root-verdict (model-in a) q′ ≡ logic.verdict (model-of model) (question-of question .start) (question-of question .root)
+unfolding question-of
+same-root model question {a} p h = sym (same-verdict h (model-in a)) ∙ ap (λ M. root-verdict M question) (p .same)

@@ -62,7 +62,7 @@ module _ (m q : Bytes) (r : PlanRoot m q) (cs : List ℕ) where
       by (refused k) = refl
 
   -- They are the first, and at least one.
-  first-choices : (l : List ℕ) → choices-in (model-of m) (question-of q) cs ≡ ok l → (1 ≤ length l) × (length l ≤ length cs) × (l ≡ take (length l) cs)
+  pub first-choices : (l : List ℕ) → choices-in (model-of m) (question-of q) cs ≡ ok l → (1 ≤ length l) × (length l ≤ length cs) × (l ≡ take (length l) cs)
   first-choices l e =
       let x = bind-ok (read-plan (model-of m) n (start-of q) cs) _ (sym choices-are ∙ e) in
       let w = read-sound (model-of m) n (start-of q) cs (x .0) (x .1) in

@@ -10,7 +10,7 @@ ghost use Rattle.questions.specs.Layout.{question-of};
 ghost use Rattle.questions.specs.Grounds.{read-question};
 ghost use Rattle.plan_judge.specs.View.{choices-in};
 ghost use Rattle.plan_judge.specs.promises.State.{PlanRoot, size-in};
-ghost use Rattle.plan_judge.specs.promises.CChain.{c-chain, told-on, told-sheet, Tells};
+ghost use Rattle.plan_judge.specs.promises.CChain.{c-chain, told-on, Begins, told-sheet, Tells};
 use crate::Judgement;
 use crate::Verdict;
 use crate::judged_on;
@@ -64,8 +64,7 @@ fn told(model: &[u8], question: &[u8], sheet: &mut [u8]) -> u32
 
 // Writes the sheet of the plan with which the choices begin, and gives 1; or ground 12, where the buffer has no room for it.
 fn told_plan(model: &[u8], question: &[u8], sheet: &mut [u8], total: i64, choices: &[u8]) -> u32
-    requires { ⌜ PlanRoot (now model) (now question) × (length (now choices) ≤ 1365) ⌝ }
-    requires { ⌜ refusal (choices-in (model-of (now model)) (question-of (now question)) (now choices)) ≡ 0 ⌝ }
+    requires { ⌜ PlanRoot (now model) (now question) × Begins (now model) (now question) (now choices) × (length (now choices) ≤ 1365) ⌝ }
     ensures effect { λ r.
         let sheet′ = now (sheet .exit) in let model = now (model .entry) in let question = now (question .entry) in
         let sheet = now (sheet .entry) in let choices = now (choices .entry) in

@@ -27,7 +27,7 @@ slice-aggregate-sheet-total c = let l : c .before .before .gather .result ≤ le
 sheet-total-requires : tie.Need-sheet-total-requires
 sheet-total-requires c κs = let S = c .before .before .before .before .before in
     let e = gathered-are (sheet-of (S .args .b .now) .choices) _ (c .before .before .gather .last .1 .0) (c .before .before .gather .result) (c .before .before .gather .ensures) in
-    ((S .pre .0, S .pre .1), subst (Spelled (model-in (S .args .m .now)) (S .args .q .now)) (sym e) (S .pre .3))
+    ((S .pre .0, S .pre .1, S .pre .2), subst (Spelled (model-in (S .args .m .now)) (S .args .q .now)) (sym e) (S .pre .4))
 
 returns : tie.Need-returns
 returns c = let S = c .before .before .before .before .before .before in

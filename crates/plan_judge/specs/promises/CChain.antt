@@ -12,14 +12,21 @@ use Rattle.logic.specs.Limits.{limits}
 use Rattle.logic.specs.Verdict.{Verdict, no, yes, yes-plan, verdict}
 use Rattle.blocks.specs.Bytes.{Bytes}
 use Rattle.models.specs.Grounds.{read-model}
-use Rattle.questions.specs.Layout.{Question, start-of, node-count, node-of}
+use Rattle.models.specs.Layout.{model-of}
+use Rattle.questions.specs.Layout.{Question, start-of, node-count, node-of, question-of}
 use Rattle.sheets.specs.Layout.{sheet-bytes}
 use Rattle.protocol.specs.Calls.{question-for}
+use Rattle.plan_judge.specs.View.{choices-in}
 
 -- What is told of a question that is not refused: yes or no, and the bytes of the sheet that is written; none where no plan is shown.
 pub record Told : Type 0 where
   pub answer : Bool
   pub sheet : Bytes
+
+-- Choices begin with those of a plan for the root of a question.
+pub record Begins (m q : Bytes) (cs : List ℕ) : Type 0 where
+  pub plan : List ℕ
+  pub found : choices-in (model-of m) (question-of q) cs ≡ ok plan
 
 -- The sheet of a plan with these choices for the root of a question, told with a buffer of this size: it fits, or ground 12.
 unfoldable pub told-sheet : (q : Bytes) (size : ℕ) → ℤ → List ℕ → Checked Told
