@@ -2,6 +2,7 @@
 
 use super::bench_equal;
 use super::bench_everyday;
+use super::bench_few;
 use super::bench_gains;
 use super::bench_reasons;
 use super::bench_skewed;
@@ -158,6 +159,7 @@ pub(super) fn words(nodes: &[&str]) -> Vec<String> {
 pub fn bench_cases() -> Vec<Case> {
     let mut cases = bench_everyday::cases();
     cases.extend(one_of_each());
+    cases.extend(bench_few::cases());
     cases.extend(bench_equal::cases());
     cases.extend(bench_windows::cases());
     cases.extend(bench_skewed::cases());

@@ -22,11 +22,6 @@ fn four_moves() -> Vec<u8> {
     open(&[1; 4])
 }
 
-/// 32 states with two certain moves: 64 plans of six steps.
-fn two_moves() -> Vec<u8> {
-    open(&[1; 2])
-}
-
 fn open(arities: &'static [usize]) -> Vec<u8> {
     let open = Open {
         states: 32,
@@ -82,17 +77,16 @@ fn gains(steps: usize, bound: fn(usize) -> i32) -> Vec<String> {
     asked.nodes()
 }
 
-/// As many nodes as there is room for, all with the same gain of six steps,
-/// needed in the states that so many steps lead to.
-fn one_gain(bound: i32, steps: usize) -> Vec<String> {
+/// As many nodes as there is room for, all with the same gain of six steps.
+fn one_gain(bound: i32) -> Vec<String> {
     let mut asked = Asked::default();
     let gain = asked.gain(6, &format!("greater {bound}"));
     let mut plan = asked.plan(gain, 6, "equal 1/2");
-    while asked.room() >= 2 + Asked::room_for_everywhere(steps) {
+    while asked.room() >= 2 + Asked::room_for_everywhere(2) {
         let both = asked.and(gain, plan);
         plan = asked.plan(both, 6, "equal 1/2");
     }
-    asked.everywhere(plan, steps)
+    asked.everywhere(plan, 2)
 }
 
 /// Nodes that are decided after the first step, where proposition 0 is true or
@@ -135,13 +129,12 @@ pub(super) fn cases() -> Vec<Case> {
         Case::new("equal-ends-4", &pairs, &at_the_end(4, 9, odd)),
         Case::new("equal-ends-4-65535", &two_and_one(), &at_the_end(4, 9, odd)),
         Case::new("equal-sure-6", &six, &gains(6, |own| -1000 - own as i32)),
-        Case::new("equal-sure-6-most", &six, &one_gain(-1000, 2)),
-        Case::new("equal-never-6-most", &six, &one_gain(1000, 2)),
+        Case::new("equal-sure-6-most", &six, &one_gain(-1000)),
+        Case::new("equal-never-6-most", &six, &one_gain(1000)),
         Case::new("equal-unsure-6", &six, &gains(6, |own| own as i32)),
-        Case::new("equal-unsure-6-most", &six, &one_gain(0, 2)),
+        Case::new("equal-unsure-6-most", &six, &one_gain(0)),
         Case::new("equal-early-next", &six, &early_next()),
-        Case::new("equal-few-plans", &two_moves(), &one_gain(0, 5)),
-        Case::new("equal-one-state-65536", &equal_levels(), &one_gain(6, 2)),
+        Case::new("equal-one-state-65536", &equal_levels(), &one_gain(6)),
         Case::new("equal-thousands", &four_moves(), &over_windows(6)),
         Case::new("equal-windows", &six, &over_windows(6)),
     ]
@@ -160,7 +153,6 @@ mod tests {
             (two_by_two(), 4, 32_768),
             (two_and_one(), 4, 65_535),
             (four_moves(), 6, 4_096),
-            (two_moves(), 6, 64),
         ];
         for (bytes, steps, plans) in rows {
             let model = read_model(&bytes).expect("an accepted model");

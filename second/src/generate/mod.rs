@@ -5,6 +5,7 @@ mod bench;
 mod bench_asked;
 mod bench_equal;
 mod bench_everyday;
+mod bench_few;
 mod bench_gains;
 mod bench_models;
 mod bench_reasons;
