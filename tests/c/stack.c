@@ -32,7 +32,9 @@ struct call {
     /* The lowest byte of the stack, and how much of it the call is to have: all if 0. */
     uint8_t *bottom;
     size_t left;
+    /* The frame that makes the call, and how many bytes the thread took above it. */
     uint8_t *top;
+    size_t own;
 };
 
 __attribute__((noinline)) static void make(struct call *c) {
@@ -46,6 +48,7 @@ static void *on_thread(void *argument) {
     if (c->left) {
         /* Takes away what is too much, so that just the bytes asked for are left below. */
         size_t here = (size_t)((uint8_t *)__builtin_frame_address(0) - c->bottom);
+        c->own = c->left + OWN - here;
         size_t away = here > c->left ? here - c->left : 0;
         memset(alloca(away + 1), 0, away);
         make(c);
@@ -148,7 +151,7 @@ static int run_with(char **words) {
         read_case(&c, *words);
         c.left = bytes;
         run(&c, bytes + OWN);
-        printf("answer %3u with %zu bytes of stack: %s\n", c.answer, bytes, base(*words));
+        printf("answer %u with %zu bytes of stack and %zu of the thread's own: %s\n", c.answer, bytes, c.own, base(*words));
         fflush(stdout);
     }
     return 0;

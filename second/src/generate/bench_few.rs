@@ -1,7 +1,7 @@
 //! Questions about "equal" with few plans: at most 1,024 in every state. They
 //! are to be judged with little stack, however deep they go.
 
-use super::bench::Case;
+use super::bench::{words, Case};
 use super::bench_asked::Asked;
 use super::bench_models::{mixed, small_rewards, Open};
 use super::bench_windows::windows;
@@ -54,6 +54,12 @@ fn root(steps: usize) -> Vec<String> {
     asked.nodes()
 }
 
+/// An expected gain that no plan has: moves are certain, so that every plan
+/// gains a whole number of points.
+fn expected() -> Vec<String> {
+    words(&["plan gain 1 to 5 steps 5 equal 4321/1000"])
+}
+
 /// A condition that only the last of the plans meets with certainty.
 fn last_plan() -> Vec<String> {
     let mut asked = Asked::default();
@@ -87,6 +93,7 @@ pub(super) fn cases() -> Vec<Case> {
         Case::new("few-1024-nested", &four, &nested(5)),
         Case::new("few-1024-long", &long, &root(6)),
         Case::new("few-1024-shown", &long, &last_plan()),
+        Case::new("few-1024-expected", &four, &expected()),
     ]
 }
 
