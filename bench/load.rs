@@ -10,7 +10,7 @@ fn main() {
     let mut best = f64::MAX;
     for _ in 0..20_000 {
         let start = Instant::now();
-        let loaded = yardstick::common::load(black_box(&blocks));
+        let loaded = black_box(yardstick::common::load(black_box(&blocks)));
         best = best.min(start.elapsed().as_secs_f64() * 1e6);
         assert!(loaded.is_ok(), "the yardstick refuses the model");
     }
