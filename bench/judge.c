@@ -15,11 +15,11 @@ static double now_us(void) {
 static uint8_t input[PLAN_JUDGE_MODEL_MAX + PLAN_JUDGE_BLOCK];
 static uint8_t sheet[PLAN_JUDGE_SHEET_MAX];
 
-/* Repeats until a second has passed, five times at least. */
+/* Repeats until a quarter of a second has passed, three times at least where that takes no longer than a second. */
 static void time_case(const char *name, size_t len) {
     double best = 1e18, begun = now_us();
     uint32_t answer = 0;
-    for (int i = 0; i < 5 || now_us() - begun < 1e6; i++) {
+    for (int i = 0; i == 0 || now_us() - begun < (i < 3 ? 1e6 : 0.25e6); i++) {
         double start = now_us();
         answer = plan_judge(input, len - PLAN_JUDGE_BLOCK, input + len - PLAN_JUDGE_BLOCK, PLAN_JUDGE_BLOCK, sheet, sizeof sheet);
         double took = now_us() - start;

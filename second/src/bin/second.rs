@@ -258,7 +258,8 @@ fn bench(files: &[&str]) -> io::Result<()> {
     for file in files {
         let (best, line) = time(&std::fs::read(file)?);
         let shown: String = line.chars().take(60).collect();
-        print_line(&format!("{:10} us {file}: {shown}", best.as_micros()))?;
+        let best = best.as_secs_f64() * 1e6;
+        print_line(&format!("{best:10.1} us {file}: {shown}"))?;
     }
     Ok(())
 }

@@ -1,7 +1,13 @@
-//! Worst cases within the limits, for timing.
+//! Everyday questions and worst cases within the limits, for timing.
 
+use super::bench_equal;
+use super::bench_everyday;
+use super::bench_few;
 use super::bench_gains;
 use super::bench_reasons;
+use super::bench_skewed;
+use super::bench_turns;
+use super::bench_windows;
 use super::cases::{based_line, most_plans, pack, question, LOW_BITS, POSTS, WEIGHTS};
 
 /// A model followed by a question, under a name.
@@ -9,6 +15,17 @@ pub struct Case {
     pub name: &'static str,
     pub model: Vec<u8>,
     pub question: Vec<u8>,
+}
+
+impl Case {
+    /// The question of these nodes in state 0.
+    pub(super) fn new(name: &'static str, model: &[u8], nodes: &[String]) -> Case {
+        Case {
+            name,
+            model: model.to_vec(),
+            question: question(0, nodes),
+        }
+    }
 }
 
 /// A model of 32 states with ten outcomes each, so that every state has a
@@ -138,13 +155,23 @@ pub(super) fn words(nodes: &[&str]) -> Vec<String> {
     nodes.iter().map(|node| node.to_string()).collect()
 }
 
-/// Worst cases within the limits, one of each kind.
+/// Everyday questions, and worst cases within the limits of each kind.
 pub fn bench_cases() -> Vec<Case> {
-    let case = |name, model: &Vec<u8>, nodes: &[String]| Case {
-        name,
-        model: model.clone(),
-        question: question(0, nodes),
-    };
+    let mut cases = bench_everyday::cases();
+    cases.extend(one_of_each());
+    cases.extend(bench_few::cases());
+    cases.extend(bench_equal::cases());
+    cases.extend(bench_windows::cases());
+    cases.extend(bench_skewed::cases());
+    cases.extend(bench_turns::cases());
+    cases.extend(bench_gains::cases(&ten_outcomes(), &equal_levels()));
+    cases.extend(bench_reasons::cases());
+    cases
+}
+
+/// One worst case of each kind.
+fn one_of_each() -> Vec<Case> {
+    let case = Case::new;
     let ten = ten_outcomes();
     let levels = equal_levels();
     let gain_root = words(&["gain 6 steps greater 2", "plan 0 steps 6 greater 1/2"]);
@@ -152,7 +179,7 @@ pub fn bench_cases() -> Vec<Case> {
         "gain 6 steps greater 6",
         "plan 0 steps 6 equal 123457/1000000",
     ]);
-    let mut cases = vec![
+    vec![
         case("greater-million-paths", &ten, &gain_root),
         case("equal-65536-plans", &levels, &equal_root),
         case("formula-39-nodes", &ten, &long_formula()),
@@ -170,10 +197,7 @@ pub fn bench_cases() -> Vec<Case> {
             &ten_and_silent(),
             &nested_deep("greater", 6),
         ),
-    ];
-    cases.extend(bench_gains::cases(&ten, &levels));
-    cases.extend(bench_reasons::cases());
-    cases
+    ]
 }
 
 /// 39 nodes that are all worked out at the end of each path.
@@ -226,7 +250,7 @@ fn nested_one_gain() -> Vec<String> {
 /// 14 "plan" nodes, each a search six steps deep in every state: seven gains,
 /// each asked for a greater and for a less chance together with the nodes
 /// before.
-fn nested_both_ways() -> Vec<String> {
+pub(super) fn nested_both_ways() -> Vec<String> {
     let mut nodes = words(&["gain 6 steps greater 0"]);
     for own in 1..8 {
         let last = nodes.len() - 1;

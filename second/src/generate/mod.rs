@@ -2,8 +2,16 @@
 //! follows from a seed.
 
 mod bench;
+mod bench_asked;
+mod bench_equal;
+mod bench_everyday;
+mod bench_few;
 mod bench_gains;
+mod bench_models;
 mod bench_reasons;
+mod bench_skewed;
+mod bench_turns;
+mod bench_windows;
 mod bounds;
 mod cases;
 mod damage;

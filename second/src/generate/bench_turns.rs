@@ -1,0 +1,150 @@
+//! Worst cases in which steps with many outcomes take turns with certain ones.
+//! Where the last step is certain, nearly every path is a history of its own,
+//! and what one history has found out serves no other.
+
+use super::bench::{words, Case};
+use super::bench_windows::{both_ways, root};
+use super::cases::{pack, LOW_BITS, POSTS};
+
+/// States of one kind.
+#[derive(Clone, Copy)]
+struct Group {
+    states: usize,
+    /// Only one action is enabled, and it has one outcome. Else there are seven
+    /// actions of four outcomes beside it: 29 outcomes.
+    certain: bool,
+    /// The group that all moves lead to.
+    next: usize,
+}
+
+/// The number of the first state of a group.
+fn start(groups: &[Group], number: usize) -> usize {
+    groups[..number].iter().map(|group| group.states).sum()
+}
+
+/// The model with these groups, one after another.
+fn in_turns(groups: &[Group]) -> Vec<u8> {
+    let mut text = String::from("model D 100\nproposition 0 b0\nproposition 1 b1\n");
+    text += "proposition 2 certain\n";
+    for (number, group) in groups.iter().enumerate() {
+        for own in 0..group.states {
+            let low = ["", "b0", "b1", "b0 b1"][own % 4];
+            let flag = if group.certain { "certain" } else { "" };
+            text += &format!("state {}: {low} {flag}\n", start(groups, number) + own);
+        }
+    }
+    for action in 0..7 {
+        text += &format!("action {action} needs !certain\n{}", POSTS[3]);
+    }
+    text += &format!("action 7\n{}", POSTS[0]);
+    for (number, group) in groups.iter().enumerate() {
+        let first = start(groups, group.next);
+        let room = groups[group.next].states;
+        for own in 0..group.states {
+            let state = start(groups, number) + own;
+            if !group.certain {
+                text += &lines(state, own, first, room);
+            }
+            let reward = state as i32 % 9 - 4;
+            let target = first + own % room;
+            text += &format!("outcome {state} 7: {target} weight 100 reward {reward}\n");
+        }
+    }
+    pack(&text)
+}
+
+/// The outcomes of the seven actions of a state, all over the states from
+/// `first` on, of which there are so many.
+fn lines(state: usize, own: usize, first: usize, room: usize) -> String {
+    let line = |action: usize| {
+        let places = LOW_BITS[3].iter().enumerate();
+        let parts: Vec<String> = places
+            .map(|(place, low)| {
+                let fitting: Vec<usize> = (usize::from(*low)..room).step_by(4).collect();
+                let target = first + fitting[(action + own) % fitting.len()];
+                let reward = (13 * state + 7 * action + 11 * place) as i32 % 9 - 4;
+                format!("{target} weight 25 reward {reward}")
+            })
+            .collect();
+        format!("outcome {state} {action}: {}\n", parts.join(", "))
+    };
+    (0..7).map(line).collect()
+}
+
+/// State 0 has 29 outcomes in each of four steps, and then two certain steps:
+/// 707,281 paths, more than 28 times as many as any other state.
+fn one_state() -> Vec<u8> {
+    let many = |states, next| Group {
+        states,
+        certain: false,
+        next,
+    };
+    let ends = Group {
+        states: 4,
+        certain: true,
+        next: 4,
+    };
+    in_turns(&[many(1, 1), many(4, 2), many(4, 3), many(4, 4), ends])
+}
+
+/// Three groups by turns. From each of the 14 states of the last there are 29
+/// outcomes, 29 again, and then a certain step back to it: 707,281 paths of six
+/// steps, and as many of five.
+fn three_by_turns() -> Vec<u8> {
+    let group = |states, certain, next| Group {
+        states,
+        certain,
+        next,
+    };
+    in_turns(&[group(4, false, 1), group(14, true, 2), group(14, false, 0)])
+}
+
+/// One plan with a gain of all six steps.
+fn gain() -> Vec<String> {
+    words(&["gain 6 steps greater 2", "plan 0 steps 6 greater 1/1"])
+}
+
+pub(super) fn cases() -> Vec<Case> {
+    let (one, three) = (one_state(), three_by_turns());
+    vec![
+        Case::new("one-state-gain", &one, &gain()),
+        Case::new("one-state-windows", &one, &root("greater 1/1")),
+        Case::new("one-state-less", &one, &root("less 0/1")),
+        Case::new("turns-windows", &three, &both_ways()),
+    ]
+}
+
+#[cfg(test)]
+mod tests {
+    use super::*;
+    use crate::blocks::read_model;
+    use crate::generate::bench_models::tests::{met_after, served};
+    use crate::logic::Totals;
+
+    #[test]
+    fn within_the_limits() {
+        cases().iter().for_each(|case| drop(served(case)));
+    }
+
+    #[test]
+    fn one_state_has_all_paths() {
+        let model = read_model(&one_state()).expect("an accepted model");
+        let totals = Totals::of(&model);
+        assert_eq!(totals.paths(6, 0), 707_281);
+        let states = 1..model.states() as u8;
+        let others = states.map(|state| totals.paths(6, state)).max();
+        assert!(others < Some(707_281 / 28));
+    }
+
+    /// All 14 states of the last group are met after two steps.
+    #[test]
+    fn as_many_histories_as_paths() {
+        let model = read_model(&three_by_turns()).expect("an accepted model");
+        let totals = Totals::of(&model);
+        assert_eq!(met_after(&model, 2), (18..32).collect::<Vec<u8>>());
+        for state in 18..32 {
+            assert_eq!(totals.paths(6, state), 707_281);
+            assert_eq!(totals.paths(5, state), 707_281);
+        }
+    }
+}
