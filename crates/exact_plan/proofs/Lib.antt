@@ -14,3 +14,4 @@ pub mod ChoiceByChoice
 pub mod FirstPlace
 pub mod NearestPlace
 pub mod CountsBelowCap
+pub mod EnoughRoom

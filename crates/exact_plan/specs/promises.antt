@@ -2,5 +2,6 @@
 pub mod Listing
 pub mod Sides
 pub mod Room
+pub mod Search
 pub mod Spread
 pub mod Totals
