@@ -10,7 +10,7 @@ use Rattle.logic.specs.Lists.{count-from, tabulate}
 use Rattle.logic.specs.Model.{Step, outcomes}
 use Rattle.logic.specs.Limits.{multiply, plan-total}
 use Rattle.blocks.specs.Bytes.{Bytes}
-use Rattle.prepared_model.specs.promises.Rows.{choices-in, choice-in, model-in}
+use Rattle.prepared_model.specs.promises.Rows.{choices-in, choice-in, outcomes-in, model-in}
 use Rattle.exact_plan.specs.promises.Totals.{totals, combined, weighed}
 use Rattle.exact_plan.specs.promises.Room.{Room}
 use Rattle.evaluation.specs.promises.Worth.{worth-on}
@@ -19,6 +19,7 @@ use Rattle.exact_plan.proofs.TotalsByFirstStep.{totals-length, totals-s
 use Rattle.exact_plan.proofs.Grid.{combined-length}
 use Rattle.exact_plan.proofs.Spans.{flatMap-more, flatMap-within}
 use Rattle.exact_plan.proofs.RoomForEach.{room-part}
+use Rattle.exact_plan.proofs.PreparedChoices.{all-outcomes}
 use Rattle.exact_plan.proofs.ListsWritten.{written-none, written-more, rebased, still}
 
 -- The totals of the plans that begin with the choice c, and the first i choices of a state.
@@ -64,33 +65,47 @@ module _ {m q : Bytes} {start a d : ℕ} {truth cone table : List ℕ} (G : Give
         ∙ totals-length (model-in m) j (o .target) (λ r. worth-on m q start a d cone T (o ∷ r)))
         (outcomes (model-in m) s c)
 
-    module _ (g : i < choices-in m s) where
+    module _ (g : i < choices-in m s) {n : ℕ} (every : n ≡ outcomes-in m s i) where
       abbrev c : ℕ
       c = choice-in m s i
+
+      -- The first n outcomes are all.
+      same : take n (outcomes (model-in m) s c) ≡ outcomes (model-in m) s c
+      same = all-outcomes (G .ready .prepared) s i (L .here .inside) g every
 
       within-all : len + length (C c) ≤ plan-total (model-in m) k s
       within-all = omega (arith, L .written .count, flatMap-within C (choice-in m s) i (choices-in m s) g, ap length all, totals-length (model-in m) k s f)
 
-      pub choice-room : Room (j + 1) (multiply (λ o. plan-total (model-in m) j (o .target)) (outcomes (model-in m) s c)) (at + len) (length buf)
+      pub choice-room : Room (j + 1) (multiply (λ o. plan-total (model-in m) j (o .target)) (take n (outcomes (model-in m) s c))) (at + len) (length buf)
       choice-room =
-          subst (λ n. Room n (multiply (λ o. plan-total (model-in m) j (o .target)) (outcomes (model-in m) s c)) (at + len) (length buf)) (sym (add-one j))
+          subst (λ l. Room (j + 1) (multiply (λ o. plan-total (model-in m) j (o .target)) l) (at + len) (length buf)) (sym same)
+          (subst (λ k. Room k (multiply (λ o. plan-total (model-in m) j (o .target)) (outcomes (model-in m) s c)) (at + len) (length buf)) (sym (add-one j))
           (rw (L .whole)
-          (room-part (subst (λ n. Room n (plan-total (model-in m) k s) at (length buf₀)) step R) len (omega (arith, within-all, chosen-length (take h trail₀) c))))
+          (room-part (subst (λ n. Room n (plan-total (model-in m) k s) at (length buf₀)) step R) len (omega (arith, within-all, chosen-length (take h trail₀) c)))))
 
-      pub choice-few : (T : List ℕ) {r : ℕ} → r ≡ length (chosen m q start a d cone s j T c) → len + r ≤ 65536
-      choice-few T e = omega (arith, chosen-length T c, chosen-length (take h trail₀) c, within-all, R .few)
+      pub choice-few : (T : List ℕ) {r : ℕ} → r ≡ length (combined (weighed (model-in m) j (worth-on m q start a d cone T)) (take n (outcomes (model-in m) s c))) → len + r ≤ 65536
+      choice-few T e =
+          omega (
+            arith,
+            ap (λ l. length (combined (weighed (model-in m) j (worth-on m q start a d cone T)) l)) same,
+            chosen-length T c,
+            chosen-length (take h trail₀) c,
+            within-all,
+            R .few,
+          )
 
       pub choice-here : Here m q start d cone trail gains v h s (j + 1)
       choice-here = subst (Here m q start d cone trail gains v h s) (step ∙ sym (add-one j)) (L .here)
 
       pub choice-listed : {trail₁ : List ℕ} {gains₁ : List ℤ} {v₁ buf₁ : List ℕ} {r : ℕ}
-          → Written (chosen m q start a d cone s j (take h trail) c) m q start cone h (at + len) trail trail₁ gains₁ v₁ buf buf₁ r
+          → Written (combined (weighed (model-in m) j (worth-on m q start a d cone (take h trail))) (take n (outcomes (model-in m) s c))) m q start cone h (at + len) trail trail₁ gains₁ v₁ buf buf₁ r
           → length buf₁ ≡ length buf → Listed m q start a d cone h s k j at trail₀ buf₀ trail₁ gains₁ v₁ buf₁ (len + r) (i + 1)
       choice-listed {trail₁} {gains₁} {v₁} {buf₁} {r} W e₄ =
           let e : flatMap C (passed m s i) ++ C c ≡ flatMap C (passed m s (i + 1)) =
           sym (ap (λ n. flatMap C (passed m s n)) (add-one i) ∙ flatMap-more C (choice-in m s) i) in
           let W₁ : Written (C c) m q start cone h (at + len) trail₀ trail₁ gains₁ v₁ buf buf₁ r =
-          rebased (λ T. chosen m q start a d cone s j T c) (L .written .back .kept) refl W in
+          rebased (λ T. chosen m q start a d cone s j T c) (L .written .back .kept) refl
+          (subst (λ l. Written (combined (weighed (model-in m) j (worth-on m q start a d cone (take h trail))) l) m q start cone h (at + len) trail trail₁ gains₁ v₁ buf buf₁ r) same W) in
           record {
             below = omega arith;
             here = still (L .here) W;

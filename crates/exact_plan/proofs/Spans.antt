@@ -4,7 +4,7 @@ use native.Mathlib.Nat.{mul-one, one-mul, mul-assoc, le-refl, le-trans, le-mul-o
 use native.Mathlib.Omega.{arith}
 use mathlib.Core.Path.{_≡_, refl, sym, ap, subst, _∙_}
 use mathlib.Core.List.{List, [], _∷_, _++_, map, flatMap}
-use lib.ListN.{length, length-append}
+use lib.ListN.{length, take, length-append}
 use Rattle.logic.specs.Lists.{count-from, tabulate}
 use Rattle.logic.specs.Limits.{multiply}
 use Rattle.logic.proofs.Tests.{count-more, tabulate-more}
@@ -26,6 +26,16 @@ pub combined-map : {A B : Type 0} (f : B → List ℕ) (g : A → B) (l : List A
 unfolding combined
 combined-map f g [] = refl
 combined-map f g (x ∷ l) = ap (grid (f (g x))) (combined-map f g l)
+
+take-count : {A : Type 0} (g : ℕ → A) (lo c n : ℕ) → c ≤ n → take c (map g (count-from lo n)) ≡ map g (count-from lo c)
+unfolding count-from
+take-count g lo zero n h = refl
+take-count g lo (suc c) zero h = absurd (omega arith)
+take-count g lo (suc c) (suc n) h = ap (λ l. g lo ∷ l) (take-count g (suc lo) c n (omega arith))
+
+pub take-tabulate : {A : Type 0} (g : ℕ → A) (c n : ℕ) → c ≤ n → take c (tabulate n g) ≡ tabulate c g
+unfolding tabulate
+take-tabulate g c n h = take-count g 0 c n h
 
 -- ---- from lo on, n of them
 

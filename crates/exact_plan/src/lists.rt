@@ -8,7 +8,7 @@ ghost use Rattle.logic.specs.Model.{outcomes};
 ghost use Rattle.logic.specs.Limits.{multiply, plan-total};
 ghost use Rattle.blocks.specs.Splice.{splice};
 ghost use Rattle.models.specs.Layout.{denominator-of};
-ghost use Rattle.prepared_model.specs.promises.Rows.{choices-in, choice-in, step-in, Offers, model-in};
+ghost use Rattle.prepared_model.specs.promises.Rows.{choices-in, choice-in, outcomes-in, step-in, Offers, model-in};
 ghost use Rattle.evaluation.specs.promises.Worth.{worth-on, worth-known};
 ghost use Rattle.exact_plan.specs.promises.Totals.{totals, combined, weighed, joined, part};
 ghost use Rattle.exact_plan.specs.promises.Room.{Room};
@@ -48,8 +48,8 @@ pub struct Spot {
 
 // The outcome o of the choice at place i.
 pub struct Outcome {
-    i: usize,
-    o: usize,
+    pub i: usize,
+    pub o: usize,
 }
 
 // A further outcome to combine a list of `len` totals with, on its right or on its left.
@@ -97,6 +97,16 @@ fn most(x: usize, y: usize) -> usize
     if x < y { y } else { x }
 }
 
+// The total of all plans from a spot where the worth of the paths is decided.
+pub fn alike(m: &[u16; MODEL], cone: &[u8], gains: &[i32; PLACES], v: &[u8; VALUES], spot: Spot) -> u64
+    requires { ⌜ Decides (now m) (now cone) (now gains) (now v) (spot .a) (spot .d) (spot .k) ⌝ }
+    ensures value { λ r.
+        let gains = now (gains .entry) in let v = now (v .entry) in let cone = now (cone .entry) in let m = now (m .entry) in
+        ⌜ r ≡ worth-known cone gains v (spot .a) (spot .d) * denominator-of m ^ spot .k ⌝ }
+{
+    worth(cone, gains, v, spot.a, spot.d) * power(denominator(m), spot.k)
+}
+
 // The list where the worth of the paths is decided: all plans have the same total.
 fn decided(
     m: &[u16; MODEL],
@@ -107,8 +117,8 @@ fn decided(
     buf: &mut [u64],
     spot: Spot,
 ) -> usize
-    requires { ⌜
-        Decides (now m) (now cone) (now gains) (now v) (now table) (now buf) (spot .a) (spot .d) (spot .s) (spot .k) (spot .at) ⌝ }
+    requires { ⌜ Decides (now m) (now cone) (now gains) (now v) (spot .a) (spot .d) (spot .k) ⌝ }
+    requires { ⌜ (spot .s < 32) × (spot .at + getD (now table) (32 * spot .k + spot .s) 0 ≤ length (now buf)) ⌝ }
     ensures value { λ r. ⌜ r ≡ getD (now (table .entry)) (32 * spot .k + spot .s) 0 ⌝ }
     ensures frame { λ _.
         let buf′ = now (buf .exit) in let buf = now (buf .entry) in let table = now (table .entry) in let gains = now (gains .entry) in
@@ -117,8 +127,7 @@ fn decided(
         (worth-known cone gains v (spot .a) (spot .d) * denominator-of m ^ spot .k)) ⌝ }
 {
     let n = plans_counted(table, spot.k, spot.s as usize) as usize;
-    let x = worth(cone, gains, v, spot.a, spot.d) * power(denominator(m), spot.k);
-    fill(buf, spot.at, n, x);
+    fill(buf, spot.at, n, alike(m, cone, gains, v, spot));
     n
 }
 
@@ -161,15 +170,16 @@ pub fn list(
             k: spot.k - 1,
             at: spot.at + len,
         };
-        len += combine(m, q, truth, cone, table, trail, gains, v, buf, first, i);
+        let c = outcomes(m, spot.s as usize, i);
+        len += combine(m, q, truth, cone, table, trail, gains, v, buf, first, i, c);
         i += 1;
     }
     len
 }
 
-// Writes the totals of all plans that begin with the choice at place i, with k steps below it: the lists below its outcomes, combined from
-// the longest one on, to the right and then to the left.
-fn combine(
+// Writes the sums of one total below each of the first c outcomes of the choice at place i, with k steps below it: the lists below them, combined
+// from the longest one on, to the right and then to the left. With all outcomes these are the totals of all plans that begin with the choice.
+pub fn combine(
     m: &[u16; MODEL],
     q: &[u8; QUESTION],
     truth: &[u8; TRUTHS],
@@ -181,29 +191,28 @@ fn combine(
     buf: &mut [u64],
     spot: Spot,
     i: usize,
+    c: usize,
 ) -> usize
     requires { ⌜ Given (now m) (now q) (spot .start) (spot .a) (spot .d) (now truth) (now cone) (now table) ⌝ }
     requires { ⌜
         Here (now m) (now q) (spot .start) (spot .d) (now cone) (now trail) (now gains) (now v) (spot .h) (spot .s) (spot .k + 1)
-        × (i < choices-in (now m) (spot .s)) ⌝ }
+        × (i < choices-in (now m) (spot .s)) × (0 < c) × (c ≤ outcomes-in (now m) (spot .s) i) ⌝ }
     requires { ⌜
         Room (spot .k + 1) (multiply (λ o. plan-total (model-in (now m)) (spot .k) (o .target))
-        (outcomes (model-in (now m)) (spot .s) (choice-in (now m) (spot .s) i))) (spot .at) (length (now buf)) ⌝ }
+        (take c (outcomes (model-in (now m)) (spot .s) (choice-in (now m) (spot .s) i)))) (spot .at) (length (now buf)) ⌝ }
     ensures effect { λ r.
         let trail′ = now (trail .exit) in let gains′ = now (gains .exit) in let v′ = now (v .exit) in let buf′ = now (buf .exit) in
         let m = now (m .entry) in let q = now (q .entry) in let cone = now (cone .entry) in let trail = now (trail .entry) in
         let buf = now (buf .entry) in
         let f = worth-on m q (spot .start) (spot .a) (spot .d) cone (take (spot .h) trail) in
-        ⌜ Written (combined (weighed (model-in m) (spot .k) f) (outcomes (model-in m) (spot .s) (choice-in m (spot .s) i))) m q (spot .start)
-        cone (spot .h) (spot .at) trail trail′ gains′ v′ buf buf′ r ⌝ }
+        ⌜ Written (combined (weighed (model-in m) (spot .k) f) (take c (outcomes (model-in m) (spot .s) (choice-in m (spot .s) i)))) m q
+        (spot .start) cone (spot .h) (spot .at) trail trail′ gains′ v′ buf buf′ r ⌝ }
 {
     let s = spot.s as usize;
-    let c = outcomes(m, s, i);
     let mut lo = longest(m, table, s, i, c, spot.k);
     let mut hi = lo + 1;
     let first = Outcome { i: i, o: lo };
-    let mut len = below(m, q, truth, cone, table, trail, gains, v, buf, spot, first);
-    shift(buf, spot.at, spot.at, len, weight(m, s, i, lo), 0);
+    let mut len = weighed_below(m, q, truth, cone, table, trail, gains, v, buf, spot, first);
     while hi - lo < c {
         let o = beside(lo, hi, c);
         let more = Further {
@@ -274,6 +283,41 @@ fn grown(
         more.right,
     );
     more.len * n
+}
+
+// Writes the totals of all plans of k steps below an outcome, times its weight.
+pub fn weighed_below(
+    m: &[u16; MODEL],
+    q: &[u8; QUESTION],
+    truth: &[u8; TRUTHS],
+    cone: &[u8],
+    table: &[u64; COUNTS],
+    trail: &mut [u16; STEPS],
+    gains: &mut [i32; PLACES],
+    v: &mut [u8; VALUES],
+    buf: &mut [u64],
+    spot: Spot,
+    to: Outcome,
+) -> usize
+    requires { ⌜ Given (now m) (now q) (spot .start) (spot .a) (spot .d) (now truth) (now cone) (now table) ⌝ }
+    requires { ⌜
+        Here (now m) (now q) (spot .start) (spot .d) (now cone) (now trail) (now gains) (now v) (spot .h) (spot .s) (spot .k + 1)
+        × Offers (now m) (spot .s) (to .i) (to .o) ⌝ }
+    requires { ⌜
+        Room (spot .k) (plan-total (model-in (now m)) (spot .k) ((step-in (now m) (spot .s) (to .i) (to .o)) .target)) (spot .at)
+        (length (now buf)) ⌝ }
+    ensures effect { λ r.
+        let trail′ = now (trail .exit) in let gains′ = now (gains .exit) in let v′ = now (v .exit) in let buf′ = now (buf .exit) in
+        let m = now (m .entry) in let q = now (q .entry) in let cone = now (cone .entry) in let trail = now (trail .entry) in
+        let buf = now (buf .entry) in
+        let f = worth-on m q (spot .start) (spot .a) (spot .d) cone (take (spot .h) trail) in
+        ⌜ Written (weighed (model-in m) (spot .k) f (step-in m (spot .s) (to .i) (to .o))) m q (spot .start) cone (spot .h) (spot .at) trail
+        trail′ gains′ v′ buf buf′ r ⌝ }
+{
+    let n = below(m, q, truth, cone, table, trail, gains, v, buf, spot, to);
+    let w = weight(m, spot.s as usize, to.i, to.o);
+    shift(buf, spot.at, spot.at, n, w, 0);
+    n
 }
 
 // Writes the totals of all plans of k steps below an outcome.

@@ -1,4 +1,4 @@
--- `list`, `combine`, `grown` and `below` meet their contracts, together: the steps left fall round the cycle. The lists of a state's choices are
+-- `list`, `combine`, `grown`, `weighed_below` and `below` meet their contracts, together: the steps left fall round the cycle. The lists of a state's choices are
 -- written one after the other (`Listed`), those of a choice's outcomes are combined from the longest one on (`Spanned`).
 use Prim.Native.Nat.{ℕ, suc, _+_, _*_, _-_, _<_}
 use native.Mathlib.Omega.{arith}
@@ -10,14 +10,14 @@ use borrow.Fn.Kinds.{In}
 use borrow.Fn.PlainCycle.{Measures, is, falls, and}
 use Rattle.logic.specs.Model.{Step, outcomes}
 use Rattle.logic.specs.Limits.{plan-total}
-use Rattle.prepared_model.specs.promises.Rows.{choices-in, choice-in, outcomes-in, model-in}
+use Rattle.prepared_model.specs.promises.Rows.{choices-in, choice-in, model-in}
 use Rattle.prepared_model.proofs.ReadByPlace.{some-outcome}
 use Rattle.prepared_model.proofs.PlacesInRange.{place-range}
 use Rattle.evaluation.specs.promises.Worth.{worth-on}
 use Rattle.exact_plan.specs.promises.Room.{Room}
 use Rattle.exact_plan.specs.promises.Totals.{combined, weighed}
-use Rattle.exact_plan.proofs.OutcomesJoined.{Place, placed, count-right, span-outcome, Spanned, ways, first-room, first-shifts, first-before, first-spanned, span-end, span-grows, span-wider, grown-joins, grown-written}
-use Rattle.exact_plan.proofs.ListsWritten.{within, state-small, reached, offered, below-here, below-written, decides, decided-written, rebased}
+use Rattle.exact_plan.proofs.OutcomesJoined.{Place, placed, count-right, weighed-shifts, weighed-written, span-outcome, Spanned, ways, first-room, first-before, first-spanned, span-end, span-grows, span-wider, grown-joins, grown-written}
+use Rattle.exact_plan.proofs.ListsWritten.{within, state-small, reached, offered, below-here, below-written, decides, decided-room, decided-written, rebased}
 use Rattle.exact_plan.proofs.ChoiceByChoice.{choice-few, Listed, listed-none, choice-room, choice-here, choice-listed, listed-all}
 use Rattle.exact_plan.proofs.OneOutcomeJoined.{beside-inside, wider-less}
 use Rattle.evaluation.proofs.step.Reads as step
@@ -40,13 +40,16 @@ use Rattle.exact_plan.proofs.lists.combine.Kinds as combine-kinds
 use Rattle.exact_plan.proofs.lists.grown.Reads as grown
 use Rattle.exact_plan.proofs.lists.grown.Kinds as grown-kinds
 use Rattle.exact_plan.proofs.lists.list.Reads as list
+use Rattle.exact_plan.proofs.lists.weighed_below.Reads as weighed-below
+use Rattle.exact_plan.proofs.lists.weighed_below.Kinds as weighed-kinds
 use Rattle.exact_plan.proofs.lists.list.Kinds as list-kinds
-use Rattle.exact_plan.proofs.lists.+below+combine+grown+list.Lts-below as below-lts
-use Rattle.exact_plan.proofs.lists.+below+combine+grown+list.Lts-combine as combine-lts
-use Rattle.exact_plan.proofs.lists.+below+combine+grown+list.Lts-grown as grown-lts
-use Rattle.exact_plan.proofs.lists.+below+combine+grown+list.Lts-list as list-lts
-use Rattle.exact_plan.proofs.lists.+below+combine+grown+list.{statement}
-use Rattle.exact_plan.proofs.lists.+below+combine+grown+list.Tie.{close}
+use Rattle.exact_plan.proofs.lists.+below+combine+grown+list+weighed_below.Lts-below as below-lts
+use Rattle.exact_plan.proofs.lists.+below+combine+grown+list+weighed_below.Lts-combine as combine-lts
+use Rattle.exact_plan.proofs.lists.+below+combine+grown+list+weighed_below.Lts-grown as grown-lts
+use Rattle.exact_plan.proofs.lists.+below+combine+grown+list+weighed_below.Lts-list as list-lts
+use Rattle.exact_plan.proofs.lists.+below+combine+grown+list+weighed_below.Lts-weighed_below as weighed-lts
+use Rattle.exact_plan.proofs.lists.+below+combine+grown+list+weighed_below.{statement}
+use Rattle.exact_plan.proofs.lists.+below+combine+grown+list+weighed_below.Tie.{close}
 
 abbrev μ-below : Measures 9 below-kinds.ps ℕ
 μ-below κs a = 4 * a .1 .1 .1 .1 .1 .1 .1 .1 .1 .0 .k + 1
@@ -59,6 +62,9 @@ abbrev μ-grown : Measures 9 grown-kinds.ps ℕ
 
 abbrev μ-list : Measures 9 list-kinds.ps ℕ
 μ-list κs a = 4 * a .1 .1 .1 .1 .1 .1 .1 .1 .1 .0 .k
+
+abbrev μ-weighed : Measures 9 weighed-kinds.ps ℕ
+μ-weighed κs a = 4 * a .1 .1 .1 .1 .1 .1 .1 .1 .1 .0 .k + 2
 
 abbrev below-begins : ℕ → In 9 below-kinds.ps
 below-begins t = and 9 below-kinds.ps (is 9 below-kinds.ps μ-below t) below.Pre
@@ -84,24 +90,33 @@ list-begins t = and 9 list-kinds.ps (is 9 list-kinds.ps μ-list t) list.Pre
 abbrev list-later : ℕ → In 9 list-kinds.ps
 list-later t = and 9 list-kinds.ps (falls 9 list-kinds.ps _<_ μ-list t) list.Pre
 
+abbrev weighed-begins : ℕ → In 9 weighed-kinds.ps
+weighed-begins t = and 9 weighed-kinds.ps (is 9 weighed-kinds.ps μ-weighed t) weighed-below.Pre
+
+abbrev weighed-later : ℕ → In 9 weighed-kinds.ps
+weighed-later t = and 9 weighed-kinds.ps (falls 9 weighed-kinds.ps _<_ μ-weighed t) weighed-below.Pre
+
 abbrev below-claims : ℕ → below-lts.Claims
 below-claims t = (step.Asked, step.Learnt, list-later t, list.Post)
 
+abbrev weighed-claims : ℕ → weighed-lts.Claims
+weighed-claims t = (below-later t, below.Post, weight.Asked, weight.Learnt, shift.Asked, shift.Learnt)
+
 abbrev combine-claims : ℕ → combine-lts.Claims
-combine-claims t = (outcomes-of.Asked, outcomes-of.Learnt, longest.Asked, longest.Learnt, below-later t, below.Post, weight.Asked, weight.Learnt, shift.Asked, shift.Learnt, beside.Asked, beside.Learnt, grown-later t, grown.Post, least.Asked, least.Learnt, most.Asked, most.Learnt)
+combine-claims t = (longest.Asked, longest.Learnt, weighed-later t, weighed-below.Post, beside.Asked, beside.Learnt, grown-later t, grown.Post, least.Asked, least.Learnt, most.Asked, most.Learnt)
 
 abbrev grown-claims : ℕ → grown-lts.Claims
 grown-claims t = (target.Asked, target.Learnt, plans-counted.Asked, plans-counted.Learnt, below-later t, below.Post, weight.Asked, weight.Learnt, join.Asked, join.Learnt)
 
 abbrev list-claims : ℕ → list-lts.Claims
-list-claims t = (decided.Asked, decided.Learnt, choices.Asked, choices.Learnt, combine-later t, combine.Post)
+list-claims t = (decided.Asked, decided.Learnt, choices.Asked, choices.Learnt, outcomes-of.Asked, outcomes-of.Learnt, combine-later t, combine.Post)
 
 abbrev combine-Inv : combine-lts.InvT-loop
-combine-Inv m q truth cone table trail₀ gains₀ v₀ buf₀ spot i s c lo₀ hi₀ len₀ trail gains v buf lo hi len =
+combine-Inv m q truth cone table trail₀ gains₀ v₀ buf₀ spot i c s lo₀ hi₀ len₀ trail gains v buf lo hi len =
     Spanned m q (spot .start) (spot .a) (spot .d) cone (spot .h) (spot .s) i (spot .k) (spot .at) c trail₀ buf₀ trail gains v buf lo hi len
 
 abbrev combine-μ : combine-lts.MeasureT-loop
-combine-μ m q truth cone table trail₀ gains₀ v₀ buf₀ spot i s c lo₀ hi₀ len₀ trail gains v buf lo hi len = c - (hi - lo)
+combine-μ m q truth cone table trail₀ gains₀ v₀ buf₀ spot i c s lo₀ hi₀ len₀ trail gains v buf lo hi len = c - (hi - lo)
 
 abbrev list-Inv : list-lts.InvT-loop
 list-Inv m q truth cone table trail₀ gains₀ v₀ buf₀ spot n len₀ i₀ trail gains v buf len i =
@@ -153,61 +168,77 @@ module _ (t : ℕ) where
       let S = c .before .before .before .before .before .before .before .before .before .before .before .before .before .before .before .before in
       below-written (S .pre .1 .0) (S .args .to .i) (S .args .to .o) (S .args .spot .k) (S .pre .1 .1 .0 .0) (S .pre .1 .1 .0 .1) (c .before .before .before .before .before .before .before .before .step .ensures) (c .before .before .list .ensures)
 
-  -- ---- the outcomes of a choice
+  -- ---- below an outcome, weighed
+
+  weighed-place : (S : weighed-lts.Start (weighed-claims t) (weighed-begins t) weighed-below.Post) → Place (S .args .m .now) (S .args .spot .d) (S .args .spot .s) (S .args .to .i) (S .args .spot .k)
+  weighed-place S = placed (S .args .to .i) (S .args .spot .k) (S .pre .1 .1 .0 .0) (S .pre .1 .1 .0 .1 .0)
+
+  weighed-below-requires : weighed-lts.Need-below-requires (weighed-claims t) (weighed-begins t) weighed-below.Post
+  weighed-below-requires c κs = let S = c .before .before .before .before .before .before in (omega (arith, S .pre .0), S .pre .1)
+
+  weighed-cast-weight : weighed-lts.Need-cast-weight (weighed-claims t) (weighed-begins t) weighed-below.Post
+  weighed-cast-weight c = search needs
+
+  weighed-weight-requires : weighed-lts.Need-weight-requires (weighed-claims t) (weighed-begins t) weighed-below.Post
+  weighed-weight-requires c κs = let S = c .before .before .before .before .before .before .before .before .before .before in within (S .pre .1 .0) (S .pre .1 .1 .0 .0) (S .args .to .i) (S .args .to .o) (S .pre .1 .1 .0 .1)
+
+  weighed-shift-requires : weighed-lts.Need-shift-requires (weighed-claims t) (weighed-begins t) weighed-below.Post
+  weighed-shift-requires c κs =
+      let S = c .before .before .before .before .before .before .before .before .before .before .before .before in
+      let b = c .before .before .before .before .before .below in
+      weighed-shifts (S .pre .1 .0) (weighed-place S) (S .args .to .o) (S .pre .1 .1 .0 .1 .1) (S .args .buf .now) (S .pre .1 .1 .1) (b .ensures) (b .kept .1 .1 .1 .1 .1 .1 .1 .1 .0) (c .before .weight .ensures .0)
+
+  weighed-same-length : weighed-lts.Need-same-length (weighed-claims t) (weighed-begins t) weighed-below.Post
+  weighed-same-length c = c .before .before .shift .kept .0 ∙ c .before .before .before .before .before .before .before .before .below .kept .1 .1 .1 .1 .1 .1 .1 .1 .0
+
+  weighed-returns : weighed-lts.Need-returns (weighed-claims t) (weighed-begins t) weighed-below.Post
+  weighed-returns c =
+      let S = c .before .before .before .before .before .before .before .before .before .before .before .before .before .before .before in
+      let b = c .before .before .before .before .before .before .before .before .below in
+      weighed-written (S .pre .1 .0) (weighed-place S) (S .args .to .o) (S .pre .1 .1 .0 .1 .1) (S .args .buf .now) (S .pre .1 .1 .1) (b .ensures) (b .kept .1 .1 .1 .1 .1 .1 .1 .1 .0) (c .before .before .before .before .weight .ensures .0) (c .before .before .shift .ensures)
+
+  -- ---- the first outcomes of a choice
 
   combine-place : (S : combine-lts.Start (combine-claims t) (combine-begins t) combine.Post combine-Inv combine-μ) → Place (S .args .m .now) (S .args .spot .d) (S .args .spot .s) (S .args .i) (S .args .spot .k)
   combine-place S = placed (S .args .i) (S .args .spot .k) (S .pre .1 .1 .0 .0) (S .pre .1 .1 .0 .1)
 
-  -- The outcome with the longest list is one.
-  first : (c : combine-lts.After-longest (combine-claims t) (combine-begins t) combine.Post combine-Inv combine-μ)
-      → let S = c .before .before .before .before .before .args in c .longest .result < outcomes-in (S .m .now) (S .spot .s) (S .i)
-  first c = omega (arith, c .longest .ensures .inside, c .before .outcomes .ensures)
-
   combine-cast-s : combine-lts.Need-cast-s (combine-claims t) (combine-begins t) combine.Post combine-Inv combine-μ
   combine-cast-s c = search needs
 
-  combine-outcomes-requires : combine-lts.Need-outcomes-requires (combine-claims t) (combine-begins t) combine.Post combine-Inv combine-μ
-  combine-outcomes-requires c κs = let S = c .before .before .before in place-range (S .pre .1 .0 .ready .prepared) (S .args .spot .s) (S .pre .1 .1 .0 .0 .inside) (S .args .i) (S .pre .1 .1 .0 .1)
-
   combine-longest-requires : combine-lts.Need-longest-requires (combine-claims t) (combine-begins t) combine.Post combine-Inv combine-μ
   combine-longest-requires c κs =
-      let S = c .before .before .before .before in
+      let S = c .before .before .before in
       let w = S .pre .1 .0 .ready .prepared in
       let h = S .pre .1 .1 .0 .0 .inside in
-      let g = S .pre .1 .1 .0 .1 in
-      let e = c .outcomes .ensures in
-      let r = place-range w (S .args .spot .s) h (S .args .i) g in (
+      let I = S .pre .1 .1 .0 in
+      let r = place-range w (S .args .spot .s) h (S .args .i) (I .1) in (
         omega (arith, S .pre .1 .1 .0 .0 .steps),
         r .0,
         r .1,
-        omega (arith, some-outcome w (S .args .spot .s) h (S .args .i) g),
-        omega (arith, w .few-outcomes (S .args .spot .s) (S .args .i) h g),
-        λ o l. state-small (S .pre .1 .0) (reached (S .pre .1 .0) (S .args .spot .s) (S .args .i) o h (g, omega arith)),
+        I .2,
+        omega (arith, I .3, w .few-outcomes (S .args .spot .s) (S .args .i) h (I .1)),
+        λ o l. state-small (S .pre .1 .0) (reached (S .pre .1 .0) (S .args .spot .s) (S .args .i) o h (I .1, omega (arith, I .3))),
       )
 
   combine-add-hi : combine-lts.Need-add-hi (combine-claims t) (combine-begins t) combine.Post combine-Inv combine-μ
-  combine-add-hi c = let S = c .before .before .before .before .before in record { fits = omega (arith, first c, S .pre .1 .0 .ready .prepared .few-outcomes (S .args .spot .s) (S .args .i) (S .pre .1 .1 .0 .0 .inside) (S .pre .1 .1 .0 .1)) }
+  combine-add-hi c =
+      let S = c .before .before .before .before in
+      let I = S .pre .1 .1 .0 in
+      record { fits = omega (arith, c .longest .ensures .inside, I .3, S .pre .1 .0 .ready .prepared .few-outcomes (S .args .spot .s) (S .args .i) (S .pre .1 .1 .0 .0 .inside) (I .1)) }
 
-  combine-below-requires : combine-lts.Need-below-requires (combine-claims t) (combine-begins t) combine.Post combine-Inv combine-μ
-  combine-below-requires c κs =
-      let S = c .before .before .before .before .before .before .before .before .before in
-      let l = first (c .before .before .before .before) in
-      (omega (arith, S .pre .0), (S .pre .1 .0, ((S .pre .1 .1 .0 .0, (S .pre .1 .1 .0 .1, l)), first-room (S .pre .1 .0) (combine-place S) (S .pre .1 .1 .1) (c .before .before .before .before .longest .result) l)))
-
-  combine-weight-requires : combine-lts.Need-weight-requires (combine-claims t) (combine-begins t) combine.Post combine-Inv combine-μ
-  combine-weight-requires c κs = let S = c .before .before .before .before .before .before .before .before .before .before .before .before .before in within (S .pre .1 .0) (S .pre .1 .1 .0 .0) (S .args .i) (c .before .before .before .before .before .before .before .before .longest .result) (S .pre .1 .1 .0 .1, first (c .before .before .before .before .before .before .before .before))
-
-  combine-shift-requires : combine-lts.Need-shift-requires (combine-claims t) (combine-begins t) combine.Post combine-Inv combine-μ
-  combine-shift-requires c κs =
-      let S = c .before .before .before .before .before .before .before .before .before .before .before .before .before .before in
-      let b = c .before .before .before .before .below in
-      first-shifts (S .pre .1 .0) (combine-place S) (S .pre .1 .1 .1) (c .before .before .before .before .before .before .before .before .before .longest .result) (first (c .before .before .before .before .before .before .before .before .before)) (S .args .buf .now) refl (S .pre .1 .1 .0 .0) (b .ensures) (b .kept .1 .1 .1 .1 .1 .1 .1 .1 .0) (c .weight .ensures .0)
+  combine-weighed-below-requires : combine-lts.Need-weighed-below-requires (combine-claims t) (combine-begins t) combine.Post combine-Inv combine-μ
+  combine-weighed-below-requires c κs =
+      let S = c .before .before .before .before .before .before .before .before in
+      let I = S .pre .1 .1 .0 in
+      let l = c .before .before .before .before .longest .ensures .inside in
+      (omega (arith, S .pre .0), (S .pre .1 .0, ((S .pre .1 .1 .0 .0, (I .1, omega (arith, l, I .3))), first-room (S .pre .1 .0) (combine-place S) (I .3) (S .pre .1 .1 .1) (c .before .before .before .before .longest .result) l)))
 
   combine-loop-holds : combine-lts.Need-loop-holds (combine-claims t) (combine-begins t) combine.Post combine-Inv combine-μ
   combine-loop-holds c =
-      let S = c .before .before .before .before .before .before .before .before .before .before .before .before .before .before .before .before .before in
-      let b = c .before .before .before .before .before .before .before .below in
-      first-spanned (S .pre .1 .0) (combine-place S) (S .pre .1 .1 .1) (c .before .before .before .before .before .before .before .before .before .before .before .before .longest .result) (first (c .before .before .before .before .before .before .before .before .before .before .before .before)) (S .args .buf .now) refl (S .pre .1 .1 .0 .0) (b .ensures) (b .kept .1 .1 .1 .1 .1 .1 .1 .1 .0) (c .before .before .before .weight .ensures .0) (c .before .before .shift .ensures) (c .before .before .before .before .before .before .before .before .before .before .before .before .before .outcomes .ensures) (c .before .before .before .before .before .before .before .before .before .before .before .before .longest .ensures) refl
+      let S = c .before .before .before .before .before .before .before .before .before .before .before in
+      let b = c .before .before .weighed-below in
+      let L = c .before .before .before .before .before .before .before .longest in
+      first-spanned (S .pre .1 .0) (combine-place S) (S .pre .1 .1 .0 .3) (S .pre .1 .1 .1) (L .result) (L .ensures .inside) refl (S .pre .1 .1 .0 .0) (b .ensures) (L .ensures) refl
 
   combine-sub-loop : combine-lts.Need-sub-loop (combine-claims t) (combine-begins t) combine.Post combine-Inv combine-μ
   combine-sub-loop c = omega (arith, c .loop .inv .some)
@@ -217,12 +248,12 @@ module _ (t : ℕ) where
 
   combine-grown-requires : combine-lts.Need-grown-requires (combine-claims t) (combine-begins t) combine.Post combine-Inv combine-μ
   combine-grown-requires c κs =
-      let S = c .before .before .before .before .before .before .before .before .before .before .before .before .before .before .before .before .before .before .before .before .before .before .before .before in
+      let S = c .before .before .before .before .before .before .before .before .before .before .before .before .before .before .before .before .before .before in
       let I = c .before .before .before .before .before .before .loop .inv in
       let o = c .before .before .before .before .beside in
-      let z = c .before .before .before .before .before .before .before .before .before .shift .kept .0 ∙ c .before .before .before .before .before .before .before .before .before .before .before .before .before .before .below .kept .1 .1 .1 .1 .1 .1 .1 .1 .0 in (
+      let z = c .before .before .before .before .before .before .before .before .before .weighed-below .kept .1 .1 .1 .1 .1 .1 .1 .1 .0 in (
         omega (arith, S .pre .0),
-        (S .pre .1 .0, ((I .here, (S .pre .1 .1 .0 .1, span-outcome (S .pre .1 .0) (combine-place S) (S .pre .1 .1 .1) I z (o .result) (o .ensures))), span-grows (S .pre .1 .0) (combine-place S) (S .pre .1 .1 .1) I z (o .result) (o .ensures))),
+        (S .pre .1 .0, ((I .here, (S .pre .1 .1 .0 .1, span-outcome (S .pre .1 .0) (combine-place S) (S .pre .1 .1 .0 .3) (S .pre .1 .1 .1) I z (o .result) (o .ensures))), span-grows (S .pre .1 .0) (combine-place S) (S .pre .1 .1 .0 .3) (S .pre .1 .1 .1) I z (o .result) (o .ensures))),
       )
 
   combine-least-requires : combine-lts.Need-least-requires (combine-claims t) (combine-begins t) combine.Post combine-Inv combine-μ
@@ -230,7 +261,7 @@ module _ (t : ℕ) where
 
   combine-add-most : combine-lts.Need-add-most (combine-claims t) (combine-begins t) combine.Post combine-Inv combine-μ
   combine-add-most c =
-      let S = c .before .before .before .before .before .before .before .before .before .before .before .before .before .before .before .before .before .before .before .before .before .before .before .before .before .before .before .before in
+      let S = c .before .before .before .before .before .before .before .before .before .before .before .before .before .before .before .before .before .before .before .before .before .before in
       let I = c .before .before .before .before .before .before .before .before .before .before .loop .inv in
       record { fits = omega (arith, beside-inside (I .some) (I .most) (c .before .before .before .before .before .before .before .before .beside .ensures), I .all, S .pre .1 .0 .ready .prepared .few-outcomes (S .args .spot .s) (S .args .i) (S .pre .1 .1 .0 .0 .inside) (S .pre .1 .1 .0 .1)) }
 
@@ -244,24 +275,24 @@ module _ (t : ℕ) where
 
   combine-loop-again : combine-lts.Need-loop-again (combine-claims t) (combine-begins t) combine.Post combine-Inv combine-μ
   combine-loop-again c =
-      let S = c .before .before .before .before .before .before .before .before .before .before .before .before .before .before .before .before .before .before .before .before .before .before .before .before .before .before .before .before .before in
+      let S = c .before .before .before .before .before .before .before .before .before .before .before .before .before .before .before .before .before .before .before .before .before .before .before in
       let o = c .before .before .before .before .before .before .before .before .before .beside in
       let x = c .before .before .before .before .grown in
-      span-wider (S .pre .1 .0) (combine-place S) (S .pre .1 .1 .1) (c .before .before .before .before .before .before .before .before .before .before .before .loop .inv) (c .before .before .before .before .before .before .before .before .before .before .before .before .before .before .shift .kept .0 ∙ c .before .before .before .before .before .before .before .before .before .before .before .before .before .before .before .before .before .before .before .below .kept .1 .1 .1 .1 .1 .1 .1 .1 .0) (o .result) (o .ensures) (x .ensures) (x .kept .1 .1 .1 .1 .1 .1 .1 .1 .0) (c .before .least .ensures) (c .most .ensures)
+      span-wider (S .pre .1 .0) (combine-place S) (S .pre .1 .1 .0 .3) (S .pre .1 .1 .1) (c .before .before .before .before .before .before .before .before .before .before .before .loop .inv) (c .before .before .before .before .before .before .before .before .before .before .before .before .before .before .weighed-below .kept .1 .1 .1 .1 .1 .1 .1 .1 .0) (o .result) (o .ensures) (x .ensures) (x .kept .1 .1 .1 .1 .1 .1 .1 .1 .0) (c .before .least .ensures) (c .most .ensures)
 
   combine-same-length : combine-lts.Need-same-length (combine-claims t) (combine-begins t) combine.Post combine-Inv combine-μ
-  combine-same-length c = c .before .loop .inv .whole ∙ c .before .before .before .before .shift .kept .0 ∙ c .before .before .before .before .before .before .before .before .before .below .kept .1 .1 .1 .1 .1 .1 .1 .1 .0
+  combine-same-length c = c .before .loop .inv .whole ∙ c .before .before .before .before .weighed-below .kept .1 .1 .1 .1 .1 .1 .1 .1 .0
 
   combine-returns : combine-lts.Need-returns (combine-claims t) (combine-begins t) combine.Post combine-Inv combine-μ
   combine-returns c =
-      let S = c .before .before .before .before .before .before .before .before .before .before .before .before .before .before .before .before .before .before .before in
-      let b = c .before .before .before .before .before .before .before .before .before .below in
-      let h = c .before .before .before .before .shift in
+      let S = c .before .before .before .before .before .before .before .before .before .before .before .before .before in
+      let b = c .before .before .before .before .weighed-below in
+      let L = c .before .before .before .before .before .before .before .before .before .longest in
       let M = S .args .m .now in
       let f : List ℕ → List Step → ℕ = worth-on M (S .args .q .now) (S .args .spot .start) (S .args .spot .a) (S .args .spot .d) (S .args .cone .now) in
-      rebased (λ T. combined (weighed (model-in M) (S .args .spot .k) (f T)) (outcomes (model-in M) (S .args .spot .s) (choice-in M (S .args .spot .s) (S .args .i))))
-      (b .ensures .back .kept) (first-before (S .pre .1 .0) (combine-place S) (S .pre .1 .1 .1) (c .before .before .before .before .before .before .before .before .before .before .before .before .before .before .longest .result) (first (c .before .before .before .before .before .before .before .before .before .before .before .before .before .before)) (S .args .buf .now) refl (S .pre .1 .1 .0 .0) (b .ensures) (b .kept .1 .1 .1 .1 .1 .1 .1 .1 .0) (c .before .before .before .before .before .weight .ensures .0) (h .ensures))
-      (span-end (S .pre .1 .0) (combine-place S) (S .pre .1 .1 .1) (c .before .loop .inv) (c .before .before .before .before .shift .kept .0 ∙ c .before .before .before .before .before .before .before .before .before .below .kept .1 .1 .1 .1 .1 .1 .1 .1 .0) (omega arith))
+      rebased (λ T. combined (weighed (model-in M) (S .args .spot .k) (f T)) (take (S .args .c) (outcomes (model-in M) (S .args .spot .s) (choice-in M (S .args .spot .s) (S .args .i)))))
+      (b .ensures .back .kept) (first-before (S .pre .1 .0) (combine-place S) (S .pre .1 .1 .0 .3) (S .pre .1 .1 .1) (L .result) (L .ensures .inside) refl (S .pre .1 .1 .0 .0) (b .ensures))
+      (span-end (S .pre .1 .0) (combine-place S) (S .pre .1 .1 .0 .3) (S .pre .1 .1 .1) (c .before .loop .inv) (b .kept .1 .1 .1 .1 .1 .1 .1 .1 .0) (omega arith))
 
   -- ---- a further outcome
 
@@ -329,7 +360,12 @@ module _ (t : ℕ) where
   turn c = omega (arith, c .before .loop .inv .0, c .loop-test .taken)
 
   list-decided-requires : list-lts.Need-decided-requires (list-claims t) (list-begins t) list.Post list-Inv list-μ
-  list-decided-requires c κs = let S = c .before .before .before .before .before .before .before in decides (S .pre .1 .0) (S .pre .1 .1 .0) (c .before .before .before .if1 .taken) (S .args .buf .now) (S .pre .1 .1 .1)
+  list-decided-requires c κs =
+      let S = c .before .before .before .before .before .before .before in
+      let G = S .pre .1 .0 in
+      let H = S .pre .1 .1 .0 in
+      let h = c .before .before .before .if1 .taken in
+      (decides G H h, (state-small G (H .inside), decided-room G H h (S .args .buf .now) (S .pre .1 .1 .1)))
 
   list-same-length : list-lts.Need-same-length (list-claims t) (list-begins t) list.Post list-Inv list-μ
   list-same-length c = c .before .before .decided .kept .1 .1 .1 .1 .1 .0
@@ -351,38 +387,62 @@ module _ (t : ℕ) where
       let x = c .before .before .if1 .left in
       (c .choices .ensures, omega arith, listed-none (S .pre .1 .0) (S .args .spot .k) (S .args .spot .k - 1) (omega (arith, S .pre .1 .1 .0 .deep)) (S .pre .1 .1 .0))
 
-  list-sub-t22 : list-lts.Need-sub-t22 (list-claims t) (list-begins t) list.Post list-Inv list-μ
-  list-sub-t22 c = omega (arith, on (c .before .before))
+  list-sub-t23 : list-lts.Need-sub-t23 (list-claims t) (list-begins t) list.Post list-Inv list-μ
+  list-sub-t23 c = omega (arith, on (c .before .before))
 
-  list-add-len : list-lts.Need-add-len (list-claims t) (list-begins t) list.Post list-Inv list-μ
-  list-add-len c =
+  list-add-outcomes : list-lts.Need-add-outcomes (list-claims t) (list-begins t) list.Post list-Inv list-μ
+  list-add-outcomes c =
       let S = c .before .before .before .before .before .before .before .before .before .before in
-      record { fits = omega (arith, choice-room (S .pre .1 .0) (S .args .spot .k) (S .args .spot .k - 1) (on (c .before .before .before)) (S .pre .1 .1 .1) (c .before .before .before .loop .inv .2) (turn (c .before .before)) .fits, c .before .before .before .loop .inv .2 .whole, S .good .1 .1 .1 .1 .1 .1 .1 .1 .0) }
+      let L = c .before .before .before .loop .inv .2 in
+      record { fits = omega (arith, choice-room (S .pre .1 .0) (S .args .spot .k) (S .args .spot .k - 1) (on (c .before .before .before)) (S .pre .1 .1 .1) L (turn (c .before .before)) refl .fits, L .whole, S .good .1 .1 .1 .1 .1 .1 .1 .1 .0) }
+
+  list-cast-outcomes : list-lts.Need-cast-outcomes (list-claims t) (list-begins t) list.Post list-Inv list-μ
+  list-cast-outcomes c = search needs
+
+  list-outcomes-requires : list-lts.Need-outcomes-requires (list-claims t) (list-begins t) list.Post list-Inv list-μ
+  list-outcomes-requires c κs = let S = c .before .before .before .before .before .before .before .before .before .before .before in place-range (S .pre .1 .0 .ready .prepared) (S .args .spot .s) (S .pre .1 .1 .0 .inside) (c .before .before .before .before .loop .i) (turn (c .before .before .before))
 
   list-combine-requires : list-lts.Need-combine-requires (list-claims t) (list-begins t) list.Post list-Inv list-μ
   list-combine-requires c κs =
-      let S = c .before .before .before .before .before .before .before .before .before .before .before .before .before .before in
-      (omega (arith, on (c .before .before .before .before .before .before .before), S .pre .0), (S .pre .1 .0, ((choice-here (S .pre .1 .0) (S .args .spot .k) (S .args .spot .k - 1) (on (c .before .before .before .before .before .before .before)) (S .pre .1 .1 .1) (c .before .before .before .before .before .before .before .loop .inv .2) (turn (c .before .before .before .before .before .before)), turn (c .before .before .before .before .before .before)), choice-room (S .pre .1 .0) (S .args .spot .k) (S .args .spot .k - 1) (on (c .before .before .before .before .before .before .before)) (S .pre .1 .1 .1) (c .before .before .before .before .before .before .before .loop .inv .2) (turn (c .before .before .before .before .before .before)))))
+      let S = c .before .before .before .before .before .before .before .before .before .before .before .before .before .before .before .before in
+      let G = S .pre .1 .0 in
+      let L = c .before .before .before .before .before .before .before .before .before .loop .inv .2 in
+      let g = turn (c .before .before .before .before .before .before .before .before) in
+      let e = c .before .before .before .before .outcomes .ensures in (
+        omega (arith, on (c .before .before .before .before .before .before .before .before .before), S .pre .0),
+        (
+          G,
+          (
+            (
+              choice-here G (S .args .spot .k) (S .args .spot .k - 1) (on (c .before .before .before .before .before .before .before .before .before)) (S .pre .1 .1 .1) L g e,
+              g,
+              omega (arith, e, some-outcome (G .ready .prepared) (S .args .spot .s) (S .pre .1 .1 .0 .inside) (c .before .before .before .before .before .before .before .before .before .loop .i) g),
+              omega (arith, e),
+            ),
+            choice-room G (S .args .spot .k) (S .args .spot .k - 1) (on (c .before .before .before .before .before .before .before .before .before)) (S .pre .1 .1 .1) L g e,
+          ),
+        ),
+      )
 
-  list-add-len-2 : list-lts.Need-add-len-2 (list-claims t) (list-begins t) list.Post list-Inv list-μ
-  list-add-len-2 c =
-      let S = c .before .before .before .before .before .before .before .before .before .before .before .before .before .before .before .before .before in
-      record { fits = omega (arith, choice-few (S .pre .1 .0) (S .args .spot .k) (S .args .spot .k - 1) (on (c .before .before .before .before .before .before .before .before .before .before)) (S .pre .1 .1 .1) (c .before .before .before .before .before .before .before .before .before .before .loop .inv .2) (turn (c .before .before .before .before .before .before .before .before .before)) (take (S .args .spot .h) (c .before .before .before .before .before .before .before .before .before .before .loop .trail)) (c .before .before .combine .ensures .count)) }
+  list-add-len : list-lts.Need-add-len (list-claims t) (list-begins t) list.Post list-Inv list-μ
+  list-add-len c =
+      let S = c .before .before .before .before .before .before .before .before .before .before .before .before .before .before .before .before .before .before .before in
+      record { fits = omega (arith, choice-few (S .pre .1 .0) (S .args .spot .k) (S .args .spot .k - 1) (on (c .before .before .before .before .before .before .before .before .before .before .before .before)) (S .pre .1 .1 .1) (c .before .before .before .before .before .before .before .before .before .before .before .before .loop .inv .2) (turn (c .before .before .before .before .before .before .before .before .before .before .before)) (c .before .before .before .before .before .before .before .outcomes .ensures) (take (S .args .spot .h) (c .before .before .before .before .before .before .before .before .before .before .before .before .loop .trail)) (c .before .before .combine .ensures .count)) }
 
   list-add-i : list-lts.Need-add-i (list-claims t) (list-begins t) list.Post list-Inv list-μ
   list-add-i c =
-      let S = c .before .before .before .before .before .before .before .before .before .before .before .before .before .before .before .before .before in
-      record { fits = omega (arith, turn (c .before .before .before .before .before .before .before .before .before), S .pre .1 .0 .ready .prepared .few-choices (S .args .spot .s) (S .pre .1 .1 .0 .inside)) }
+      let S = c .before .before .before .before .before .before .before .before .before .before .before .before .before .before .before .before .before .before .before in
+      record { fits = omega (arith, turn (c .before .before .before .before .before .before .before .before .before .before .before), S .pre .1 .0 .ready .prepared .few-choices (S .args .spot .s) (S .pre .1 .1 .0 .inside)) }
 
   list-loop-less : list-lts.Need-loop-less (list-claims t) (list-begins t) list.Post list-Inv list-μ
   list-loop-less c = omega arith
 
   list-loop-again : list-lts.Need-loop-again (list-claims t) (list-begins t) list.Post list-Inv list-μ
   list-loop-again c =
-      let S = c .before .before .before .before .before .before .before .before .before .before .before .before .before .before .before .before .before in
-      let L = c .before .before .before .before .before .before .before .before .before .before .loop in
+      let S = c .before .before .before .before .before .before .before .before .before .before .before .before .before .before .before .before .before .before .before in
+      let I = c .before .before .before .before .before .before .before .before .before .before .before .before .loop .inv in
       let x = c .before .before .combine in
-      (L .inv .0, L .inv .1, choice-listed (S .pre .1 .0) (S .args .spot .k) (S .args .spot .k - 1) (on (c .before .before .before .before .before .before .before .before .before .before)) (S .pre .1 .1 .1) (c .before .before .before .before .before .before .before .before .before .before .loop .inv .2) (turn (c .before .before .before .before .before .before .before .before .before)) (x .ensures) (x .kept .1 .1 .1 .1 .1 .1 .1 .1 .0))
+      (I .0, I .1, choice-listed (S .pre .1 .0) (S .args .spot .k) (S .args .spot .k - 1) (on (c .before .before .before .before .before .before .before .before .before .before .before .before)) (S .pre .1 .1 .1) (I .2) (turn (c .before .before .before .before .before .before .before .before .before .before .before)) (c .before .before .before .before .before .before .before .outcomes .ensures) (x .ensures) (x .kept .1 .1 .1 .1 .1 .1 .1 .1 .0))
 
   list-same-length-2 : list-lts.Need-same-length-2 (list-claims t) (list-begins t) list.Post list-Inv list-μ
   list-same-length-2 c = c .before .loop .inv .2 .whole
@@ -393,9 +453,9 @@ module _ (t : ℕ) where
       let L = c .before .loop in
       listed-all (S .pre .1 .0) (S .args .spot .k) (S .args .spot .k - 1) (on (c .before)) (S .pre .1 .1 .1) (L .inv .2) (omega (arith, L .inv .0))
 
-pub +below+combine+grown+list-spec : {M : Type 1} → statement M
-+below+combine+grown+list-spec =
-    close μ-below μ-combine μ-grown μ-list
+pub +below+combine+grown+list+weighed-below-spec : {M : Type 1} → statement M
++below+combine+grown+list+weighed-below-spec =
+    close μ-below μ-combine μ-grown μ-list μ-weighed
     (λ t. below-lts.spec (below-claims t) (below-begins t) below.Post
     (below-cast-step t)
     (below-cast-step-2 t)
@@ -406,12 +466,9 @@ pub +below+combine+grown+list-spec : {M : Type 1} → statement M
     (below-returns t))
     (λ t. combine-lts.spec (combine-claims t) (combine-begins t) combine.Post combine-Inv combine-μ
     (combine-cast-s t)
-    (combine-outcomes-requires t)
     (combine-longest-requires t)
     (combine-add-hi t)
-    (combine-below-requires t)
-    (combine-weight-requires t)
-    (combine-shift-requires t)
+    (combine-weighed-below-requires t)
     (combine-loop-holds t)
     (combine-sub-loop t)
     (combine-beside-requires t)
@@ -435,19 +492,28 @@ pub +below+combine+grown+list-spec : {M : Type 1} → statement M
     (grown-mul-result t)
     (grown-same-length t)
     (grown-returns t))
-    λ t. list-lts.spec (list-claims t) (list-begins t) list.Post list-Inv list-μ
+    (λ t. list-lts.spec (list-claims t) (list-begins t) list.Post list-Inv list-μ
     (list-decided-requires t)
     (list-same-length t)
     (list-returns t)
     (list-cast-choices t)
     (list-choices-requires t)
     (list-loop-holds t)
-    (list-sub-t22 t)
-    (list-add-len t)
+    (list-sub-t23 t)
+    (list-add-outcomes t)
+    (list-cast-outcomes t)
+    (list-outcomes-requires t)
     (list-combine-requires t)
-    (list-add-len-2 t)
+    (list-add-len t)
     (list-add-i t)
     (list-loop-less t)
     (list-loop-again t)
     (list-same-length-2 t)
-    (list-returns-2 t)
+    (list-returns-2 t))
+    λ t. weighed-lts.spec (weighed-claims t) (weighed-begins t) weighed-below.Post
+    (weighed-below-requires t)
+    (weighed-cast-weight t)
+    (weighed-weight-requires t)
+    (weighed-shift-requires t)
+    (weighed-same-length t)
+    (weighed-returns t)
