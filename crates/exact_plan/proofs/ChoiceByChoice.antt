@@ -5,18 +5,18 @@ use native.Mathlib.Omega.{arith}
 use mathlib.Core.Path.{_≡_, refl, sym, ap, subst, _∙_}
 use mathlib.Core.List.{List, _∷_, _++_, flatMap}
 use lib.IntN.{ℤ}
-use lib.ListN.{length, take, length-map}
+use lib.ListN.{length, take}
 use Rattle.logic.specs.Lists.{count-from, tabulate}
 use Rattle.logic.specs.Model.{Step, outcomes}
 use Rattle.logic.specs.Limits.{multiply, plan-total}
 use Rattle.blocks.specs.Bytes.{Bytes}
+use Rattle.models.specs.Layout.{state-count}
 use Rattle.prepared_model.specs.promises.Rows.{choices-in, choice-in, outcomes-in, model-in}
 use Rattle.exact_plan.specs.promises.Totals.{totals, combined, weighed}
 use Rattle.exact_plan.specs.promises.Room.{Room}
 use Rattle.evaluation.specs.promises.Worth.{worth-on}
 use Rattle.exact_plan.specs.promises.Listing.{Given, Here, Written}
-use Rattle.exact_plan.proofs.TotalsByFirstStep.{totals-length, totals-step}
-use Rattle.exact_plan.proofs.Grid.{combined-length}
+use Rattle.exact_plan.proofs.TotalsByFirstStep.{totals-length, totals-step, choice-length}
 use Rattle.exact_plan.proofs.Spans.{flatMap-more, flatMap-within}
 use Rattle.exact_plan.proofs.RoomForEach.{room-part}
 use Rattle.exact_plan.proofs.PreparedChoices.{all-outcomes}
@@ -37,6 +37,13 @@ pub record Listed (m q : Bytes) (start a d : ℕ) (cone : List ℕ) (h s k j at 
   pub whole : length buf ≡ length buf₀
 
 module _ {m q : Bytes} {start a d : ℕ} {truth cone table : List ℕ} (G : Given m q start a d truth cone table) (k j : ℕ) (step : k ≡ suc j) where
+  pub all-chosen : (T : List ℕ) {s : ℕ} → s < state-count m → flatMap (chosen m q start a d cone s j T) (passed m s (choices-in m s)) ≡ totals (model-in m) k s (worth-on m q start a d cone T)
+  all-chosen T {s} h =
+      let f : List Step → ℕ = worth-on m q start a d cone T in
+      ap (flatMap (chosen m q start a d cone s j T)) (sym (G .ready .prepared .choices s h))
+      ∙ sym (totals-step (model-in m) j s f)
+      ∙ ap (λ n. totals (model-in m) n s f) (sym step)
+
   pub listed-none : {h s at : ℕ} {trail : List ℕ} {gains : List ℤ} {v buf : List ℕ} → Here m q start d cone trail gains v h s k
       → Listed m q start a d cone h s k j at trail buf trail gains v buf 0 0
   unfolding tabulate count-from flatMap
@@ -51,19 +58,10 @@ module _ {m q : Bytes} {start a d : ℕ} {truth cone table : List ℕ} (G : Give
     f = worth-on m q start a d cone (take h trail₀)
 
     all : flatMap C (passed m s (choices-in m s)) ≡ totals (model-in m) k s f
-    all =
-        ap (flatMap C) (sym (G .ready .prepared .choices s (L .here .inside)))
-        ∙ sym (totals-step (model-in m) j s f)
-        ∙ ap (λ n. totals (model-in m) n s f) (sym step)
+    all = all-chosen (take h trail₀) (L .here .inside)
 
     chosen-length : (T : List ℕ) (c : ℕ) → length (chosen m q start a d cone s j T c) ≡ multiply (λ o. plan-total (model-in m) j (o .target)) (outcomes (model-in m) s c)
-    unfolding weighed
-    chosen-length T c =
-        combined-length (weighed (model-in m) j (worth-on m q start a d cone T)) (λ o. plan-total (model-in m) j (o .target))
-        (λ o.
-        length-map (totals (model-in m) j (o .target) (λ r. worth-on m q start a d cone T (o ∷ r))) (λ y. o .weight * y)
-        ∙ totals-length (model-in m) j (o .target) (λ r. worth-on m q start a d cone T (o ∷ r)))
-        (outcomes (model-in m) s c)
+    chosen-length T c = choice-length (model-in m) j (worth-on m q start a d cone T) (outcomes (model-in m) s c)
 
     module _ (g : i < choices-in m s) {n : ℕ} (every : n ≡ outcomes-in m s i) where
       abbrev c : ℕ

@@ -30,7 +30,7 @@ use Rattle.exact_plan.specs.promises.Spread.{Shifts, Joins}
 use Rattle.exact_plan.specs.promises.Room.{Room}
 use Rattle.exact_plan.specs.promises.Listing.{Given, Here, Written, Longest, Grows}
 use Rattle.exact_plan.proofs.Parts.{part-length, part-drop}
-use Rattle.exact_plan.proofs.TotalsByFirstStep.{totals-length}
+use Rattle.exact_plan.proofs.TotalsByFirstStep.{totals-length, weighed-length}
 use Rattle.exact_plan.proofs.Grid.{combined-length, combined-one}
 use Rattle.exact_plan.proofs.Spans.{multiply-within, multiply-one}
 use Rattle.exact_plan.proofs.TotalsBounded.{Up-to, up-times, up-totals, up-combined}
@@ -132,11 +132,7 @@ module _ {m q : Bytes} {start a d : ℕ} {truth cone table : List ℕ} (G : Give
   F = lists m q start a d cone s p k
 
   lists-length : (T : List ℕ) (i : ℕ) → length (F T i) ≡ t i
-  unfolding weighed
-  lists-length T i =
-      let o : Step = step-in m s p i in
-      length-map (totals (model-in m) k (o .target) (λ r. worth-on m q start a d cone T (o ∷ r))) (λ y. o .weight * y)
-      ∙ totals-length (model-in m) k (o .target) (λ r. worth-on m q start a d cone T (o ∷ r))
+  lists-length T i = weighed-length (model-in m) k (worth-on m q start a d cone T) (step-in m s p i)
 
   ways-some : (i : ℕ) → i < outcomes-in m s p → 0 < t i
   ways-some i u = some-plan (G .ready .prepared) k ((step-in m s p i) .target) (reached G s p i (place .state) (place .choice, u))

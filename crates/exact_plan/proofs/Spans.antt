@@ -3,7 +3,7 @@ use Prim.Native.Nat.{ℕ, zero, suc, _+_, _-_, _*_, _≤_, _<_}
 use native.Mathlib.Nat.{mul-one, one-mul, mul-assoc, le-refl, le-trans, le-mul-of-pos-right, mul-comm}
 use native.Mathlib.Omega.{arith}
 use mathlib.Core.Path.{_≡_, refl, sym, ap, subst, _∙_}
-use mathlib.Core.List.{List, [], _∷_, _++_, map, flatMap}
+use mathlib.Core.List.{List, [], _∷_, _++_, map, flatMap, append-assoc, append-nil}
 use lib.ListN.{length, take, length-append}
 use Rattle.logic.specs.Lists.{count-from, tabulate}
 use Rattle.logic.specs.Limits.{multiply}
@@ -112,3 +112,14 @@ module _ (f : ℕ → List ℕ) (g : ℕ → ℕ) where
         ap length (flatMap-more n),
         subst (λ k. length (flatMap f (tabulate (suc n) g)) ≤ length (flatMap f (tabulate k g))) z (longer (suc n) (c - suc n)),
       )
+
+  -- The lists below c are those below n and others behind them.
+  pub flatMap-split : (n c : ℕ) → n ≤ c → (l : List ℕ) × (flatMap f (tabulate n g) ++ l ≡ flatMap f (tabulate c g))
+  flatMap-split n c h = subst (λ k. (l : List ℕ) × (flatMap f (tabulate n g) ++ l ≡ flatMap f (tabulate k g))) (let z : n + (c - n) ≡ c = omega arith in z) (go (c - n))
+    where
+      go : (e : ℕ) → (l : List ℕ) × (flatMap f (tabulate n g) ++ l ≡ flatMap f (tabulate (n + e) g))
+      go zero = let z : n + 0 ≡ n = omega arith in ([], append-nil (flatMap f (tabulate n g)) ∙ ap (λ k. flatMap f (tabulate k g)) (sym z))
+      go (suc e) =
+          let z : n + suc e ≡ suc (n + e) = omega arith in
+          let u = go e in
+          (u .0 ++ f (g (n + e)), sym (append-assoc (flatMap f (tabulate n g)) (u .0) (f (g (n + e)))) ∙ ap (λ l. l ++ f (g (n + e))) (u .1) ∙ sym (flatMap-more (n + e)) ∙ ap (λ k. flatMap f (tabulate k g)) (sym z))

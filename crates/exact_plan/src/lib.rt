@@ -16,17 +16,18 @@ mod spread;
 use crate::lists::Spot;
 use crate::lists::list;
 use crate::rooms::in_room;
+use crate::rooms::stored;
 use evaluation::PLACES;
 use evaluation::STEPS;
 use evaluation::TRUTHS;
 use evaluation::VALUES;
 use evaluation::learn;
 use limits::COUNTS;
-use limits::plans_counted;
 use prepared_model::MODEL;
 use prepared_question::QUESTION;
 
-// A list of totals has one of three rooms, by the number of plans, each with 282 numbers beside it for what is made there.
+// What is stored has one of three rooms, by how many numbers it is, each with 282 numbers beside them for what is made there. The largest is for two
+// lists whose lengths have a product of up to 65,536, so a sum of one more.
 const FEW: u64 = 1024;
 
 const SOME: u64 = 8192;
@@ -35,7 +36,7 @@ const FEW_ROOM: usize = 1306;
 
 const SOME_ROOM: usize = 8474;
 
-pub const ROOM: usize = 65818;
+pub const ROOM: usize = 65819;
 
 // What is listed: the totals of all n-step plans from s. A path is worth the value of the condition at the cone's root, which looks d steps ahead, or
 // with no nodes in the cone the raised gain of steps a + 1 to d.
@@ -108,7 +109,7 @@ pub fn first_equal(
         let m = now (m .entry) in let q = now (q .entry) in let cone = now (cone .entry) in
         ⌜ First (spec.totals (model-in m) (l .n) (l .s) (worth-of m q (l .s) (l .a) (l .d) cone)) x r ⌝ }
 {
-    let need = plans_counted(table, l.n, l.s as usize);
+    let need = stored(m, table, l);
     let p = in_room(m, q, truth, cone, table, l, x, 2, need);
     p.place
 }

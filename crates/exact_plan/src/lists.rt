@@ -12,6 +12,7 @@ ghost use Rattle.prepared_model.specs.promises.Rows.{choices-in, choice-in, out
 ghost use Rattle.evaluation.specs.promises.Worth.{worth-on, worth-known};
 ghost use Rattle.exact_plan.specs.promises.Totals.{totals, combined, weighed, joined, part};
 ghost use Rattle.exact_plan.specs.promises.Room.{Room};
+ghost use Rattle.exact_plan.specs.promises.Search.{ways-below, Counted};
 ghost use Rattle.exact_plan.specs.promises.Listing.{Given, Here, Written, Longest, Decides, Grows};
 use crate::spread::fill;
 use crate::spread::join;
@@ -77,6 +78,27 @@ fn longest(m: &[u16; MODEL], table: &[u64; COUNTS], s: usize, i: usize, c: usize
     best
 }
 
+// The number of ways to go on for k steps below the first c outcomes of the choice at place i.
+pub fn plans_below(
+    m: &[u16; MODEL],
+    table: &[u64; COUNTS],
+    s: usize,
+    i: usize,
+    k: u8,
+    c: usize,
+) -> u64
+    requires { ⌜ (s < 32) × (i < 8) × Counted (now m) (now table) s i k c ⌝ }
+    ensures value { λ r. ⌜ r ≡ ways-below (now (m .entry)) s i k c ⌝ }
+{
+    let mut n: u64 = 1;
+    let mut o: usize = 0;
+    while o < c {
+        n = n * plans_counted(table, k, target(m, s, i, o));
+        o += 1;
+    }
+    n
+}
+
 // The outcome to take next, beside those from lo to hi: on the right as long as there is one.
 fn beside(lo: usize, hi: usize, c: usize) -> usize
     requires { ⌜ (lo < hi) × (hi ≤ c) × (hi - lo < c) ⌝ }
@@ -98,7 +120,13 @@ fn most(x: usize, y: usize) -> usize
 }
 
 // The total of all plans from a spot where the worth of the paths is decided.
-pub fn alike(m: &[u16; MODEL], cone: &[u8], gains: &[i32; PLACES], v: &[u8; VALUES], spot: Spot) -> u64
+pub fn alike(
+    m: &[u16; MODEL],
+    cone: &[u8],
+    gains: &[i32; PLACES],
+    v: &[u8; VALUES],
+    spot: Spot,
+) -> u64
     requires { ⌜ Decides (now m) (now cone) (now gains) (now v) (spot .a) (spot .d) (spot .k) ⌝ }
     ensures value { λ r.
         let gains = now (gains .entry) in let v = now (v .entry) in let cone = now (cone .entry) in let m = now (m .entry) in

@@ -9,7 +9,7 @@ use Rattle.prepared_model.specs.promises.Rows.{model-in}
 use Rattle.evaluation.specs.promises.Worth.{worth-on}
 use Rattle.evaluation.proofs.LearnKnows.{cone-node}
 use Rattle.evaluation.proofs.StepTaken.{begun}
-use Rattle.exact_plan.proofs.RoomForEach.{room-whole}
+use Rattle.exact_plan.proofs.RoomForEach.{room-at}
 use Rattle.exact_plan.proofs.TotalsByFirstStep.{totals-length}
 use Rattle.exact_plan.proofs.ListsWritten.{state-small}
 use Rattle.exact_plan.proofs.FirstPlace.{begins, all-listed}
@@ -27,7 +27,7 @@ list-requires c κs = let S = c .before .before .before .before .before .before 
     let v = x .last .1 .1 .1 .1 .1 .0 in
     let knows = begun (G .ready) (replicate 6 0) (replicate 7 (pos 0)) (replicate 280 0) v refl (length-replicate {A = ℤ} 7 (pos 0)) (length-replicate {A = ℕ} 280 0) (x .ensures) in
     let total = plan-total (model-in (S .args .m .now)) (S .args .l .n) (S .args .l .s) in
-    let room = room-whole (S .args .l .n) total (length (S .args .buf .now)) (S .pre .1 .1) (S .pre .1 .2) (S .pre .1 .3) in
+    let room = room-at (S .args .l .n) total 0 (length (S .args .buf .now)) (S .pre .1 .1) (S .pre .1 .2) (omega (arith, S .pre .1 .3)) in
     (G, (begins G (replicate 6 0) (replicate 7 (pos 0)) v (S .pre .1 .0) (S .pre .1 .1) knows, room))
 
 same-length : tie.Need-same-length

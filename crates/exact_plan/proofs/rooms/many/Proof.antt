@@ -13,7 +13,7 @@ slice-aggregate-first-within c = search needs
 first-within-requires : tie.Need-first-within-requires
 first-within-requires c κs = let S = c .before .before in
     let A = S .args in
-    (S .pre .0, subst (Housed (A .m .now) (A .l .d) (A .l .n) (A .l .s)) (sym (length-replicate {A = ℕ} 65818 0)) (S .pre .1))
+    (S .pre .0, subst (Housed (A .m .now) (A .l .d) (A .l .n) (A .l .s)) (sym (length-replicate {A = ℕ} 65819 0)) (S .pre .1))
 
 returns : tie.Need-returns
 returns c = search needs
