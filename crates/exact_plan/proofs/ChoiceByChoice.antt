@@ -1,9 +1,9 @@
 -- The lists of a state's choices, one after the other, are the list of the state.
-use Prim.Native.Nat.{ℕ, suc, _+_, _*_, _≤_, _<_}
+use Prim.Native.Nat.{ℕ, suc, _+_, _≤_, _<_}
 use native.Mathlib.Numerals.{add-one}
 use native.Mathlib.Omega.{arith}
 use mathlib.Core.Path.{_≡_, refl, sym, ap, subst, _∙_}
-use mathlib.Core.List.{List, _∷_, _++_, flatMap}
+use mathlib.Core.List.{List, _++_, flatMap}
 use lib.IntN.{ℤ}
 use lib.ListN.{length, take}
 use Rattle.logic.specs.Lists.{count-from, tabulate}

@@ -9,8 +9,8 @@ use mathlib.Core.Bool.{true, false, false≢true}
 use mathlib.Core.List.{List, [], _∷_, _++_, flatMap}
 use lib.IntN.{ℤ}
 use lib.Dec.{ltb}
-use lib.ListN.{length, take, drop, getD, replicate, length-append}
-use borrow.Author.Tests.{lt-ltb, le-ltb}
+use lib.ListN.{length, take, replicate, length-append}
+use borrow.Author.Tests.{lt-ltb}
 use Rattle.logic.specs.Lists.{count-from, tabulate}
 use Rattle.logic.specs.Model.{Step, outcomes}
 use Rattle.logic.specs.Limits.{multiply, plan-total}
@@ -18,7 +18,6 @@ use Rattle.logic.proofs.Tests.{ltb-lt}
 use Rattle.blocks.specs.Bytes.{Bytes}
 use Rattle.blocks.specs.Splice.{splice}
 use Rattle.blocks.proofs.Splice.{take-written}
-use Rattle.models.specs.Layout.{state-count}
 use Rattle.prepared_model.specs.promises.Rows.{choices-in, choice-in, outcomes-in, step-in, model-in}
 use Rattle.evaluation.specs.promises.Known.{Knows, Back}
 use Rattle.evaluation.specs.promises.Worth.{worth-on}
@@ -34,9 +33,8 @@ use Rattle.exact_plan.proofs.TotalsByFirstStep.{totals-length, weighed-
 use Rattle.exact_plan.proofs.PreparedChoices.{multiply-outcomes, combined-outcomes, all-outcomes}
 use Rattle.exact_plan.proofs.PlansBelow.{all-counted, last-inside, last-product, stored-is, fewer-ways, way-some, way-few}
 use Rattle.exact_plan.proofs.FirstPlace.{first-none, first-kept, first-more}
-use Rattle.exact_plan.proofs.OneOutcomeJoined.{Holds, held-before, held-part}
+use Rattle.exact_plan.proofs.OneOutcomeJoined.{held-before, held-part}
 use Rattle.exact_plan.proofs.OutcomesJoined.{Place}
-use Rattle.exact_plan.proofs.ListsWritten.{rebased}
 use Rattle.exact_plan.proofs.ChoiceByChoice.{chosen, passed, all-chosen}
 
 -- ---- no outcome

@@ -18,3 +18,4 @@ pub mod EnoughRoom
 pub mod SumsByRows
 pub mod PlansBelow
 pub mod ChoicesSearched
+pub mod LastStepLists

@@ -1,5 +1,5 @@
 -- The number of plans below the first outcomes of a choice, and how many numbers the search of a choice stores.
-use Prim.Native.Nat.{ℕ, zero, suc, _+_, _-_, _*_, _^_, _≤_, _<_, max}
+use Prim.Native.Nat.{ℕ, zero, suc, _+_, _-_, _*_, _≤_, _<_, max}
 use native.Mathlib.Nat.{le-refl, le-trans, suc-mul, mul-suc}
 use native.Mathlib.Numerals.{add-one}
 use native.Mathlib.Omega.{arith}
@@ -62,6 +62,15 @@ module _ {m : Bytes} {table : List ℕ} {s i k c : ℕ} (C : Counted m table s i
     pub next-fits : n * x ≤ 65536
     next-fits = rw next-way (ways-within 0 (o + 1) (omega arith))
 
+-- With no step left there is one way.
+pub one-way : (m : Bytes) (s i c : ℕ) {k : ℕ} → k ≡ 0 → ways-below m s i k c ≡ 1
+unfolding multiply count-from plan-total
+one-way m s i c e = ap (λ k. ways-below m s i k c) e ∙ ones 0 c
+  where
+    ones : (lo n : ℕ) → multiply (λ o. plan-total (model-in m) 0 ((step-in m s i o) .target)) (count-from lo n) ≡ 1
+    ones lo zero = refl
+    ones lo (suc n) = let z : 1 * 1 ≡ 1 = omega arith in ap (λ k. 1 * k) (ones (suc lo) n) ∙ z
+
 -- Two numbers that are not 0 are together at most one more than their product.
 sum-product : (a b : ℕ) → 0 < a → 0 < b → a + b ≤ a * b + 1
 sum-product zero b h g = absurd (omega arith)
@@ -69,18 +78,24 @@ sum-product (suc a) zero h g = absurd (omega arith)
 sum-product (suc a) (suc b) h g = omega (arith, suc-mul a (suc b), mul-suc a b)
 
 module _ {m : Bytes} (w : Prepared m) {s i : ℕ} (here : s < state-count m) (choice : i < choices-in m s) where
+  -- The list below a choice is as long as there are ways.
+  pub ways-counted : (j : ℕ) (f : List Step → ℕ) → length (combined (weighed (model-in m) j f) (outcomes (model-in m) s (choice-in m s i))) ≡ ways-below m s i j (outcomes-in m s i)
+  ways-counted j f =
+      let P : Step → ℕ = λ o. plan-total (model-in m) j (o .target) in
+      choice-length (model-in m) j f (outcomes (model-in m) s (choice-in m s i))
+      ∙ ap (multiply P) (sym (all-outcomes w s i here choice refl))
+      ∙ multiply-outcomes w s i here choice (outcomes-in m s i) (le-refl _) P
+
   -- All plans that begin with a choice are among those of its state.
-  pub choice-within : (j : ℕ) → ways-below m s i j (outcomes-in m s i) ≤ plan-total (model-in m) (suc j) s
+  choice-within : (j : ℕ) → ways-below m s i j (outcomes-in m s i) ≤ plan-total (model-in m) (suc j) s
   choice-within j =
       let f : List Step → ℕ = λ _. 0 in
-      let P : Step → ℕ = λ o. plan-total (model-in m) j (o .target) in
       let C : ℕ → List ℕ = λ c. combined (weighed (model-in m) j f) (outcomes (model-in m) s c) in
       omega (
         arith,
         flatMap-within C (choice-in m s) i (choices-in m s) choice,
         ap (λ l. length (flatMap C l)) (sym (w .choices s here)) ∙ ap length (sym (totals-step (model-in m) j s f)) ∙ totals-length (model-in m) (suc j) s f,
-        choice-length (model-in m) j f (outcomes (model-in m) s (choice-in m s i)),
-        sym (multiply-outcomes w s i here choice (outcomes-in m s i) (omega arith) P) ∙ ap (multiply P) (all-outcomes w s i here choice refl),
+        ways-counted j f,
       )
 
   pub all-counted : {table : List ℕ} → Counts m table → (k : ℕ) → k + 1 ≤ 6 → plan-total (model-in m) (k + 1) s ≤ 65536 → Counted m table s i k (outcomes-in m s i)

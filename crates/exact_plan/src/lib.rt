@@ -7,12 +7,14 @@ ghost use Rattle.evaluation.specs.promises.Worth.{worth-of};
 ghost use Rattle.exact_plan.specs.promises.Totals as spec;
 ghost use Rattle.exact_plan.specs.promises.Listing.{Given, Listed, First};
 
+mod last;
 mod lists;
 pub mod nearest;
 mod rooms;
 mod search;
 mod spread;
 
+use crate::last::marks;
 use crate::lists::Spot;
 use crate::lists::list;
 use crate::rooms::in_room;
@@ -66,6 +68,7 @@ pub fn totals(
         let m = now (m .entry) in let q = now (q .entry) in let cone = now (cone .entry) in
         ⌜ Listed (spec.totals (model-in m) (l .n) (l .s) (worth-of m q (l .s) (l .a) (l .d) cone)) (now (buf .exit)) r ⌝ }
 {
+    let late = marks(q, cone);
     let mut trail = [0u16; STEPS];
     let mut gains = [0i32; PLACES];
     let mut v = [0u8; VALUES];
@@ -85,6 +88,7 @@ pub fn totals(
         truth,
         cone,
         table,
+        &late,
         &mut trail,
         &mut gains,
         &mut v,

@@ -12,8 +12,11 @@ ghost use Rattle.prepared_model.specs.promises.Rows.{choices-in, choice-in, out
 ghost use Rattle.evaluation.specs.promises.Worth.{worth-on, worth-known};
 ghost use Rattle.exact_plan.specs.promises.Totals.{totals, combined, weighed, joined, part};
 ghost use Rattle.exact_plan.specs.promises.Room.{Room};
+ghost use Rattle.exact_plan.specs.promises.Last.{Marked};
 ghost use Rattle.exact_plan.specs.promises.Search.{ways-below, Counted};
 ghost use Rattle.exact_plan.specs.promises.Listing.{Given, Here, Written, Longest, Decides, Grows};
+use crate::last::by_last_step;
+use crate::last::one_decides;
 use crate::spread::fill;
 use crate::spread::join;
 use crate::spread::shift;
@@ -34,6 +37,7 @@ use prepared_model::outcomes;
 use prepared_model::target;
 use prepared_model::weight;
 use prepared_question::QUESTION;
+use questions::NODES;
 
 // Where a list is made: after h steps from the start, in the state s, with k steps to go, and written from `at` on. The worth of a path
 // looks d steps ahead; a gain is that of the steps after the first a.
@@ -78,7 +82,7 @@ fn longest(m: &[u16; MODEL], table: &[u64; COUNTS], s: usize, i: usize, c: usize
     best
 }
 
-// The number of ways to go on for k steps below the first c outcomes of the choice at place i.
+// The number of ways to go on for k steps below the first c outcomes of the choice at place i. Most often no step is left, and there is one.
 pub fn plans_below(
     m: &[u16; MODEL],
     table: &[u64; COUNTS],
@@ -90,6 +94,9 @@ pub fn plans_below(
     requires { ⌜ (s < 32) × (i < 8) × Counted (now m) (now table) s i k c ⌝ }
     ensures value { λ r. ⌜ r ≡ ways-below (now (m .entry)) s i k c ⌝ }
 {
+    if k == 0 {
+        return 1;
+    }
     let mut n: u64 = 1;
     let mut o: usize = 0;
     while o < c {
@@ -166,6 +173,7 @@ pub fn list(
     truth: &[u8; TRUTHS],
     cone: &[u8],
     table: &[u64; COUNTS],
+    late: &[u8; NODES],
     trail: &mut [u16; STEPS],
     gains: &mut [i32; PLACES],
     v: &mut [u8; VALUES],
@@ -173,7 +181,9 @@ pub fn list(
     spot: Spot,
 ) -> usize
     requires { ⌜ Given (now m) (now q) (spot .start) (spot .a) (spot .d) (now truth) (now cone) (now table) ⌝ }
-    requires { ⌜ Here (now m) (now q) (spot .start) (spot .d) (now cone) (now trail) (now gains) (now v) (spot .h) (spot .s) (spot .k) ⌝ }
+    requires { ⌜
+        Here (now m) (now q) (spot .start) (spot .d) (now cone) (now trail) (now gains) (now v) (spot .h) (spot .s) (spot .k)
+        × Marked (now q) (now cone) (now late) ⌝ }
     requires { ⌜ Room (spot .k) (plan-total (model-in (now m)) (spot .k) (spot .s)) (spot .at) (length (now buf)) ⌝ }
     ensures effect { λ r.
         let trail′ = now (trail .exit) in let gains′ = now (gains .exit) in let v′ = now (v .exit) in let buf′ = now (buf .exit) in
@@ -184,6 +194,9 @@ pub fn list(
 {
     if spot.d <= spot.h {
         return decided(m, table, cone, gains, v, buf, spot);
+    }
+    if one_decides(cone, spot) {
+        return by_last_step(m, q, truth, cone, table, late, trail, gains, v, buf, spot);
     }
     let n = choices(m, spot.s as usize);
     let mut len: usize = 0;
@@ -199,7 +212,21 @@ pub fn list(
             at: spot.at + len,
         };
         let c = outcomes(m, spot.s as usize, i);
-        len += combine(m, q, truth, cone, table, trail, gains, v, buf, first, i, c);
+        len += combine(
+            m,
+            q,
+            truth,
+            cone,
+            table,
+            late,
+            trail,
+            gains,
+            v,
+            buf,
+            first,
+            i,
+            c,
+        );
         i += 1;
     }
     len
@@ -213,6 +240,7 @@ pub fn combine(
     truth: &[u8; TRUTHS],
     cone: &[u8],
     table: &[u64; COUNTS],
+    late: &[u8; NODES],
     trail: &mut [u16; STEPS],
     gains: &mut [i32; PLACES],
     v: &mut [u8; VALUES],
@@ -224,7 +252,7 @@ pub fn combine(
     requires { ⌜ Given (now m) (now q) (spot .start) (spot .a) (spot .d) (now truth) (now cone) (now table) ⌝ }
     requires { ⌜
         Here (now m) (now q) (spot .start) (spot .d) (now cone) (now trail) (now gains) (now v) (spot .h) (spot .s) (spot .k + 1)
-        × (i < choices-in (now m) (spot .s)) × (0 < c) × (c ≤ outcomes-in (now m) (spot .s) i) ⌝ }
+        × (i < choices-in (now m) (spot .s)) × (0 < c) × (c ≤ outcomes-in (now m) (spot .s) i) × Marked (now q) (now cone) (now late) ⌝ }
     requires { ⌜
         Room (spot .k + 1) (multiply (λ o. plan-total (model-in (now m)) (spot .k) (o .target))
         (take c (outcomes (model-in (now m)) (spot .s) (choice-in (now m) (spot .s) i)))) (spot .at) (length (now buf)) ⌝ }
@@ -240,7 +268,20 @@ pub fn combine(
     let mut lo = longest(m, table, s, i, c, spot.k);
     let mut hi = lo + 1;
     let first = Outcome { i: i, o: lo };
-    let mut len = weighed_below(m, q, truth, cone, table, trail, gains, v, buf, spot, first);
+    let mut len = weighed_below(
+        m,
+        q,
+        truth,
+        cone,
+        table,
+        late,
+        trail,
+        gains,
+        v,
+        buf,
+        spot,
+        first,
+    );
     while hi - lo < c {
         let o = beside(lo, hi, c);
         let more = Further {
@@ -249,7 +290,20 @@ pub fn combine(
             len: len,
             right: lo < o,
         };
-        len = grown(m, q, truth, cone, table, trail, gains, v, buf, spot, more);
+        len = grown(
+            m,
+            q,
+            truth,
+            cone,
+            table,
+            late,
+            trail,
+            gains,
+            v,
+            buf,
+            spot,
+            more,
+        );
         lo = least(lo, o);
         hi = most(hi, o + 1);
     }
@@ -263,6 +317,7 @@ fn grown(
     truth: &[u8; TRUTHS],
     cone: &[u8],
     table: &[u64; COUNTS],
+    late: &[u8; NODES],
     trail: &mut [u16; STEPS],
     gains: &mut [i32; PLACES],
     v: &mut [u8; VALUES],
@@ -273,7 +328,7 @@ fn grown(
     requires { ⌜ Given (now m) (now q) (spot .start) (spot .a) (spot .d) (now truth) (now cone) (now table) ⌝ }
     requires { ⌜
         Here (now m) (now q) (spot .start) (spot .d) (now cone) (now trail) (now gains) (now v) (spot .h) (spot .s) (spot .k + 1)
-        × Offers (now m) (spot .s) (more .i) (more .o) ⌝ }
+        × Offers (now m) (spot .s) (more .i) (more .o) × Marked (now q) (now cone) (now late) ⌝ }
     requires { ⌜
         Grows (now buf) (spot .at) (more .len)
         (plan-total (model-in (now m)) (spot .k) ((step-in (now m) (spot .s) (more .i) (more .o)) .target)) (spot .k) ⌝ }
@@ -301,7 +356,20 @@ fn grown(
         i: more.i,
         o: more.o,
     };
-    below(m, q, truth, cone, table, trail, gains, v, buf, behind, to);
+    below(
+        m,
+        q,
+        truth,
+        cone,
+        table,
+        late,
+        trail,
+        gains,
+        v,
+        buf,
+        behind,
+        to,
+    );
     join(
         buf,
         spot.at,
@@ -320,6 +388,7 @@ pub fn weighed_below(
     truth: &[u8; TRUTHS],
     cone: &[u8],
     table: &[u64; COUNTS],
+    late: &[u8; NODES],
     trail: &mut [u16; STEPS],
     gains: &mut [i32; PLACES],
     v: &mut [u8; VALUES],
@@ -330,7 +399,7 @@ pub fn weighed_below(
     requires { ⌜ Given (now m) (now q) (spot .start) (spot .a) (spot .d) (now truth) (now cone) (now table) ⌝ }
     requires { ⌜
         Here (now m) (now q) (spot .start) (spot .d) (now cone) (now trail) (now gains) (now v) (spot .h) (spot .s) (spot .k + 1)
-        × Offers (now m) (spot .s) (to .i) (to .o) ⌝ }
+        × Offers (now m) (spot .s) (to .i) (to .o) × Marked (now q) (now cone) (now late) ⌝ }
     requires { ⌜
         Room (spot .k) (plan-total (model-in (now m)) (spot .k) ((step-in (now m) (spot .s) (to .i) (to .o)) .target)) (spot .at)
         (length (now buf)) ⌝ }
@@ -342,7 +411,20 @@ pub fn weighed_below(
         ⌜ Written (weighed (model-in m) (spot .k) f (step-in m (spot .s) (to .i) (to .o))) m q (spot .start) cone (spot .h) (spot .at) trail
         trail′ gains′ v′ buf buf′ r ⌝ }
 {
-    let n = below(m, q, truth, cone, table, trail, gains, v, buf, spot, to);
+    let n = below(
+        m,
+        q,
+        truth,
+        cone,
+        table,
+        late,
+        trail,
+        gains,
+        v,
+        buf,
+        spot,
+        to,
+    );
     let w = weight(m, spot.s as usize, to.i, to.o);
     shift(buf, spot.at, spot.at, n, w, 0);
     n
@@ -355,6 +437,7 @@ fn below(
     truth: &[u8; TRUTHS],
     cone: &[u8],
     table: &[u64; COUNTS],
+    late: &[u8; NODES],
     trail: &mut [u16; STEPS],
     gains: &mut [i32; PLACES],
     v: &mut [u8; VALUES],
@@ -365,7 +448,7 @@ fn below(
     requires { ⌜ Given (now m) (now q) (spot .start) (spot .a) (spot .d) (now truth) (now cone) (now table) ⌝ }
     requires { ⌜
         Here (now m) (now q) (spot .start) (spot .d) (now cone) (now trail) (now gains) (now v) (spot .h) (spot .s) (spot .k + 1)
-        × Offers (now m) (spot .s) (to .i) (to .o) ⌝ }
+        × Offers (now m) (spot .s) (to .i) (to .o) × Marked (now q) (now cone) (now late) ⌝ }
     requires { ⌜
         Room (spot .k) (plan-total (model-in (now m)) (spot .k) ((step-in (now m) (spot .s) (to .i) (to .o)) .target)) (spot .at)
         (length (now buf)) ⌝ }
@@ -403,5 +486,5 @@ fn below(
         k: spot.k,
         at: spot.at,
     };
-    list(m, q, truth, cone, table, trail, gains, v, buf, on)
+    list(m, q, truth, cone, table, late, trail, gains, v, buf, on)
 }

@@ -14,8 +14,10 @@ ghost use Rattle.exact_plan.specs.promises.Totals.{combined, weighed, gr
 ghost use Rattle.exact_plan.specs.promises.Totals as spec;
 ghost use Rattle.exact_plan.specs.promises.Room.{Room};
 ghost use Rattle.exact_plan.specs.promises.Listing.{Given, Here, Written, Decides, First};
+ghost use Rattle.exact_plan.specs.promises.Last.{Marked};
 ghost use Rattle.exact_plan.specs.promises.Search.{Searched, Between, stored-at, Housed};
 use crate::Sought;
+use crate::last::marks;
 use crate::lists::Outcome;
 use crate::lists::Spot;
 use crate::lists::alike;
@@ -33,6 +35,7 @@ use prepared_model::MODEL;
 use prepared_model::choices;
 use prepared_model::outcomes;
 use prepared_question::QUESTION;
+use questions::NODES;
 
 // Where a total was sought among those of some plans: its first place, which is their number where it is not there; their number; and whether it
 // is there.
@@ -150,6 +153,7 @@ fn front(
     truth: &[u8; TRUTHS],
     cone: &[u8],
     table: &[u64; COUNTS],
+    late: &[u8; NODES],
     trail: &mut [u16; STEPS],
     gains: &mut [i32; PLACES],
     v: &mut [u8; VALUES],
@@ -161,7 +165,7 @@ fn front(
     requires { ⌜ Given (now m) (now q) (spot .start) (spot .a) (spot .d) (now truth) (now cone) (now table) ⌝ }
     requires { ⌜
         Here (now m) (now q) (spot .start) (spot .d) (now cone) (now trail) (now gains) (now v) (spot .h) (spot .s) (spot .k + 1)
-        × (i < choices-in (now m) (spot .s)) × (c ≤ outcomes-in (now m) (spot .s) i) ⌝ }
+        × (i < choices-in (now m) (spot .s)) × (c ≤ outcomes-in (now m) (spot .s) i) × Marked (now q) (now cone) (now late) ⌝ }
     requires { ⌜
         Room (spot .k + 1) (multiply (λ o. plan-total (model-in (now m)) (spot .k) (o .target))
         (take c (outcomes (model-in (now m)) (spot .s) (choice-in (now m) (spot .s) i)))) (spot .at) (length (now buf)) ⌝ }
@@ -177,7 +181,21 @@ fn front(
         fill(buf, spot.at, 1, 0);
         return 1;
     }
-    combine(m, q, truth, cone, table, trail, gains, v, buf, spot, i, c)
+    combine(
+        m,
+        q,
+        truth,
+        cone,
+        table,
+        late,
+        trail,
+        gains,
+        v,
+        buf,
+        spot,
+        i,
+        c,
+    )
 }
 
 // Where x stands among the totals of all plans that begin with the choice at place i, with k steps below it. The combined list of all outcomes but the
@@ -188,6 +206,7 @@ fn seek(
     truth: &[u8; TRUTHS],
     cone: &[u8],
     table: &[u64; COUNTS],
+    late: &[u8; NODES],
     trail: &mut [u16; STEPS],
     gains: &mut [i32; PLACES],
     v: &mut [u8; VALUES],
@@ -199,7 +218,7 @@ fn seek(
     requires { ⌜ Given (now m) (now q) (spot .start) (spot .a) (spot .d) (now truth) (now cone) (now table) ⌝ }
     requires { ⌜
         Here (now m) (now q) (spot .start) (spot .d) (now cone) (now trail) (now gains) (now v) (spot .h) (spot .s) (spot .k + 1)
-        × (i < choices-in (now m) (spot .s)) ⌝ }
+        × (i < choices-in (now m) (spot .s)) × Marked (now q) (now cone) (now late) ⌝ }
     requires { ⌜
         (plan-total (model-in (now m)) (spot .k + 1) (spot .s) ≤ 65536)
         × (spot .at + stored-at (now m) (spot .s) i (spot .k) + 282 ≤ length (now buf)) ⌝ }
@@ -219,6 +238,7 @@ fn seek(
         truth,
         cone,
         table,
+        late,
         trail,
         gains,
         v,
@@ -237,7 +257,20 @@ fn seek(
         at: spot.at + slow,
     };
     let to = Outcome { i: i, o: last };
-    let fast = weighed_below(m, q, truth, cone, table, trail, gains, v, buf, behind, to);
+    let fast = weighed_below(
+        m,
+        q,
+        truth,
+        cone,
+        table,
+        late,
+        trail,
+        gains,
+        v,
+        buf,
+        behind,
+        to,
+    );
     first_sum(buf, spot.at, slow, fast, x)
 }
 
@@ -248,6 +281,7 @@ fn by_choices(
     truth: &[u8; TRUTHS],
     cone: &[u8],
     table: &[u64; COUNTS],
+    late: &[u8; NODES],
     trail: &mut [u16; STEPS],
     gains: &mut [i32; PLACES],
     v: &mut [u8; VALUES],
@@ -257,7 +291,8 @@ fn by_choices(
 ) -> Placed
     requires { ⌜ Given (now m) (now q) (spot .start) (spot .a) (spot .d) (now truth) (now cone) (now table) ⌝ }
     requires { ⌜
-        Here (now m) (now q) (spot .start) (spot .d) (now cone) (now trail) (now gains) (now v) (spot .h) (spot .s) (spot .k + 1) ⌝ }
+        Here (now m) (now q) (spot .start) (spot .d) (now cone) (now trail) (now gains) (now v) (spot .h) (spot .s) (spot .k + 1)
+        × Marked (now q) (now cone) (now late) ⌝ }
     requires { ⌜
         (plan-total (model-in (now m)) (spot .k + 1) (spot .s) ≤ 65536)
         × ((i : _) → i < choices-in (now m) (spot .s) → spot .at + stored-at (now m) (spot .s) i (spot .k) + 282 ≤ length (now buf)) ⌝ }
@@ -272,7 +307,21 @@ fn by_choices(
     let mut before: usize = 0;
     let mut i: usize = 0;
     while i < n {
-        let p = seek(m, q, truth, cone, table, trail, gains, v, buf, spot, i, x);
+        let p = seek(
+            m,
+            q,
+            truth,
+            cone,
+            table,
+            late,
+            trail,
+            gains,
+            v,
+            buf,
+            spot,
+            i,
+            x,
+        );
         if p.found {
             return Placed {
                 place: before + p.place,
@@ -340,6 +389,7 @@ pub fn first_within(
         let m = now (m .entry) in let q = now (q .entry) in let cone = now (cone .entry) in
         ⌜ Searched (spec.totals (model-in m) (l .n) (l .s) (worth-of m q (l .s) (l .a) (l .d) cone)) x r ⌝ }
 {
+    let late = marks(q, cone);
     let mut trail = [0u16; STEPS];
     let mut gains = [0i32; PLACES];
     let mut v = [0u8; VALUES];
@@ -363,6 +413,7 @@ pub fn first_within(
         truth,
         cone,
         table,
+        &late,
         &mut trail,
         &mut gains,
         &mut v,

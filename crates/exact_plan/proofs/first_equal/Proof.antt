@@ -1,6 +1,5 @@
 -- `first_equal`: the largest room has 282 numbers beside as many as a search stores.
 use native.Mathlib.Omega.{arith}
-use borrow.Author.Needs.{needs}
 use Rattle.exact_plan.proofs.first_equal.Statement.{statement}
 use Rattle.exact_plan.proofs.first_equal.Tie as tie
 

@@ -1,9 +1,8 @@
 -- `rooms::stored`: the most of what is stored below the choices passed.
 use Prim.Native.Nat.{ℕ, _+_, _-_, _<_, _≤_}
 use native.Mathlib.Omega.{arith}
-use mathlib.Core.Path.{_≡_, subst}
-use Rattle.logic.specs.Limits.{plan-total}
-use Rattle.prepared_model.specs.promises.Rows.{choices-in, model-in}
+use mathlib.Core.Path.{_≡_}
+use Rattle.prepared_model.specs.promises.Rows.{choices-in}
 use Rattle.prepared_model.proofs.PlacesInRange.{place-range}
 use borrow.Author.Needs.{needs}
 use Rattle.exact_plan.specs.promises.Search.{stored-at}

@@ -1,5 +1,5 @@
 -- `rooms::stored_below`: two lists whose lengths have a product of up to 65,536 have together one number more at most.
-use Prim.Native.Nat.{_+_, _-_, _<_, _≤_}
+use Prim.Native.Nat.{_+_, _-_, _<_}
 use native.Mathlib.Omega.{arith}
 use mathlib.Core.Path.{_≡_, sym, ap₂, subst, _∙_}
 use borrow.Author.Needs.{needs}

@@ -1,8 +1,7 @@
 -- `search::by_choices`: the choices passed do not have x.
-use Prim.Native.Nat.{ℕ, _+_, _-_, _<_, _≤_}
+use Prim.Native.Nat.{_+_, _-_, _<_, _≤_}
 use native.Mathlib.Omega.{arith}
-use native.Mathlib.Nat.{le-refl}
-use mathlib.Core.Path.{_≡_, refl, sym, subst, _∙_}
+use mathlib.Core.Path.{_≡_, refl, sym, _∙_}
 use lib.ListN.{length, take}
 use borrow.Author.Needs.{needs}
 use borrow.Author.Tests.{lt-ltb, le-ltb}
@@ -16,11 +15,11 @@ use Rattle.exact_plan.proofs.search.by_choices.Statement.{statement}
 use Rattle.exact_plan.proofs.search.by_choices.Tie as tie
 
 abbrev Inv-loop : tie.InvT-loop
-Inv-loop m q truth cone table trail₀ gains₀ v₀ buf₀ spot x s all n before₀ i₀ trail gains v buf before i =
+Inv-loop m q truth cone table late trail₀ gains₀ v₀ buf₀ spot x s all n before₀ i₀ trail gains v buf before i =
     (n ≡ choices-in m (spot .s)) × (length buf ≡ length buf₀) × Passed-over m q (spot .start) (spot .a) (spot .d) cone (spot .h) (spot .s) (spot .k) trail₀ trail gains v x before i
 
 abbrev μ-loop : tie.MeasureT-loop
-μ-loop m q truth cone table trail₀ gains₀ v₀ buf₀ spot x s all n before₀ i₀ trail gains v buf before i = n - i
+μ-loop m q truth cone table late trail₀ gains₀ v₀ buf₀ spot x s all n before₀ i₀ trail gains v buf before i = n - i
 
 -- The table has the number of all plans.
 every : (c : tie.After-plans-counted Inv-loop μ-loop) → let A = c .before .before .before .before .before .args in
@@ -28,23 +27,23 @@ every : (c : tie.After-plans-counted Inv-loop μ-loop) → let A = c .before .be
 every c = let S = c .before .before .before .before .before in
     let A = S .args in
     c .plans-counted .ensures
-    ∙ S .pre .0 .counts .right (A .spot .k + 1) (A .spot .s) (omega (arith, S .pre .1 .0 .steps)) (S .pre .1 .0 .inside) (S .pre .1 .1 .0)
+    ∙ S .pre .0 .counts .right (A .spot .k + 1) (A .spot .s) (omega (arith, S .pre .1 .0 .0 .steps)) (S .pre .1 .0 .0 .inside) (S .pre .1 .1 .0)
     ∙ sym (totals-length (model-in (A .m .now)) (A .spot .k + 1) (A .spot .s) (worth-on (A .m .now) (A .q .now) (A .spot .start) (A .spot .a) (A .spot .d) (A .cone .now) (take (A .spot .h) (A .trail .now))))
 
 cast-s : tie.Need-cast-s Inv-loop μ-loop
 cast-s c = search needs
 
 add-plans-counted : tie.Need-add-plans-counted Inv-loop μ-loop
-add-plans-counted c = record { fits = omega (arith, c .before .before .before .before .pre .1 .0 .steps) }
+add-plans-counted c = record { fits = omega (arith, c .before .before .before .before .pre .1 .0 .0 .steps) }
 
 plans-counted-requires : tie.Need-plans-counted-requires Inv-loop μ-loop
-plans-counted-requires c κs = let S = c .before .before .before .before in (omega (arith, S .pre .1 .0 .steps), state-small (S .pre .0) (S .pre .1 .0 .inside))
+plans-counted-requires c κs = let S = c .before .before .before .before in (omega (arith, S .pre .1 .0 .0 .steps), state-small (S .pre .0) (S .pre .1 .0 .0 .inside))
 
 choices-requires : tie.Need-choices-requires Inv-loop μ-loop
-choices-requires c κs = let S = c .before .before .before .before .before in state-small (S .pre .0) (S .pre .1 .0 .inside)
+choices-requires c κs = let S = c .before .before .before .before .before in state-small (S .pre .0) (S .pre .1 .0 .0 .inside)
 
 loop-holds : tie.Need-loop-holds Inv-loop μ-loop
-loop-holds c = (c .choices .ensures, refl, passed-none (c .before .before .before .before .before .before .pre .1 .0))
+loop-holds c = (c .choices .ensures, refl, passed-none (c .before .before .before .before .before .before .pre .1 .0 .0))
 
 -- The turn has a choice.
 turn : (c : tie.In-loop Inv-loop μ-loop) → c .before .loop .i < choices-in (c .before .before .before .before .before .before .before .before .args .m .now) (c .before .before .before .before .before .before .before .before .args .spot .s)
@@ -53,14 +52,14 @@ turn c = omega (arith, c .before .loop .inv .0, c .loop-test .taken)
 seek-requires : tie.Need-seek-requires Inv-loop μ-loop
 seek-requires c κs = let S = c .before .before .before .before .before .before .before .before .before .before .before .before in
     let I = c .before .before .before .before .before .loop .inv in
-    (S .pre .0, ((I .2 .here, turn (c .before .before .before .before)), (S .pre .1 .1 .0, omega (arith, I .1, S .pre .1 .1 .1 (c .before .before .before .before .before .loop .i) (turn (c .before .before .before .before))))))
+    (S .pre .0, ((I .2 .here, turn (c .before .before .before .before), S .pre .1 .0 .1), (S .pre .1 .1 .0, omega (arith, I .1, S .pre .1 .1 .1 (c .before .before .before .before .before .loop .i) (turn (c .before .before .before .before))))))
 
-add-t26 : tie.Need-add-t26 Inv-loop μ-loop
-add-t26 c = let S = c .before .before .before .before .before .before .before .before .before .before .before .before .before .before .before .before .before in
+add-t27 : tie.Need-add-t27 Inv-loop μ-loop
+add-t27 c = let S = c .before .before .before .before .before .before .before .before .before .before .before .before .before .before .before .before .before in
     record { fits = omega (arith, place-few (S .pre .0) (S .pre .1 .1 .0) (c .before .before .before .before .before .before .before .before .before .before .loop .inv .2) (turn (c .before .before .before .before .before .before .before .before .before)) (c .before .before .before .before .seek .ensures .0)) }
 
 same-length : tie.Need-same-length Inv-loop μ-loop
-same-length c = c .before .before .before .before .seek .kept .1 .1 .1 .1 .1 .1 .1 .1 .0 ∙ c .before .before .before .before .before .before .before .before .before .before .loop .inv .1
+same-length c = c .before .before .before .before .seek .kept .1 .1 .1 .1 .1 .1 .1 .1 .1 .0 ∙ c .before .before .before .before .before .before .before .before .before .before .loop .inv .1
 
 returns : tie.Need-returns Inv-loop μ-loop
 returns c = let S = c .before .before .before .before .before .before .before .before .before .before .before .before .before .before .before .before .before in
@@ -78,7 +77,7 @@ add-before c = let S = c .before .before .before .before .before .before .before
 
 add-i : tie.Need-add-i Inv-loop μ-loop
 add-i c = let S = c .before .before .before .before .before .before .before .before .before .before .before .before .before .before .before .before .before in
-    record { fits = omega (arith, turn (c .before .before .before .before .before .before .before .before .before), S .pre .0 .ready .prepared .few-choices (S .args .spot .s) (S .pre .1 .0 .inside)) }
+    record { fits = omega (arith, turn (c .before .before .before .before .before .before .before .before .before), S .pre .0 .ready .prepared .few-choices (S .args .spot .s) (S .pre .1 .0 .0 .inside)) }
 
 loop-less : tie.Need-loop-less Inv-loop μ-loop
 loop-less c = omega (arith, c .before .before .before .before .before .before .before .before .before .loop-test .taken)
@@ -87,7 +86,7 @@ loop-again : tie.Need-loop-again Inv-loop μ-loop
 loop-again c = let S = c .before .before .before .before .before .before .before .before .before .before .before .before .before .before .before .before .before in
     let I = c .before .before .before .before .before .before .before .before .before .before .loop .inv in
     let x = c .before .before .before .before .seek in
-    (I .0, x .kept .1 .1 .1 .1 .1 .1 .1 .1 .0 ∙ I .1, choice-passed (S .pre .0) (S .pre .1 .1 .0) (I .2) (turn (c .before .before .before .before .before .before .before .before .before)) (x .ensures .0) (c .before .if1 .left) (x .ensures .1))
+    (I .0, x .kept .1 .1 .1 .1 .1 .1 .1 .1 .1 .0 ∙ I .1, choice-passed (S .pre .0) (S .pre .1 .1 .0) (I .2) (turn (c .before .before .before .before .before .before .before .before .before)) (x .ensures .0) (c .before .if1 .left) (x .ensures .1))
 
 same-length-2 : tie.Need-same-length-2 Inv-loop μ-loop
 same-length-2 c = c .before .loop .inv .1
@@ -116,7 +115,7 @@ by-choices-spec =
     choices-requires
     loop-holds
     seek-requires
-    add-t26
+    add-t27
     same-length
     returns
     add-before

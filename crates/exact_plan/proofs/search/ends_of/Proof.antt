@@ -1,9 +1,8 @@
 -- `search::ends_of`: the bounds of the numbers passed.
-use Prim.Native.Nat.{ℕ, _-_, _≤_}
+use Prim.Native.Nat.{_-_, _≤_}
 use native.Mathlib.Nat.{le-refl}
 use native.Mathlib.Omega.{arith}
 use mathlib.Core.Path.{_≡_, subst}
-use lib.ListN.{getD}
 use borrow.Author.Needs.{needs}
 use Rattle.exact_plan.proofs.SumsByRows.{Bounded, bounded-more, bounded-between}
 use Rattle.exact_plan.proofs.search.ends_of.Statement.{statement}

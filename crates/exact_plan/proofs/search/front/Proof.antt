@@ -15,7 +15,7 @@ returns : tie.Need-returns
 returns c = let S = c .before .before .before .before .before .before .before in none-written _ _ _ (c .before .before .before .before .if1 .taken) (S .pre .1 .1) (S .pre .1 .0 .0 .knows) (c .before .before .fill .ensures)
 
 combine-requires : tie.Need-combine-requires
-combine-requires c κs = let S = c .before .before .before .before .before .before .before in (S .pre .0, ((S .pre .1 .0 .0, S .pre .1 .0 .1, omega (arith, c .before .before .before .before .if1 .left), S .pre .1 .0 .2), S .pre .1 .1))
+combine-requires c κs = let S = c .before .before .before .before .before .before .before in (S .pre .0, ((S .pre .1 .0 .0, S .pre .1 .0 .1, omega (arith, c .before .before .before .before .if1 .left), S .pre .1 .0 .2, S .pre .1 .0 .3), S .pre .1 .1))
 
 same-length-2 : tie.Need-same-length-2
 same-length-2 c = search needs

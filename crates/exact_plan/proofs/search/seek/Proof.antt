@@ -1,5 +1,5 @@
 -- `search::seek`: the two lists stand one behind the other, and their sums are the totals below the choice.
-use Prim.Native.Nat.{_+_, _-_, _<_, _≤_}
+use Prim.Native.Nat.{_+_, _-_}
 use native.Mathlib.Omega.{arith}
 use mathlib.Core.Path.{refl, sym, subst, _∙_}
 use lib.ListN.{length}
@@ -31,40 +31,40 @@ sub-last c = let S = c .before .before .before .before in
 front-requires : tie.Need-front-requires
 front-requires c κs = let S = c .before .before .before .before .before .before .before .before in
     let e = c .before .before .before .before .outcomes .ensures in
-    (S .pre .0, ((S .pre .1 .0 .0, S .pre .1 .0 .1, omega (arith, last-there (S .pre .0) (place S) e (S .args .spot .at) (length (S .args .buf .now)) (S .pre .1 .1 .0) (S .pre .1 .1 .1))), front-room (S .pre .0) (place S) e (S .args .spot .at) (length (S .args .buf .now)) (S .pre .1 .1 .0) (S .pre .1 .1 .1)))
+    (S .pre .0, ((S .pre .1 .0 .0, S .pre .1 .0 .1, omega (arith, last-there (S .pre .0) (place S) e (S .args .spot .at) (length (S .args .buf .now)) (S .pre .1 .1 .0) (S .pre .1 .1 .1)), S .pre .1 .0 .2), front-room (S .pre .0) (place S) e (S .args .spot .at) (length (S .args .buf .now)) (S .pre .1 .1 .0) (S .pre .1 .1 .1)))
 
-add-t18 : tie.Need-add-t18
-add-t18 c = let S = c .before .before .before .before .before .before .before .before .before .before .before .before in
+add-t19 : tie.Need-add-t19
+add-t19 c = let S = c .before .before .before .before .before .before .before .before .before .before .before .before in
     let e = c .before .before .before .before .before .before .before .before .outcomes .ensures in
-    record { fits = omega (arith, slow-fits (S .pre .0) (place S) e (S .args .spot .at) (length (S .args .buf .now)) (S .pre .1 .1 .0) (S .pre .1 .1 .1) refl (c .before .before .before .front .ensures), S .good .1 .1 .1 .1 .1 .1 .1 .1 .0) }
+    record { fits = omega (arith, slow-fits (S .pre .0) (place S) e (S .args .spot .at) (length (S .args .buf .now)) (S .pre .1 .1 .0) (S .pre .1 .1 .1) refl (c .before .before .before .front .ensures), S .good .1 .1 .1 .1 .1 .1 .1 .1 .1 .0) }
 
 weighed-below-requires : tie.Need-weighed-below-requires
 weighed-below-requires c κs = let S = c .before .before .before .before .before .before .before .before .before .before .before .before .before .before .before .before in
     let e = c .before .before .before .before .before .before .before .before .before .before .before .before .outcomes .ensures in
     let f = c .before .before .before .before .before .before .before .front in
     let l = last-there (S .pre .0) (place S) e (S .args .spot .at) (length (S .args .buf .now)) (S .pre .1 .1 .0) (S .pre .1 .1 .1) in
-    (S .pre .0, ((still (S .pre .1 .0 .0) (f .ensures), (S .pre .1 .0 .1, l)), subst (Room (S .args .spot .k) (plan-total (model-in (S .args .m .now)) (S .args .spot .k) ((step-in (S .args .m .now) (S .args .spot .s) (S .args .i) (c .before .before .before .before .before .before .before .before .before .before .before .before .outcomes .result - 1)) .target)) (S .args .spot .at + f .result)) (sym (f .kept .1 .1 .1 .1 .1 .1 .1 .1 .0)) (last-room (S .pre .0) (place S) e (S .args .spot .at) (length (S .args .buf .now)) (S .pre .1 .1 .0) (S .pre .1 .1 .1) refl (f .ensures))))
+    (S .pre .0, ((still (S .pre .1 .0 .0) (f .ensures), (S .pre .1 .0 .1, l), S .pre .1 .0 .2), subst (Room (S .args .spot .k) (plan-total (model-in (S .args .m .now)) (S .args .spot .k) ((step-in (S .args .m .now) (S .args .spot .s) (S .args .i) (c .before .before .before .before .before .before .before .before .before .before .before .before .outcomes .result - 1)) .target)) (S .args .spot .at + f .result)) (sym (f .kept .1 .1 .1 .1 .1 .1 .1 .1 .1 .0)) (last-room (S .pre .0) (place S) e (S .args .spot .at) (length (S .args .buf .now)) (S .pre .1 .1 .0) (S .pre .1 .1 .1) refl (f .ensures))))
 
 first-sum-requires : tie.Need-first-sum-requires
 first-sum-requires c κs = let S = c .before .before .before .before .before .before .before .before .before .before .before .before .before .before .before .before .before .before .before .before in
     let e = c .before .before .before .before .before .before .before .before .before .before .before .before .before .before .before .before .outcomes .ensures in
     let f = c .before .before .before .before .before .before .before .before .before .before .before .front in
     let b = c .before .before .before .weighed-below in (
-      fast-some (S .pre .0) (place S) e (S .args .spot .at) (length (S .args .buf .now)) (S .pre .1 .1 .0) (S .pre .1 .1 .1) refl (f .ensures) (f .kept .1 .1 .1 .1 .1 .1 .1 .1 .0) (b .ensures),
-      omega (arith, sums-inside (S .pre .0) (place S) e (S .args .spot .at) (length (S .args .buf .now)) (S .pre .1 .1 .0) (S .pre .1 .1 .1) refl (f .ensures) (f .kept .1 .1 .1 .1 .1 .1 .1 .1 .0) (b .ensures), f .kept .1 .1 .1 .1 .1 .1 .1 .1 .0, b .kept .1 .1 .1 .1 .1 .1 .1 .1 .0),
-      sums-few (S .pre .0) (place S) e (S .args .spot .at) (length (S .args .buf .now)) (S .pre .1 .1 .0) (S .pre .1 .1 .1) refl (f .ensures) (f .kept .1 .1 .1 .1 .1 .1 .1 .1 .0) (b .ensures),
+      fast-some (S .pre .0) (place S) e (S .args .spot .at) (length (S .args .buf .now)) (S .pre .1 .1 .0) (S .pre .1 .1 .1) refl (f .ensures) (f .kept .1 .1 .1 .1 .1 .1 .1 .1 .1 .0) (b .ensures),
+      omega (arith, sums-inside (S .pre .0) (place S) e (S .args .spot .at) (length (S .args .buf .now)) (S .pre .1 .1 .0) (S .pre .1 .1 .1) refl (f .ensures) (f .kept .1 .1 .1 .1 .1 .1 .1 .1 .1 .0) (b .ensures), f .kept .1 .1 .1 .1 .1 .1 .1 .1 .1 .0, b .kept .1 .1 .1 .1 .1 .1 .1 .1 .1 .0),
+      sums-few (S .pre .0) (place S) e (S .args .spot .at) (length (S .args .buf .now)) (S .pre .1 .1 .0) (S .pre .1 .1 .1) refl (f .ensures) (f .kept .1 .1 .1 .1 .1 .1 .1 .1 .1 .0) (b .ensures),
     )
 
 same-length : tie.Need-same-length
-same-length c = c .before .before .before .before .weighed-below .kept .1 .1 .1 .1 .1 .1 .1 .1 .0 ∙ c .before .before .before .before .before .before .before .before .before .before .before .before .front .kept .1 .1 .1 .1 .1 .1 .1 .1 .0
+same-length c = c .before .before .before .before .weighed-below .kept .1 .1 .1 .1 .1 .1 .1 .1 .1 .0 ∙ c .before .before .before .before .before .before .before .before .before .before .before .before .front .kept .1 .1 .1 .1 .1 .1 .1 .1 .1 .0
 
 returns : tie.Need-returns
 returns c = let S = c .before .before .before .before .before .before .before .before .before .before .before .before .before .before .before .before .before .before .before .before .before in
     let e = c .before .before .before .before .before .before .before .before .before .before .before .before .before .before .before .before .before .outcomes .ensures in
     let f = c .before .before .before .before .before .before .before .before .before .before .before .before .front in
     let b = c .before .before .before .before .weighed-below in (
-      choice-searched (S .pre .0) (place S) e (S .args .spot .at) (length (S .args .buf .now)) (S .pre .1 .1 .0) (S .pre .1 .1 .1) refl (f .ensures) (f .kept .1 .1 .1 .1 .1 .1 .1 .1 .0) (b .ensures) (c .first-sum .ensures),
-      choice-back (S .pre .0) (place S) e (S .args .spot .at) (length (S .args .buf .now)) (S .pre .1 .1 .0) (S .pre .1 .1 .1) refl (f .ensures) (f .kept .1 .1 .1 .1 .1 .1 .1 .1 .0) (b .ensures),
+      choice-searched (S .pre .0) (place S) e (S .args .spot .at) (length (S .args .buf .now)) (S .pre .1 .1 .0) (S .pre .1 .1 .1) refl (f .ensures) (f .kept .1 .1 .1 .1 .1 .1 .1 .1 .1 .0) (b .ensures) (c .first-sum .ensures),
+      choice-back (S .pre .0) (place S) e (S .args .spot .at) (length (S .args .buf .now)) (S .pre .1 .1 .0) (S .pre .1 .1 .1) refl (f .ensures) (f .kept .1 .1 .1 .1 .1 .1 .1 .1 .1 .0) (b .ensures),
     )
 
 pub seek-spec : {M : Type 1} → statement M
@@ -75,7 +75,7 @@ seek-spec =
     outcomes-requires
     sub-last
     front-requires
-    add-t18
+    add-t19
     weighed-below-requires
     first-sum-requires
     same-length
