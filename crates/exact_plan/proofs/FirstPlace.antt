@@ -1,13 +1,13 @@
--- The first place of a number among the totals; and the search at the start, before any step.
-use Prim.Native.Nat.{ℕ, _+_, _*_, _≤_, _<_}
-use native.Mathlib.Nat.{zero-add}
-use native.Mathlib.Decide.{ℕ-discrete}
+-- The first place of a number in a list, in lists one after the other, and among equal numbers; and the search at the start, before any step.
+use Prim.Native.Nat.{ℕ, _+_, _-_, _*_, _≤_, _<_}
+use native.Mathlib.Nat.{zero-add, lt-of-not-le}
+use native.Mathlib.Decide.{ℕ-discrete, decLe}
 use native.Mathlib.Omega.{arith}
 use mathlib.Core.Path.{_≡_, refl, sym, ap, subst, _∙_}
-use mathlib.Core.List.{List, []}
+use mathlib.Core.List.{List, [], _++_}
 use lib.IntN.{ℤ}
-use lib.ListN.{length, take, getD}
-use lib.Seq.{getD-take, length-take-le}
+use lib.ListN.{length, take, getD, replicate, length-append, length-replicate, getD-replicate, List·getD-append}
+use lib.Seq.{getD-take, length-take-le, getD-append-add}
 use Rattle.logic.specs.Limits.{plan-total}
 use Rattle.blocks.specs.Bytes.{Bytes}
 use Rattle.prepared_model.specs.promises.Rows.{model-in}
@@ -40,6 +40,53 @@ module _ (buf : List ℕ) (len x : ℕ) (fits : len ≤ length buf) where
   first-nowhere g =
       record { few = omega (arith, size); none-before = λ j l p. g j l (sym (getD-take len buf j 0 l) ∙ p); there = λ l. absurd (omega (arith, size)) }
 
+-- ---- in lists one after the other
+
+pub first-none : {x : ℕ} → First [] x 0
+first-none = record { few = omega arith; none-before = λ j l. absurd (omega arith); there = λ l. absurd (omega arith) }
+
+module _ {x : ℕ} {xs : List ℕ} (ys : List ℕ) where
+  -- Found in the first list.
+  pub first-kept : {r : ℕ} → First xs x r → r < length xs → First (xs ++ ys) x r
+  first-kept {r} F h =
+      record {
+        few = omega (arith, length-append xs ys);
+        none-before = λ j l e. F .none-before j l (sym (List·getD-append xs ys 0 j (omega arith)) ∙ e);
+        there = λ _. List·getD-append xs ys 0 r h ∙ F .there h;
+      }
+
+  -- Passed over in the first list.
+  pub first-more : {r : ℕ} → First xs x (length xs) → First ys x r → First (xs ++ ys) x (length xs + r)
+  first-more {r} F R =
+      record {
+        few = omega (arith, length-append xs ys, R .few);
+        none-before = λ j l. before j l (decLe (length xs) j);
+        there = λ l. getD-append-add xs ys r 0 ∙ R .there (omega (arith, length-append xs ys));
+      }
+    where
+      before : (j : ℕ) → j < length xs + r → Dec (length xs ≤ j) → getD (xs ++ ys) j 0 ≡ x → ⊥
+      before j l (yes h) e =
+          let z : length xs + (j - length xs) ≡ j = omega arith in
+          R .none-before (j - length xs) (omega arith) (sym (getD-append-add xs ys (j - length xs) 0) ∙ ap (λ n. getD (xs ++ ys) n 0) z ∙ e)
+      before j l (no h) e =
+          let g : j < length xs = lt-of-not-le h in
+          F .none-before j g (sym (List·getD-append xs ys 0 j g) ∙ e)
+
+-- ---- among equal numbers
+
+module _ (n v x : ℕ) where
+  pub first-of-equal : v ≡ x → First (replicate n v) x 0
+  first-of-equal e =
+      record { few = omega arith; none-before = λ j l. absurd (omega arith); there = λ l. getD-replicate n 0 v 0 (omega (arith, length-replicate n v)) ∙ e }
+
+  pub none-of-equal : (v ≡ x → ⊥) → First (replicate n v) x n
+  none-of-equal h =
+      record {
+        few = omega (arith, length-replicate n v);
+        none-before = λ j l e. h (sym (getD-replicate n j v 0 l) ∙ e);
+        there = λ l. absurd (omega (arith, length-replicate n v));
+      }
+
 -- ---- the start
 
 module _ {m q : Bytes} {start a d : ℕ} {truth cone table : List ℕ} (G : Given m q start a d truth cone table) where
@@ -47,6 +94,10 @@ module _ {m q : Bytes} {start a d : ℕ} {truth cone table : List ℕ} (G : Give
       → Here m q start d cone trail gains v 0 start n
   unfolding state-after
   begins trail gains v h k K = record { steps = omega arith; deep = omega arith; inside = G .ready .state; whole = refl; state = refl; knows = K }
+
+  pub start-worth : (trail : List ℕ) → worth-on m q start a d cone (take 0 trail) ≡ worth-of m q start a d cone
+  unfolding steps-of
+  start-worth trail = refl
 
   -- The list from the start stands at the front of the buffer.
   pub all-listed : (n : ℕ) {r : ℕ} {trail trail₁ : List ℕ} {gains₁ : List ℤ} {v₁ buf buf₁ : List ℕ}

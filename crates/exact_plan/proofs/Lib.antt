@@ -14,3 +14,8 @@ pub mod ChoiceByChoice
 pub mod FirstPlace
 pub mod NearestPlace
 pub mod CountsBelowCap
+pub mod EnoughRoom
+pub mod SumsByRows
+pub mod PlansBelow
+pub mod ChoicesSearched
+pub mod LastStepLists

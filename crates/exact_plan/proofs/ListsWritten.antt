@@ -88,36 +88,39 @@ module _ {m q : Bytes} {start a d : ℕ} {truth cone table : List ℕ} (G : Give
       value-here : (r : List Step) → worth-known cone gains v a d ≡ worth-on m q start a d cone (take h trail) r
       value-here = worth-here a d (G .from) cone (G .ready) (G .looks) (H .knows) (omega (arith, H .whole))
 
+      pub decides : Decides m cone gains v a d k
+      decides =
+          record {
+            readable = worth-readable a d (G .from) (G .ready) (H .knows) (omega (arith, H .whole)) (omega (arith, H .whole, H .steps));
+            small = rw (value-here []) (worth-on-small a d (G .ready) (H .knows .followed) (omega (arith, H .steps)) [] (λ o i. absurd (List·Memᴰ·not-nil i)));
+            steps = omega (arith, H .steps);
+            part-of = G .ready .prepared .parts;
+          }
+
+      pub all-alike : totals (model-in m) k s (worth-on m q start a d cone (take h trail)) ≡ replicate (plan-total (model-in m) k s) (worth-known cone gains v a d * denominator-of m ^ k)
+      all-alike =
+          totals-alike (model-in m) (G .ready .prepared .accepted) k s (rw (states-are m) (H .inside))
+          (worth-on m q start a d cone (take h trail)) (worth-known cone gains v a d) (λ r. sym (value-here r))
+          ∙ ap (λ z. replicate (plan-total (model-in m) k s) (worth-known cone gains v a d * z ^ k)) (denominator-is m)
+
       module _ (buf : List ℕ) {at : ℕ} (room : Room k (plan-total (model-in m) k s) at (length buf)) where
         served : getD table (32 * k + s) 0 ≡ plan-total (model-in m) k s
         served = G .counts .right k s (omega (arith, H .steps)) (H .inside) (room .few)
 
-        pub decides : Decides m cone gains v table buf a d s k at
-        decides =
-            record {
-              readable = worth-readable a d (G .from) (G .ready) (H .knows) (omega (arith, H .whole)) (omega (arith, H .whole, H .steps));
-              small = rw (value-here []) (worth-on-small a d (G .ready) (H .knows .followed) (omega (arith, H .steps)) [] (λ o i. absurd (List·Memᴰ·not-nil i)));
-              steps = omega (arith, H .steps);
-              state = state-small (H .inside);
-              part-of = G .ready .prepared .parts;
-              room = omega (arith, served, room .fits);
-            }
+        pub decided-room : at + getD table (32 * k + s) 0 ≤ length buf
+        decided-room = omega (arith, served, room .fits)
 
         pub decided-written : {buf′ : List ℕ} {r : ℕ} → r ≡ getD table (32 * k + s) 0
             → buf′ ≡ splice buf at (replicate (getD table (32 * k + s) 0) (worth-known cone gains v a d * denominator-of m ^ k))
             → Written (totals (model-in m) k s (worth-on m q start a d cone (take h trail))) m q start cone h at trail trail gains v buf buf′ r
         decided-written {buf′} {r} e f =
             let X : List ℕ = replicate (plan-total (model-in m) k s) (worth-known cone gains v a d * denominator-of m ^ k) in
-            let alike : totals (model-in m) k s (worth-on m q start a d cone (take h trail)) ≡ X =
-            totals-alike (model-in m) (G .ready .prepared .accepted) k s (rw (states-are m) (H .inside))
-            (worth-on m q start a d cone (take h trail)) (worth-known cone gains v a d) (λ r. sym (value-here r))
-            ∙ ap (λ z. replicate (plan-total (model-in m) k s) (worth-known cone gains v a d * z ^ k)) (denominator-is m) in
             let g : buf′ ≡ splice buf at X = f ∙ ap (λ n. splice buf at (replicate n (worth-known cone gains v a d * denominator-of m ^ k))) served in
             record {
               back = back-none (H .knows);
               count = e ∙ served ∙ sym (totals-length (model-in m) k s (worth-on m q start a d cone (take h trail)));
               listed =
-                  subst (λ l. take (at + length l) buf′ ≡ take at buf ++ l) (sym alike)
+                  subst (λ l. take (at + length l) buf′ ≡ take at buf ++ l) (sym all-alike)
                   (ap (take (at + length X)) g ∙ take-written buf at X (omega (arith, room .fits)));
             }
 

@@ -30,7 +30,7 @@ use Rattle.exact_plan.specs.promises.Spread.{Shifts, Joins}
 use Rattle.exact_plan.specs.promises.Room.{Room}
 use Rattle.exact_plan.specs.promises.Listing.{Given, Here, Written, Longest, Grows}
 use Rattle.exact_plan.proofs.Parts.{part-length, part-drop}
-use Rattle.exact_plan.proofs.TotalsByFirstStep.{totals-length}
+use Rattle.exact_plan.proofs.TotalsByFirstStep.{totals-length, weighed-length}
 use Rattle.exact_plan.proofs.Grid.{combined-length, combined-one}
 use Rattle.exact_plan.proofs.Spans.{multiply-within, multiply-one}
 use Rattle.exact_plan.proofs.TotalsBounded.{Up-to, up-times, up-totals, up-combined}
@@ -65,7 +65,7 @@ placed p k H g = record { state = H .inside; choice = g; few = omega (arith, H .
 -- The lists of the outcomes from lo to hi stand combined at `at`, and no outcome has a longer list.
 pub record Spanned (m q : Bytes) (start a d : ℕ) (cone : List ℕ) (h s p k at c : ℕ) (trail₀ buf₀ trail : List ℕ) (gains : List ℤ) (v buf : List ℕ)
     (lo hi len : ℕ) : Type 0 where
-  pub all : c ≡ outcomes-in m s p
+  pub all : c ≤ outcomes-in m s p
   pub some : lo < hi
   pub most : hi ≤ c
   pub longest : (i : ℕ) → i < c → ways m s p k i ≤ len
@@ -132,11 +132,7 @@ module _ {m q : Bytes} {start a d : ℕ} {truth cone table : List ℕ} (G : Give
   F = lists m q start a d cone s p k
 
   lists-length : (T : List ℕ) (i : ℕ) → length (F T i) ≡ t i
-  unfolding weighed
-  lists-length T i =
-      let o : Step = step-in m s p i in
-      length-map (totals (model-in m) k (o .target) (λ r. worth-on m q start a d cone T (o ∷ r))) (λ y. o .weight * y)
-      ∙ totals-length (model-in m) k (o .target) (λ r. worth-on m q start a d cone T (o ∷ r))
+  lists-length T i = weighed-length (model-in m) k (worth-on m q start a d cone T) (step-in m s p i)
 
   ways-some : (i : ℕ) → i < outcomes-in m s p → 0 < t i
   ways-some i u = some-plan (G .ready .prepared) k ((step-in m s p i) .target) (reached G s p i (place .state) (place .choice, u))
@@ -175,100 +171,106 @@ module _ {m q : Bytes} {start a d : ℕ} {truth cone table : List ℕ} (G : Give
       let u = up-combined (F T) b (count-from lo n) (λ i c. lists-small followed i (omega (arith, counted-range lo n c .1))) x j in
       omega (arith, u, mul-le-mul l (le-refl b), ap (λ z. z * b) (count-length lo n))
 
-  span-within : (lo n : ℕ) → lo + n ≤ outcomes-in m s p → multiply t (count-from lo n) ≤ multiply t (count-from 0 (outcomes-in m s p))
-  span-within lo n h = multiply-within t (outcomes-in m s p) ways-some lo n h
-
   outcomes-few : outcomes-in m s p ≤ 4
   outcomes-few = G .ready .prepared .few-outcomes s p (place .state) (place .choice)
 
-  module _ {at size : ℕ} (R : Room (k + 1) (multiply (λ o. plan-total (model-in m) k (o .target)) (outcomes (model-in m) s (choice-in m s p))) at size) where
-    room : Room (suc k) (multiply t (count-from 0 (outcomes-in m s p))) at size
+  -- ---- the list below an outcome, weighed in its place
+  module _ (o : ℕ) (u : o < outcomes-in m s p) {trail trail₁ : List ℕ} {gains₁ : List ℤ} {v₁ : List ℕ} (buf : List ℕ) {buf₁ : List ℕ}
+      {h at r w : ℕ} (R : Room k (t o) at (length buf))
+      (W : Written (totals (model-in m) k ((step-in m s p o) .target) (λ l. worth-on m q start a d cone (take h trail) (step-in m s p o ∷ l)))
+      m q start cone h at trail trail₁ gains₁ v₁ buf buf₁ r)
+      (whole : length buf₁ ≡ length buf) (e : w ≡ (step-in m s p o) .weight) where
+    xs : List ℕ
+    xs = totals (model-in m) k ((step-in m s p o) .target) (λ l. worth-on m q start a d cone (take h trail) (step-in m s p o ∷ l))
+
+    weighed-count : r ≡ t o
+    weighed-count = W .count ∙ totals-length (model-in m) k ((step-in m s p o) .target) (λ l. worth-on m q start a d cone (take h trail) (step-in m s p o ∷ l))
+
+    at-place : part buf₁ at r ≡ xs
+    unfolding xs
+    at-place = ap (part buf₁ at) (W .count) ∙ held-part buf buf₁ at xs (omega (arith, R .fits)) (W .listed)
+
+    pub weighed-shifts : Shifts buf₁ at at r w 0
+    unfolding xs weighed
+    weighed-shifts =
+        record {
+          clear = inl (le-refl at);
+          source = omega (arith, R .fits, weighed-count);
+          target = omega (arith, R .fits, weighed-count);
+          fits = λ y i.
+              let v : ℕ = (step-in m s p o) .weight in
+              let l : v * y ≤ 12000 * 100 ^ 6 = lists-small (W .back .knows .followed) o u (v * y) (in-map (λ y. v * y) (subst (List·Memᴰ y) at-place i)) in
+              rw e (omega arith);
+        }
+
+    pub weighed-written : {buf₂ : List ℕ} → buf₂ ≡ splice buf₁ at (map (λ y. 0 + w * y) (part buf₁ at r))
+        → Written (F (take h trail) o) m q start cone h at trail trail₁ gains₁ v₁ buf buf₂ r
+    unfolding xs weighed
+    weighed-written {buf₂} f =
+        record {
+          back = W .back;
+          count = weighed-count ∙ sym (lists-length (take h trail) o);
+          listed =
+              subst (λ z. Holds buf buf₂ at (map (λ y. z * y) xs)) e
+              (first-held buf buf₁ buf₂ at xs w (omega (arith, R .fits)) (omega (arith, R .fits)) (W .listed)
+              (subst (λ n. buf₂ ≡ splice buf₁ at (map (λ y. 0 + w * y) (part buf₁ at n))) (W .count) f));
+        }
+
+  -- ---- the first c outcomes
+  module _ {at size c : ℕ} (all : c ≤ outcomes-in m s p)
+      (R : Room (k + 1) (multiply (λ o. plan-total (model-in m) k (o .target)) (take c (outcomes (model-in m) s (choice-in m s p)))) at size) where
+    span-within : (lo n : ℕ) → lo + n ≤ c → multiply t (count-from lo n) ≤ multiply t (count-from 0 c)
+    span-within lo n h = multiply-within t c (λ i l. ways-some i (omega arith)) lo n h
+
+    room : Room (suc k) (multiply t (count-from 0 c)) at size
     room =
         let P : Step → ℕ = λ o. plan-total (model-in m) k (o .target) in
-        subst (λ n. Room (suc k) n at size) (multiply-outcomes (G .ready .prepared) s p (place .state) (place .choice) P) (subst (λ n. Room n (multiply P (outcomes (model-in m) s (choice-in m s p))) at size) (add-one k) R)
+        subst (λ n. Room (suc k) n at size) (multiply-outcomes (G .ready .prepared) s p (place .state) (place .choice) c all P)
+        (subst (λ n. Room n (multiply P (take c (outcomes (model-in m) s (choice-in m s p)))) at size) (add-one k) R)
 
-    ways-few : (i : ℕ) → i < outcomes-in m s p → t i ≤ multiply t (count-from 0 (outcomes-in m s p))
-    ways-few i u = subst (λ n. n ≤ multiply t (count-from 0 (outcomes-in m s p))) (multiply-one t i) (span-within i 1 (omega arith))
+    ways-few : (i : ℕ) → i < c → t i ≤ multiply t (count-from 0 c)
+    ways-few i u = subst (λ n. n ≤ multiply t (count-from 0 c)) (multiply-one t i) (span-within i 1 (omega arith))
 
     -- The first list, in its place.
-    pub first-room : (i : ℕ) → i < outcomes-in m s p → Room k (t i) at size
+    pub first-room : (i : ℕ) → i < c → Room k (t i) at size
     first-room i u = room-first room (ways-few i u)
 
-    module _ (lo : ℕ) (u : lo < outcomes-in m s p) {trail trail₁ : List ℕ} {gains gains₁ : List ℤ} {v v₁ : List ℕ} (buf : List ℕ) {buf₁ : List ℕ}
-        {h r w : ℕ} (in-buf : length buf ≡ size)
-        (H : Here m q start d cone trail gains v h s (k + 1))
-        (W : Written (totals (model-in m) k ((step-in m s p lo) .target) (λ l. worth-on m q start a d cone (take h trail) (step-in m s p lo ∷ l)))
-        m q start cone h at trail trail₁ gains₁ v₁ buf buf₁ r)
-        (whole : length buf₁ ≡ length buf) (e : w ≡ (step-in m s p lo) .weight) where
-      xs : List ℕ
-      xs = totals (model-in m) k ((step-in m s p lo) .target) (λ l. worth-on m q start a d cone (take h trail) (step-in m s p lo ∷ l))
+    module _ (lo : ℕ) (u : lo < c) {trail trail₁ : List ℕ} {gains gains₁ : List ℤ} {v v₁ buf buf₁ : List ℕ} {h r : ℕ} (in-buf : length buf ≡ size)
+        (H : Here m q start d cone trail gains v h s (k + 1)) (W : Written (F (take h trail) lo) m q start cone h at trail trail₁ gains₁ v₁ buf buf₁ r) where
+      pub first-before : take at buf₁ ≡ take at buf
+      first-before = held-before buf buf₁ at (F (take h trail) lo) (omega (arith, room .fits)) (W .listed) at (le-refl at)
 
-      first-count : r ≡ t lo
-      first-count = W .count ∙ totals-length (model-in m) k ((step-in m s p lo) .target) (λ l. worth-on m q start a d cone (take h trail) (step-in m s p lo ∷ l))
-
-      inside-buf : at + t lo ≤ length buf
-      inside-buf = omega (arith, room .fits, ways-few lo u)
-
-      at-first : part buf₁ at r ≡ xs
-      unfolding xs
-      at-first = ap (part buf₁ at) (W .count) ∙ held-part buf buf₁ at xs (omega (arith, inside-buf)) (W .listed)
-
-      pub first-shifts : Shifts buf₁ at at r w 0
-      unfolding xs weighed
-      first-shifts =
+      pub first-spanned : {hi : ℕ} → Longest m table s p c k lo → hi ≡ lo + 1
+          → Spanned m q start a d cone h s p k at c trail₁ buf₁ trail₁ gains₁ v₁ buf₁ lo hi r
+      first-spanned {hi} L eh =
+          let T : List ℕ = take h trail in
+          let n : hi - lo ≡ 1 = omega arith in
+          let one : F T lo ≡ combined (F T) (count-from lo (hi - lo)) =
+          sym (ap (λ n. combined (F T) (count-from lo n)) n ∙ ap (combined (F T)) (count-one lo) ∙ combined-one (F T) lo) in
+          let V₁ : Written (combined (F T) (count-from lo (hi - lo))) m q start cone h at trail trail₁ gains₁ v₁ buf buf₁ r =
+          subst (λ l. Written l m q start cone h at trail trail₁ gains₁ v₁ buf buf₁ r) one W in
           record {
-            clear = inl (le-refl at);
-            source = omega (arith, inside-buf, first-count);
-            target = omega (arith, inside-buf, first-count);
-            fits = λ y i.
-                let v : ℕ = (step-in m s p lo) .weight in
-                let l : v * y ≤ 12000 * 100 ^ 6 = lists-small (H .knows .followed) lo u (v * y) (in-map (λ y. v * y) (subst (List·Memᴰ y) at-first i)) in
-                rw e (omega arith);
+            all = all;
+            some = omega arith;
+            most = omega (arith, L .inside);
+            longest = λ i l.
+                omega (
+                  arith,
+                  L .most i l,
+                  W .count,
+                  lists-length T lo,
+                  ways-served i (omega (arith, all)) (le-trans (ways-few i l) (room .few)),
+                  ways-served lo (omega (arith, all)) (le-trans (ways-few lo u) (room .few)),
+                );
+            here = still H W;
+            written = here-again (λ T. combined (F T) (count-from lo (hi - lo))) V₁ first-before;
+            whole = refl;
           }
 
-      module _ {buf₂ : List ℕ} (f : buf₂ ≡ splice buf₁ at (map (λ y. 0 + w * y) (part buf₁ at r))) where
-        first-holds : Holds buf buf₂ at (F (take h trail) lo)
-        unfolding xs weighed
-        first-holds =
-            subst (λ z. Holds buf buf₂ at (map (λ y. z * y) xs)) e
-            (first-held buf buf₁ buf₂ at xs w (omega (arith, inside-buf)) (omega (arith, inside-buf)) (W .listed)
-            (subst (λ n. buf₂ ≡ splice buf₁ at (map (λ y. 0 + w * y) (part buf₁ at n))) (W .count) f))
-
-        pub first-before : take at buf₂ ≡ take at buf
-        first-before = held-before buf buf₂ at (F (take h trail) lo) (omega (arith, inside-buf)) first-holds at (le-refl at)
-
-        pub first-spanned : {c hi : ℕ} → c ≡ outcomes-in m s p → Longest m table s p c k lo → hi ≡ lo + 1
-            → Spanned m q start a d cone h s p k at c trail₁ buf₂ trail₁ gains₁ v₁ buf₂ lo hi r
-        first-spanned {c} {hi} ec L eh =
-            let T : List ℕ = take h trail in
-            let n : hi - lo ≡ 1 = omega arith in
-            let one : combined (F T) (count-from lo (hi - lo)) ≡ F T lo =
-            ap (λ n. combined (F T) (count-from lo n)) n ∙ ap (combined (F T)) (count-one lo) ∙ combined-one (F T) lo in
-            let held : Holds buf buf₂ at (combined (F T) (count-from lo (hi - lo))) = subst (Holds buf buf₂ at) (sym one) first-holds in
-            let V₁ : Written (combined (F T) (count-from lo (hi - lo))) m q start cone h at trail trail₁ gains₁ v₁ buf buf₂ r =
-            record { back = W .back; count = first-count ∙ sym (ap length one ∙ lists-length T lo); listed = held } in
-            let here₁ : Here m q start d cone trail₁ gains₁ v₁ h s (k + 1) = still H W in
-            record {
-              all = ec;
-              some = omega arith;
-              most = omega (arith, L .inside);
-              longest = λ i l.
-                  omega (
-                    arith,
-                    L .most i l,
-                    first-count,
-                    ways-served i (rw ec at l) (le-trans (ways-few i (rw ec at l)) (room .few)),
-                    ways-served lo u (le-trans (ways-few lo u) (room .few)),
-                  );
-              here = here₁;
-              written = here-again (λ T. combined (F T) (count-from lo (hi - lo))) V₁ first-before;
-              whole = refl;
-            }
-
-    module _ {h c lo hi len : ℕ} {trail₀ trail : List ℕ} {gains : List ℤ} {v buf₀ buf : List ℕ}
+    module _ {h lo hi len : ℕ} {trail₀ trail : List ℕ} {gains : List ℤ} {v buf₀ buf : List ℕ}
         (S : Spanned m q start a d cone h s p k at c trail₀ buf₀ trail gains v buf lo hi len) (in-buf : length buf₀ ≡ size) where
-      span : lo + (hi - lo) ≤ outcomes-in m s p
-      span = omega (arith, S .all, S .some, S .most)
+      span : lo + (hi - lo) ≤ c
+      span = omega (arith, S .some, S .most)
 
       span-len : len ≡ multiply t (count-from lo (hi - lo))
       span-len = S .written .count ∙ span-count (take h trail₀) lo (hi - lo)
@@ -289,14 +291,14 @@ module _ {m q : Bytes} {start a d : ℕ} {truth cone table : List ℕ} (G : Give
 
       -- All of them.
       pub span-end : c ≤ hi - lo
-          → Written (combined (weighed (model-in m) k (worth-on m q start a d cone (take h trail₀))) (outcomes (model-in m) s (choice-in m s p)))
+          → Written (combined (weighed (model-in m) k (worth-on m q start a d cone (take h trail₀))) (take c (outcomes (model-in m) s (choice-in m s p))))
           m q start cone h at trail₀ trail gains v buf₀ buf len
       span-end g =
           let x : lo ≡ 0 = omega (arith, S .some, S .most) in
-          let y : hi - lo ≡ outcomes-in m s p = omega (arith, S .all, S .some, S .most) in
+          let y : hi - lo ≡ c = omega (arith, S .some, S .most) in
           let f : Step → List ℕ = weighed (model-in m) k (worth-on m q start a d cone (take h trail₀)) in
-          let e : combined (F (take h trail₀)) (count-from lo (hi - lo)) ≡ combined f (outcomes (model-in m) s (choice-in m s p)) =
-          ap₂ (λ i n. combined (F (take h trail₀)) (count-from i n)) x y ∙ sym (combined-outcomes (G .ready .prepared) s p (place .state) (place .choice) f) in
+          let e : combined (F (take h trail₀)) (count-from lo (hi - lo)) ≡ combined f (take c (outcomes (model-in m) s (choice-in m s p))) =
+          ap₂ (λ i n. combined (F (take h trail₀)) (count-from i n)) x y ∙ sym (combined-outcomes (G .ready .prepared) s p (place .state) (place .choice) c all f) in
           subst (λ l. Written l m q start cone h at trail₀ trail gains v buf₀ buf len) e (S .written)
 
       module _ (o : ℕ) (B : Beside lo hi c o) where
@@ -306,19 +308,19 @@ module _ {m q : Bytes} {start a d : ℕ} {truth cone table : List ℕ} (G : Give
         wide-len : len * t o ≡ multiply t (count-from (min lo o) (max hi (o + 1) - min lo o))
         wide-len = ap (λ n. n * t o) span-len ∙ wider-times (S .some) (S .most) B t
 
-        wide-within : len * t o ≤ multiply t (count-from 0 (outcomes-in m s p))
+        wide-within : len * t o ≤ multiply t (count-from 0 c)
         wide-within =
             rw wide-len
-            (span-within (min lo o) (max hi (o + 1) - min lo o) (omega (arith, S .all, wider-some (S .some) (S .most) B, wider-most (S .some) (S .most) B)))
+            (span-within (min lo o) (max hi (o + 1) - min lo o) (omega (arith, wider-some (S .some) (S .most) B, wider-most (S .some) (S .most) B)))
 
         pub span-grows : Grows buf at len (t o) k
         span-grows =
             record {
               some = long-some;
               few = le-trans wide-within (room .few);
-              small = λ x i. span-small (S .written .back .knows .followed) lo (hi - lo) span (omega (arith, span, outcomes-few)) x (subst (List·Memᴰ x) at-span i);
+              small = λ x i. span-small (S .written .back .knows .followed) lo (hi - lo) (omega (arith, span, all)) (omega (arith, span, all, outcomes-few)) x (subst (List·Memᴰ x) at-span i);
               room = subst (Room k (t o) (at + len * t o)) (sym (S .whole ∙ in-buf))
-                  (room-next room (S .longest o (rw (S .all) span-outcome)) (le-refl len) long-some wide-within);
+                  (room-next room (S .longest o (beside-inside (S .some) (S .most) B)) (le-refl len) long-some wide-within);
             }
 
         pub span-wider : {trail₁ : List ℕ} {gains₁ : List ℤ} {v₁ buf₁ : List ℕ} {r lo₁ hi₁ : ℕ}

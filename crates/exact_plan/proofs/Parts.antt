@@ -1,12 +1,12 @@
 -- Laws of `part`: what stands in it, and what a piece written beside it leaves of it.
-use Prim.Native.Nat.{ℕ, zero, suc, _+_, _≤_, _<_}
+use Prim.Native.Nat.{ℕ, zero, suc, _+_, _-_, _≤_, _<_}
 use native.Mathlib.Nat.{zero-add}
 use native.Mathlib.Numerals.{add-one}
 use native.Mathlib.Omega.{arith}
 use mathlib.Core.Path.{_≡_, refl, sym, ap, _∙_}
 use mathlib.Core.List.{List, [], _∷_, _++_}
 use lib.ListN.{length, take, drop, getD, length-drop, length-take}
-use lib.Seq.{getD-drop, getD-take, take-suc}
+use lib.Seq.{getD-drop, getD-take, take-suc, take-take, length-take-le}
 use Rattle.blocks.specs.Splice.{splice}
 use Rattle.blocks.proofs.Splice.{take-splice, drop-splice}
 use Rattle.exact_plan.specs.promises.Totals.{part}
@@ -40,3 +40,12 @@ getD-part l p n i h = getD-take n (drop p l) i 0 h ∙ getD-drop p l i 0
 pub part-more : (l : List ℕ) (p n : ℕ) → p + n < length l → part l p (n + 1) ≡ part l p n ++ (getD l (p + n) 0 ∷ [])
 unfolding part
 part-more l p n h = rw add-one (take-suc (drop p l) n 0 (simp length-drop (omega arith)) ∙ ap (λ v. take n (drop p l) ++ (v ∷ [])) (getD-drop p l n 0))
+
+-- ---- the rest of a list from a place on, as a part of a slice is
+
+pub rest-part : (l : List ℕ) (p n : ℕ) → p + n ≤ length l → take n (take (length l - p) (drop p l)) ≡ part l p n
+unfolding part
+rest-part l p n h = take-take n (length l - p) (drop p l) (omega arith)
+
+pub rest-length : (l : List ℕ) (p n : ℕ) → p + n ≤ length l → n ≤ length (take (length l - p) (drop p l))
+rest-length l p n h = omega (arith, length-take-le (length l - p) (drop p l) (omega (arith, length-drop p l)))

@@ -4,7 +4,7 @@ use native.Mathlib.Nat.{mul-le-mul}
 use native.Mathlib.Omega.{arith}
 use mathlib.Core.Path.{_≡_, refl, sym, ap, subst, _∙_}
 use mathlib.Core.List.{List, List·Memᴰ, List·Memᴰ·head}
-use lib.ListN.{length}
+use lib.ListN.{length, take}
 use Rattle.logic.specs.Lists.{count-from, tabulate}
 use Rattle.logic.specs.Model.{Model, Step, outcomes}
 use Rattle.logic.specs.Quantity.{naturals, sum}
@@ -15,7 +15,7 @@ use Rattle.prepared_model.specs.promises.Rows.{choices-in, choice-in, outcomes-
 use Rattle.prepared_model.proofs.ReadByPlace.{states-are}
 use Rattle.bounds.proofs.Powers.{power-le}
 use Rattle.exact_plan.specs.promises.Totals.{combined}
-use Rattle.exact_plan.proofs.Spans.{multiply-map, combined-map}
+use Rattle.exact_plan.proofs.Spans.{take-tabulate, multiply-map, combined-map}
 use Rattle.logic.proofs.Naturals.{multiply-positive}
 
 -- A worth times the denominator to the k.
@@ -37,15 +37,22 @@ plans-some m A (suc n) s h =
     multiply-positive (λ o. plan-total m n (o .target)) (outcomes m s a) (λ o i. plans-some m A n (o .target) (A .inside x o i)) in
     subst (λ l. 0 < sum naturals (λ a. multiply (λ o. plan-total m n (o .target)) (outcomes m s a)) l) (sym (w .2)) (omega (arith, p))
 
--- What the outcomes of a choice make, by their numbers.
+-- What the first c outcomes of a choice make, by their numbers.
 module _ {m : List ℕ} (w : Prepared m) (s i : ℕ) (h : s < state-count m) (g : i < choices-in m s) where
-  pub multiply-outcomes : (t : Step → ℕ) → multiply t (outcomes (model-in m) s (choice-in m s i)) ≡ multiply (λ o. t (step-in m s i o)) (count-from 0 (outcomes-in m s i))
-  unfolding tabulate
-  multiply-outcomes t = ap (multiply t) (w .rows s i h g) ∙ multiply-map t (step-in m s i) (count-from 0 (outcomes-in m s i))
+  pub first-outcomes : (c : ℕ) → c ≤ outcomes-in m s i → take c (outcomes (model-in m) s (choice-in m s i)) ≡ tabulate c (step-in m s i)
+  first-outcomes c l = ap (take c) (w .rows s i h g) ∙ take-tabulate (step-in m s i) c (outcomes-in m s i) l
 
-  pub combined-outcomes : (f : Step → List ℕ) → combined f (outcomes (model-in m) s (choice-in m s i)) ≡ combined (λ o. f (step-in m s i o)) (count-from 0 (outcomes-in m s i))
-  unfolding tabulate
-  combined-outcomes f = ap (combined f) (w .rows s i h g) ∙ combined-map f (step-in m s i) (count-from 0 (outcomes-in m s i))
+  pub all-outcomes : {c : ℕ} → c ≡ outcomes-in m s i → take c (outcomes (model-in m) s (choice-in m s i)) ≡ outcomes (model-in m) s (choice-in m s i)
+  all-outcomes {c} e = first-outcomes c (omega arith) ∙ ap (λ n. tabulate n (step-in m s i)) e ∙ sym (w .rows s i h g)
+
+  module _ (c : ℕ) (l : c ≤ outcomes-in m s i) where
+    pub multiply-outcomes : (t : Step → ℕ) → multiply t (take c (outcomes (model-in m) s (choice-in m s i))) ≡ multiply (λ o. t (step-in m s i o)) (count-from 0 c)
+    unfolding tabulate
+    multiply-outcomes t = ap (multiply t) (first-outcomes c l) ∙ multiply-map t (step-in m s i) (count-from 0 c)
+
+    pub combined-outcomes : (f : Step → List ℕ) → combined f (take c (outcomes (model-in m) s (choice-in m s i))) ≡ combined (λ o. f (step-in m s i o)) (count-from 0 c)
+    unfolding tabulate
+    combined-outcomes f = ap (combined f) (first-outcomes c l) ∙ combined-map f (step-in m s i) (count-from 0 c)
 
 pub some-plan : {m : List ℕ} → Prepared m → (n s : ℕ) → s < state-count m → 0 < plan-total (model-in m) n s
 some-plan {m} w n s h = plans-some (model-in m) (w .accepted) n s (rw (states-are m) h)

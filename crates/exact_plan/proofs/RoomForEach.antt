@@ -79,8 +79,8 @@ fewer (suc d) n {m} {root} {spare} q r =
 most : Spare 6 256 282
 most = roots {root = 256} {next = 16} (omega arith) (roots {root = 16} {next = 4} (omega arith) (roots {root = 4} {next = 2} (omega arith) (roots {root = 2} {next = 2} (omega arith) (roots {root = 2} {next = 2} (omega arith) (roots {root = 2} {next = 2} (omega arith) nothing)))))
 
--- The whole: up to six steps, and 282 numbers beside the list.
-pub room-whole : (n count size : ℕ) → n ≤ 6 → count ≤ 65536 → count + 282 ≤ size → Room n count 0 size
-room-whole n count size h f s =
+-- Up to six steps, and 282 numbers beside the list.
+pub room-at : (n count at size : ℕ) → n ≤ 6 → count ≤ 65536 → at + count + 282 ≤ size → Room n count at size
+room-at n count at size h f s =
     let u = fewer (6 - n) n (let z : 6 ≡ 6 - n + n = omega arith in z) most in
     record { root = 256; spare = u .0; few = f; small = omega arith; chain = u .2; fits = omega (arith, u .1) }

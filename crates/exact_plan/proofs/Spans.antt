@@ -3,8 +3,8 @@ use Prim.Native.Nat.{ℕ, zero, suc, _+_, _-_, _*_, _≤_, _<_}
 use native.Mathlib.Nat.{mul-one, one-mul, mul-assoc, le-refl, le-trans, le-mul-of-pos-right, mul-comm}
 use native.Mathlib.Omega.{arith}
 use mathlib.Core.Path.{_≡_, refl, sym, ap, subst, _∙_}
-use mathlib.Core.List.{List, [], _∷_, _++_, map, flatMap}
-use lib.ListN.{length, length-append}
+use mathlib.Core.List.{List, [], _∷_, _++_, map, flatMap, append-assoc, append-nil}
+use lib.ListN.{length, take, length-append}
 use Rattle.logic.specs.Lists.{count-from, tabulate}
 use Rattle.logic.specs.Limits.{multiply}
 use Rattle.logic.proofs.Tests.{count-more, tabulate-more}
@@ -26,6 +26,16 @@ pub combined-map : {A B : Type 0} (f : B → List ℕ) (g : A → B) (l : List A
 unfolding combined
 combined-map f g [] = refl
 combined-map f g (x ∷ l) = ap (grid (f (g x))) (combined-map f g l)
+
+take-count : {A : Type 0} (g : ℕ → A) (lo c n : ℕ) → c ≤ n → take c (map g (count-from lo n)) ≡ map g (count-from lo c)
+unfolding count-from
+take-count g lo zero n h = refl
+take-count g lo (suc c) zero h = absurd (omega arith)
+take-count g lo (suc c) (suc n) h = ap (λ l. g lo ∷ l) (take-count g (suc lo) c n (omega arith))
+
+pub take-tabulate : {A : Type 0} (g : ℕ → A) (c n : ℕ) → c ≤ n → take c (tabulate n g) ≡ tabulate c g
+unfolding tabulate
+take-tabulate g c n h = take-count g 0 c n h
 
 -- ---- from lo on, n of them
 
@@ -102,3 +112,14 @@ module _ (f : ℕ → List ℕ) (g : ℕ → ℕ) where
         ap length (flatMap-more n),
         subst (λ k. length (flatMap f (tabulate (suc n) g)) ≤ length (flatMap f (tabulate k g))) z (longer (suc n) (c - suc n)),
       )
+
+  -- The lists below c are those below n and others behind them.
+  pub flatMap-split : (n c : ℕ) → n ≤ c → (l : List ℕ) × (flatMap f (tabulate n g) ++ l ≡ flatMap f (tabulate c g))
+  flatMap-split n c h = subst (λ k. (l : List ℕ) × (flatMap f (tabulate n g) ++ l ≡ flatMap f (tabulate k g))) (let z : n + (c - n) ≡ c = omega arith in z) (go (c - n))
+    where
+      go : (e : ℕ) → (l : List ℕ) × (flatMap f (tabulate n g) ++ l ≡ flatMap f (tabulate (n + e) g))
+      go zero = let z : n + 0 ≡ n = omega arith in ([], append-nil (flatMap f (tabulate n g)) ∙ ap (λ k. flatMap f (tabulate k g)) (sym z))
+      go (suc e) =
+          let z : n + suc e ≡ suc (n + e) = omega arith in
+          let u = go e in
+          (u .0 ++ f (g (n + e)), sym (append-assoc (flatMap f (tabulate n g)) (u .0) (f (g (n + e)))) ∙ ap (λ l. l ++ f (g (n + e))) (u .1) ∙ sym (flatMap-more (n + e)) ∙ ap (λ k. flatMap f (tabulate k g)) (sym z))

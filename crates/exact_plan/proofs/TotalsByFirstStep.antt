@@ -7,12 +7,13 @@ use Rattle.logic.specs.Lists.{product}
 use Rattle.logic.specs.Model.{Model, Step, enabled, outcomes}
 use Rattle.logic.specs.Quantity.{naturals}
 use Rattle.logic.specs.Plan.{Plan, plans}
-use Rattle.logic.specs.Limits.{plan-total}
+use Rattle.logic.specs.Limits.{multiply, plan-total}
 use Rattle.logic.specs.Bound.{total}
 use Rattle.logic.proofs.Sums.{naturals-additive, sum-pairs, total-step}
 use Rattle.logic.proofs.Dictionary.{plan-count}
 use Rattle.logic.proofs.Members.{block}
 use Rattle.exact_plan.specs.promises.Totals.{totals, grid, combined, weighed}
+use Rattle.exact_plan.proofs.Grid.{combined-length}
 
 map-flatMap : {A B C : Type 0} (g : B → C) (h : A → List B) (l : List A) → map g (flatMap h l) ≡ flatMap (λ a. map g (h a)) l
 unfolding flatMap
@@ -58,3 +59,12 @@ module _ (m : Model) where
           ∙ ap (λ h. map h P) (fun-ext (λ qs. total-step naturals naturals-additive m n s (a, qs) f))
           ∙ product-sums term (λ o. plans m n (o .target)) (outcomes m s a)
           ∙ ap (λ h. combined h (outcomes m s a)) (fun-ext (λ o. sym (map-map (λ y. o .weight * y) (λ q. total naturals m n (o .target) q (λ r. f (o ∷ r))) (plans m n (o .target)))))
+
+  pub weighed-length : (n : ℕ) (f : List Step → ℕ) (o : Step) → length (weighed m n f o) ≡ plan-total m n (o .target)
+  unfolding weighed
+  weighed-length n f o =
+      length-map (totals m n (o .target) (λ r. f (o ∷ r))) (λ y. o .weight * y)
+      ∙ totals-length n (o .target) (λ r. f (o ∷ r))
+
+  pub choice-length : (n : ℕ) (f : List Step → ℕ) (os : List Step) → length (combined (weighed m n f) os) ≡ multiply (λ o. plan-total m n (o .target)) os
+  choice-length n f os = combined-length (weighed m n f) (λ o. plan-total m n (o .target)) (weighed-length n f) os

@@ -2,5 +2,7 @@
 pub mod Listing
 pub mod Sides
 pub mod Room
+pub mod Search
+pub mod Last
 pub mod Spread
 pub mod Totals

@@ -1,64 +1,20 @@
--- `first_equal`: the table has the number of plans, and each buffer has 282 numbers beside as many.
-use Prim.Native.Nat.{ℕ}
+-- `first_equal`: the largest room has 282 numbers beside as many as a search stores.
 use native.Mathlib.Omega.{arith}
-use lib.ListN.{length-replicate}
-use Rattle.exact_plan.proofs.ListsWritten.{state-small}
-use Rattle.exact_plan.proofs.FirstPlace.{counted}
-use borrow.Author.Needs.{needs}
 use Rattle.exact_plan.proofs.first_equal.Statement.{statement}
 use Rattle.exact_plan.proofs.first_equal.Tie as tie
 
-cast-plans-counted : tie.Need-cast-plans-counted
-cast-plans-counted c = search needs
+stored-requires : tie.Need-stored-requires
+stored-requires c κs = let S = c .before in
+    let G = S .pre .0 in
+    ((G .ready .prepared, G .counts, G .ready .state), S .pre .1)
 
-plans-counted-requires : tie.Need-plans-counted-requires
-plans-counted-requires c κs = let S = c .before .before in (S .pre .1 .1, state-small (S .pre .0) (S .pre .0 .ready .state))
-
-slice-aggregate-first-within : tie.Need-slice-aggregate-first-within
-slice-aggregate-first-within c = search needs
-
-first-within-requires : tie.Need-first-within-requires
-first-within-requires c κs = let S = c .before .before .before .before .before in
-    let P = S .pre .1 in
-    (S .pre .0, (P .0, P .1, P .2, omega (arith, counted (S .pre .0) (S .args .l .n) (P .1) (P .2) (c .before .before .plans-counted .ensures), length-replicate {A = ℕ} 1306 0)))
+in-room-requires : tie.Need-in-room-requires
+in-room-requires c κs = let S = c .before .before in
+    let x = c .stored .ensures in
+    (S .pre .0, (x .0, x .1, λ z. absurd (omega (arith, z)), λ z. absurd (omega (arith, z))))
 
 returns : tie.Need-returns
-returns c = search needs
-
-slice-aggregate-first-within-2 : tie.Need-slice-aggregate-first-within-2
-slice-aggregate-first-within-2 c = search needs
-
-first-within-requires-2 : tie.Need-first-within-requires-2
-first-within-requires-2 c κs = let S = c .before .before .before .before .before .before in
-    let P = S .pre .1 in
-    (S .pre .0, (P .0, P .1, P .2, omega (arith, counted (S .pre .0) (S .args .l .n) (P .1) (P .2) (c .before .before .before .plans-counted .ensures), length-replicate {A = ℕ} 8474 0)))
-
-returns-2 : tie.Need-returns-2
-returns-2 c = search needs
-
-slice-aggregate-first-within-3 : tie.Need-slice-aggregate-first-within-3
-slice-aggregate-first-within-3 c = search needs
-
-first-within-requires-3 : tie.Need-first-within-requires-3
-first-within-requires-3 c κs = let S = c .before .before .before .before .before .before in
-    let P = S .pre .1 in
-    (S .pre .0, (P .0, P .1, P .2, omega (arith, counted (S .pre .0) (S .args .l .n) (P .1) (P .2) (c .before .before .before .plans-counted .ensures), length-replicate {A = ℕ} 65818 0)))
-
-returns-3 : tie.Need-returns-3
-returns-3 c = search needs
+returns c = c .in-room .ensures .first
 
 pub first-equal-spec : {M : Type 1} → statement M
-first-equal-spec =
-    tie.close
-    (tie.spec
-    cast-plans-counted
-    plans-counted-requires
-    slice-aggregate-first-within
-    first-within-requires
-    returns
-    slice-aggregate-first-within-2
-    first-within-requires-2
-    returns-2
-    slice-aggregate-first-within-3
-    first-within-requires-3
-    returns-3)
+first-equal-spec = tie.close (tie.spec stored-requires in-room-requires returns)

@@ -50,14 +50,12 @@ pub record Longest (m : Bytes) (table : List ℕ) (s i c k j : ℕ) : Type 0 whe
   pub inside : j < c
   pub most : (o : ℕ) → o < c → getD table (32 * k + (step-in m s i o) .target) 0 ≤ getD table (32 * k + (step-in m s i j) .target) 0
 
--- Where the worth of the paths is decided: it can be read, and the list fits.
-pub record Decides (m cone : List ℕ) (gains : List ℤ) (v table buf : List ℕ) (a d s k at : ℕ) : Type 0 where
+-- Where the worth of the paths is decided: it can be read, and the total of a plan with k steps to go fits.
+pub record Decides (m cone : List ℕ) (gains : List ℤ) (v : List ℕ) (a d k : ℕ) : Type 0 where
   pub readable : Readable cone gains a d
   pub small : worth-known cone gains v a d ≤ 12000
   pub steps : k ≤ 6
-  pub state : s < 32
   pub part-of : denominator-of m ≤ 100
-  pub room : at + getD table (32 * k + s) 0 ≤ length buf
 
 -- What stands at `at` before the list of a further outcome, n numbers over k steps, is made behind the product and joined on.
 pub record Grows (buf : List ℕ) (at len n k : ℕ) : Type 0 where

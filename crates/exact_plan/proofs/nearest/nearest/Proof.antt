@@ -42,7 +42,7 @@ slice-aggregate-nearest-within-3 c = search needs
 nearest-within-requires-3 : tie.Need-nearest-within-requires-3
 nearest-within-requires-3 c κs = let S = c .before .before .before .before .before .before in
     let P = S .pre .1 in
-    (S .pre .0, (P .0, P .1, P .2, omega (arith, counted (S .pre .0) (S .args .l .n) (P .1) (P .2) (c .before .before .before .plans-counted .ensures), length-replicate {A = ℕ} 65818 0)))
+    (S .pre .0, (P .0, P .1, P .2, omega (arith, counted (S .pre .0) (S .args .l .n) (P .1) (P .2) (c .before .before .before .plans-counted .ensures), length-replicate {A = ℕ} 65819 0)))
 
 returns-3 : tie.Need-returns-3
 returns-3 c = search needs

@@ -1,12 +1,12 @@
--- `find`: none of the numbers passed is x.
+-- `search::find`: none of the numbers passed is x.
 use Prim.Native.Nat.{ℕ, _-_, _≤_, _<_}
 use native.Mathlib.Omega.{arith}
 use mathlib.Core.Path.{_≡_, subst}
 use lib.ListN.{getD}
 use borrow.Author.Needs.{needs}
 use Rattle.exact_plan.proofs.FirstPlace.{absent-more, first-found, first-nowhere}
-use Rattle.exact_plan.proofs.find.Statement.{statement}
-use Rattle.exact_plan.proofs.find.Tie as tie
+use Rattle.exact_plan.proofs.search.find.Statement.{statement}
+use Rattle.exact_plan.proofs.search.find.Tie as tie
 
 abbrev Inv-loop : tie.InvT-loop
 Inv-loop buf len x i₀ i = (i ≤ len) × ((j : ℕ) → j < i → (getD buf j 0 ≡ x → ⊥))
