@@ -3,7 +3,8 @@
 //! and what one history has found out serves no other.
 
 use super::bench::{words, Case};
-use super::bench_windows::{both_ways, root};
+use super::bench_asked::Asked;
+use super::bench_windows::windows_above;
 use super::cases::{pack, LOW_BITS, POSTS};
 
 /// States of one kind.
@@ -45,9 +46,9 @@ fn in_turns(groups: &[Group]) -> Vec<u8> {
             if !group.certain {
                 text += &lines(state, own, first, room);
             }
-            let reward = state as i32 % 9 - 4;
+            let reward = if group.certain { own % 2 } else { 0 };
             let target = first + own % room;
-            text += &format!("outcome {state} 7: {target} weight 100 reward {reward}\n");
+            text += &format!("outcome {state} 7: {target} weight 100 reward -{reward}\n");
         }
     }
     pack(&text)
@@ -62,7 +63,7 @@ fn lines(state: usize, own: usize, first: usize, room: usize) -> String {
             .map(|(place, low)| {
                 let fitting: Vec<usize> = (usize::from(*low)..room).step_by(4).collect();
                 let target = first + fitting[(action + own) % fitting.len()];
-                let reward = (13 * state + 7 * action + 11 * place) as i32 % 9 - 4;
+                let reward = (state + action + place) as i32 % 3 - 1;
                 format!("{target} weight 25 reward {reward}")
             })
             .collect();
@@ -99,18 +100,69 @@ fn three_by_turns() -> Vec<u8> {
     in_turns(&[group(4, false, 1), group(14, true, 2), group(14, false, 0)])
 }
 
+/// Bounds that most paths pass in all windows, so that it takes long to find
+/// that some plan has a path that does not.
+fn low(length: usize) -> i32 {
+    -2 * length as i32
+}
+
+/// Bounds that hardly any path passes in all windows.
+fn high(length: usize) -> i32 {
+    if length == 1 {
+        -1
+    } else {
+        0
+    }
+}
+
 /// One plan with a gain of all six steps.
 fn gain() -> Vec<String> {
     words(&["gain 6 steps greater 2", "plan 0 steps 6 greater 1/1"])
+}
+
+/// One plan over all windows.
+fn root(bounds: fn(usize) -> i32, bound: &str) -> Vec<String> {
+    let mut asked = Asked::default();
+    let all = windows_above(&mut asked, 6, bounds);
+    asked.plan(all, 6, bound);
+    asked.nodes()
+}
+
+/// As many plans as there is room for, all needed in the states that two steps
+/// lead to, each with a bound of its own for the gain of all six steps. None is
+/// true. With a "not" over each, none can be passed over for another one.
+fn apart(bounds: fn(usize) -> i32, bound: &str, with_not: bool) -> Vec<String> {
+    let mut asked = Asked::default();
+    let shorter = windows_above(&mut asked, 5, bounds);
+    let shorter = asked.after(1, shorter);
+    let each = if with_not { 5 } else { 4 };
+    let mut joined = None;
+    for own in 0.. {
+        if asked.room() + usize::from(own == 0) < each + Asked::room_for_everywhere(2) {
+            break;
+        }
+        let gain = asked.gain(6, &format!("greater {}", bounds(6) - own));
+        let all = asked.and(gain, shorter);
+        let mut plan = asked.plan(all, 6, bound);
+        if with_not {
+            plan = asked.not(plan);
+        }
+        joined = match joined {
+            Some(before) => Some(asked.and(before, plan)),
+            None => Some(plan),
+        };
+    }
+    asked.everywhere(joined.unwrap_or_default(), 2)
 }
 
 pub(super) fn cases() -> Vec<Case> {
     let (one, three) = (one_state(), three_by_turns());
     vec![
         Case::new("one-state-gain", &one, &gain()),
-        Case::new("one-state-windows", &one, &root("greater 1/1")),
-        Case::new("one-state-less", &one, &root("less 0/1")),
-        Case::new("turns-windows", &three, &both_ways()),
+        Case::new("one-state-windows", &one, &root(high, "greater 1/1")),
+        Case::new("one-state-less", &one, &root(low, "less 0/1")),
+        Case::new("turns-greater", &three, &apart(high, "greater 1/1", false)),
+        Case::new("turns-less", &three, &apart(low, "less 0/1", true)),
     ]
 }
 
@@ -134,6 +186,16 @@ mod tests {
         let states = 1..model.states() as u8;
         let others = states.map(|state| totals.paths(6, state)).max();
         assert!(others < Some(707_281 / 28));
+    }
+
+    #[test]
+    fn as_many_plans_as_fit() {
+        let plans = |name: &str| {
+            let case = cases().into_iter().find(|case| case.name == name);
+            served(&case.expect(name)).2.plan_nodes().count()
+        };
+        assert_eq!(plans("turns-greater"), 7);
+        assert_eq!(plans("turns-less"), 5);
     }
 
     /// All 14 states of the last group are met after two steps.
