@@ -23,8 +23,26 @@ fn start(groups: &[Group], number: usize) -> usize {
     groups[..number].iter().map(|group| group.states).sum()
 }
 
+/// The reward of an outcome, given its state, its action and its place.
+type Reward = fn(usize, usize, usize) -> i32;
+
+/// Rewards from -1 to 1: many histories have gained the same.
+fn small(state: usize, action: usize, place: usize) -> i32 {
+    match action {
+        7 => -(state as i32 % 2),
+        _ => (state + action + place) as i32 % 3 - 1,
+    }
+}
+
+/// Rewards all over the range, without a pattern: hardly two histories have
+/// gained the same, so that it helps nobody to remember what they came to.
+fn spread(state: usize, action: usize, place: usize) -> i32 {
+    let number = (97 * state + 11 * action + place + 1) as u64;
+    ((number * 2_654_435_761 >> 7) % 2001) as i32 - 1000
+}
+
 /// The model with these groups, one after another.
-fn in_turns(groups: &[Group]) -> Vec<u8> {
+fn in_turns(groups: &[Group], reward: Reward) -> Vec<u8> {
     let mut text = String::from("model D 100\nproposition 0 b0\nproposition 1 b1\n");
     text += "proposition 2 certain\n";
     for (number, group) in groups.iter().enumerate() {
@@ -44,11 +62,10 @@ fn in_turns(groups: &[Group]) -> Vec<u8> {
         for own in 0..group.states {
             let state = start(groups, number) + own;
             if !group.certain {
-                text += &lines(state, own, first, room);
+                text += &lines(state, own, first, room, reward);
             }
-            let reward = if group.certain { own % 2 } else { 0 };
-            let target = first + own % room;
-            text += &format!("outcome {state} 7: {target} weight 100 reward -{reward}\n");
+            let (target, reward) = (first + own % room, reward(state, 7, 0));
+            text += &format!("outcome {state} 7: {target} weight 100 reward {reward}\n");
         }
     }
     pack(&text)
@@ -56,14 +73,14 @@ fn in_turns(groups: &[Group]) -> Vec<u8> {
 
 /// The outcomes of the seven actions of a state, all over the states from
 /// `first` on, of which there are so many.
-fn lines(state: usize, own: usize, first: usize, room: usize) -> String {
+fn lines(state: usize, own: usize, first: usize, room: usize, reward: Reward) -> String {
     let line = |action: usize| {
         let places = LOW_BITS[3].iter().enumerate();
         let parts: Vec<String> = places
             .map(|(place, low)| {
                 let fitting: Vec<usize> = (usize::from(*low)..room).step_by(4).collect();
                 let target = first + fitting[(action + own) % fitting.len()];
-                let reward = (state + action + place) as i32 % 3 - 1;
+                let reward = reward(state, action, place);
                 format!("{target} weight 25 reward {reward}")
             })
             .collect();
@@ -74,7 +91,7 @@ fn lines(state: usize, own: usize, first: usize, room: usize) -> String {
 
 /// State 0 has 29 outcomes in each of four steps, and then two certain steps:
 /// 707,281 paths, more than 28 times as many as any other state.
-fn one_state() -> Vec<u8> {
+fn one_state(reward: Reward) -> Vec<u8> {
     let many = |states, next| Group {
         states,
         certain: false,
@@ -85,19 +102,21 @@ fn one_state() -> Vec<u8> {
         certain: true,
         next: 4,
     };
-    in_turns(&[many(1, 1), many(4, 2), many(4, 3), many(4, 4), ends])
+    let groups = [many(1, 1), many(4, 2), many(4, 3), many(4, 4), ends];
+    in_turns(&groups, reward)
 }
 
 /// Three groups by turns. From each of the 14 states of the last there are 29
 /// outcomes, 29 again, and then a certain step back to it: 707,281 paths of six
 /// steps, and as many of five.
-fn three_by_turns() -> Vec<u8> {
+fn three_by_turns(reward: Reward) -> Vec<u8> {
     let group = |states, certain, next| Group {
         states,
         certain,
         next,
     };
-    in_turns(&[group(4, false, 1), group(14, true, 2), group(14, false, 0)])
+    let groups = [group(4, false, 1), group(14, true, 2), group(14, false, 0)];
+    in_turns(&groups, reward)
 }
 
 /// Bounds that most paths pass in all windows, so that it takes long to find
@@ -108,11 +127,12 @@ fn low(length: usize) -> i32 {
 
 /// Bounds that hardly any path passes in all windows.
 fn high(length: usize) -> i32 {
-    if length == 1 {
-        -1
-    } else {
-        0
-    }
+    -i32::from(length == 1)
+}
+
+/// Bounds about which little is known before the path ends.
+fn middle(length: usize) -> i32 {
+    -10 * length as i32
 }
 
 /// One plan with a gain of all six steps.
@@ -156,13 +176,17 @@ fn apart(bounds: fn(usize) -> i32, bound: &str, with_not: bool) -> Vec<String> {
 }
 
 pub(super) fn cases() -> Vec<Case> {
-    let (one, three) = (one_state(), three_by_turns());
+    let (one, three) = (one_state(small), three_by_turns(small));
+    let (one_spread, three_spread) = (one_state(spread), three_by_turns(spread));
+    let greater = "greater 1/1";
     vec![
         Case::new("one-state-gain", &one, &gain()),
-        Case::new("one-state-windows", &one, &root(high, "greater 1/1")),
+        Case::new("one-state-greater", &one, &root(high, greater)),
         Case::new("one-state-less", &one, &root(low, "less 0/1")),
-        Case::new("turns-greater", &three, &apart(high, "greater 1/1", false)),
+        Case::new("one-state-spread", &one_spread, &root(middle, greater)),
+        Case::new("turns-greater", &three, &apart(high, greater, false)),
         Case::new("turns-less", &three, &apart(low, "less 0/1", true)),
+        Case::new("turns-spread", &three_spread, &apart(middle, greater, true)),
     ]
 }
 
@@ -180,7 +204,7 @@ mod tests {
 
     #[test]
     fn one_state_has_all_paths() {
-        let model = read_model(&one_state()).expect("an accepted model");
+        let model = read_model(&one_state(spread)).expect("an accepted model");
         let totals = Totals::of(&model);
         assert_eq!(totals.paths(6, 0), 707_281);
         let states = 1..model.states() as u8;
@@ -196,12 +220,13 @@ mod tests {
         };
         assert_eq!(plans("turns-greater"), 7);
         assert_eq!(plans("turns-less"), 5);
+        assert_eq!(plans("turns-spread"), 5);
     }
 
     /// All 14 states of the last group are met after two steps.
     #[test]
     fn as_many_histories_as_paths() {
-        let model = read_model(&three_by_turns()).expect("an accepted model");
+        let model = read_model(&three_by_turns(small)).expect("an accepted model");
         let totals = Totals::of(&model);
         assert_eq!(met_after(&model, 2), (18..32).collect::<Vec<u8>>());
         for state in 18..32 {
