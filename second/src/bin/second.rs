@@ -30,7 +30,7 @@ const USAGE: &str = "usage: second [--plain] COMMAND
   sum-faults                 a stream of calls to counts of the answers that judges with wrong word sums get wrong
   generate KIND SEED COUNT   a stream of models, questions, judges, small, sheets, lists, tight, words, reasons or stored
   compare SEED COUNT         the fast judge against the plain one
-  bench-cases DIR            worst cases as DIR/NAME.bin
+  bench-cases DIR            everyday questions and worst cases as DIR/NAME.bin
   bench FILE..               the time of each case in microseconds";
 
 fn main() -> ExitCode {

@@ -3,7 +3,7 @@
 
 use super::bench::{equal_levels, Case};
 use super::bench_asked::Asked;
-use super::bench_models::{mixed, six_moves, small_rewards, Open};
+use super::bench_models::{early_choices, mixed, six_moves, small_rewards, Open};
 use super::bench_windows::windows;
 
 /// 32 states with two actions of two outcomes each: 32,768 plans of four steps.
@@ -120,6 +120,14 @@ fn over_windows(steps: usize) -> Vec<String> {
     asked.everywhere(plan, 3)
 }
 
+/// One plan over the gains of all windows.
+fn over_all() -> Vec<String> {
+    let mut asked = Asked::default();
+    let all = windows(&mut asked, 6);
+    asked.plan(all, 6, "equal 123457/1000000");
+    asked.nodes()
+}
+
 pub(super) fn cases() -> Vec<Case> {
     let (pairs, six) = (two_by_two(), six_moves());
     let odd = "equal 5001/10000";
@@ -134,6 +142,7 @@ pub(super) fn cases() -> Vec<Case> {
         Case::new("equal-unsure-6", &six, &gains(6, |own| own as i32)),
         Case::new("equal-unsure-6-most", &six, &one_gain(0)),
         Case::new("equal-early-next", &six, &early_next()),
+        Case::new("equal-early-choices", &early_choices(8), &over_all()),
         Case::new("equal-one-state-65536", &equal_levels(), &one_gain(6)),
         Case::new("equal-thousands", &four_moves(), &over_windows(6)),
         Case::new("equal-windows", &six, &over_windows(6)),
@@ -159,11 +168,13 @@ mod tests {
             let totals = Totals::of(&model);
             assert!((0..32).all(|state| totals.plans(steps, state) == plans));
         }
-        let model = read_model(&equal_levels()).expect("an accepted model");
-        let totals = Totals::of(&model);
-        let states = 0..model.states() as u8;
-        let most = |state: &u8| totals.plans(6, *state) == 65_536;
-        assert_eq!(states.filter(most).count(), 1);
+        for (bytes, plans) in [(equal_levels(), 65_536), (early_choices(8), 32_768)] {
+            let model = read_model(&bytes).expect("an accepted model");
+            let totals = Totals::of(&model);
+            let states = 0..model.states() as u8;
+            let most = |state: &u8| totals.plans(6, *state) == plans;
+            assert_eq!(states.filter(most).collect::<Vec<u8>>(), [0]);
+        }
     }
 
     /// The nodes with "equal" are below the root, or are needed in all states
@@ -174,7 +185,8 @@ mod tests {
             let (model, _, question) = served(&case);
             let equal = question.plan_nodes();
             let equal = equal.filter(|(_, plan)| plan.relation == Relation::Equal);
-            assert!(equal.count() >= 4, "{}", case.name);
+            let alone = case.name == "equal-early-choices";
+            assert!(alone || equal.count() >= 4, "{}", case.name);
             let root = question.root_plan().expect(case.name);
             if root.relation != Relation::Equal && case.name != "equal-one-state-65536" {
                 assert_eq!(met_after(&model, root.steps()).len(), 32, "{}", case.name);

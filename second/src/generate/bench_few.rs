@@ -3,9 +3,8 @@
 
 use super::bench::{words, Case};
 use super::bench_asked::Asked;
-use super::bench_models::{mixed, small_rewards, Open};
+use super::bench_models::{early_choices, mixed, small_rewards, Open};
 use super::bench_windows::windows;
-use super::cases::{based_line, pack, POSTS};
 
 /// 32 states with so many certain moves.
 fn moves(arities: &'static [usize]) -> Vec<u8> {
@@ -17,32 +16,6 @@ fn moves(arities: &'static [usize]) -> Vec<u8> {
         reward: small_rewards,
     };
     open.packed()
-}
-
-/// 1,024 plans of 1,365 choices from state 0, the longest that there are: four
-/// actions in state 0 and in the four states after it, then one.
-fn long_plans() -> Vec<u8> {
-    let mut text = String::from("model D 10\n");
-    for (number, name) in ["b0", "b1", "late"].iter().enumerate() {
-        text += &format!("proposition {number} {name}\n");
-    }
-    text += "state 0:\n";
-    for (group, flag) in ["", "late"].iter().enumerate() {
-        for (number, low) in ["", "b0", "b1", "b0 b1"].iter().enumerate() {
-            text += &format!("state {}: {low} {flag}\n", 1 + 4 * group + number);
-        }
-    }
-    text += &format!("action 0\n{}", POSTS[3]);
-    for action in 1..4 {
-        text += &format!("action {action} needs !late\n{}", POSTS[3]);
-    }
-    for state in 0..9 {
-        let base = if state == 0 { 1 } else { 5 };
-        for action in 0..if state < 5 { 4 } else { 1 } {
-            text += &based_line(state, action, 4, base, base + 3);
-        }
-    }
-    pack(&text)
 }
 
 /// One plan over the gains of all windows that no plan meets, though the bound
@@ -86,7 +59,7 @@ fn nested(steps: usize) -> Vec<String> {
 }
 
 pub(super) fn cases() -> Vec<Case> {
-    let (two, four, long) = (moves(&[1; 2]), moves(&[1; 4]), long_plans());
+    let (two, four, long) = (moves(&[1; 2]), moves(&[1; 4]), early_choices(4));
     vec![
         Case::new("few-64-nested", &two, &nested(6)),
         Case::new("few-1024-root", &four, &root(5)),

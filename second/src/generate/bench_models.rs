@@ -110,12 +110,53 @@ pub(super) fn ten_outcomes(
     open.packed()
 }
 
+/// So many actions of four outcomes in state 0 and in the four states after it,
+/// then one. Every plan from state 0 has 1,365 choices, the most; of four actions
+/// there are 1,024 plans and 65,536 paths, of eight 32,768 and 262,144. Choices
+/// that come later make far more plans of as many paths.
+pub(super) fn early_choices(actions: usize) -> Vec<u8> {
+    let mut text = String::from("model D 10\n");
+    for (number, name) in ["b0", "b1", "late"].iter().enumerate() {
+        text += &format!("proposition {number} {name}\n");
+    }
+    text += "state 0:\n";
+    for (group, flag) in ["", "late"].iter().enumerate() {
+        for (number, low) in ["", "b0", "b1", "b0 b1"].iter().enumerate() {
+            text += &format!("state {}: {low} {flag}\n", 1 + 4 * group + number);
+        }
+    }
+    text += &format!("action 0\n{}", POSTS[3]);
+    for action in 1..actions {
+        text += &format!("action {action} needs !late\n{}", POSTS[3]);
+    }
+    for state in 0..9 {
+        for action in 0..if state < 5 { actions } else { 1 } {
+            text += &early_line(state, action);
+        }
+    }
+    pack(&text)
+}
+
+/// An outcome line to the first four states after state 0, or to the last four.
+fn early_line(state: usize, action: usize) -> String {
+    let first = if state == 0 { 1 } else { 5 };
+    let lows = LOW_BITS[3].iter().zip(mixed(state, action, 4)).enumerate();
+    let parts: Vec<String> = lows
+        .map(|(place, (low, weight))| {
+            let reward = (state + action + place) as i32 % 3 - 1;
+            let target = first + usize::from(*low);
+            format!("{target} weight {weight} reward {reward}")
+        })
+        .collect();
+    format!("outcome {state} {action}: {}\n", parts.join(", "))
+}
+
 #[cfg(test)]
 pub(super) mod tests {
     use super::*;
     use crate::blocks::{read_model, read_question};
     use crate::generate::bench::Case;
-    use crate::logic::{check_limits, Model, Question, Totals};
+    use crate::logic::{check_limits, Model, Plan, Question, Totals};
 
     /// The states that can be met after just so many steps from state 0.
     pub fn met_after(model: &Model, steps: usize) -> Vec<u8> {
@@ -149,6 +190,17 @@ pub(super) mod tests {
         let ten = read_model(&ten_outcomes(10, mixed)).expect("an accepted model");
         let totals = Totals::of(&ten);
         assert!((0..32).all(|state| totals.paths(6, state) == 1_000_000));
+    }
+
+    #[test]
+    fn early_choices_are_few() {
+        for (actions, plans, paths) in [(4, 1_024, 65_536), (8, 32_768, 262_144)] {
+            let model = read_model(&early_choices(actions)).expect("an accepted model");
+            let totals = Totals::of(&model);
+            assert_eq!(totals.plans(6, 0), plans);
+            assert_eq!(totals.paths(6, 0), paths);
+            assert_eq!(Plan::first(&model, 0, 6).choices(&model).len(), 1365);
+        }
     }
 
     #[test]

@@ -8,15 +8,20 @@ use super::bench_asked::Asked;
 use super::bench_models::{mixed, ten_outcomes};
 
 /// The conjunction of the gains of all windows that end after so many steps:
-/// each is to pass minus its length, and so does about half of all paths.
-pub(super) fn windows(asked: &mut Asked, steps: usize) -> usize {
-    let mut all = asked.gain(1, "greater -1");
+/// each is to pass a bound given by its length.
+pub(super) fn windows_above(asked: &mut Asked, steps: usize, bound: fn(usize) -> i32) -> usize {
+    let mut all = asked.gain(1, &format!("greater {}", bound(1)));
     for length in 2..=steps {
-        let gain = asked.gain(length, &format!("greater -{length}"));
+        let gain = asked.gain(length, &format!("greater {}", bound(length)));
         let next = asked.after(1, all);
         all = asked.and(gain, next);
     }
     all
+}
+
+/// The same with bounds that rewards of either sign pass or not by turns.
+pub(super) fn windows(asked: &mut Asked, steps: usize) -> usize {
+    windows_above(asked, steps, |length| -(length as i32))
 }
 
 /// One plan over all windows.
