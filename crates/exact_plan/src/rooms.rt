@@ -27,7 +27,8 @@ use prepared_model::outcomes;
 use prepared_model::target;
 use prepared_question::QUESTION;
 
-// How many numbers the search below the choice at place i stores: with it goes the room, so that few numbers are cleared where few are stored.
+// How many numbers the search below the choice at place i stores. The room is chosen by it, and not by the number of plans, so that few numbers are
+// cleared where few are stored.
 fn stored_below(m: &[u16; MODEL], table: &[u64; COUNTS], s: usize, i: usize, k: u8) -> u64
     requires { ⌜ (s < 32) × (i < 8) × Counted (now m) (now table) s i k (outcomes-in (now m) s i) ⌝ }
     ensures value { λ r. ⌜ r ≡ stored-at (now (m .entry)) s i k ⌝ }
@@ -64,6 +65,7 @@ fn limit(room: u8) -> u64
     if room == 0 { FEW } else { SOME }
 }
 
+// The three rooms, each with a buffer in its own frame.
 fn few(
     m: &[u16; MODEL],
     q: &[u8; QUESTION],

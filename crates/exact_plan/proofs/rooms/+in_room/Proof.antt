@@ -1,4 +1,4 @@
--- `rooms::in_room`: the room falls with each call of itself, and the room of which a search is sent on is enough.
+-- `rooms::in_room`: the room falls with each call of itself, and a search is sent on only where the smaller room is enough.
 use Prim.Native.Nat.{ℕ, _<_}
 use native.Mathlib.Omega.{arith}
 use borrow.Author.Needs.{needs}
