@@ -6,6 +6,7 @@ use super::bench_few;
 use super::bench_gains;
 use super::bench_reasons;
 use super::bench_skewed;
+use super::bench_sure;
 use super::bench_turns;
 use super::bench_windows;
 use super::cases::{based_line, most_plans, pack, question, LOW_BITS, POSTS, WEIGHTS};
@@ -161,6 +162,7 @@ pub fn bench_cases() -> Vec<Case> {
     cases.extend(one_of_each());
     cases.extend(bench_few::cases());
     cases.extend(bench_equal::cases());
+    cases.extend(bench_sure::cases());
     cases.extend(bench_windows::cases());
     cases.extend(bench_skewed::cases());
     cases.extend(bench_turns::cases());

@@ -86,6 +86,7 @@ pub(super) fn cases() -> Vec<Case> {
         Case::new("everyday-full-next", &full, &one_step()),
         Case::new("everyday-full-gain", &full, &one_gain()),
         Case::new("everyday-full-and", &full, &two_plans()),
+        Case::new("everyday-full-equal", &full, &goal("equal 37/100")),
         Case::new("everyday-two-greater", &middling, &goal("greater 1/2")),
         Case::new("everyday-two-less", &middling, &goal("less 1/2")),
         Case::new("everyday-two-equal", &middling, &goal("equal 49/100")),

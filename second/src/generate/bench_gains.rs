@@ -108,21 +108,8 @@ mod tests {
     use super::*;
     use crate::blocks::{read_model, read_question};
     use crate::generate::bench_cases;
+    use crate::generate::bench_models::tests::met_after;
     use crate::logic::{fast, Judged, Model, Node, Question, Totals};
-
-    /// The states that can be met after just so many steps from state 0.
-    fn met_after(model: &Model, steps: usize) -> Vec<u8> {
-        let mut states = vec![0];
-        for _ in 0..steps {
-            let moves = states.iter().flat_map(|state| model.moves(*state));
-            states = moves
-                .flat_map(|entry| entry.outcomes.iter().map(|outcome| outcome.target))
-                .collect();
-            states.sort();
-            states.dedup();
-        }
-        states
-    }
 
     #[test]
     fn every_state_has_as_many_plans() {

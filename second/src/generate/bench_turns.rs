@@ -38,7 +38,7 @@ fn small(state: usize, action: usize, place: usize) -> i32 {
 /// gained the same, so that it helps nobody to remember what they came to.
 fn spread(state: usize, action: usize, place: usize) -> i32 {
     let number = (97 * state + 11 * action + place + 1) as u64;
-    ((number * 2_654_435_761 >> 7) % 2001) as i32 - 1000
+    (((number * 2_654_435_761) >> 7) % 2001) as i32 - 1000
 }
 
 /// The model with these groups, one after another.
@@ -119,13 +119,13 @@ fn three_by_turns(reward: Reward) -> Vec<u8> {
     in_turns(&groups, reward)
 }
 
-/// Bounds that most paths pass in all windows, so that it takes long to find
-/// that some plan has a path that does not.
+/// Bounds that every path passes in all windows, so that no plan has less than
+/// the whole. Whoever does not see that walks all paths.
 fn low(length: usize) -> i32 {
     -2 * length as i32
 }
 
-/// Bounds that hardly any path passes in all windows.
+/// Bounds that some paths pass in all windows, but not all paths of any plan.
 fn high(length: usize) -> i32 {
     -i32::from(length == 1)
 }

@@ -10,6 +10,7 @@ mod bench_gains;
 mod bench_models;
 mod bench_reasons;
 mod bench_skewed;
+mod bench_sure;
 mod bench_turns;
 mod bench_windows;
 mod bounds;
