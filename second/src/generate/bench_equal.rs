@@ -3,34 +3,23 @@
 
 use super::bench::{equal_levels, Case};
 use super::bench_asked::Asked;
-use super::bench_models::{early_choices, mixed, six_moves, small_rewards, Open};
+use super::bench_models::{alike, early_choices, six_moves};
 use super::bench_windows::windows;
 
 /// 32 states with two actions of two outcomes each: 32,768 plans of four steps.
 fn two_by_two() -> Vec<u8> {
-    open(&[2, 2])
+    alike(32, &[2, 2])
 }
 
 /// 32 states with two certain moves and an action of two outcomes: 65,535 plans
 /// of four steps.
 fn two_and_one() -> Vec<u8> {
-    open(&[1, 1, 2])
+    alike(32, &[1, 1, 2])
 }
 
 /// 32 states with four certain moves: 4,096 plans of six steps.
 fn four_moves() -> Vec<u8> {
-    open(&[1; 4])
-}
-
-fn open(arities: &'static [usize]) -> Vec<u8> {
-    let open = Open {
-        states: 32,
-        arities,
-        denominator: 10,
-        weights: mixed,
-        reward: small_rewards,
-    };
-    open.packed()
+    alike(32, &[1; 4])
 }
 
 /// Eight nodes with a gain of four steps each, each where the one before is

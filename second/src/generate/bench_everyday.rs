@@ -3,31 +3,17 @@
 
 use super::bench::Case;
 use super::bench_asked::Asked;
-use super::bench_models::{mixed, small_rewards, Open};
+use super::bench_models::alike;
 
 /// A model of 12 blocks: 32 states, eight actions, four outcomes each.
 fn full() -> Vec<u8> {
-    let open = Open {
-        states: 32,
-        arities: &[4; 8],
-        denominator: 10,
-        weights: mixed,
-        reward: small_rewards,
-    };
-    open.packed()
+    alike(32, &[4; 8])
 }
 
 /// A model of eight states and three actions, one of which is certain: 903
 /// plans of three steps.
 fn middling() -> Vec<u8> {
-    let open = Open {
-        states: 8,
-        arities: &[2, 2, 1],
-        denominator: 10,
-        weights: mixed,
-        reward: small_rewards,
-    };
-    open.packed()
+    alike(8, &[2, 2, 1])
 }
 
 /// Whether proposition 0 can be true after one step.

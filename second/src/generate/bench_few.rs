@@ -3,20 +3,8 @@
 
 use super::bench::{words, Case};
 use super::bench_asked::Asked;
-use super::bench_models::{early_choices, mixed, small_rewards, Open};
+use super::bench_models::{alike, early_choices};
 use super::bench_windows::windows;
-
-/// 32 states with so many certain moves.
-fn moves(arities: &'static [usize]) -> Vec<u8> {
-    let open = Open {
-        states: 32,
-        arities,
-        denominator: 10,
-        weights: mixed,
-        reward: small_rewards,
-    };
-    open.packed()
-}
 
 /// One plan over the gains of all windows that no plan meets, though the bound
 /// is a whole number of units.
@@ -59,7 +47,7 @@ fn nested(steps: usize) -> Vec<String> {
 }
 
 pub(super) fn cases() -> Vec<Case> {
-    let (two, four, long) = (moves(&[1; 2]), moves(&[1; 4]), early_choices(4));
+    let (two, four, long) = (alike(32, &[1; 2]), alike(32, &[1; 4]), early_choices(4));
     vec![
         Case::new("few-64-nested", &two, &nested(6)),
         Case::new("few-1024-root", &four, &root(5)),

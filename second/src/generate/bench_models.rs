@@ -81,6 +81,19 @@ pub(super) fn wide_rewards(state: usize, action: usize, place: usize) -> i32 {
     (13 * state + 7 * action * action + 29 * place) as i32 % 41 - 20
 }
 
+/// So many states with actions of so many outcomes in each, mixed weights and
+/// small rewards.
+pub(super) fn alike(states: usize, arities: &'static [usize]) -> Vec<u8> {
+    let open = Open {
+        states,
+        arities,
+        denominator: 10,
+        weights: mixed,
+        reward: small_rewards,
+    };
+    open.packed()
+}
+
 /// 32 states with six certain moves in each: 46,656 plans of six steps from
 /// every state.
 pub(super) fn six_moves() -> Vec<u8> {
