@@ -1,5 +1,6 @@
 // Plans by expected gain, for "less" and "greater". A gain is a sum over steps, so the best plan from a state does not depend on how the state was
 // reached: a table by steps left and states has the best totals, from the last step back, and the place of the first choice that has each.
+#![tactic(auto)]
 ghost use Rattle.std.specs.Prelude.{◌≡◌, ◌+◌, ◌*◌, ◌-◌, ◌^◌, ◌≤◌, ◌<◌, get_or, length};
 ghost use Rattle.logic.specs.Model.{outcomes};
 ghost use Rattle.logic.specs.promises.Raised.{raise, pay, Modest};

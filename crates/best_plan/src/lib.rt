@@ -1,5 +1,6 @@
 // The search for the plan of greatest or of least weight: one pass over the tree of paths, which meets each path at most once: a choice that
 // cannot win any more is given up. The last step of the paths through a state is taken for all its outcomes at once.
+#![tactic(auto)]
 ghost use Rattle.std.specs.Prelude.{◌≡◌, not, ◌++◌, ◌+◌, ◌*◌, ◌<◌, ◌≤◌, ◌^◌, length, take, drop};
 ghost use Rattle.logic.specs.Formula.{depth};
 ghost use Rattle.models.specs.Layout.{state_count, denominator_of};

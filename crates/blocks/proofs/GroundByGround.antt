@@ -2,7 +2,7 @@
 use Prim.Native.Nat.{ℕ}
 use mathlib.Core.Path.{◌≡◌, sym, ap, ◌∙◌}
 use mathlib.Core.Bool.{Bool, true, false, not}
-use borrow.Author.Tests.{not_true, not-false}
+use borrow.Author.Tests.{not-true, not-false}
 use Rattle.logic.specs.Checked.{Checked, guard, ◌>>◌}
 use Rattle.logic.specs.promises.Refusal.{refusal}
 
@@ -12,7 +12,7 @@ module _ {r t : Bool} (e : r ≡ t) where
   passed h = sym e ∙ not-false r h
 
   pub failed : not r ≡ true → t ≡ false
-  failed h = sym e ∙ not_true r h
+  failed h = sym e ∙ not-true r h
 
   module _ {A : Type 0} (k : ℕ) (c : Checked A) where
     pub goes_on : not r ≡ false → refusal (guard k t >> c) ≡ refusal c

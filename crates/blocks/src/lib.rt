@@ -1,4 +1,5 @@
 // Bytes, numbers in bytes, and blocks of 512 bytes: what every reader and writer stands on.
+#![tactic(auto)]
 ghost use Rattle.std.specs.Prelude.{◌≡◌, ◌+◌, ◌*◌, ◌≤◌, ◌<◌, ◌%◌, true, pos, negsuc, length, take};
 ghost use Rattle.std.specs.Int.Signed.{lt_z};
 ghost use Rattle.blocks.specs.Bytes.{u16, u32, u64, signed, i16, i32, i64, twos_complement};

@@ -9,7 +9,7 @@ use mathlib.Core.Bool.{true, false, cond, false≢true}
 use lib.Dec.{eqb, ltb}
 use lib.IntN.{ℤ, pos, negsuc, sub_ℕ}
 use lib.Signed.{mag}
-use borrow.Author.Tests.{eq_eqb, ne_eqb, eqb-true, lt-ltb, le-ltb, ltb-true}
+use borrow.Author.Tests.{eq-eqb, ne_eqb, eqb-true, lt-ltb, le-ltb, ltb-true}
 use Rattle.logic.specs.Quantity.{naturals, integers, Relation, less, equal, related}
 use Rattle.logic.specs.Bound.{meets, below, at, above, compared, lamp}
 use Rattle.logic.specs.Formula.{nonnegative}
@@ -36,8 +36,8 @@ module _ (q x w : ℕ) (h : 0 < q) where
   times_whole : x % q ≡ 0 → eqb (q * w) x ≡ eqb w (x / q)
   times_whole z =
       same_test (eqb (q * w) x) (eqb w (x / q))
-      (λ e. eq_eqb w (x / q) (sym (mul-div_cancel_left w h) ∙ ap (λ y. y / q) (eqb-true (q * w) x e)))
-      (λ e. eq_eqb (q * w) x (ap (λ y. q * y) (eqb-true w (x / q) e) ∙ omega (arith, div-add-mod x q)))
+      (λ e. eq-eqb w (x / q) (sym (mul-div_cancel_left w h) ∙ ap (λ y. y / q) (eqb-true (q * w) x e)))
+      (λ e. eq-eqb (q * w) x (ap (λ y. q * y) (eqb-true w (x / q) e) ∙ omega (arith, div-add-mod x q)))
 
   times_part : (x % q ≡ 0 → ⊥) → eqb (q * w) x ≡ false
   times_part n = ne_eqb (q * w) x (λ e. n (ap (λ y. y % q) (sym e) ∙ mul-mod_right q w))
@@ -233,8 +233,8 @@ module _ (m q : Bytes) (j : ℕ) (b : Bounded m q j) where
     side x =
         met x
         ∙ same_test (eqb (raised_left x) raised_right) (eqb (k * x) a)
-        (λ t. eq_eqb (k * x) a (omega (arith, times x, e, f, eqb-true (raised_left x) raised_right t)))
-        (λ t. eq_eqb (raised_left x) raised_right (omega (arith, times x, e, f, l, eqb-true (k * x) a t)))
+        (λ t. eq-eqb (k * x) a (omega (arith, times x, e, f, eqb-true (raised_left x) raised_right t)))
+        (λ t. eq-eqb (raised_left x) raised_right (omega (arith, times x, e, f, l, eqb-true (k * x) a t)))
 
     lower_side : (x : ℕ) → meets_as less m q j (lowered m q j x) ≡ ltb (k * x) a
     lower_side x =

@@ -1,5 +1,6 @@
 // Bounds: powers of the denominator, and how a total compares with the bound of a node of operator 8 or 9, the total times q with p times D to the
 // n. Whether it meets the bound follows from that and the node's relation.
+#![tactic(auto)]
 ghost use Rattle.std.specs.Prelude.{◌≡◌, not, ◌*◌, ◌^◌, ◌≤◌};
 ghost use Rattle.logic.specs.Formula.{relation, nonnegative};
 ghost use Rattle.logic.specs.promises.Orders.{order};

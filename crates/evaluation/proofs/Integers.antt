@@ -11,7 +11,7 @@ use lib.Signed.{mag, lt_z, le_z}
 use mir.Syntax.{Width, w16, w32, w64}
 use mir.Val.{SFits, to_z, of_z}
 use mir.ValLaws.{to_z-of_z}
-use borrow.Author.Tests.{eq_eqb, ne_eqb}
+use borrow.Author.Tests.{eq-eqb, ne_eqb}
 use Rattle.logic.proofs.Naturals.{ltb_leb, eqb_leb}
 
 pub less_is : (a b : ℤ) → lt_z a b ≡ not (le_z b a)
@@ -28,7 +28,7 @@ same_bits (negsuc a) (pos b) h g = let x = h.sfits in let y = g.sfits in ne_eqb 
 same_bits (negsuc a) (negsuc b) h g = go (ℕ_discrete a b) ∙ eqb_leb b a
   where
     go : Dec (a ≡ b) → eqb (2 ^ 64 - suc a) (2 ^ 64 - suc b) ≡ eqb b a
-    go (yes e) = eq_eqb (2 ^ 64 - suc a) (2 ^ 64 - suc b) (omega arith) ∙ sym (eq_eqb b a (omega arith))
+    go (yes e) = eq-eqb (2 ^ 64 - suc a) (2 ^ 64 - suc b) (omega arith) ∙ sym (eq-eqb b a (omega arith))
     go (no f) = let x = h.sfits in let y = g.sfits in ne_eqb (2 ^ 64 - suc a) (2 ^ 64 - suc b) (λ e. f (omega arith)) ∙ sym (ne_eqb b a (λ e. f (omega arith)))
 
 pub fits32 : (z : ℤ) → mag z < 2 ^ 31 → to_z w32 (of_z w32 z) ≡ z

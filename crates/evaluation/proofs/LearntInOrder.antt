@@ -9,7 +9,7 @@ use mathlib.Core.Bool.{Bool, true, false, cond}
 use lib.Dec.{leb}
 use lib.ListN.{length, get_or, set, take, length-set}
 use lib.Seq.{take-suc}
-use borrow.Author.Tests.{eq_eqb, ne_eqb, le-leb, lt-leb}
+use borrow.Author.Tests.{eq-eqb, ne_eqb, le-leb, lt-leb}
 use Rattle.logic.specs.Bound.{one_if}
 use Rattle.blocks.specs.Bytes.{Bytes, byte}
 use Rattle.questions.specs.Layout.{node_of}
@@ -42,7 +42,7 @@ other_value q trail gains h k j (suc (suc (suc (suc (suc (suc (suc (suc op))))))
 -- A state formula's value stands in the table; another's is by its operator.
 pub state_value : (q truth trail : Bytes) (gains : List ℤ) (h s d j : ℕ) (v : List ℕ) → d ≡ 0 → value_at q truth trail gains h s d j v ≡ byte truth (32 * j + s)
 unfolding value_at
-state_value q truth trail gains h s d j v e = rw (eq_eqb d 0 e) refl
+state_value q truth trail gains h s d j v e = rw (eq-eqb d 0 e) refl
 
 pub path_value : (q truth trail : Bytes) (gains : List ℤ) (h s d j : ℕ) (v : List ℕ) → (d ≡ 0 → ⊥)
     → value_at q truth trail gains h s d j v ≡ value_by q trail gains h (h - d) j (node_of q j).operator v

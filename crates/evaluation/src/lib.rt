@@ -1,5 +1,6 @@
 // The values of a condition's nodes along a path, each computed once, with the step that makes it known; and what a path is worth to a node
 // that sets a bound on plans.
+#![tactic(auto)]
 ghost use Rattle.std.specs.Prelude.{◌≡◌, ◌^◌, ◌<◌, pos, ◌-ℤ◌, length, get_or, set, take};
 ghost use Rattle.std.specs.Int.Signed.{mag};
 ghost use Rattle.logic.specs.Quantity.{integers};

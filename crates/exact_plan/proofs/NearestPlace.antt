@@ -8,7 +8,7 @@ use mathlib.Core.List.{List}
 use lib.Dec.{T, eqb}
 use lib.ListN.{get_or, length}
 use lib.Seq.{get_or-take}
-use borrow.Author.Tests.{eq_eqb, ne_eqb}
+use borrow.Author.Tests.{eq-eqb, ne_eqb}
 use Rattle.logic.specs.promises.Orders.{weights, order}
 use Rattle.logic.proofs.Tests.{true→T, and_both}
 use Rattle.logic.proofs.Best.{Ordered, Lt, le_lt}
@@ -75,7 +75,7 @@ module _ (l : List ℕ) (len : ℕ) (above : Bool) (x : ℕ) where
           its_total = so_far.its_total;
           there = so_far.there;
           nowhere = λ e j h. seen_at h (so_far.nowhere e j)
-              (λ k. ap (on_side above x) (last_is k) ∙ off (on_side above x y) (ap (λ u. on_side above x y && (u || not (order above y r.total))) (sym (eq_eqb r.place len e)) ∙ w));
+              (λ k. ap (on_side above x) (last_is k) ∙ off (on_side above x y) (ap (λ u. on_side above x y && (u || not (order above y r.total))) (sym (eq-eqb r.place len e)) ∙ w));
           best = λ n j h t. seen_at h (λ k. so_far.best n j k t)
               (λ k.
               subst (λ z. T (order above z r.total)) (sym (last_is k))

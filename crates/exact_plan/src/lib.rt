@@ -1,4 +1,5 @@
 // The list of the totals of all plans in dictionary order; for the relation "equal" the first place of one of them, and those nearest to a number.
+#![tactic(auto)]
 ghost use Rattle.std.specs.Prelude.{◌+◌, ◌≤◌, length};
 ghost use Rattle.logic.specs.Limits.{plan_total};
 ghost use Rattle.prepared_model.specs.promises.Rows.{model_in};

@@ -1,5 +1,6 @@
 // The text that the program `whynot` prints: the line of `verdict` where that is a yes or a refusal, and the reason of a no. The grounds of load, put
 // and judge are asked in turn; no desk is needed, since nothing is kept.
+#![tactic(auto)]
 ghost use Rattle.std.specs.Prelude.{◌≡◌, ◌+◌, ◌≤◌, length};
 ghost use Rattle.logic.specs.promises.Refusal.{refusal};
 ghost use Rattle.models.specs.Layout.{model_of};

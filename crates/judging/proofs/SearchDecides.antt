@@ -10,7 +10,7 @@ use mathlib.Core.Option.{Option, none, some}
 use lib.Dec.{eqb, leb, ltb}
 use lib.IntN.{ℤ}
 use lib.ListN.{get_or, length, length-map, get_or-map}
-use borrow.Author.Tests.{eq_eqb, ne_eqb, leb-true, ltb-true, ltb-false}
+use borrow.Author.Tests.{eq-eqb, ne_eqb, leb-true, ltb-true, ltb-false}
 use Rattle.logic.specs.Lists.{every}
 use Rattle.logic.specs.promises.Refusal.{refusal}
 use Rattle.logic.specs.Model.{Model, Step}
@@ -170,7 +170,7 @@ module _ {m q : Bytes} {j : ℕ} (b : Bounded m q j) (s : ℕ) (h : s < state_co
       record {
         weighs = λ l. total_at r l ∙ here l;
         found = λ l. equal_shown M s node.n (worth_at m q j s) node.p node.q (first_plan M node.n s) r (subst (λ k. r < k) (sym (plan_count M node.n s)) l)
-            (met_at r l ∙ same _ ∙ eq_eqb _ x (total_at r l ∙ here l)) (λ i k. other i (omega arith) k);
+            (met_at r l ∙ same _ ∙ eq-eqb _ x (total_at r l ∙ here l)) (λ i k. other i (omega arith) k);
         missed = λ l. equal_none M s node.n (worth_at m q j s) node.p node.q (first_plan M node.n s)
             (λ i k. let g = subst (λ k. i < k) (plan_count M node.n s) k in other i g (omega arith));
       }
@@ -254,7 +254,7 @@ module _ {m q : Bytes} {counts : List ℕ} (asked : Asked m q counts) (j s : ℕ
 
   -- Its plans are counted.
   pub all_counted : totals.Totals true (model_in m) 7 counts
-  all_counted = asked.counted.all j h (sym (bounded_plans true (node_of q j) o refl) ∙ eq_eqb (node_of q j).right 2 e)
+  all_counted = asked.counted.all j h (sym (bounded_plans true (node_of q j) o refl) ∙ eq-eqb (node_of q j).right 2 e)
 
   pub counted_plans : (node_of q j).n ≤ 6 → get_or counts (32 * (node_of q j).n + s) 0 ≡ plan_total (model_in m) (node_of q j).n s
   unfolding totals.total totals.limit

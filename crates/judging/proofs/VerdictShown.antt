@@ -11,7 +11,7 @@ use mathlib.Core.Option.{Option, none, some}
 use lib.Dec.{eqb}
 use lib.IntN.{ℤ}
 use lib.ListN.{take}
-use borrow.Author.Tests.{ltb-true, ltb-false, eq_eqb, ne_eqb}
+use borrow.Author.Tests.{ltb-true, ltb-false, eq-eqb, ne_eqb}
 use Rattle.logic.specs.Checked.{ok}
 use Rattle.logic.specs.Quantity.{naturals}
 use Rattle.logic.specs.Bound.{Bound, Lamp, total, one_if}
@@ -86,7 +86,7 @@ announces_truth false before e f g =
 module _ (m q : Bytes) (j x : ℕ) where
   pub no_lamp_equal : (node_of q j).right ≡ 2 → no_lamp m q j x ≡ none
   unfolding no_lamp
-  no_lamp_equal e = ap (λ u. cond u none (some (lamp_at m q j (lowered m q j x)))) (eq_eqb (node_of q j).right 2 e)
+  no_lamp_equal e = ap (λ u. cond u none (some (lamp_at m q j (lowered m q j x)))) (eq-eqb (node_of q j).right 2 e)
 
   pub no_lamp_other : ((node_of q j).right ≡ 2 → ⊥) → no_lamp m q j x ≡ some (lamp_at m q j (lowered m q j x))
   unfolding no_lamp

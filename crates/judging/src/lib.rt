@@ -1,5 +1,6 @@
 // Judging an accepted question on an accepted model: the truth of the nodes from the first to the last, where it matters, and the verdict
 // on the root.
+#![tactic(auto)]
 ghost use Rattle.std.specs.Prelude.{◌≡◌, ◌*◌, ◌^◌, ◌≤◌, ◌<◌, true, cond, length};
 ghost use Rattle.std.proofs.Math.Option.{none};
 ghost use Rattle.logic.specs.Formula as formulas;

@@ -1,4 +1,5 @@
 // Lamps: document 02's word, A.4, for how a total compares with its bound, below, at or above.
+#![tactic(auto)]
 ghost use Rattle.std.specs.Prelude.{◌≡◌};
 ghost use Rattle.logic.specs.Quantity.{naturals};
 ghost use Rattle.logic.specs.Bound as bounds;

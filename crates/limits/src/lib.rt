@@ -1,4 +1,5 @@
 // Grounds 24 and 25: the numbers of paths and plans from each state, counted by recursion over the steps up to a cap above the limit.
+#![tactic(auto)]
 ghost use Rattle.std.specs.Prelude.{◌≡◌, ℕ, ◌+◌, ◌*◌, ◌<◌, ◌≤◌, min, true, false, leb, get_or};
 ghost use Rattle.logic.specs.Lists.{every};
 ghost use Rattle.logic.specs.promises.Refusal.{refusal};

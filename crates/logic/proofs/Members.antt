@@ -17,7 +17,7 @@ module _ {A B : Type 0} where
       later : (a : A) × Memᴰ a xs × (b ≡ f a) → (a : A) × Memᴰ a (x ∷ xs) × (b ≡ f a)
       later w = (w.0, Memᴰ.tail w.1, w.2)
 
-  pub in_map : (f : A → B) {l : List A} {a : A} → Memᴰ a l → Memᴰ (f a) (map f l)
+  pub in_map : (f : A → B) {a : A} {l : List A} → Memᴰ a l → Memᴰ (f a) (map f l)
   in_map f (Memᴰ.head e) = Memᴰ.head (ap f e)
   in_map f (Memᴰ.tail t) = Memᴰ.tail (in_map f t)
 
@@ -29,7 +29,7 @@ module _ {A B : Type 0} where
       later : (a : A) × Memᴰ a xs × Memᴰ b (f a) → (a : A) × Memᴰ a (x ∷ xs) × Memᴰ b (f a)
       later w = (w.0, Memᴰ.tail w.1, w.2)
 
-  pub in_flat_map : (f : A → List B) {l : List A} {a : A} {b : B} → Memᴰ a l → Memᴰ b (f a) → Memᴰ b (flat_map f l)
+  pub in_flat_map : (f : A → List B) {a : A} {l : List A} {b : B} → Memᴰ a l → Memᴰ b (f a) → Memᴰ b (flat_map f l)
   unfolding flat_map
   in_flat_map f {b = b} (Memᴰ.head {x} {xs} e) h = Memᴰ.append_left (flat_map f xs) (subst (λ y. Memᴰ b (f y)) e h)
   in_flat_map f (Memᴰ.tail {x} t) h = Memᴰ.append_right (f x) (in_flat_map f t h)

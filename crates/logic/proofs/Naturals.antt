@@ -7,7 +7,7 @@ use mathlib.Core.Path.{◌≡◌, refl, sym, ap, ap₂, ◌∙◌}
 use mathlib.Core.Bool.{not, ◌&&◌}
 use mathlib.Core.List.{List, [], ◌∷◌, ◌++◌, flat_map, append-nil, append_assoc, Memᴰ}
 use lib.Dec.{eqb, leb, ltb}
-use borrow.Author.Tests.{lt-ltb, le-ltb, le-leb, lt-leb, eq_eqb, ne_eqb}
+use borrow.Author.Tests.{lt-ltb, le-ltb, le-leb, lt-leb, eq-eqb, ne_eqb}
 use mathlib.Core.Logic.{◌⊎◌, inl, inr}
 use Rattle.logic.specs.Quantity.{Quantity, naturals, sum, related}
 use Rattle.logic.specs.Formula.{relation}
@@ -26,7 +26,7 @@ pub eqb_leb : (a b : ℕ) → eqb a b ≡ (leb a b && leb b a)
 eqb_leb a b = go (ℕ_discrete a b) (dec_lt a b)
   where
     go : Dec (a ≡ b) → Dec (a < b) → eqb a b ≡ (leb a b && leb b a)
-    go (yes e) d = eq_eqb a b e ∙ sym (ap₂ ◌&&◌ (le-leb a b (omega arith)) (le-leb b a (omega arith)))
+    go (yes e) d = eq-eqb a b e ∙ sym (ap₂ ◌&&◌ (le-leb a b (omega arith)) (le-leb b a (omega arith)))
     go (no n) (yes l) = ne_eqb a b n ∙ sym (ap₂ ◌&&◌ (le-leb a b (omega arith)) (lt-leb b a l))
     go (no n) (no g) = ne_eqb a b n ∙ sym (ap (λ t. t && leb b a) (lt-leb a b (omega arith)))
 

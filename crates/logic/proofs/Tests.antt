@@ -64,7 +64,7 @@ module _ {A : Type 0} where
 
 -- ---- over a list
 
-pub member_place : {A : Type 0} {l : List A} {a : A} → Memᴰ a l → (d : A) → (i : ℕ) × (i < length l) × (get_or l i d ≡ a)
+pub member_place : {A : Type 0} {a : A} {l : List A} → Memᴰ a l → (d : A) → (i : ℕ) × (i < length l) × (get_or l i d ≡ a)
 member_place (Memᴰ.head e) d = (0, omega arith, sym e)
 member_place (Memᴰ.tail t) d = let w = member_place t d in (suc w.0, suc-le-suc w.1, w.2)
 
@@ -95,7 +95,7 @@ module _ {A : Type 0} (f : A → Bool) where
   all_at (x ∷ l) e h =
       ⊎_elim (λ q. ap f q ∙ and_left (f x) (all f l) e) (λ t. all_at l (and_right (f x) (all f l) e) t) (Memᴰ.cases_cons h)
 
-  pub any_there : {l : List A} {a : A} → Memᴰ a l → f a ≡ true → any f l ≡ true
+  pub any_there : {a : A} {l : List A} → Memᴰ a l → f a ≡ true → any f l ≡ true
   unfolding any
   any_there (Memᴰ.head {x} {xs} e) h = ap (λ t. t || any f xs) (ap f (sym e) ∙ h)
   any_there (Memᴰ.tail {x} i) h = ap (λ t. f x || t) (any_there i h) ∙ or-true (f x)
@@ -109,7 +109,7 @@ module _ {A : Type 0} (f : A → Bool) where
       pick k true q h = (x, Memᴰ.head refl, q)
       pick k false q h = let w = k h in (w.0, Memᴰ.tail w.1, w.2)
 
-  pub in_keep : {l : List A} {a : A} → Memᴰ a l → f a ≡ true → Memᴰ a (keep f l)
+  pub in_keep : {a : A} {l : List A} → Memᴰ a l → f a ≡ true → Memᴰ a (keep f l)
   unfolding keep
   in_keep {a = a} (Memᴰ.head {x} {xs} e) h = subst (λ t. Memᴰ a (cond t (x ∷ keep f xs) (keep f xs))) (sym (ap f (sym e) ∙ h)) (Memᴰ.head e)
   in_keep {a = a} (Memᴰ.tail {x} {xs} i) h = pick (f x) (in_keep i h)

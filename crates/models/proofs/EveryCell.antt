@@ -13,7 +13,7 @@ use lib.Pow.{pow_pos}
 use borrow.Author.Count.{below_more}
 use mathlib.Core.Bool.{cond}
 use lib.Dec.{eqb, ltb}
-use borrow.Author.Tests.{lt-ltb, le-ltb, eq_eqb, eqb-true, ltb-true}
+use borrow.Author.Tests.{lt-ltb, le-ltb, eq-eqb, eqb-true, ltb-true}
 use Rattle.logic.specs.Lists.{every}
 use Rattle.logic.specs.Model.{true_of}
 use Rattle.logic.proofs.Tests.{same_test, every_at, every_intro, and_left, and_right}
@@ -30,7 +30,7 @@ pub shift_zero : (v n : ℕ) → eqb (v / 2 ^ n) 0 ≡ ltb v (2 ^ n)
 shift_zero v n =
     same_test _ _
     (λ e. lt-ltb v (2 ^ n) (div_lt_one.0 (eqb-true (v / 2 ^ n) 0 e)))
-    (λ e. eq_eqb (v / 2 ^ n) 0 (div_lt_one.1 (ltb-true v (2 ^ n) e)))
+    (λ e. eq-eqb (v / 2 ^ n) 0 (div_lt_one.1 (ltb-true v (2 ^ n) e)))
   where
     div_lt_one : (v / 2 ^ n ≡ 0 → v < 2 ^ n) × (v < 2 ^ n → v / 2 ^ n ≡ 0)
     div_lt_one = (

@@ -1,5 +1,6 @@
 // Models: readers of their bytes, and the grounds on which they are refused (document 01, numbers 1 to 7; document 02, A.1, took ground 8
 // away).
+#![tactic(auto)]
 ghost use Rattle.std.specs.Prelude.{◌≡◌, ℕ, ◌+◌, ◌*◌, ◌/◌, ◌<◌, ◌≤◌, true};
 ghost use Rattle.logic.specs.Model.{true_of};
 ghost use Rattle.logic.specs.promises.Refusal.{refusal};

@@ -9,7 +9,7 @@ use mathlib.Core.Option.{none, some}
 use lib.Dec.{eqb, leb}
 use lib.ListN.{length, take, drop, replicate, length-take}
 use lib.Seq.{take_all, get_or-take}
-use borrow.Author.Tests.{eq_eqb, ne_eqb, eqb-true, leb-true, leb-false}
+use borrow.Author.Tests.{eq-eqb, ne_eqb, eqb-true, leb-true, leb-false}
 use Rattle.logic.specs.Checked.{Checked, ok, refused, ◌>>=◌, got}
 use Rattle.logic.specs.promises.Refusal.{refusal, held}
 use Rattle.logic.specs.Model.{Model}
@@ -95,7 +95,7 @@ held_refused l blocks k e h = sym (ap (λ t. cond t (length (take (512 * blocks)
 pub held_whole : (l : Bytes) (blocks n : ℕ) → n ≡ min (512 * blocks) (length l) → refusal (read_model (take (512 * blocks) l)) ≡ 0 → n ≡ held_size l blocks
 unfolding held_size
 held_whole l blocks n e h =
-    e ∙ sym (length-take (512 * blocks) l) ∙ sym (ap (λ t. cond t (length (take (512 * blocks) l)) 0) (eq_eqb (refusal (read_model (take (512 * blocks) l))) 0 h))
+    e ∙ sym (length-take (512 * blocks) l) ∙ sym (ap (λ t. cond t (length (take (512 * blocks) l)) 0) (eq-eqb (refusal (read_model (take (512 * blocks) l))) 0 h))
 
 -- A desk holds no model where no byte is held, else the model of its bytes.
 module _ (d : Desk) where

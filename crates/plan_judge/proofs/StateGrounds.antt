@@ -9,7 +9,7 @@ use mathlib.Core.Option.{Option, none, some}
 use lib.Dec.{eqb}
 use lib.IntN.{ℤ, pos}
 use lib.ListN.{get_or}
-use borrow.Author.Tests.{eq_eqb, ne_eqb}
+use borrow.Author.Tests.{eq-eqb, ne_eqb}
 use Rattle.logic.specs.Checked.{Checked, ok, refused, ◌>>=◌, ◌>>◌, got}
 use Rattle.logic.specs.promises.Refusal.{refusal, held}
 use Rattle.logic.specs.Model.{Model, Step}
@@ -91,7 +91,7 @@ module _ {S A N : ℕ} {b : Bytes} (a : Formed S A N b) where
     unfolding goal bound_of question_of
     of_plan o =
         ap (goal m s) (at_plan S A N b a top top_inside o)
-        ∙ ap₂ (λ t p. ok (made (worth_by m s b t) p)) (sym (eq_eqb (root_node b).operator 8 o)) (sym ((a.in_range top top_inside).of_plan o).whole)
+        ∙ ap₂ (λ t p. ok (made (worth_by m s b t) p)) (sym (eq-eqb (root_node b).operator 8 o)) (sym ((a.in_range top top_inside).of_plan o).whole)
 
     of_gain : (root_node b).operator ≡ 9 → goal m s (question_of b).root ≡ ok (bound_goal m s (root_bound m s b))
     unfolding goal bound_of question_of

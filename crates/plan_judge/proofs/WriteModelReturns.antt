@@ -6,7 +6,7 @@ use mathlib.Core.Bool.{cond}
 use mathlib.Core.List.{◌++◌}
 use lib.Dec.{leb}
 use lib.ListN.{length, take, drop, length-take}
-use borrow.Author.Tests.{eq_eqb, le-leb, lt-leb}
+use borrow.Author.Tests.{eq-eqb, le-leb, lt-leb}
 use Rattle.logic.specs.Checked.{Checked, ok, ◌>>=◌, ◌>>◌, guard}
 use Rattle.logic.specs.promises.Refusal.{held}
 use Rattle.blocks.specs.Bytes.{Bytes}
@@ -36,7 +36,7 @@ module _ (d : Desk) (a : Bytes) where
     -- The bytes that are held are those that the desk says it has, and n is their number.
     held_are : n ≡ length (said_bytes d)
     unfolding held_size
-    held_are = e ∙ ap (λ t. cond t (length (said_bytes d)) 0) (eq_eqb _ 0 (model_passed d passed))
+    held_are = e ∙ ap (λ t. cond t (length (said_bytes d)) 0) (eq-eqb _ 0 (model_passed d passed))
 
     pub cut_held : take n d.model ≡ said_bytes d
     cut_held = said_cut d.model d.blocks n (held_are ∙ length-take (512 * d.blocks) d.model)

@@ -1,5 +1,6 @@
 // The plan judge as it is offered to callers: the desk (document 01's word for the judge's state) and its calls. No call asks anything of
 // its caller; a refusal leaves the desk, and each lent buffer, as found.
+#![tactic(auto)]
 ghost use Rattle.std.specs.Prelude.{◌≡◌, true, ◌*◌, ◌-◌, ◌≤◌, ◌<◌, min, length, take};
 ghost use Rattle.logic.specs.Checked.{refused};
 ghost use Rattle.logic.specs.promises.Refusal.{refusal};

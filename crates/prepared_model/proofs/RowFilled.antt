@@ -13,7 +13,7 @@ use lib.ListN.{length, get_or, set, take, drop, length-append, length-set, lengt
 use lib.Seq.{length-take-le, get_or-append_seam, get_or-set_same, get_or-set_other, get_or-take, take-append-le, drop-append-le, take_at, drop_at}
 use borrow.Rule.Slice.PartMut.{put_mid, post_of, take_put}
 use borrow.Author.Count.{below_more}
-use borrow.Author.Tests.{lt-ltb, eq_eqb, eqb-true}
+use borrow.Author.Tests.{lt-ltb, eq-eqb, eqb-true}
 use Rattle.logic.specs.promises.Refusal.{refusal}
 use Rattle.logic.specs.Lists.{keep, count_from}
 use Rattle.logic.proofs.Tests.{count_more, keep_append, keep_member, counted_range, get_or_member}
@@ -226,7 +226,7 @@ set_read l k v j h = by (eqb j k) refl
   where
     by : (t : Bool) → eqb j k ≡ t → get_or (set l k v) j 0 ≡ cond t v (get_or l j 0)
     by true e = ap (λ i. get_or (set l k v) i 0) (eqb-true j k e) ∙ get_or-set_same l k v 0 h
-    by false e = get_or-set_other l k j v 0 (λ q. false≢true (sym e ∙ eq_eqb j k q))
+    by false e = get_or-set_other l k j v 0 (λ q. false≢true (sym e ∙ eq-eqb j k q))
 
 module _ (row : List ℕ) (s d : ℕ) (n : length row ≡ 256) where
   pub silent_length : length (silent_at row s d) ≡ 256

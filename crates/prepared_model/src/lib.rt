@@ -1,4 +1,5 @@
 // A model prepared for those who go through its choices: one array of numbers, made once, in which the choices of a state stand in order.
+#![tactic(auto)]
 ghost use Rattle.std.specs.Prelude.{◌≡◌, ℕ, ◌<◌, ◌≤◌, ◌/◌, ◌%◌, length, get_or};
 ghost use Rattle.logic.specs.promises.Refusal.{refusal};
 ghost use Rattle.models.specs.Grounds.{read_model};

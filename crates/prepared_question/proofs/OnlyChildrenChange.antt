@@ -7,7 +7,7 @@ use mathlib.Core.Bool.{Bool, true, false, cond, ◌&&◌}
 use lib.Dec.{eqb}
 use lib.ListN.{length, set, length-set}
 use lib.Seq.{get_or-set_same, get_or-set_other}
-use borrow.Author.Tests.{eq_eqb, ne_eqb, eqb-true}
+use borrow.Author.Tests.{eq-eqb, ne_eqb, eqb-true}
 use Rattle.logic.specs.Formula.{depth}
 use Rattle.blocks.specs.Bytes.{Bytes, byte, u16, u32}
 use Rattle.questions.specs.Layout.{node_count, node_at, node_of}
@@ -35,7 +35,7 @@ module _ (q b : Bytes) (i : ℕ) where
 
   pub right_replaced : (node_of q i).operator ≡ 4 → past b (node_of q i).right ≡ right_for q b i
   unfolding right_for
-  right_replaced e = ap (λ t. cond t (past b (node_of q i).right) (node_of q i).right) (sym (eq_eqb (node_of q i).operator 4 e))
+  right_replaced e = ap (λ t. cond t (past b (node_of q i).right) (node_of q i).right) (sym (eq-eqb (node_of q i).operator 4 e))
 
   pub right_kept : ((node_of q i).operator ≡ 4 → ⊥) → (node_of q i).right ≡ right_for q b i
   unfolding right_for

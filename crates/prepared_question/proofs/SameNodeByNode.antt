@@ -7,7 +7,7 @@ use mathlib.Core.Path.{◌≡◌, refl, sym, ap, ap₂, subst, ◌∙◌}
 use mathlib.Core.Bool.{Bool, true, false, cond, ◌&&◌, false≢true}
 use lib.Dec.{eqb}
 use lib.ListN.{get_or}
-use borrow.Author.Tests.{eq_eqb, ne_eqb, eqb-true}
+use borrow.Author.Tests.{eq-eqb, ne_eqb, eqb-true}
 use Rattle.logic.specs.Lists.{is_empty}
 use Rattle.logic.proofs.Tests.{and_left, and_right}
 use Rattle.logic.specs.promises.Refusal.{refusal}
@@ -88,7 +88,7 @@ doubled_true b c e =
 
 doubled_false : (b : Bytes) (c : ℕ) → doubled b c ≡ false → Doubled b c → ⊥
 unfolding doubled
-doubled_false b c e d = false≢true (sym e ∙ ap₂ ◌&&◌ (eq_eqb (node_of b c).operator 4 d.0) (eq_eqb (node_of b c).left (node_of b c).right d.1))
+doubled_false b c e d = false≢true (sym e ∙ ap₂ ◌&&◌ (eq-eqb (node_of b c).operator 4 d.0) (eq-eqb (node_of b c).left (node_of b c).right d.1))
 
 past_is : (b : Bytes) (c : ℕ) {t : Bool} → doubled b c ≡ t → past b c ≡ cond t (node_of b c).left c
 unfolding past

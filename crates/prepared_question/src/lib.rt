@@ -1,5 +1,6 @@
 // The question prepared for judging: one array, made once. Its nodes point past every "and" whose two halves are one node (the judge values
 // each node that it meets, and such a node has its half's value), and the depth of each stands behind the block.
+#![tactic(auto)]
 ghost use Rattle.std.specs.Prelude.{◌≡◌, ℕ, ◌+◌, ◌<◌, eqb, length, get_or};
 ghost use Rattle.logic.specs.promises.Refusal.{refusal};
 ghost use Rattle.logic.specs.Formula as formulas;

@@ -1,4 +1,5 @@
 // The line that the program `verdict` prints: the calls load, put and judge in turn, from the empty desk, up to the first refusal.
+#![tactic(auto)]
 ghost use Rattle.std.specs.Prelude.{◌≡◌, cond, false, ◌^◌, ◌≤◌, length};
 ghost use Rattle.models.specs.Layout.{denominator_of, model_of};
 ghost use Rattle.questions.specs.Layout.{node_count, question_of};

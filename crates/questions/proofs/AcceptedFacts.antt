@@ -8,7 +8,7 @@ use lib.Dec.{eqb, ltb, leb}
 use lib.IntN.{ℤ, pos, negsuc}
 use lib.ListN.{length, get_or}
 use lib.Signed.{mag, le_z}
-use borrow.Author.Tests.{ltb-true, leb-true, eqb-true, not_true}
+use borrow.Author.Tests.{ltb-true, leb-true, eqb-true, not-true}
 use Rattle.logic.specs.Lists.{all, every}
 use Rattle.logic.specs.Checked.{ok, ◌>>◌, guard}
 use Rattle.logic.specs.promises.Refusal.{refusal}
@@ -209,7 +209,7 @@ accepted S A N b e =
             some_node = at_least 1 40 (node_count b) (counted g);
             few_nodes = at_most 1 40 (node_count b) (counted g);
             in_range = in_range_all A N b g.ground_5;
-            root_state = not_true (is_path (question_of b).root) f.0;
+            root_state = not-true (is_path (question_of b).root) f.0;
             shallow = λ i h. every_at (λ i. shallow (get_or (formulas_of b) i never)) (node_count b) (sym (all_shallow b) ∙ f.1) h;
           };
       reached = (reached_exactly b (children_down g)).0 g13.0;

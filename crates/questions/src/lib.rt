@@ -1,4 +1,5 @@
 // Reading questions: the grounds of refusal 1 to 6, 9 and 13, and the fields of a node. A node's number is a byte, so the readers are total.
+#![tactic(auto)]
 ghost use Rattle.std.specs.Prelude.{◌≡◌, true, ◌&&◌, ◌+◌, ◌-◌, ◌≤◌, ◌<◌, max, min, ltb, length, get_or, take};
 ghost use Rattle.logic.specs.Lists.{every};
 ghost use Rattle.logic.specs.promises.Refusal.{refusal};

@@ -10,7 +10,7 @@ use mathlib.Core.Option.{Option, none, some}
 use lib.Dec.{T, eqb, leb, ltb}
 use lib.IntN.{ℤ, sub_ℕ}
 use lib.ListN.{get_or, length}
-use borrow.Author.Tests.{eq_eqb, ne_eqb, eqb-true, leb-true, le-leb}
+use borrow.Author.Tests.{eq-eqb, ne_eqb, eqb-true, leb-true, le-leb}
 use Rattle.logic.specs.Model.{Model}
 use Rattle.logic.specs.Quantity.{integers, naturals, less, equal, greater}
 use Rattle.logic.specs.Plan.{Plan, plans, choices}
@@ -164,7 +164,7 @@ module _ {m q : Bytes} {j : ℕ} (b : Bounded m q j) (s : ℕ) (h : s < state_co
         there = some (record { total = lowered m q j r.total; whole = denominator_of m ^ n; choices = choices n (plan_at M n s r.place) })
 
         go : Dec (r.place ≡ all) → foremost M s B (extreme up) (standing M s B (extreme (not up))) ≡ cond (eqb r.place all) none there
-        go (yes e) = foremost_empty M s B (extreme up) (nothing_there e) ∙ ap (λ u. cond u none there) (sym (eq_eqb r.place all e))
+        go (yes e) = foremost_empty M s B (extreme up) (nothing_there e) ∙ ap (λ u. cond u none there) (sym (eq-eqb r.place all e))
         go (no g) =
             foremost_best M s B up (standing M s B (extreme (not up))) (best_there g)
             ∙ ap₂ (λ (w : ℤ) (D : ℕ). some (record { total = w; whole = D ^ n; choices = choices n (plan_at M n s r.place) })) (weighs_there g) (denominator_is m)
@@ -200,7 +200,7 @@ module _ {m q : Bytes} {j : ℕ} (b : Bounded m q j) (s : ℕ) (h : s < state_co
       met_parts =
           let u = and_both x.whole _ t in
           let v = and_both (not (eqb place all)) _ u.1 in
-          (u.0, (λ e. false≢true (sym (ap not (eq_eqb place all e)) ∙ v.0), eqb-true _ _ v.1))
+          (u.0, (λ e. false≢true (sym (ap not (eq-eqb place all e)) ∙ v.0), eqb-true _ _ v.1))
 
       pub met_placed : (place < all) × (r.above.total ≤ most_of m q j)
       met_placed = let p = both_placed.1 in (p.inside met_parts.1.0, p.small met_parts.1.0)
@@ -235,7 +235,7 @@ module _ {m q : Bytes} {j : ℕ} (b : Bounded m q j) (s : ℕ) (h : s < state_co
               let lo = leb-true x.total r.above.total (upper.there g) in
               let hi = leb-true r.above.total (get_or (raised_totals m q j s) i 0) (T→true _ (upper.best g i l reached_it)) in
               let z : r.above.total ≡ x.total = omega (arith, lo, hi, same) in
-              false≢true (sym t ∙ ap₂ ◌&&◌ e (ap₂ (λ u v. not u && v) (ne_eqb r.above.place all g) (eq_eqb r.above.total x.total z)))
+              false≢true (sym t ∙ ap₂ ◌&&◌ e (ap₂ (λ u v. not u && v) (ne_eqb r.above.place all g) (eq-eqb r.above.total x.total z)))
 
       unequal : (π : Plan n) → Memᴰ π (plans M n s) → meets integers M n equal B.p B.q (total_of M s B π) ≡ false
       unequal = at_place (λ π. meets integers M n equal B.p B.q (total_of M s B π) ≡ false) (λ i l. ap (meets integers M n equal B.p B.q) (lowers _ (listed b s h i l)) ∙ by x.whole refl i l)

@@ -1,5 +1,6 @@
 // Why a question is answered no: what could have been had. Document 02, A.5. One search finds both the verdict and the reason: for "less" and
 // "greater" the plan that leads, met or not; for "equal" the list of all plans' totals, of which those nearest to the bound are kept.
+#![tactic(auto)]
 ghost use Rattle.std.specs.Prelude.{◌≡◌, List, ℕ, ◌≤◌, ◌<◌, length};
 ghost use Rattle.logic.specs.Formula as formulas;
 ghost use Rattle.models.specs.Layout.{state_count};

@@ -1,5 +1,6 @@
 // What is made ready before anything is judged: which nodes matter in which states, and the nodes of a condition in the order in which
 // their values are made.
+#![tactic(auto)]
 ghost use Rattle.std.specs.Prelude.{◌≡◌, ◌+◌, ◌*◌, ◌/◌, ◌%◌, ℕ, ◌<◌, ◌≤◌, get_or, set, length, take};
 ghost use Rattle.models.specs.Layout.{state_count};
 ghost use Rattle.prepared_model.specs.promises.Rows.{choices_in, outcomes_in, step_in, Offers, Prepared};

@@ -1,6 +1,7 @@
 // Replays a list of calls from standard input on a desk that begins empty, and prints a line for each: what second/README.md describes, so
 // that the two can be compared. Operation 7 is no call: it puts another desk in the place of the last one, so that calls are tried on desks
 // that no call gave back. A record that is cut short, too long or of another operation ends the list.
+#![tactic(auto)]
 ghost use Rattle.std.specs.Prelude.{◌+◌, ◌≤◌, ◌≡◌, length};
 
 use libc::{STDIN_FILENO, STDOUT_FILENO};

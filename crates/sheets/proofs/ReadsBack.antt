@@ -11,7 +11,7 @@ use lib.IntN.{ℤ}
 use lib.ListN.{length, take, drop, get_or, replicate, length-append, length-take, length-drop, length-replicate, get_or-replicate, get_or-append}
 use lib.Signed.{mag}
 use lib.Seq.{get_or-drop, drop-drop, drop_at, take_at, take_all}
-use borrow.Author.Tests.{eq_eqb, le-leb, ltb-true}
+use borrow.Author.Tests.{eq-eqb, le-leb, ltb-true}
 use Rattle.logic.specs.Lists.{every}
 use Rattle.logic.specs.Checked.{ok}
 use Rattle.logic.proofs.Tests.{every_intro}
@@ -35,14 +35,14 @@ unfolding count_right
 count_test b k f h g = by (ltb (k + 1) (block_count b)) refl
   where
     by : (t : Bool) → ltb (k + 1) (block_count b) ≡ t → cond t (eqb (count_of b k) 490) (within 1 490 (count_of b k)) ≡ true
-    by true q = eq_eqb (count_of b k) 490 (f (ltb-true (k + 1) (block_count b) q))
+    by true q = eq-eqb (count_of b k) 490 (f (ltb-true (k + 1) (block_count b) q))
     by false q = within_test 1 490 (count_of b k) h g
 
 zeros_test : (b u : Bytes) (i m : ℕ) → drop i b ≡ replicate m 0 ++ u → zeros b i m ≡ true
 unfolding zeros
 zeros_test b u i m e =
     every_intro (λ j. eqb (get_or b (i + j) 0) 0) m
-    (λ j h. eq_eqb (get_or b (i + j) 0) 0 (sym (get_or-drop i b j 0) ∙ ap (λ l. get_or l j 0) e ∙ get_or-append (replicate m 0) u 0 j (omega (arith, length-replicate {A = ℕ} m 0)) ∙ get_or-replicate m j 0 0 h))
+    (λ j h. eq-eqb (get_or b (i + j) 0) 0 (sym (get_or-drop i b j 0) ∙ ap (λ l. get_or l j 0) e ∙ get_or-append (replicate m 0) u 0 j (omega (arith, length-replicate {A = ℕ} m 0)) ∙ get_or-replicate m j 0 0 h))
 
 regroup : (a b c d : List ℕ) → ((a ++ b) ++ c) ++ d ≡ a ++ (b ++ (c ++ d))
 regroup a b c d = simp append_assoc
@@ -108,11 +108,11 @@ module _ (n start : ℕ) (z : ℤ) (cs : List ℕ) where
       unfolding headed sheet_block with_word_sum
       kind_test =
           let z : 512 * k ≡ 512 * k + 0 = omega arith in
-          ap₂ ◌&&◌ (eq_eqb _ 4 (ap (λ i. get_or bytes i 0) z ∙ first_byte 0 (omega arith))) (eq_eqb _ k (first_byte 1 (omega arith)))
+          ap₂ ◌&&◌ (eq-eqb _ 4 (ap (λ i. get_or bytes i 0) z ∙ first_byte 0 (omega arith))) (eq-eqb _ k (first_byte 1 (omega arith)))
 
       head_test : head_right n start bytes k ≡ true
       unfolding head_right sheet_block with_word_sum
-      head_test = ap₂ ◌&&◌ (eq_eqb _ n (first_byte 2 (omega arith))) (eq_eqb _ start (first_byte 3 (omega arith)))
+      head_test = ap₂ ◌&&◌ (eq-eqb _ n (first_byte 2 (omega arith))) (eq-eqb _ start (first_byte 3 (omega arith)))
 
       choices_at : (t : List ℕ) × (drop (512 * k + 18) bytes ≡ chunk k ++ (spare ++ t))
       unfolding spare sheet_block with_word_sum little_endian
@@ -142,16 +142,16 @@ module _ (n start : ℕ) (z : ℤ) (cs : List ℕ) where
     whole_test : whole_blocks 1 3 bytes ≡ true
     unfolding whole_blocks blocks_for
     whole_test =
-        ap₂ ◌&&◌ (eq_eqb (length bytes % 512) 0 (ap (λ z. z % 512) sheet_length ∙ mul-mod_right 512 (blocks_for (length cs))))
+        ap₂ ◌&&◌ (eq-eqb (length bytes % 512) 0 (ap (λ z. z % 512) sheet_length ∙ mul-mod_right 512 (blocks_for (length cs))))
         (within_test 1 3 (block_count bytes) (omega (arith, counted)) (omega (arith, counted)))
 
     sums_test : sums_right bytes ≡ true
     unfolding sums_right
-    sums_test = every_intro _ (block_count bytes) (λ k l. eq_eqb (word_sum bytes k % 65536) 0 (sum_at k l))
+    sums_test = every_intro _ (block_count bytes) (λ k l. eq-eqb (word_sum bytes k % 65536) 0 (sum_at k l))
 
     weight_test : (k : ℕ) → k < block_count bytes → weight_right bytes k ≡ true
     unfolding weight_right blocks_for
-    weight_test k l = eq_eqb _ _ (weight_at k l ∙ sym (weight_at 0 (omega (arith, counted))))
+    weight_test k l = eq-eqb _ _ (weight_at k l ∙ sym (weight_at 0 (omega (arith, counted))))
 
     choices_back : (sheet_of bytes).choices ≡ cs
     unfolding sheet_of blocks_for

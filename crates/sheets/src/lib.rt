@@ -1,4 +1,5 @@
 // Sheets: reading, writing, and the plan that the choices spell. A sheet is document 01's word for a certificate.
+#![tactic(auto)]
 ghost use Rattle.std.specs.Prelude.{◌≡◌, ◌+◌, ◌*◌, ◌≤◌, ◌<◌, length};
 ghost use Rattle.logic.specs.Lists.{every};
 ghost use Rattle.logic.specs.promises.Refusal.{refusal};

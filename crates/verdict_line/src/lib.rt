@@ -1,4 +1,5 @@
 // The one line that the program `verdict` prints, formed in a lent buffer; what `whynot` prints of a no (`reason_lines`).
+#![tactic(auto)]
 ghost use mathlib.Core.List.{◌++◌, flat_map};
 ghost use Rattle.std.specs.Prelude.{◌+◌, ◌*◌, ◌≤◌, length};
 ghost use Rattle.lamp.specs.Said.{said_lamp, said_optional};

@@ -3,7 +3,7 @@ use mathlib.Core.Path.{◌≡◌, sym, ap, ◌∙◌}
 use mathlib.Core.Bool.{false, true, ◌&&◌}
 use lib.Dec.{eqb}
 use lib.ListN.{get_or}
-use borrow.Author.Tests.{eq_eqb, ne_eqb}
+use borrow.Author.Tests.{eq-eqb, ne_eqb}
 use Rattle.blocks.specs.Block.{headed}
 use borrow.Author.Rules.{rules}
 use Rattle.blocks.proofs.headed.Statement.{statement}
@@ -35,7 +35,7 @@ returns-2 c = let b = c.before.before.before.before.args.b.now in
     let k = c.before.before.before.before.args.k in
     let kind = c.before.before.before.before.args.kind in
     let number = c.before.before.before.before.args.number in
-    let e : eqb (get_or b (512 * k) 0) kind ≡ true = eq_eqb _ _ (sym c.before.before.wide.ensures.0 ∙ c.before.if1.false) in
+    let e : eqb (get_or b (512 * k) 0) kind ≡ true = eq-eqb _ _ (sym c.before.before.wide.ensures.0 ∙ c.before.if1.false) in
     ap (λ z. eqb z number) c.wide2.ensures.0 ∙ ap (λ t. t && eqb (get_or b (512 * k + 1) 0) number) (sym e)
 
 pub headed_spec : {M : Type 1} → statement M

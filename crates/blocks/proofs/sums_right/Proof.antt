@@ -5,7 +5,7 @@ use mathlib.Core.Path.{◌≡◌, sym, refl, ap, ◌∙◌}
 use mathlib.Core.Bool.{true}
 use lib.Dec.{eqb}
 use lib.ListN.{length}
-use borrow.Author.Tests.{eq_eqb, ne_eqb}
+use borrow.Author.Tests.{eq-eqb, ne_eqb}
 use Rattle.logic.specs.Lists.{every}
 use Rattle.logic.proofs.Tests.{every_false}
 use Rattle.blocks.specs.Block.{word_sum, sums_right, block_count}
@@ -42,7 +42,7 @@ unfolding every
 loop-again c = let b = c.before.before.before.before.before.args.b.now in
     let k = c.before.before.before.loop.k in
     let e = c.before.word_sum.ensures in
-    (omega arith, rw (add-one k, c.before.before.before.loop.invariant.1) (eq_eqb _ _ (sym e ∙ c.if1.false)))
+    (omega arith, rw (add-one k, c.before.before.before.loop.invariant.1) (eq-eqb _ _ (sym e ∙ c.if1.false)))
 
 returns-2 : tie.Need-returns-2 invariant_loop decreases_loop
 unfolding sums_right block_count

@@ -3,7 +3,7 @@ use Prim.Native.Nat.{ℕ}
 use mathlib.Core.Path.{◌≡◌, refl, sym, ap, ap₂, ◌∙◌}
 use mathlib.Core.Bool.{Bool, cond}
 use lib.Dec.{eqb, ltb}
-use borrow.Author.Tests.{lt-ltb, le-ltb, eq_eqb, ne_eqb}
+use borrow.Author.Tests.{lt-ltb, le-ltb, eq-eqb, ne_eqb}
 use Rattle.logic.specs.Quantity.{naturals, related}
 use Rattle.logic.specs.Bound.{below, at, above, compared}
 use Rattle.logic.proofs.Naturals.{ltb_leb, eqb_leb}
@@ -22,7 +22,7 @@ returns c = let S = c.before in sym (ap lamp_code (by_tests S.args.a S.args.b (l
 returns-2 : tie.Need-returns-2
 unfolding lamp_code
 returns-2 c = let S = c.before.before in
-    sym (ap lamp_code (by_tests S.args.a S.args.b (le-ltb S.args.a S.args.b c.before.if1.false) (eq_eqb S.args.a S.args.b c.if2.true)))
+    sym (ap lamp_code (by_tests S.args.a S.args.b (le-ltb S.args.a S.args.b c.before.if1.false) (eq-eqb S.args.a S.args.b c.if2.true)))
 
 returns-3 : tie.Need-returns-3
 unfolding lamp_code

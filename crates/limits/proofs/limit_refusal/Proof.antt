@@ -2,7 +2,7 @@
 use mathlib.Core.Path.{sym, ◌∙◌}
 use mathlib.Core.Bool.{true, false}
 use borrow.Author.Rules.{rules}
-use borrow.Author.Tests.{not_true, not-false}
+use borrow.Author.Tests.{not-true, not-false}
 use Rattle.questions.specs.Layout.{question_of}
 use Rattle.limits.proofs.NodeByNode.{limits_paths, limits_plans}
 use Rattle.limits.proofs.limit_refusal.Statement.{statement}
@@ -13,14 +13,14 @@ paths-fit-requires c κs = search rules
 
 returns : tie.Need-returns
 unfolding question_of
-returns c = limits_paths _ _ (sym c.before.paths-fit.ensures ∙ not_true _ c.if1.true)
+returns c = limits_paths _ _ (sym c.before.paths-fit.ensures ∙ not-true _ c.if1.true)
 
 plans-fit-requires : tie.Need-plans-fit-requires
 plans-fit-requires c κs = search rules
 
 returns-2 : tie.Need-returns-2
 unfolding question_of
-returns-2 c = limits_plans _ _ (sym c.before.before.before.paths-fit.ensures ∙ not-false _ c.before.before.if1.false) {t = false} (sym c.before.plans-fit.ensures ∙ not_true _ c.if2.true)
+returns-2 c = limits_plans _ _ (sym c.before.before.before.paths-fit.ensures ∙ not-false _ c.before.before.if1.false) {t = false} (sym c.before.plans-fit.ensures ∙ not-true _ c.if2.true)
 
 returns-3 : tie.Need-returns-3
 unfolding question_of

@@ -2,7 +2,7 @@
 use mathlib.Core.Path.{refl, sym, ap, ◌∙◌}
 use mathlib.Core.Bool.{true, false}
 use borrow.Author.Rules.{rules}
-use borrow.Author.Tests.{not_true, not-false}
+use borrow.Author.Tests.{not-true, not-false}
 use Rattle.plan_judge.specs.View.{verdict_in}
 use Rattle.plan_judge.specs.promises.State.{shown_size}
 use Rattle.plan_judge.proofs.StateGrounds.{plan_asked}
@@ -12,7 +12,7 @@ use Rattle.plan_judge.proofs.shown_size.Tie as tie
 
 returns : tie.Need-returns
 unfolding shown_size
-returns c = let S = c.before in sym (ap shown_size (verdict_is S.args.t1 S.requires false S.args.t1.verdict (not_true _ c.if1.true) refl))
+returns c = let S = c.before in sym (ap shown_size (verdict_is S.args.t1 S.requires false S.args.t1.verdict (not-true _ c.if1.true) refl))
 
 enum_told : tie.Need-enum-told
 enum_told c = search rules

@@ -1,7 +1,7 @@
 -- Each return by what the desk holds: no model, no question asked, none that is accepted, or both.
 use mathlib.Core.Path.{sym, ap, ◌∙◌}
 use borrow.Author.Rules.{rules}
-use borrow.Author.Tests.{not_true, not-false}
+use borrow.Author.Tests.{not-true, not-false}
 use Rattle.logic.specs.promises.Refusal.{refusal}
 use Rattle.plan_judge.proofs.StateGrounds.{no_model, not_asked, not_accepted, both_here, both_held}
 use Rattle.plan_judge.proofs.state_ground.Statement.{statement}
@@ -14,7 +14,7 @@ returns : tie.Need-returns
 returns c = no_model c.before.before.before.before.before.args.t1 (sym c.before.held_bytes.ensures ∙ c.if1.true)
 
 returns-2 : tie.Need-returns-2
-returns-2 c = not_asked c.before.before.before.before.before.before.args.t1 (λ z. c.before.if1.false (c.before.before.held_bytes.ensures ∙ z)) (not_true _ c.if2.true)
+returns-2 c = not_asked c.before.before.before.before.before.before.args.t1 (λ z. c.before.if1.false (c.before.before.held_bytes.ensures ∙ z)) (not-true _ c.if2.true)
 
 slice-aggregate-question-ground : tie.Need-slice-aggregate-question-ground
 slice-aggregate-question-ground c = search rules

@@ -7,7 +7,7 @@ use lib.Signed.{le_z}
 use mir.Syntax.{w32}
 use mir.Val.{to_z, of_z}
 use mir.ValLaws.{to_z_pos}
-use borrow.Author.Tests.{not_true, not-false}
+use borrow.Author.Tests.{not-true, not-false}
 use Rattle.blocks.specs.Bytes.{within}
 use Rattle.questions.specs.Grounds.{plan_bound}
 use borrow.Author.Rules.{rules}
@@ -23,7 +23,7 @@ within-requires c κs = search rules
 
 returns : tie.Need-returns
 unfolding plan_bound
-returns c = rw (sym c.before.within.ensures ∙ not_true _ c.if1.true) refl
+returns c = rw (sym c.before.within.ensures ∙ not-true _ c.if1.true) refl
 
 cast-result : tie.Need-overflow-cast-result
 cast-result c = let q = c.before.before.args.q in record { sfits = omega (arith, at_most 1 1000000 q (q_right c)) }

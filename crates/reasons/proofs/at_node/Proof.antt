@@ -6,7 +6,7 @@ use Rattle.questions.specs.promises.Formed.{sets_bound}
 use Rattle.judging.specs.promises.Decided.{Posed}
 use Rattle.judging.proofs.SearchHanded.{posed_at, asked_equal, asked_other}
 use Rattle.reasons.proofs.PlainRoots.{tells_plain}
-use borrow.Author.Tests.{eq_eqb, ne_eqb}
+use borrow.Author.Tests.{eq-eqb, ne_eqb}
 use borrow.Author.Rules.{rules}
 use Rattle.reasons.proofs.at_node.Statement.{statement}
 use Rattle.reasons.proofs.at_node.Tie as tie
@@ -60,7 +60,7 @@ plain-truth-requires c κs = let S = c.before.before.before.before.before in
 returns-3 : tie.Need-returns-3
 returns-3 c = let S = c.before.before.before.before.before.before.before in
     let o = sym (tested c.before.before.before) ∙ c.before.before.if1.false in
-    tells_plain S.requires.0.0.given S.args.j S.args.s S.requires.0.1 o S.args.choices.now S.args.further.now (c.before.plain-truth.ensures S.requires.1.1) (eq_eqb _ 1 c.if3.true) refl
+    tells_plain S.requires.0.0.given S.args.j S.args.s S.requires.0.1 o S.args.choices.now S.args.further.now (c.before.plain-truth.ensures S.requires.1.1) (eq-eqb _ 1 c.if3.true) refl
 
 returns-4 : tie.Need-returns-4
 returns-4 c = let S = c.before.before.before.before.before.before.before in

@@ -2,7 +2,7 @@
 use mathlib.Core.Path.{◌≡◌, sym, ap, ap₂, ◌∙◌}
 use mathlib.Core.Bool.{Bool, true, not, ◌&&◌, ◌||◌}
 use lib.Dec.{eqb}
-use borrow.Author.Tests.{eq_eqb, ne_eqb, not_true, not-false}
+use borrow.Author.Tests.{eq-eqb, ne_eqb, not-true, not-false}
 use Rattle.logic.specs.promises.Orders.{order}
 use Rattle.exact_plan.specs.promises.Sides.{on_side, wins}
 use borrow.Author.Rules.{rules}
@@ -15,7 +15,7 @@ on-side-requires c κs = search rules
 returns : tie.Need-returns
 unfolding wins
 returns c = let A = c.before.before.args in
-    ap (λ (t : Bool). t && (eqb A.best.place A.len || not (order A.above A.y A.best.total))) (sym (not_true _ c.if1.true) ∙ c.before.on_side.ensures)
+    ap (λ (t : Bool). t && (eqb A.best.place A.len || not (order A.above A.y A.best.total))) (sym (not-true _ c.if1.true) ∙ c.before.on_side.ensures)
 
 -- On the side that is asked for.
 there : (c : tie.Else1) → true ≡ on_side c.before.before.args.above c.before.before.args.x c.before.before.args.y
@@ -24,7 +24,7 @@ there c = sym (not-false _ c.if1.false) ∙ c.before.on_side.ensures
 returns-2 : tie.Need-returns-2
 unfolding wins
 returns-2 c = let A = c.before.before.before.before.args in
-    ap₂ (λ (t u : Bool). t && (u || not (order A.above A.y A.best.total))) (there c.before.before) (sym (eq_eqb A.best.place A.len c.if2.true))
+    ap₂ (λ (t u : Bool). t && (u || not (order A.above A.y A.best.total))) (there c.before.before) (sym (eq-eqb A.best.place A.len c.if2.true))
 
 exceeds-requires : tie.Need-exceeds-requires
 exceeds-requires c κs = search rules

@@ -1,5 +1,5 @@
 -- The invariant: the node reached means the same as c, and r is what is left of it.
-use borrow.Author.Tests.{not_true, ltb-true}
+use borrow.Author.Tests.{not-true, ltb-true}
 use Rattle.judging.specs.promises.Conditions.{Peels}
 use Rattle.judging.proofs.PeeledMeaning.{Alike, alike_itself, alike_on, peels_on}
 use Rattle.judging.proofs.conditions.peel.Statement.{statement}
@@ -28,7 +28,7 @@ loop-less c = ltb-true _ _ c.before.if2.true
 
 loop-again : tie.Need-loop-preserved invariant_loop decreases_loop
 loop-again c = let L = c.before.before.before.before.before.loop in
-    (alike_on L.invariant.0 L.invariant.1 (not_true _ c.before.before.before.if1.true), c.peel-one2.ensures)
+    (alike_on L.invariant.0 L.invariant.1 (not-true _ c.before.before.before.if1.true), c.peel-one2.ensures)
 
 returns : tie.Need-returns invariant_loop decreases_loop
 returns c = let L = c.before.before.before.before.loop in peels_on L.invariant.0 L.invariant.1

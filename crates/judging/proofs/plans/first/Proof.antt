@@ -4,7 +4,7 @@ use native.Mathlib.Omega.{arith}
 use mathlib.Core.Path.{◌≡◌, refl, sym, ap, subst, ◌∙◌}
 use lib.ListN.{get_or}
 use lib.Seq.{length-take-le}
-use borrow.Author.Tests.{not_true, not-false}
+use borrow.Author.Tests.{not-true, not-false}
 use Rattle.logic.specs.Limits.{plan_total}
 use Rattle.prepared_model.specs.promises.Rows.{model_in}
 use Rattle.questions.specs.Layout.{node_of}
@@ -40,7 +40,7 @@ returns : tie.Need-returns
 returns c = let S = c.before.before.before.before.before in
     let P = S.requires.0 in
     placed_never P.0.given P.1 c.before.before.exact-total.ensures
-    (number S c.before.before.before.plans-counted.ensures c.before.before.before.before.steps.ensures) (not_true _ c.if1.true)
+    (number S c.before.before.before.plans-counted.ensures c.before.before.before.before.steps.ensures) (not-true _ c.if1.true)
 
 worth-of-requires : tie.Need-worth-of-requires
 worth-of-requires c κs = let P = c.before.before.before.before.before.before.requires.0 in (bounded_at P.0.given P.1, refl)

@@ -1,7 +1,7 @@
 -- One table for all states, or each state by itself.
 use mathlib.Core.Path.{sym, ◌∙◌}
 use mathlib.Core.Logic.{⊎_elim}
-use borrow.Author.Tests.{not_true, not-false}
+use borrow.Author.Tests.{not-true, not-false}
 use Rattle.judging.proofs.SearchHanded.{asked_equal, asked_other}
 use Rattle.judging.proofs.TruthByOperator.{row_whole}
 use borrow.Author.Rules.{rules}
@@ -17,7 +17,7 @@ asks-equal-requires c κs = search rules
 by-table-requires : tie.Need-by-table-requires
 by-table-requires c κs = let S = c.before.before.before.before.before.before in
     let P = S.requires.0 in
-    (P.0.given, P.1, (sym c.before.before.before.before.operator.ensures ∙ c.before.before.before.if1.true, asked_other S.args.q.now S.args.j c.before.before.asks-equal.ensures (not_true _ c.before.if2.true)), S.requires.1.size)
+    (P.0.given, P.1, (sym c.before.before.before.before.operator.ensures ∙ c.before.before.before.if1.true, asked_other S.args.q.now S.args.j c.before.before.asks-equal.ensures (not-true _ c.before.if2.true)), S.requires.1.size)
 
 returns : tie.Need-returns
 returns c = row_whole c.before.before.before.before.before.before.before.requires.1 c.by-table.ensures

@@ -14,7 +14,7 @@ use Rattle.bounds.proofs.ProductsFit.{compares, most_small}
 use Rattle.judging.specs.promises.Decided.{plan_at}
 use Rattle.judging.proofs.SearchDecides.{few_plans, all_counted}
 use Rattle.reasons.specs.promises.Told.{near_reached, side_code, side_choices}
-use borrow.Author.Tests.{eq_eqb, ne_eqb}
+use borrow.Author.Tests.{eq-eqb, ne_eqb}
 use mir.Syntax.{w64}
 use mir.ValLaws.{to_z-of_z}
 use mir.Val.{to_z, of_z}
@@ -25,7 +25,7 @@ use Rattle.reasons.proofs.sides.reached.Tie as tie
 returns : tie.Need-returns
 unfolding near_reached side_code side_choices
 returns c = let S = c.before.before.before in
-    let e = eq_eqb S.args.near.place S.args.all c.if1.true in
+    let e = eq-eqb S.args.near.place S.args.all c.if1.true in
     (rw e refl, rw e (sym (splice_none S.args.choices.now 0)))
 
 steps-requires : tie.Need-steps-requires
