@@ -1,6 +1,7 @@
 // Plans by expected gain, for "less" and "greater". A gain is a sum over steps, so the best plan from a state does not depend on how the state was
 // reached: a table by steps left and states has the best totals, from the last step back, and the place of the first choice that has each.
 #![tactic(auto)]
+
 ghost use Rattle.std.specs.Prelude.{◌≡◌, ◌+◌, ◌*◌, ◌-◌, ◌^◌, ◌≤◌, ◌<◌, get_or, length};
 ghost use Rattle.logic.specs.Model.{outcomes};
 ghost use Rattle.logic.specs.promises.Raised.{raise, pay, Modest};
@@ -67,7 +68,7 @@ fn choice_worth(
     i: usize,
 ) -> u64
     requires { Prepared m.now × (s < state_count m.now) × (i < choices_in m.now s) × Low m.now best.now at unit }
-    ensures value { let m = m.entry.now in let best = best.entry.now in
+    ensures { let m = m.entry.now in let best = best.entry.now in
         result ≡ worth_by m best at unit s (choice_in m s i) }
 {
     let count = outcomes(m, s, i);
@@ -90,7 +91,7 @@ fn pick(
     least: bool,
 ) -> Picked
     requires { Prepared m.now × (s < state_count m.now) × Low m.now best.now at unit }
-    ensures value { Picks least m.now best.now at unit s (choices_in m.now s) result.value result.place }
+    ensures { Picks least m.now best.now at unit s (choices_in m.now s) result.value result.place }
 {
     let n = choices(m, s) as u8;
     let mut value = choice_worth(m, best, at, unit, s, 0);
@@ -136,7 +137,7 @@ pub fn best_gains(
     places: &mut [u8; STAGES],
 ) -> [u64; STAGES]
     requires { Prepared m.now × WindowRight window × (length places.old ≡ 224) }
-    ensures effect { Tabled least m.now window result places.new }
+    ensures { Tabled least m.now window result places.new }
 {
     let count = states(m);
     let end = STATES * (window.steps as usize + 1);

@@ -1,6 +1,7 @@
 // The search for the plan of greatest or of least weight: one pass over the tree of paths, which meets each path at most once: a choice that
 // cannot win any more is given up. The last step of the paths through a state is taken for all its outcomes at once.
 #![tactic(auto)]
+
 ghost use Rattle.std.specs.Prelude.{◌≡◌, not, ◌++◌, ◌+◌, ◌*◌, ◌<◌, ◌≤◌, ◌^◌, length, take, drop};
 ghost use Rattle.logic.specs.Formula.{depth};
 ghost use Rattle.models.specs.Layout.{state_count, denominator_of};
@@ -62,7 +63,7 @@ pub struct Walked {
 
 // Whether a total wins over the best so far, if there is one.
 fn wins(found: bool, other: u64, value: u64, least: bool) -> bool
-    ensures value { result ≡ spec.wins found other value least }
+    ensures { result ≡ spec.wins found other value least }
 {
     if found {
         return exceeds(value, other, least);
@@ -73,7 +74,7 @@ fn wins(found: bool, other: u64, value: u64, least: bool) -> bool
 // Whether a choice can no longer win: `sum` is the total of its outcomes walked so far, `rest` the weight of those left.
 fn hopeless(m: &[u16; MODEL], best: Best, sum: u64, rest: u64, k: u8, least: bool) -> bool
     requires { (denominator_of m.now ≤ 100) × (k ≤ 6) × (sum + rest * denominator_of m.now ^ k < 2 ^ 64) }
-    ensures value { let m = m.entry.now in
+    ensures { let m = m.entry.now in
         result ≡ not (spec.wins best.found best.value (best_left least (denominator_of m) k sum rest) least) }
 {
     if least {
@@ -90,7 +91,7 @@ fn hopeless(m: &[u16; MODEL], best: Best, sum: u64, rest: u64, k: u8, least: boo
 // Moves n bytes down to a place, which they may overlap.
 fn move_down(choices: &mut [u8], at: usize, from: usize, n: usize)
     requires { (at ≤ from) × (from + n ≤ length choices.old) }
-    ensures frame { let choices' = choices.exit.now in let choices = choices.entry.now in
+    ensures { let choices' = choices.exit.now in let choices = choices.entry.now in
         take (at + n) choices' ≡ take at choices ++ take n (drop from choices) }
 {
     let mut i: usize = 0;
@@ -103,7 +104,7 @@ fn move_down(choices: &mut [u8], at: usize, from: usize, n: usize)
 // Keeps the better of the best so far, whose choices stand from `at` on, and the candidate behind it.
 fn keep(choices: &mut [u8], b: Best, w: Walked, at: usize, least: bool) -> Best
     requires { (at ≤ b.end) × (b.end ≤ w.end) × (w.end ≤ length choices.old) }
-    ensures effect { Keeps b w at least choices.old choices.new result }
+    ensures { Keeps b w at least choices.old choices.new result }
 {
     let value = w.value;
     let from = b.end;
@@ -121,7 +122,7 @@ fn keep(choices: &mut [u8], b: Best, w: Walked, at: usize, least: bool) -> Best
 
 fn add_mul(sum: u64, w: u64, v: u64) -> u64
     requires { sum + w * v < 2 ^ 64 }
-    ensures value { result ≡ sum + w * v }
+    ensures { result ≡ sum + w * v }
 {
     sum + w * v
 }
@@ -129,7 +130,7 @@ fn add_mul(sum: u64, w: u64, v: u64) -> u64
 // The condition's own node, the last of its cone.
 fn root(cone: &[u8]) -> u8
     requires { 0 < length cone.now }
-    ensures value { result ≡ root_of cone.now }
+    ensures { result ≡ root_of cone.now }
 {
     cone[cone.len() - 1]
 }
@@ -137,7 +138,7 @@ fn root(cone: &[u8]) -> u8
 // What is found where no step is left: the condition's value, which is known there.
 fn leaf(cone: &[u8], v: &[u8; VALUES], at: usize) -> Best
     requires { 0 < length cone.now }
-    ensures value { (result.value ≡ learnt.known v.now (root_of cone.now) 0) × (result.end ≡ at) }
+    ensures { (result.value ≡ learnt.known v.now (root_of cone.now) 0) × (result.end ≡ at) }
 {
     Best {
         found: true,
@@ -156,7 +157,7 @@ fn last_choice(
     least: bool,
 ) -> Best
     requires { Prepared m.now × (s < state_count m.now) × (at + 3 ≤ length choices.old) }
-    ensures effect { Ends least m.now s x at choices.old choices.new result }
+    ensures { Ends least m.now s x at choices.old choices.new result }
 {
     let n = prepared_model::choices(m, s);
     let mut value = total(m, x, s, 0);
@@ -193,7 +194,7 @@ fn pick_last(
 ) -> Best
     requires setting { Setting m.now q.now truth.now cone.now late.now spot.start trail.now gains.now v.now spot.h spot.s 1 }
     requires most_choices_in_bounds { spot.at + 3 * most_choices 1 ≤ length choices.old }
-    ensures effect { let choices' = choices.exit.now in let m = m.entry.now in let q = q.entry.now in let cone = cone.entry.now in
+    ensures { let choices' = choices.exit.now in let m = m.entry.now in let q = q.entry.now in let cone = cone.entry.now in
         let trail = trail.entry.now in let choices = choices.entry.now in
         Picked spot.least m (on_path m q spot.start cone (take spot.h trail)) spot.s 1 spot.at choices choices' result }
 {
@@ -348,7 +349,7 @@ pub fn find(
 ) -> Found
     requires ready { Ready m.now q.now start truth.now cone.now }
     requires d_value { (d ≡ depth (formula q.now (root_of cone.now))) × (d ≤ 6) × (4095 ≤ length choices.old) × (0 < length cone.now) }
-    ensures effect { Finds least m.now q.now start cone.now d choices.new result }
+    ensures { Finds least m.now q.now start cone.now d choices.new result }
 {
     let marks = late(q, cone);
     let mut trail = [0u16; STEPS];

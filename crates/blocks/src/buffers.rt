@@ -4,7 +4,7 @@ ghost use Rattle.blocks.specs.Bytes.{little_endian};
 
 // The byte at i becomes x; past the end nothing changes.
 pub fn store(v: &mut [u8], i: usize, x: u8)
-    ensures frame { v.new ≡ set v.old i x }
+    ensures { v.new ≡ set v.old i x }
 {
     if i < v.len() {
         v[i] = x;
@@ -14,7 +14,7 @@ pub fn store(v: &mut [u8], i: usize, x: u8)
 // The first bytes of dst become src.
 pub fn copy(dst: &mut [u8], src: &[u8])
     requires { length src.now ≤ length dst.old }
-    ensures frame { dst.new ≡ src.now ++ drop (length src.now) dst.old }
+    ensures { dst.new ≡ src.now ++ drop (length src.now) dst.old }
 {
     let mut i: usize = 0;
     while i < src.len() {
@@ -25,7 +25,7 @@ pub fn copy(dst: &mut [u8], src: &[u8])
 
 // All bytes become zero.
 pub fn clear(dst: &mut [u8])
-    ensures frame { dst.new ≡ replicate (length dst.old) 0 }
+    ensures { dst.new ≡ replicate (length dst.old) 0 }
 {
     let mut i: usize = 0;
     while i < dst.len() {
@@ -37,7 +37,7 @@ pub fn clear(dst: &mut [u8])
 // The first bytes of dst become the lowest bytes of x.
 pub fn put_number(dst: &mut [u8], bytes: usize, x: u64)
     requires { bytes ≤ length dst.old }
-    ensures frame { dst.new ≡ little_endian bytes x ++ drop bytes dst.old }
+    ensures { dst.new ≡ little_endian bytes x ++ drop bytes dst.old }
 {
     let mut rest = x;
     let mut i: usize = 0;

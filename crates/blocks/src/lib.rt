@@ -1,5 +1,6 @@
 // Bytes, numbers in bytes, and blocks of 512 bytes: what every reader and writer stands on.
 #![tactic(auto)]
+
 ghost use Rattle.std.specs.Prelude.{◌≡◌, ◌+◌, ◌*◌, ◌≤◌, ◌<◌, ◌%◌, true, pos, negsuc, length, take};
 ghost use Rattle.std.specs.Int.Signed.{lt_z};
 ghost use Rattle.blocks.specs.Bytes.{u16, u32, u64, signed, i16, i32, i64, twos_complement};
@@ -34,7 +35,7 @@ const WORD_VALUES: u32 = 65536;
 
 // The byte at i; 0 past the end.
 pub fn byte(b: &[u8], i: usize) -> u8
-    ensures value { result ≡ spec.byte b.now i }
+    ensures { result ≡ spec.byte b.now i }
 {
     if i < b.len() {
         return b[i];
@@ -76,7 +77,7 @@ pub fn u16_at(b: &[u8], i: usize) -> u32
 // The 32-bit number at i.
 pub fn u32_at(b: &[u8], i: usize) -> u32
     requires { i < 65540 }
-    ensures value { result ≡ u32 b.now i }
+    ensures { result ≡ u32 b.now i }
 {
     if i + 3 < b.len() {
         return pair(b, i) + 65536 * pair(b, i + 2);
@@ -87,7 +88,7 @@ pub fn u32_at(b: &[u8], i: usize) -> u32
 // The 64-bit number at i.
 pub fn u64_at(b: &[u8], i: usize) -> u64
     requires { i < 65536 }
-    ensures value { result ≡ u64 b.now i }
+    ensures { result ≡ u64 b.now i }
 {
     u32_at(b, i) as u64 + 4294967296 * u32_at(b, i + 4) as u64
 }
@@ -95,7 +96,7 @@ pub fn u64_at(b: &[u8], i: usize) -> u64
 // The signed number of 16 bits in two's complement.
 pub fn signed16(x: u32) -> i16
     requires { x < 65536 }
-    ensures value { result ≡ signed 15 x }
+    ensures { result ≡ signed 15 x }
 {
     if x < 32768 {
         return x as i16;
@@ -106,7 +107,7 @@ pub fn signed16(x: u32) -> i16
 // The signed 16-bit number at i.
 pub fn i16_at(b: &[u8], i: usize) -> i16
     requires { i < 65536 }
-    ensures value { result ≡ i16 b.now i }
+    ensures { result ≡ i16 b.now i }
 {
     signed16(u16_at(b, i))
 }
@@ -114,7 +115,7 @@ pub fn i16_at(b: &[u8], i: usize) -> i16
 // The signed 32-bit number at i.
 pub fn i32_at(b: &[u8], i: usize) -> i32
     requires { i < 65536 }
-    ensures value { result ≡ i32 b.now i }
+    ensures { result ≡ i32 b.now i }
 {
     let x = u32_at(b, i);
     if x < 2147483648 {
@@ -126,7 +127,7 @@ pub fn i32_at(b: &[u8], i: usize) -> i32
 // The signed 64-bit number at i.
 pub fn i64_at(b: &[u8], i: usize) -> i64
     requires { i < 65536 }
-    ensures value { result ≡ i64 b.now i }
+    ensures { result ≡ i64 b.now i }
 {
     let x = u64_at(b, i);
     if x < 9223372036854775808 {
@@ -146,7 +147,7 @@ pub fn below_minus_one(z: i64) -> u64
 
 // The 64 bits of a signed number, as a number: its two's complement.
 pub fn bits_of(z: i64) -> u64
-    ensures value { result ≡ twos_complement 63 z }
+    ensures { result ≡ twos_complement 63 z }
 {
     if z < 0 {
         return 18446744073709551615 - below_minus_one(z);
@@ -157,7 +158,7 @@ pub fn bits_of(z: i64) -> u64
 // Whether the n bytes from a place on are zero. They are summed, so that no byte needs a branch.
 pub fn zeros(b: &[u8], from: usize, n: usize) -> bool
     requires { (from + n ≤ length b.now) × (n < 65536) }
-    ensures value { result ≡ spec.zeros b.now from n }
+    ensures { result ≡ spec.zeros b.now from n }
 {
     let mut sum: u32 = 0;
     let mut i: usize = 0;
@@ -170,7 +171,7 @@ pub fn zeros(b: &[u8], from: usize, n: usize) -> bool
 
 // Whether a number is from `least` to `most`.
 pub fn within(least: usize, most: usize, x: usize) -> bool
-    ensures value { result ≡ spec.within least most x }
+    ensures { result ≡ spec.within least most x }
 {
     (least <= x) & (x <= most)
 }
@@ -179,7 +180,7 @@ pub fn within(least: usize, most: usize, x: usize) -> bool
 // compiler adds many at a time.
 fn word_sum(b: &[u8], k: usize) -> u32
     requires { 512 * k + 512 ≤ length b.now }
-    ensures value { result ≡ word_sum b.now k % 65536 }
+    ensures { result ≡ word_sum b.now k % 65536 }
 {
     let at = BLOCK * k;
     let mut sum: u32 = 0;
@@ -193,7 +194,7 @@ fn word_sum(b: &[u8], k: usize) -> u32
 
 // Ground 2: whether the words of every block sum to 0 modulo 65,536.
 pub fn sums_right(b: &[u8]) -> bool
-    ensures value { result ≡ sums_right b.now }
+    ensures { result ≡ sums_right b.now }
 {
     let n = b.len() / BLOCK;
     let mut k: usize = 0;
@@ -210,7 +211,7 @@ pub fn sums_right(b: &[u8]) -> bool
 // modulo 65,536, so the word needs no remainder.
 pub fn seal(block: &mut [u8])
     requires { length block.old ≡ 512 }
-    ensures frame { block.new ≡ with_word_sum (take 510 block.old) }
+    ensures { block.new ≡ with_word_sum (take 510 block.old) }
 {
     let sum = word_sum(block, 0);
     let last = pair(block, LAST_WORD);
@@ -220,7 +221,7 @@ pub fn seal(block: &mut [u8])
 
 // Ground 1: whether there are from `least` to `most` whole blocks.
 pub fn whole_blocks(b: &[u8], least: usize, most: usize) -> bool
-    ensures value { result ≡ whole_blocks least most b.now }
+    ensures { result ≡ whole_blocks least most b.now }
 {
     let n = b.len() / BLOCK;
     if b.len() % BLOCK != 0 {
@@ -235,7 +236,7 @@ pub fn whole_blocks(b: &[u8], least: usize, most: usize) -> bool
 // Ground 3 of block k: whether it has this kind and number.
 pub fn headed(b: &[u8], k: usize, kind: usize, number: usize) -> bool
     requires { k < 128 }
-    ensures value { result ≡ spec-block.headed b.now k kind number }
+    ensures { result ≡ spec-block.headed b.now k kind number }
 {
     let at = BLOCK * k;
     if wide(b, at) != kind {

@@ -1,6 +1,7 @@
 // Bounds: powers of the denominator, and how a total compares with the bound of a node of operator 8 or 9, the total times q with p times D to the
 // n. Whether it meets the bound follows from that and the node's relation.
 #![tactic(auto)]
+
 ghost use Rattle.std.specs.Prelude.{◌≡◌, not, ◌*◌, ◌^◌, ◌≤◌};
 ghost use Rattle.logic.specs.Formula.{relation, nonnegative};
 ghost use Rattle.logic.specs.promises.Orders.{order};
@@ -20,7 +21,7 @@ use questions::{EARNS, EQUAL, GREATER, LESS, SPAN_BASE};
 // The denominator to the number of steps.
 pub fn power(d: usize, k: u8) -> u64
     requires { (d ≤ 100) × (k ≤ 6) }
-    ensures value { result ≡ d ^ k }
+    ensures { result ≡ d ^ k }
 {
     let mut x: u64 = 1;
     let mut i: u8 = 0;
@@ -34,7 +35,7 @@ pub fn power(d: usize, k: u8) -> u64
 // Whether a bound is met whose relation has this number, by a total's lamp.
 fn met_by_lamp(number: u8, lamp: Lamp) -> bool
     requires { (1 ≤ number) × (number ≤ 3) }
-    ensures value { result ≡ lamps.met_by_lamp (relation number) (said_lamp lamp) }
+    ensures { result ≡ lamps.met_by_lamp (relation number) (said_lamp lamp) }
 {
     match lamp {
         Lamp::Below => number == LESS,
@@ -45,7 +46,7 @@ fn met_by_lamp(number: u8, lamp: Lamp) -> bool
 
 // Whether a total is better than another, and not as good.
 pub fn exceeds(value: u64, other: u64, least: bool) -> bool
-    ensures value { result ≡ not (order least value other) }
+    ensures { result ≡ not (order least value other) }
 {
     if least {
         return value < other;
@@ -55,7 +56,7 @@ pub fn exceeds(value: u64, other: u64, least: bool) -> bool
 
 // p where it is above 0, else 0.
 fn above_zero(p: i32) -> u64
-    ensures value { result ≡ nonnegative p }
+    ensures { result ≡ nonnegative p }
 {
     if p < 0 {
         return 0;
@@ -65,7 +66,7 @@ fn above_zero(p: i32) -> u64
 
 // How far p is below 0.
 fn below_zero(p: i32) -> u64
-    ensures value { result ≡ under p }
+    ensures { result ≡ under p }
 {
     if 0 <= p {
         return 0;
@@ -107,7 +108,7 @@ struct Sides {
 // The bound of node j: its q; D to the n times what p is above 0, with q times the lift; D to the n times what p is below 0.
 fn raised_bound(m: &[u16; MODEL], q: &[u8; QUESTION], j: u8) -> Sides
     requires { Bounded m.now q.now j }
-    ensures value { Sided m.now q.now j result.parts result.up result.down }
+    ensures { Sided m.now q.now j result.parts result.up result.down }
 {
     let d = whole(m, q, j);
     let parts = prepared_question::parts(q, j) as u64;
@@ -123,7 +124,7 @@ fn raised_bound(m: &[u16; MODEL], q: &[u8; QUESTION], j: u8) -> Sides
 pub fn lamp_of(m: &[u16; MODEL], q: &[u8; QUESTION], j: u8, x: u64) -> Lamp
     requires bounded { Bounded m.now q.now j }
     requires x_bound { x ≤ most_of m.now q.now j }
-    ensures value { let m = m.entry.now in let q = q.entry.now in
+    ensures { let m = m.entry.now in let q = q.entry.now in
         result ≡ lamp_code (lamp_at m q j (lowered m q j x)) }
 {
     let s = raised_bound(m, q, j);
@@ -134,7 +135,7 @@ pub fn lamp_of(m: &[u16; MODEL], q: &[u8; QUESTION], j: u8, x: u64) -> Lamp
 pub fn meets(m: &[u16; MODEL], q: &[u8; QUESTION], j: u8, x: u64) -> bool
     requires bounded { Bounded m.now q.now j }
     requires x_bound { x ≤ most_of m.now q.now j }
-    ensures value { let m = m.entry.now in let q = q.entry.now in
+    ensures { let m = m.entry.now in let q = q.entry.now in
         result ≡ meets_at m q j (lowered m q j x) }
 {
     let l = lamp_of(m, q, j, x);
@@ -151,7 +152,7 @@ pub struct Exact {
 // What a raised total of node j would have to be for the total to be equal to the bound, or what it must be at least to be above it.
 pub fn exact_total(m: &[u16; MODEL], q: &[u8; QUESTION], j: u8) -> Exact
     requires { Bounded m.now q.now j }
-    ensures value { Exactly m.now q.now j result.whole result.total }
+    ensures { Exactly m.now q.now j result.whole result.total }
 {
     let s = raised_bound(m, q, j);
     if s.up < s.down {
@@ -178,7 +179,7 @@ pub fn exact_total(m: &[u16; MODEL], q: &[u8; QUESTION], j: u8) -> Exact
 pub fn lowered(m: &[u16; MODEL], q: &[u8; QUESTION], j: u8, x: u64) -> i64
     requires bounded { Bounded m.now q.now j }
     requires x_bound { x ≤ 12000 * 100 ^ 6 }
-    ensures value { result ≡ spec.lowered m.now q.now j x }
+    ensures { result ≡ spec.lowered m.now q.now j x }
 {
     x as i64 - lift(m, q, j) as i64
 }

@@ -1,6 +1,7 @@
 // The values of a condition's nodes along a path, each computed once, with the step that makes it known; and what a path is worth to a node
 // that sets a bound on plans.
 #![tactic(auto)]
+
 ghost use Rattle.std.specs.Prelude.{◌≡◌, ◌^◌, ◌<◌, pos, ◌-ℤ◌, length, get_or, set, take};
 ghost use Rattle.std.specs.Int.Signed.{mag};
 ghost use Rattle.logic.specs.Quantity.{integers};
@@ -41,7 +42,7 @@ pub struct Place {
 }
 
 pub fn bit(t: bool) -> u8
-    ensures value { result ≡ one_if t }
+    ensures { result ≡ one_if t }
 {
     if t {
         return 1;
@@ -51,7 +52,7 @@ pub fn bit(t: bool) -> u8
 
 // The value of node j at place k.
 pub fn known(v: &[u8; VALUES], j: u8, k: u8) -> u8
-    ensures value { result ≡ spec.known v.now j k }
+    ensures { result ≡ spec.known v.now j k }
 {
     byte(v, PLACES * j as usize + k as usize)
 }
@@ -59,7 +60,7 @@ pub fn known(v: &[u8; VALUES], j: u8, k: u8) -> u8
 // The gain after k steps.
 pub fn gain_at(gains: &[i32; PLACES], k: u8) -> i32
     requires { k < 7 }
-    ensures value { result ≡ get_or gains.now k (pos 0) }
+    ensures { result ≡ get_or gains.now k (pos 0) }
 {
     let i = k as usize;
     gains[i]
@@ -67,7 +68,7 @@ pub fn gain_at(gains: &[i32; PLACES], k: u8) -> i32
 
 // Whether a gain stands in the relation of this number to a bound.
 pub fn related(kind: u8, gain: i64, bound: i64) -> bool
-    ensures value { result ≡ quantity.related integers (relation kind) gain bound }
+    ensures { result ≡ quantity.related integers (relation kind) gain bound }
 {
     match kind {
         LESS => gain < bound,
@@ -88,7 +89,7 @@ fn gain_between(gains: &[i32; PLACES], k: u8, h: u8) -> i64
 // Whether node j, a "gain", is true at place k.
 fn gained(q: &[u8; QUESTION], gains: &[i32; PLACES], h: u8, k: u8, j: u8) -> bool
     requires { (j < 40) × (h < 7) × (k < 7) }
-    ensures value { result ≡ spec.gained q.now gains.now h k j }
+    ensures { result ≡ spec.gained q.now gains.now h k j }
 {
     related(right(q, j), gain_between(gains, k, h), bound(q, j) as i64)
 }
@@ -104,7 +105,7 @@ fn value_by(
     j: u8,
 ) -> u8
     requires { (j < 40) × (k < h) × (h < 7) }
-    ensures value { let q = q.entry.now in let trail = trail.entry.now in let gains = gains.entry.now in let v = v.entry.now in
+    ensures { let q = q.entry.now in let trail = trail.entry.now in let gains = gains.entry.now in let v = v.entry.now in
         result ≡ value_by q trail gains h k j (node_of q j).operator v }
 {
     let op = operator(q, j);
@@ -130,7 +131,7 @@ fn learn_node(
     j: u8,
 )
     requires { (j < 40) × (s < 32) × (h < 7) }
-    ensures frame { let v' = v.exit.now in let q = q.entry.now in let truth = truth.entry.now in let trail = trail.entry.now in
+    ensures { let v' = v.exit.now in let q = q.entry.now in let truth = truth.entry.now in let trail = trail.entry.now in
         let gains = gains.entry.now in let v = v.entry.now in
         v' ≡ learn_node q truth trail gains h s j v }
 {
@@ -159,7 +160,7 @@ pub fn learn(
     s: u8,
 )
     requires { Below40 cone.now × (s < 32) × (h < 7) }
-    ensures frame { let v' = v.exit.now in let q = q.entry.now in let truth = truth.entry.now in let trail = trail.entry.now in
+    ensures { let v' = v.exit.now in let q = q.entry.now in let truth = truth.entry.now in let trail = trail.entry.now in
         let gains = gains.entry.now in let cone = cone.entry.now in let v = v.entry.now in
         v' ≡ learnt q truth trail gains h s cone v }
 {
@@ -174,7 +175,7 @@ pub fn learn(
 // its root; with none, the raised gain of the steps after the first a.
 pub fn worth(cone: &[u8], gains: &[i32; PLACES], v: &[u8; VALUES], a: u8, d: u8) -> u64
     requires { Readable cone.now gains.now a d }
-    ensures value { result ≡ worth_known cone.now gains.now v.now a d }
+    ensures { result ≡ worth_known cone.now gains.now v.now a d }
 {
     let n = cone.len();
     if n == 0 {
@@ -186,7 +187,7 @@ pub fn worth(cone: &[u8], gains: &[i32; PLACES], v: &[u8; VALUES], a: u8, d: u8)
 
 fn put(trail: &mut [u16], i: usize, x: u16)
     requires { i < length trail.old }
-    ensures frame { trail.new ≡ set trail.old i x }
+    ensures { trail.new ≡ set trail.old i x }
 {
     trail[i] = x;
 }
@@ -207,7 +208,7 @@ pub fn step(
     requires ready { Ready m.now q.now at.start truth.now cone.now }
     requires offered { Offered m.now at.start trail.old at.h at.s i o }
     requires knows { Knows m.now q.now at.start cone.now (take at.h trail.old) gains.old v.old }
-    ensures effect { let trail' = trail.exit.now in let gains' = gains.new in let v' = v.new in let m = m.entry.now in
+    ensures { let trail' = trail.exit.now in let gains' = gains.new in let v' = v.new in let m = m.entry.now in
         let q = q.entry.now in let cone = cone.entry.now in let trail = trail.entry.now in
         Stepped m q at.start cone at.h at.s i o trail trail' gains' v' result }
 {

@@ -26,7 +26,7 @@ use questions::NODES;
 // The nodes of the condition that matter with its last step; none where there is no condition.
 pub fn marks(q: &[u8; QUESTION], cone: &[u8]) -> [u8; NODES]
     requires { Deep q.now × Cone q.now cone.now }
-    ensures value { Marked q.now cone.now result }
+    ensures { Marked q.now cone.now result }
 {
     if cone.len() == 0 {
         return [0u8; NODES];
@@ -37,7 +37,7 @@ pub fn marks(q: &[u8; QUESTION], cone: &[u8]) -> [u8; NODES]
 // Whether there is a condition and one step decides it.
 pub fn one_decides(cone: &[u8], spot: Spot) -> bool
     requires { spot.h ≤ 6 }
-    ensures value { result ≡ true → (spot.d ≡ spot.h + 1) × (0 < length cone.now) }
+    ensures { result ≡ true → (spot.d ≡ spot.h + 1) × (0 < length cone.now) }
 {
     if cone.len() == 0 {
         return false;
@@ -88,7 +88,7 @@ pub fn by_last_step(
     requires here { Here m.now q.now spot.start spot.d cone.now trail.now gains.now v.now spot.h spot.s spot.k
         × Marked q.now cone.now late.now × (spot.d ≡ spot.h + 1) × (0 < length cone.now) }
     requires room { Room spot.k (plan_total (model_in m.now) spot.k spot.s) spot.at (length buf.old) }
-    ensures effect { let buf' = buf.exit.now in
+    ensures { let buf' = buf.exit.now in
         let m = m.entry.now in let q = q.entry.now in let cone = cone.entry.now in let trail = trail.entry.now in
         let gains = gains.entry.now in let v = v.entry.now in let buf = buf.entry.now in
         let f = worth_on m q spot.start spot.a spot.d cone (take spot.h trail) in

@@ -1,5 +1,6 @@
 // The list of the totals of all plans in dictionary order; for the relation "equal" the first place of one of them, and those nearest to a number.
 #![tactic(auto)]
+
 ghost use Rattle.std.specs.Prelude.{◌+◌, ◌≤◌, length};
 ghost use Rattle.logic.specs.Limits.{plan_total};
 ghost use Rattle.prepared_model.specs.promises.Rows.{model_in};
@@ -58,7 +59,7 @@ pub fn totals(
     requires given { Given m.now q.now l.s l.a l.d truth.now cone.now table.now }
     requires d_le_n { (l.d ≤ l.n) × (l.n ≤ 6) × (plan_total (model_in m.now) l.n l.s ≤ 65536)
         × (plan_total (model_in m.now) l.n l.s + 282 ≤ length buf.old) }
-    ensures effect { let m = m.entry.now in let q = q.entry.now in let cone = cone.entry.now in
+    ensures { let m = m.entry.now in let q = q.entry.now in let cone = cone.entry.now in
         Listed (spec.totals (model_in m) l.n l.s (worth_of m q l.s l.a l.d cone)) buf.new result }
 {
     let late = marks(q, cone);
@@ -92,7 +93,7 @@ pub fn first_equal(
 ) -> usize
     requires given { Given m.now q.now l.s l.a l.d truth.now cone.now table.now }
     requires d_le_n { (l.d ≤ l.n) × (l.n ≤ 6) × (plan_total (model_in m.now) l.n l.s ≤ 65536) }
-    ensures value { let m = m.entry.now in let q = q.entry.now in let cone = cone.entry.now in
+    ensures { let m = m.entry.now in let q = q.entry.now in let cone = cone.entry.now in
         First (spec.totals (model_in m) l.n l.s (worth_of m q l.s l.a l.d cone)) x result }
 {
     let need = stored(m, table, l);

@@ -53,7 +53,7 @@ pub struct Further {
 // An outcome with the most plans below it: its list is made first, in its place.
 fn longest(m: &[u16; MODEL], table: &[u64; COUNTS], s: usize, i: usize, c: usize, k: u8) -> usize
     requires { (k ≤ 6) × (s < 32) × (i < 8) × (0 < c) × (c ≤ 4) × ((o : _) → o < c → (step_in m.now s i o).target < 32) }
-    ensures value { Longest m.now table.now s i c k result }
+    ensures { Longest m.now table.now s i c k result }
 {
     let mut best: usize = 0;
     let mut o: usize = 1;
@@ -77,7 +77,7 @@ pub fn plans_below(
     c: usize,
 ) -> u64
     requires { (s < 32) × (i < 8) × Counted m.now table.now s i k c }
-    ensures value { result ≡ ways_below m.now s i k c }
+    ensures { result ≡ ways_below m.now s i k c }
 {
     if k == 0 {
         return 1;
@@ -94,19 +94,19 @@ pub fn plans_below(
 // The outcome to take next, beside those from lo to hi: on the right as long as there is one.
 fn beside(lo: usize, hi: usize, c: usize) -> usize
     requires { (lo < hi) × (hi ≤ c) × (hi - lo < c) }
-    ensures value { ((result ≡ hi) × (hi < c)) ⊎ (result + 1 ≡ lo) }
+    ensures { ((result ≡ hi) × (hi < c)) ⊎ (result + 1 ≡ lo) }
 {
     if hi < c { hi } else { lo - 1 }
 }
 
 fn least(x: usize, y: usize) -> usize
-    ensures value { result ≡ min x y }
+    ensures { result ≡ min x y }
 {
     if y < x { y } else { x }
 }
 
 fn most(x: usize, y: usize) -> usize
-    ensures value { result ≡ max x y }
+    ensures { result ≡ max x y }
 {
     if x < y { y } else { x }
 }
@@ -120,7 +120,7 @@ pub fn alike(
     spot: Spot,
 ) -> u64
     requires { Decides m.now cone.now gains.now v.now spot.a spot.d spot.k }
-    ensures value { let gains = gains.entry.now in let v = v.entry.now in let cone = cone.entry.now in let m = m.entry.now in
+    ensures { let gains = gains.entry.now in let v = v.entry.now in let cone = cone.entry.now in let m = m.entry.now in
         result ≡ worth_known cone gains v spot.a spot.d * denominator_of m ^ spot.k }
 {
     worth(cone, gains, v, spot.a, spot.d) * power(denominator(m), spot.k)
@@ -168,7 +168,7 @@ pub fn list(
     requires here { Here m.now q.now spot.start spot.d cone.now trail.old gains.old v.old spot.h spot.s spot.k
         × Marked q.now cone.now late.now }
     requires room { Room spot.k (plan_total (model_in m.now) spot.k spot.s) spot.at (length buf.old) }
-    ensures effect { let trail' = trail.exit.now in let gains' = gains.new in let v' = v.new in let buf' = buf.exit.now in
+    ensures { let trail' = trail.exit.now in let gains' = gains.new in let v' = v.new in let buf' = buf.exit.now in
         let m = m.entry.now in let q = q.entry.now in let cone = cone.entry.now in let trail = trail.entry.now in
         let buf = buf.entry.now in
         let f = worth_on m q spot.start spot.a spot.d cone (take spot.h trail) in
@@ -225,7 +225,7 @@ pub fn combine(
         × (i < choices_in m.now spot.s) × (0 < c) × (c ≤ outcomes_in m.now spot.s i) × Marked q.now cone.now late.now }
     requires room { Room (spot.k + 1) (multiply (λ o. plan_total (model_in m.now) spot.k o.target)
         (take c (outcomes (model_in m.now) spot.s (choice_in m.now spot.s i)))) spot.at (length buf.old) }
-    ensures effect { let trail' = trail.exit.now in let gains' = gains.new in let v' = v.new in let buf' = buf.exit.now in
+    ensures { let trail' = trail.exit.now in let gains' = gains.new in let v' = v.new in let buf' = buf.exit.now in
         let m = m.entry.now in let q = q.entry.now in let cone = cone.entry.now in let trail = trail.entry.now in
         let buf = buf.entry.now in
         let f = worth_on m q spot.start spot.a spot.d cone (take spot.h trail) in
@@ -277,7 +277,7 @@ fn grown(
         × Offers m.now spot.s more.i more.o × Marked q.now cone.now late.now }
     requires grows { Grows buf.old spot.at more.len
         (plan_total (model_in m.now) spot.k (step_in m.now spot.s more.i more.o).target) spot.k }
-    ensures effect { let trail' = trail.exit.now in let gains' = gains.new in let v' = v.new in let buf' = buf.exit.now in
+    ensures { let trail' = trail.exit.now in let gains' = gains.new in let v' = v.new in let buf' = buf.exit.now in
         let buf = buf.entry.now in let m = m.entry.now in let q = q.entry.now in let cone = cone.entry.now in
         let trail = trail.entry.now in
         let f = worth_on m q spot.start spot.a spot.d cone (take spot.h trail) in
@@ -335,7 +335,7 @@ pub fn weighed_below(
         × Offers m.now spot.s to.i to.o × Marked q.now cone.now late.now }
     requires room { Room spot.k (plan_total (model_in m.now) spot.k (step_in m.now spot.s to.i to.o).target) spot.at
         (length buf.old) }
-    ensures effect { let trail' = trail.exit.now in let gains' = gains.new in let v' = v.new in let buf' = buf.exit.now in
+    ensures { let trail' = trail.exit.now in let gains' = gains.new in let v' = v.new in let buf' = buf.exit.now in
         let m = m.entry.now in let q = q.entry.now in let cone = cone.entry.now in let trail = trail.entry.now in
         let buf = buf.entry.now in
         let f = worth_on m q spot.start spot.a spot.d cone (take spot.h trail) in
@@ -371,7 +371,7 @@ fn below(
         × Offers m.now spot.s to.i to.o × Marked q.now cone.now late.now }
     requires room { Room spot.k (plan_total (model_in m.now) spot.k (step_in m.now spot.s to.i to.o).target) spot.at
         (length buf.old) }
-    ensures effect { let trail' = trail.exit.now in let gains' = gains.new in let v' = v.new in let buf' = buf.exit.now in
+    ensures { let trail' = trail.exit.now in let gains' = gains.new in let v' = v.new in let buf' = buf.exit.now in
         let m = m.entry.now in let q = q.entry.now in let cone = cone.entry.now in let trail = trail.entry.now in
         let buf = buf.entry.now in
         let f = worth_on m q spot.start spot.a spot.d cone (take spot.h trail) in

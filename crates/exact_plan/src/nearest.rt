@@ -30,7 +30,7 @@ pub struct Neighbours {
 
 // Whether y is on this side of x: below it, or not below it.
 fn on_side(y: u64, x: u64, above: bool) -> bool
-    ensures value { result ≡ on_side above x y }
+    ensures { result ≡ on_side above x y }
 {
     if above {
         return x <= y;
@@ -40,7 +40,7 @@ fn on_side(y: u64, x: u64, above: bool) -> bool
 
 // Whether y is on this side of x and nearer to it than the best so far, if there is one.
 fn wins(y: u64, x: u64, best: Near, len: usize, above: bool) -> bool
-    ensures value { result ≡ wins above x len best y }
+    ensures { result ≡ wins above x len best y }
 {
     if !on_side(y, x, above) {
         return false;
@@ -54,7 +54,7 @@ fn wins(y: u64, x: u64, best: Near, len: usize, above: bool) -> bool
 // The number nearest to x on this side of it, of the first `len`, at its first place.
 fn nearest_in(buf: &[u64], len: usize, x: u64, above: bool) -> Near
     requires { len ≤ length buf.now }
-    ensures value { NearestIn buf.now len len above x result }
+    ensures { NearestIn buf.now len len above x result }
 {
     let mut best = Near {
         place: len,
@@ -85,7 +85,7 @@ fn nearest_within(
     requires given { Given m.now q.now l.s l.a l.d truth.now cone.now table.now }
     requires d_le_n { (l.d ≤ l.n) × (l.n ≤ 6) × (plan_total (model_in m.now) l.n l.s ≤ 65536)
         × (plan_total (model_in m.now) l.n l.s + 282 ≤ length buf.old) }
-    ensures value { let m = m.entry.now in let q = q.entry.now in let cone = cone.entry.now in
+    ensures { let m = m.entry.now in let q = q.entry.now in let cone = cone.entry.now in
         Around (spec.totals (model_in m) l.n l.s (worth_of m q l.s l.a l.d cone)) x result }
 {
     let len = totals(m, q, truth, cone, table, buf, l);
@@ -108,7 +108,7 @@ pub fn nearest(
 ) -> Neighbours
     requires given { Given m.now q.now l.s l.a l.d truth.now cone.now table.now }
     requires d_le_n { (l.d ≤ l.n) × (l.n ≤ 6) × (plan_total (model_in m.now) l.n l.s ≤ 65536) }
-    ensures value { let m = m.entry.now in let q = q.entry.now in let cone = cone.entry.now in
+    ensures { let m = m.entry.now in let q = q.entry.now in let cone = cone.entry.now in
         Around (spec.totals (model_in m) l.n l.s (worth_of m q l.s l.a l.d cone)) x result }
 {
     let all = plans_counted(table, l.n, l.s as usize);

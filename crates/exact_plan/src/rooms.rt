@@ -49,7 +49,7 @@ pub fn stored(m: &[u16; MODEL], table: &[u64; COUNTS], l: Sought) -> u64
 
 // How many numbers a room that is not the largest is for.
 fn limit(room: u8) -> u64
-    ensures value { (room ≡ 0 → result ≡ 1024) × (0 < room → result ≡ 8192) }
+    ensures { (room ≡ 0 → result ≡ 1024) × (0 < room → result ≡ 8192) }
 {
     if room == 0 { FEW } else { SOME }
 }
@@ -66,7 +66,7 @@ fn few(
 ) -> Placed
     requires given { Given m.now q.now l.s l.a l.d truth.now cone.now table.now }
     requires housed { Housed m.now l.d l.n l.s 1306 }
-    ensures value { let m = m.entry.now in let q = q.entry.now in let cone = cone.entry.now in
+    ensures { let m = m.entry.now in let q = q.entry.now in let cone = cone.entry.now in
         Searched (spec.totals (model_in m) l.n l.s (worth_of m q l.s l.a l.d cone)) x result }
 {
     let mut buf = [0u64; FEW_ROOM];
@@ -84,7 +84,7 @@ fn some(
 ) -> Placed
     requires given { Given m.now q.now l.s l.a l.d truth.now cone.now table.now }
     requires housed { Housed m.now l.d l.n l.s 8474 }
-    ensures value { let m = m.entry.now in let q = q.entry.now in let cone = cone.entry.now in
+    ensures { let m = m.entry.now in let q = q.entry.now in let cone = cone.entry.now in
         Searched (spec.totals (model_in m) l.n l.s (worth_of m q l.s l.a l.d cone)) x result }
 {
     let mut buf = [0u64; SOME_ROOM];
@@ -102,7 +102,7 @@ fn many(
 ) -> Placed
     requires given { Given m.now q.now l.s l.a l.d truth.now cone.now table.now }
     requires housed { Housed m.now l.d l.n l.s 65819 }
-    ensures value { let m = m.entry.now in let q = q.entry.now in let cone = cone.entry.now in
+    ensures { let m = m.entry.now in let q = q.entry.now in let cone = cone.entry.now in
         Searched (spec.totals (model_in m) l.n l.s (worth_of m q l.s l.a l.d cone)) x result }
 {
     let mut buf = [0u64; ROOM];
@@ -125,7 +125,7 @@ pub fn in_room(
 ) -> Placed
     requires given { Given m.now q.now l.s l.a l.d truth.now cone.now table.now }
     requires housed { Housed m.now l.d l.n l.s (need + 282) × (need ≤ 65537) × (room ≡ 0 → need ≤ 1024) × (room ≡ 1 → need ≤ 8192) }
-    ensures value { let m = m.entry.now in let q = q.entry.now in let cone = cone.entry.now in
+    ensures { let m = m.entry.now in let q = q.entry.now in let cone = cone.entry.now in
         Searched (spec.totals (model_in m) l.n l.s (worth_of m q l.s l.a l.d cone)) x result }
 {
     if room == 0 {

@@ -43,7 +43,7 @@ pub struct Ends {
 // The place of the first x among the first `len` numbers; where there is none, len.
 fn find(buf: &[u64], len: usize, x: u64) -> usize
     requires { len ≤ length buf.now }
-    ensures value { First (take len buf.now) x result }
+    ensures { First (take len buf.now) x result }
 {
     let mut i: usize = 0;
     while i < len {
@@ -56,13 +56,13 @@ fn find(buf: &[u64], len: usize, x: u64) -> usize
 }
 
 fn lesser(x: u64, y: u64) -> u64
-    ensures value { result ≡ min x y }
+    ensures { result ≡ min x y }
 {
     if y < x { y } else { x }
 }
 
 pub fn greater(x: u64, y: u64) -> u64
-    ensures value { result ≡ max x y }
+    ensures { result ≡ max x y }
 {
     if x < y { y } else { x }
 }
@@ -70,7 +70,7 @@ pub fn greater(x: u64, y: u64) -> u64
 // The least and the greatest of the first `len` numbers.
 fn ends_of(buf: &[u64], len: usize) -> Ends
     requires { (0 < len) × (len ≤ length buf.now) }
-    ensures value { Between (take len buf.now) result }
+    ensures { Between (take len buf.now) result }
 {
     let mut low = buf[0];
     let mut high = low;
@@ -90,7 +90,7 @@ fn ends_of(buf: &[u64], len: usize) -> Ends
 // others are passed over.
 fn first_with(buf: &[u64], len: usize, e: Ends, y: u64, x: u64) -> usize
     requires { (len ≤ length buf.now) × Between (take len buf.now) e }
-    ensures value { First (map (λ z. y + z) (take len buf.now)) x result }
+    ensures { First (map (λ z. y + z) (take len buf.now)) x result }
 {
     if x < y {
         return len;
@@ -109,7 +109,7 @@ fn first_with(buf: &[u64], len: usize, e: Ends, y: u64, x: u64) -> usize
 // first list varying slowest.
 fn first_sum(buf: &[u64], at: usize, slow: usize, fast: usize, x: u64) -> Placed
     requires { (0 < fast) × (at + slow + fast ≤ length buf.now) × (slow * fast ≤ 65536) }
-    ensures value { let buf = buf.entry.now in
+    ensures { let buf = buf.entry.now in
         Searched (grid (part buf at slow) (part buf (at + slow) fast)) x result }
 {
     let from = at + slow;
@@ -155,7 +155,7 @@ fn front(
         × (i < choices_in m.now spot.s) × (c ≤ outcomes_in m.now spot.s i) × Marked q.now cone.now late.now }
     requires room { Room (spot.k + 1) (multiply (λ o. plan_total (model_in m.now) spot.k o.target)
         (take c (outcomes (model_in m.now) spot.s (choice_in m.now spot.s i)))) spot.at (length buf.old) }
-    ensures effect { let trail' = trail.exit.now in let gains' = gains.new in let v' = v.new in let buf' = buf.exit.now in
+    ensures { let trail' = trail.exit.now in let gains' = gains.new in let v' = v.new in let buf' = buf.exit.now in
         let m = m.entry.now in let q = q.entry.now in let cone = cone.entry.now in let trail = trail.entry.now in
         let buf = buf.entry.now in
         let f = worth_on m q spot.start spot.a spot.d cone (take spot.h trail) in
@@ -240,7 +240,7 @@ fn by_choices(
         × Marked q.now cone.now late.now }
     requires s_bound { (plan_total (model_in m.now) (spot.k + 1) spot.s ≤ 65536)
         × ((i : _) → i < choices_in m.now spot.s → spot.at + stored_at m.now spot.s i spot.k + 282 ≤ length buf.old) }
-    ensures value { let m = m.entry.now in let q = q.entry.now in let cone = cone.entry.now in let trail = trail.entry.now in
+    ensures { let m = m.entry.now in let q = q.entry.now in let cone = cone.entry.now in let trail = trail.entry.now in
         let f = worth_on m q spot.start spot.a spot.d cone (take spot.h trail) in
         Searched (spec.totals (model_in m) (spot.k + 1) spot.s f) x result }
 {
@@ -282,7 +282,7 @@ fn at_once(
 ) -> Placed
     requires decides { Decides m.now cone.now gains.now v.now spot.a spot.d spot.k }
     requires s_bound { (spot.s < 32) × (0 < get_or table.now (32 * spot.k + spot.s) 0) }
-    ensures value { let table = table.entry.now in let gains = gains.entry.now in let v = v.entry.now in let cone = cone.entry.now in
+    ensures { let table = table.entry.now in let gains = gains.entry.now in let v = v.entry.now in let cone = cone.entry.now in
         let m = m.entry.now in
         Searched (replicate (get_or table (32 * spot.k + spot.s) 0)
         (worth_known cone gains v spot.a spot.d * denominator_of m ^ spot.k)) x result }
@@ -315,7 +315,7 @@ pub fn first_within(
 ) -> Placed
     requires given { Given m.now q.now l.s l.a l.d truth.now cone.now table.now }
     requires housed { Housed m.now l.d l.n l.s (length buf.old) }
-    ensures value { let m = m.entry.now in let q = q.entry.now in let cone = cone.entry.now in
+    ensures { let m = m.entry.now in let q = q.entry.now in let cone = cone.entry.now in
         Searched (spec.totals (model_in m) l.n l.s (worth_of m q l.s l.a l.d cone)) x result }
 {
     let late = marks(q, cone);

@@ -7,7 +7,7 @@ ghost use Rattle.exact_plan.specs.promises.Spread.{Shifts, Spreads, Joins};
 // Writes x + w * y at `to` for each of the numbers y at `from`.
 pub fn shift(buf: &mut [u64], from: usize, to: usize, count: usize, w: u64, x: u64)
     requires { Shifts buf.old from to count w x }
-    ensures frame { buf.new ≡ splice buf.old to (map (λ y. x + w * y) (part buf.old from count)) }
+    ensures { buf.new ≡ splice buf.old to (map (λ y. x + w * y) (part buf.old from count)) }
 {
     let mut i: usize = 0;
     while i < count {
@@ -29,7 +29,7 @@ pub fn spread(
     w: u64,
 )
     requires { Spreads buf.old at slow n v fast c w }
-    ensures frame { buf.new
+    ensures { buf.new
         ≡ splice buf.old at (grid (map (λ x. v * x) (part buf.old slow n)) (map (λ y. w * y) (part buf.old fast c))) }
 {
     let mut i = n;
@@ -43,7 +43,7 @@ pub fn spread(
 // Combines the `len` numbers at `at` with w times the n numbers that stand behind the product: on the right of them, or on the left.
 pub fn join(buf: &mut [u64], at: usize, len: usize, n: usize, w: u64, right: bool)
     requires { Joins buf.old at len n w }
-    ensures frame { let buf' = buf.exit.now in let buf = buf.entry.now in
+    ensures { let buf' = buf.exit.now in let buf = buf.entry.now in
         buf' ≡ splice buf at (joined right (part buf at len) (map (λ y. w * y) (part buf (at + len * n) n))) }
 {
     let end = at + len * n;
@@ -57,7 +57,7 @@ pub fn join(buf: &mut [u64], at: usize, len: usize, n: usize, w: u64, right: boo
 // Writes the same number n times.
 pub fn fill(buf: &mut [u64], at: usize, n: usize, x: u64)
     requires { at + n ≤ length buf.old }
-    ensures frame { buf.new ≡ splice buf.old at (replicate n x) }
+    ensures { buf.new ≡ splice buf.old at (replicate n x) }
 {
     let mut i: usize = 0;
     while i < n {

@@ -1,6 +1,7 @@
 // The text that the program `whynot` prints: the line of `verdict` where that is a yes or a refusal, and the reason of a no. The grounds of load, put
 // and judge are asked in turn; no desk is needed, since nothing is kept.
 #![tactic(auto)]
+
 ghost use Rattle.std.specs.Prelude.{◌≡◌, ◌+◌, ◌≤◌, length};
 ghost use Rattle.logic.specs.promises.Refusal.{refusal};
 ghost use Rattle.models.specs.Layout.{model_of};
@@ -37,7 +38,7 @@ fn put_side(out: &mut [u8], at: usize, word: &[u8], side: Side, choices: &[u8]) 
 // The text of what is said of a question, with the choices beside it.
 fn explained_text(out: &mut [u8], e: Explanation, choices: &[u8], further: &[u8]) -> usize
     requires { (16384 ≤ length out.old) × Few e (length choices.now) (length further.now) }
-    ensures effect { let out' = out.exit.now in let out = out.entry.now in let choices = choices.entry.now in
+    ensures { let out' = out.exit.now in let out = out.entry.now in let choices = choices.entry.now in
         let further = further.entry.now in
         Put (explained_said e choices further) out out' 0 result }
 {
@@ -63,7 +64,7 @@ fn explained_text(out: &mut [u8], e: Explanation, choices: &[u8], further: &[u8]
 fn judging_text(out: &mut [u8], model: &[u8], q: &[u8]) -> usize
     requires in_bounds { 16384 ≤ length out.old }
     requires model_value { (refusal (read_model model.now) ≡ 0) × (refusal (question_for (model_of model.now) q.now) ≡ 0) }
-    ensures effect { let out' = out.exit.now in let model = model.entry.now in let q = q.entry.now in let out = out.entry.now in
+    ensures { let out' = out.exit.now in let model = model.entry.now in let q = q.entry.now in let out = out.entry.now in
         Put (line_of (judging_text whynot_says (model_of model) (question_of q))) out out' 0 result }
 {
     let m = prepare_model(model);
@@ -81,7 +82,7 @@ fn judging_text(out: &mut [u8], model: &[u8], q: &[u8]) -> usize
 
 // The ground on which a question is refused for an accepted model; 0 where there is none.
 fn question_ground(model: &[u8], q: &[u8]) -> u32
-    ensures value { result ≡ refusal (question_for (model_of model.now) q.now) }
+    ensures { result ≡ refusal (question_for (model_of model.now) q.now) }
 {
     let states = models::state_count(model);
     let actions = models::action_count(model);
@@ -92,7 +93,7 @@ fn question_ground(model: &[u8], q: &[u8]) -> u32
 // The text of a model and a question.
 fn loading_text(out: &mut [u8], model: &[u8], q: &[u8]) -> usize
     requires { 16384 ≤ length out.old }
-    ensures effect { let out' = out.exit.now in let model = model.entry.now in let q = q.entry.now in let out = out.entry.now in
+    ensures { let out' = out.exit.now in let model = model.entry.now in let q = q.entry.now in let out = out.entry.now in
         Put (line_of (loading_text whynot_says model q)) out out' 0 result }
 {
     let k = models::model_refusal(model);
@@ -108,7 +109,7 @@ fn loading_text(out: &mut [u8], model: &[u8], q: &[u8]) -> usize
 
 // The text that the program whynot prints for its input: a model followed by a question in the last 512 bytes.
 pub fn answer(input: &[u8], out: &mut [u8; TEXT]) -> usize
-    ensures effect { Put (answer_text whynot_says input.now) out.old out.new 0 result }
+    ensures { Put (answer_text whynot_says input.now) out.old out.new 0 result }
 {
     let n = input.len();
     if n < BLOCK {

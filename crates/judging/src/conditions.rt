@@ -23,7 +23,7 @@ pub struct Peeled {
 
 // Takes one state formula off c, where c is "and" of one and another node. It asks nothing of its numbers, so it reads them with a test.
 fn peel_one(q: &[u8; QUESTION], truth: &[u8; TRUTHS], c: u8, s: u8) -> Peeled
-    ensures value { Peels q.now truth.now c s result }
+    ensures { Peels q.now truth.now c s result }
 {
     if questions::operator(q, c) != AND {
         return Peeled {
@@ -55,7 +55,7 @@ fn peel_one(q: &[u8; QUESTION], truth: &[u8; TRUTHS], c: u8, s: u8) -> Peeled
 
 // Takes all state formulas off c that it joins.
 pub fn peel(q: &[u8; QUESTION], truth: &[u8; TRUTHS], c: u8, s: u8) -> Peeled
-    ensures value { Peels q.now truth.now c s result }
+    ensures { Peels q.now truth.now c s result }
 {
     let mut at = c;
     let mut r = peel_one(q, truth, at, s);
@@ -78,7 +78,7 @@ pub fn searched(
 ) -> Found
     requires given { Given m.now q.now × Stands m.now q.now truth.now c s }
     requires c_bound { (formulas.depth (formula q.now c) ≤ 6) × (4095 ≤ length scratch.old) }
-    ensures effect { Searched m.now q.now c s least scratch.new result }
+    ensures { Searched m.now q.now c s least scratch.new result }
 {
     let d = depth(q, c);
     let mut nodes = [0u8; NODES];
@@ -88,7 +88,7 @@ pub fn searched(
 
 // Where the best total of c in s is remembered.
 fn memo_at(c: u8, s: u8, least: bool) -> usize
-    ensures value { result ≡ memo_place c s least }
+    ensures { result ≡ memo_place c s least }
 {
     64 * c as usize + 2 * s as usize + bit(least) as usize
 }

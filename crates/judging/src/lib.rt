@@ -1,6 +1,7 @@
 // Judging an accepted question on an accepted model: the truth of the nodes from the first to the last, where it matters, and the verdict
 // on the root.
 #![tactic(auto)]
+
 ghost use Rattle.std.specs.Prelude.{◌≡◌, ◌*◌, ◌^◌, ◌≤◌, ◌<◌, true, cond, length};
 ghost use Rattle.std.proofs.Math.Option.{none};
 ghost use Rattle.logic.specs.Formula as formulas;
@@ -71,7 +72,7 @@ pub enum Verdict {
 
 // The verdict on a root that sets no bound on plans.
 fn plain(yes: bool) -> Verdict
-    ensures value { result ≡ cond yes Yes (No (record { count = 0; lamp = optional_code none })) }
+    ensures { result ≡ cond yes Yes (No (record { count = 0; lamp = optional_code none })) }
 {
     if yes {
         return Verdict::Yes;
@@ -84,7 +85,7 @@ fn plain(yes: bool) -> Verdict
 
 // The verdict with a plan.
 fn with_plan(total: i64, lamp: Lamp, steps: u8, count: u32) -> Verdict
-    ensures value { result ≡ YesPlan (record { total = total; lamp = lamp; steps = steps; count = count }) }
+    ensures { result ≡ YesPlan (record { total = total; lamp = lamp; steps = steps; count = count }) }
 {
     Verdict::YesPlan(PlanRecord {
         total: total,
@@ -98,7 +99,7 @@ fn with_plan(total: i64, lamp: Lamp, steps: u8, count: u32) -> Verdict
 fn deny(m: &[u16; MODEL], q: &[u8; QUESTION], j: u8, r: Decision) -> Verdict
     requires bounded { Bounded m.now q.now j × (r.place ≤ 65536) }
     requires raised_bound { ((node_of q.now j).right ≡ 2 → ⊥) → r.raised ≤ most_of m.now q.now j }
-    ensures value { let m = m.entry.now in let q = q.entry.now in
+    ensures { let m = m.entry.now in let q = q.entry.now in
         result ≡ No (record { count = r.place; lamp = optional_code (no_lamp m q j r.raised) }) }
 {
     let count = r.place as u32;
@@ -118,7 +119,7 @@ fn deny(m: &[u16; MODEL], q: &[u8; QUESTION], j: u8, r: Decision) -> Verdict
 // The truth of state formulas on which the root in the start state can depend.
 pub fn root_truth(m: &[u16; MODEL], q: &[u8; QUESTION], counts: &[u64; COUNTS]) -> [u8; TRUTHS]
     requires { Asked m.now q.now counts.now }
-    ensures value { Supplied m.now q.now result (root q.now) (start_of q.now) }
+    ensures { Supplied m.now q.now result (root q.now) (start_of q.now) }
 {
     let need = needed(m, q);
     truth_table(m, q, counts, &need)
@@ -139,7 +140,7 @@ fn show(
     requires asked { Asked m.now q.now counts.now × Bounded m.now q.now j × Decided m.now q.now j s scratch.now places.now r
         × (r.met ≡ true) }
     requires s_bound { (s < state_count m.now) × (1365 ≤ length choices.old) }
-    ensures effect { let choices' = choices.exit.now in let m = m.entry.now in let q = q.entry.now in let choices = choices.entry.now in
+    ensures { let choices' = choices.exit.now in let m = m.entry.now in let q = q.entry.now in let choices = choices.entry.now in
         Announces (verdict (model_in m) s (formula q j)) result choices choices' }
 {
     let n = steps(q, j);
@@ -167,7 +168,7 @@ fn at_node(
 ) -> Verdict
     requires asked { Asked m.now q.now counts.now × (j < node_count q.now) × (s < state_count m.now) }
     requires supplied { Supplied m.now q.now truth.now j s × (formulas.depth (formula q.now j) ≡ 0) × (1365 ≤ length choices.old) }
-    ensures effect { let choices' = choices.exit.now in let m = m.entry.now in let q = q.entry.now in let choices = choices.entry.now in
+    ensures { let choices' = choices.exit.now in let m = m.entry.now in let q = q.entry.now in let choices = choices.entry.now in
         Announces (verdict (model_in m) s (formula q j)) result choices choices' }
 {
     if sets_bound(operator(q, j)) {
@@ -192,7 +193,7 @@ pub fn judged(
 ) -> Verdict
     requires served { Served m.now q.now × Counted m.now q.now counts.now }
     requires in_bounds { 1365 ≤ length choices.old }
-    ensures effect { let choices' = choices.exit.now in let m = m.entry.now in let q = q.entry.now in let choices = choices.entry.now in
+    ensures { let choices' = choices.exit.now in let m = m.entry.now in let q = q.entry.now in let choices = choices.entry.now in
         Announces (root_verdict (model_in m) q) result choices choices' }
 {
     let truth = root_truth(m, q, counts);
@@ -240,7 +241,7 @@ pub fn sheet_total(
 ) -> Weighed
     requires served { Served m.now q.now × Counted m.now q.now counts.now × (sets_bound (node_of q.now (root q.now)).operator ≡ true) }
     requires spelled { Spelled (model_in m.now) q.now choices.now }
-    ensures value { Weighs (model_in m.now) q.now choices.now result }
+    ensures { Weighs (model_in m.now) q.now choices.now result }
 {
     let truth = root_truth(m, q, counts);
     let x = root_total(m, q, &truth, choices);

@@ -40,7 +40,7 @@ pub struct Decision {
 fn over_all_steps(m: &[u16; MODEL], q: &[u8; QUESTION], j: u8, value: u64) -> u64
     requires bounded { Bounded m.now q.now j × ((node_of q.now j).operator ≡ 8) }
     requires value_bound { value ≤ denominator_of m.now ^ formulas.depth (condition q.now j) }
-    ensures value { Lengthened m.now q.now j value result }
+    ensures { Lengthened m.now q.now j value result }
 {
     let d = depth(q, left(q, j));
     power(denominator(m), steps(q, j) - d) * value
@@ -58,7 +58,7 @@ fn led(
 ) -> Decision
     requires given { Given m.now q.now × Posed m.now q.now truth.now j s × ((node_of q.now j).operator ≡ 8) }
     requires fact { ((node_of q.now j).right ≡ 2 → ⊥) × (4095 ≤ length scratch.old) }
-    ensures effect { Led m.now q.now j s scratch.new (replicate 224 0) result }
+    ensures { Led m.now q.now j s scratch.new (replicate 224 0) result }
 {
     let c = left(q, j);
     let r = searched(m, q, truth, scratch, c, s, asks_less(q, j));
@@ -81,7 +81,7 @@ fn gain_led(
 ) -> Decision
     requires bounded { Bounded m.now q.now j × ((node_of q.now j).operator ≡ 9) × (s < state_count m.now) }
     requires fact { ((node_of q.now j).right ≡ 2 → ⊥) × (length places.old ≡ 224) }
-    ensures effect { let m = m.entry.now in let q = q.entry.now in let places = places.exit.now in
+    ensures { let m = m.entry.now in let q = q.entry.now in let places = places.exit.now in
         ((scratch : List ℕ) → Led m q j s scratch places result) }
 {
     let w = window(m, q, j);
@@ -131,7 +131,7 @@ fn first(
 ) -> Decision
     requires asked { Asked m.now q.now counts.now × Posed m.now q.now truth.now j s }
     requires j_value { (node_of q.now j).right ≡ 2 }
-    ensures value { Placed m.now q.now j s result }
+    ensures { Placed m.now q.now j s result }
 {
     let n = steps(q, j);
     let all = plans_counted(counts, n, s as usize) as usize;
@@ -175,7 +175,7 @@ pub fn decide(
 ) -> Decision
     requires asked { Asked m.now q.now counts.now × Posed m.now q.now truth.now j s }
     requires in_bounds { (4095 ≤ length scratch.old) × (places.old ≡ replicate 224 0) }
-    ensures effect { Decided m.now q.now j s scratch.new places.new result }
+    ensures { Decided m.now q.now j s scratch.new places.new result }
 {
     if asks_equal(q, j) {
         return first(m, q, counts, truth, j, s);

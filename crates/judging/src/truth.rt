@@ -30,7 +30,7 @@ use relevance::place;
 // The truth of node j in s, as it was found.
 fn found(truth: &[u8; TRUTHS], j: u8, s: u8) -> u8
     requires { (j < 40) × (s < 32) }
-    ensures value { result ≡ get_or truth.now (32 * j + s) 0 }
+    ensures { result ≡ get_or truth.now (32 * j + s) 0 }
 {
     truth[STATES * j as usize + s as usize]
 }
@@ -39,7 +39,7 @@ fn found(truth: &[u8; TRUTHS], j: u8, s: u8) -> u8
 pub fn plain_truth(m: &[u16; MODEL], q: &[u8; QUESTION], truth: &[u8; TRUTHS], j: u8, s: u8) -> u8
     requires given { Given m.now q.now × (j < question.node_count q.now) × (s < state_count m.now) }
     requires supplied { Supplied m.now q.now truth.now j s × (sets_bound (question.node_of q.now j).operator ≡ false) }
-    ensures value { let q = q.entry.now in let m = m.entry.now in
+    ensures { let q = q.entry.now in let m = m.entry.now in
         (depth (formula q j) ≡ 0 → result ≡ value_of (model_in m) (formula q j) s []) }
 {
     let op = operator(q, j);
@@ -121,7 +121,7 @@ fn by_state(
 )
     requires asked { Asked m.now q.now counts.now × (j < question.node_count q.now) × ByState q.now j }
     requires rows { Rows m.now q.now need.now truth.old scratch.old memo.old j }
-    ensures frame { Rows m.now q.now need.now truth.new scratch.new memo.new (j + 1) }
+    ensures { Rows m.now q.now need.now truth.new scratch.new memo.new (j + 1) }
 {
     let end = place(j, 0) + STATES;
     let mut k = place(j, 0);
@@ -135,7 +135,7 @@ fn by_state(
 // The truth of node j, of operator 9 with "less" or "greater", in all states: one table decides.
 fn by_table(m: &[u16; MODEL], q: &[u8; QUESTION], truth: &mut [u8; TRUTHS], j: u8)
     requires { Given m.now q.now × (j < question.node_count q.now) × ByTable q.now j × (length truth.old ≡ 1280) }
-    ensures frame { RowTold m.now q.now j truth.old truth.new (state_count m.now) }
+    ensures { RowTold m.now q.now j truth.old truth.new (state_count m.now) }
 {
     let mut places = [0u8; STAGES];
     let best = best_gains(m, window(m, q, j), asks_less(q, j), &mut places);
@@ -161,7 +161,7 @@ fn node_truth(
 )
     requires asked { Asked m.now q.now counts.now × (j < question.node_count q.now) }
     requires rows { Rows m.now q.now need.now truth.old scratch.old memo.old j }
-    ensures frame { Rows m.now q.now need.now truth.new scratch.new memo.new (j + 1) }
+    ensures { Rows m.now q.now need.now truth.new scratch.new memo.new (j + 1) }
 {
     if operator(q, j) == EARNS {
         if !asks_equal(q, j) {
@@ -180,7 +180,7 @@ pub fn truth_table(
     need: &[u8; TRUTHS],
 ) -> [u8; TRUTHS]
     requires { Asked m.now q.now counts.now × Needs m.now q.now need.now }
-    ensures value { let m = m.entry.now in let q = q.entry.now in let need = need.entry.now in
+    ensures { let m = m.entry.now in let q = q.entry.now in let need = need.entry.now in
         Right m q need result (32 * (question.node_count q - 1)) }
 {
     let end = count(q) - 1;

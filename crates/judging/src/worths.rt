@@ -22,7 +22,7 @@ pub struct Worth {
 // The steps of node j, of operator 9, and those that earn.
 pub fn window(m: &[u16; MODEL], q: &[u8; QUESTION], j: u8) -> Window
     requires { Bounded m.now q.now j × ((node_of q.now j).operator ≡ 9) }
-    ensures value { let q = q.entry.now in
+    ensures { let q = q.entry.now in
         (result ≡ record { steps = (node_of q j).n; before = span_before q j; last = span_last q j }) × WindowRight result }
 {
     let span = left(q, j);
@@ -36,7 +36,7 @@ pub fn window(m: &[u16; MODEL], q: &[u8; QUESTION], j: u8) -> Window
 // What node j looks at: the nodes of its condition, listed, and how far they look ahead; or for operator 9 no node, and the steps that earn.
 pub fn worth_of(m: &[u16; MODEL], q: &[u8; QUESTION], j: u8, nodes: &mut [u8; NODES]) -> Worth
     requires { Bounded m.now q.now j × (length nodes.old ≡ 40) }
-    ensures effect { Looks q.now j nodes.new result.count result.before result.last }
+    ensures { Looks q.now j nodes.new result.count result.before result.last }
 {
     if operator(q, j) == EARNS {
         let w = window(m, q, j);

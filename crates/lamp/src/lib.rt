@@ -1,5 +1,6 @@
 // Lamps: document 02's word, A.4, for how a total compares with its bound, below, at or above.
 #![tactic(auto)]
+
 ghost use Rattle.std.specs.Prelude.{◌≡◌};
 ghost use Rattle.logic.specs.Quantity.{naturals};
 ghost use Rattle.logic.specs.Bound as bounds;
@@ -21,7 +22,7 @@ pub enum OptionalLamp {
 
 // How a number compares with another.
 pub fn compared(a: u64, b: u64) -> Lamp
-    ensures value { result ≡ lamp_code (bounds.compared naturals a b) }
+    ensures { result ≡ lamp_code (bounds.compared naturals a b) }
 {
     if a < b {
         return Lamp::Below;

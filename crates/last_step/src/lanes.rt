@@ -20,7 +20,7 @@ use prepared_model::{MODEL, choice, choices, lane_reward, lane_target, sum};
 // A word with one lane more, the lowest.
 fn pushed(x: u32, t: bool) -> u32
     requires { x < 2147483648 }
-    ensures value { result ≡ 2 * x + one_if t }
+    ensures { result ≡ 2 * x + one_if t }
 {
     if t {
         return 2 * x + 1;
@@ -33,7 +33,7 @@ fn pushed(x: u32, t: bool) -> u32
 // Of a state formula, node j: whether it is true in each outcome's target.
 pub fn told(m: &[u16; MODEL], truth: &[u8], s: usize, j: u8) -> u32
     requires { Prepared m.now × (s < state_count m.now) }
-    ensures value { let m = m.entry.now in let truth = truth.entry.now in
+    ensures { let m = m.entry.now in let truth = truth.entry.now in
         Laned m s (λ i o. one_if (not (eqb (bytes.byte truth (32 * j + (step_in m s i o).target)) 0))) result }
 {
     let mut x: u32 = 0;
@@ -49,7 +49,7 @@ pub fn told(m: &[u16; MODEL], truth: &[u8], s: usize, j: u8) -> u32
 // Of "do": whether an outcome is one of the action a.
 pub fn done(m: &[u16; MODEL], s: usize, a: u8) -> u32
     requires { Prepared m.now × (s < state_count m.now) }
-    ensures value { Laned m.now s (λ i o. one_if (eqb (choice_in m.now s i) a)) result }
+    ensures { Laned m.now s (λ i o. one_if (eqb (choice_in m.now s i) a)) result }
 {
     let mut x: u32 = 0;
     let mut k = 4 * choices(m, s);
@@ -63,7 +63,7 @@ pub fn done(m: &[u16; MODEL], s: usize, a: u8) -> u32
 // Of "gain": whether the rewards since its place, the outcome's among them, stand in the relation to its bound.
 pub fn gained(m: &[u16; MODEL], s: usize, kind: u8, after: i32, before: i32, bound: i32) -> u32
     requires { Prepared m.now × (s < state_count m.now) }
-    ensures value { let m = m.entry.now in
+    ensures { let m = m.entry.now in
         Laned m s (λ i o. one_if (quantity.related integers (relation kind) ((after -ℤ before) +ℤ (step_in m s i o).reward) bound)) result }
 {
     let gain = after as i64 - before as i64;
@@ -83,7 +83,7 @@ pub fn gained(m: &[u16; MODEL], s: usize, kind: u8, after: i32, before: i32, bou
 
 // The same value in all lanes.
 pub fn spread(t: u8) -> u32
-    ensures value { Lanes (λ _. one_if (not (eqb t 0))) result }
+    ensures { Lanes (λ _. one_if (not (eqb t 0))) result }
 {
     if t == 0 {
         return 0;
@@ -93,14 +93,14 @@ pub fn spread(t: u8) -> u32
 
 // Of "not".
 pub fn flipped(x: u32) -> u32
-    ensures value { Lanes (λ i. one_if (eqb (lane x i) 0)) result }
+    ensures { Lanes (λ i. one_if (eqb (lane x i) 0)) result }
 {
     x ^ 4294967295
 }
 
 // Of "and".
 pub fn met(x: u32, y: u32) -> u32
-    ensures value { Lanes (λ i. bit_and (lane x i) (lane y i)) result }
+    ensures { Lanes (λ i. bit_and (lane x i) (lane y i)) result }
 {
     x & y
 }
@@ -110,7 +110,7 @@ pub fn met(x: u32, y: u32) -> u32
 // The weights of the outcomes of the choice at place i whose lanes are 1, summed.
 pub fn total(m: &[u16; MODEL], x: u32, s: usize, i: usize) -> u64
     requires { Prepared m.now × (s < state_count m.now) × (i < choices_in m.now s) }
-    ensures value { let m = m.entry.now in
+    ensures { let m = m.entry.now in
         result ≡ sum_below (outcomes_in m s i) (λ o. (step_in m s i o).weight * lane x (4 * i + o)) }
 {
     let y = (x >> (4 * i as u32)) % 16;

@@ -12,7 +12,7 @@ use questions::{AND, NEXT, NODES, NOT};
 
 fn mark(marks: &mut [u8; NODES], j: u8)
     requires { j < 40 }
-    ensures frame { marks.new ≡ set marks.old j 1 }
+    ensures { marks.new ≡ set marks.old j 1 }
 {
     let at = j as usize;
     marks[at] = 1;
@@ -21,7 +21,7 @@ fn mark(marks: &mut [u8; NODES], j: u8)
 // Marks a child of a node of depth d, if it looks as far ahead.
 fn mark_level(q: &[u8; QUESTION], marks: &mut [u8; NODES], d: u8, child: u8)
     requires { (child < 40) × (length marks.old ≡ 40) }
-    ensures frame { let marks' = marks.exit.now in let q = q.entry.now in let marks = marks.entry.now in
+    ensures { let marks' = marks.exit.now in let q = q.entry.now in let marks = marks.entry.now in
         Grown (λ k. (k ≡ child) × (depth_in q child ≡ d)) marks marks' × (depth_in q child ≡ d → get_or marks' child 0 ≡ 1) }
 {
     if depth(q, child) == d {
@@ -32,7 +32,7 @@ fn mark_level(q: &[u8; QUESTION], marks: &mut [u8; NODES], d: u8, child: u8)
 // Marks the children of node j whose values become known with the same step, if j is marked and no state formula.
 fn pass_on(q: &[u8; QUESTION], marks: &mut [u8; NODES], j: u8)
     requires { Placed q.now j × (length marks.old ≡ 40) }
-    ensures frame { let marks' = marks.exit.now in let q = q.entry.now in let marks = marks.entry.now in
+    ensures { let marks' = marks.exit.now in let q = q.entry.now in let marks = marks.entry.now in
         Grown (TurnsOn q j) marks marks' × (get_or marks j 0 ≡ 1 → PassedOn q marks' j) }
 {
     let at = j as usize;
@@ -57,7 +57,7 @@ fn pass_on(q: &[u8; QUESTION], marks: &mut [u8; NODES], j: u8)
 // Marks from the condition downwards: children stand before their parents.
 pub fn late(q: &[u8; QUESTION], cone: &[u8]) -> [u8; NODES]
     requires { Deep q.now × Cone q.now cone.now × (0 < length cone.now) }
-    ensures value { Late q.now cone.now result }
+    ensures { Late q.now cone.now result }
 {
     let mut marks = [0u8; NODES];
     let root = cone[cone.len() - 1] as usize;

@@ -11,7 +11,7 @@ use questions::{AND, DO, GAIN, NEXT, NODES, NOT};
 // The word of node j.
 fn mask_at(masks: &[u32; NODES], j: u8) -> u32
     requires { j < 40 }
-    ensures value { result ≡ get_or masks.now j 0 }
+    ensures { result ≡ get_or masks.now j 0 }
 {
     let i = j as usize;
     masks[i]
@@ -21,7 +21,7 @@ fn mask_at(masks: &[u32; NODES], j: u8) -> u32
 // before the last step.
 fn part(q: &[u8; QUESTION], v: &[u8; VALUES], masks: &[u32; NODES], d: u8, k: u8, child: u8) -> u32
     requires { child < 40 }
-    ensures value { Part q.now v.now masks.now d k child result }
+    ensures { Part q.now v.now masks.now d k child result }
 {
     if depth(q, child) == d {
         return mask_at(masks, child);
@@ -46,7 +46,7 @@ fn mask_node(
     requires before_last { BeforeLast m.now q.now at.start truth.now cone.now late.now trail.now gains.now v.now at.h at.s }
     requires masked { Masked m.now q.now at.start cone.now late.now (take at.h trail.now) at.s i masks.now × (i < length cone.now)
         × (get_or cone.now i 0 < 40) × (get_or late.now (get_or cone.now i 0) 0 ≡ 1) }
-    ensures value { let m = m.entry.now in let q = q.entry.now in let cone = cone.entry.now in let trail = trail.entry.now in
+    ensures { let m = m.entry.now in let q = q.entry.now in let cone = cone.entry.now in let trail = trail.entry.now in
         Worded m q at.start cone (take at.h trail) at.s (get_or cone i 0) result }
 {
     let j = cone[i];
@@ -94,7 +94,7 @@ pub fn mask(
     at: Place,
 ) -> u32
     requires { BeforeLast m.now q.now at.start truth.now cone.now late.now trail.now gains.now v.now at.h at.s }
-    ensures value { let m = m.entry.now in let q = q.entry.now in let cone = cone.entry.now in let trail = trail.entry.now in
+    ensures { let m = m.entry.now in let q = q.entry.now in let cone = cone.entry.now in let trail = trail.entry.now in
         Ended m q at.start cone (take at.h trail) at.s result }
 {
     let mut masks = [0u32; NODES];

@@ -1,5 +1,6 @@
 // Grounds 24 and 25: the numbers of paths and plans from each state, counted by recursion over the steps up to a cap above the limit.
 #![tactic(auto)]
+
 ghost use Rattle.std.specs.Prelude.{◌≡◌, ℕ, ◌+◌, ◌*◌, ◌<◌, ◌≤◌, min, true, false, leb, get_or};
 ghost use Rattle.logic.specs.Lists.{every};
 ghost use Rattle.logic.specs.promises.Refusal.{refusal};
@@ -33,14 +34,14 @@ const ROWS: usize = 7;
 
 // The most that is served: plans, or else paths.
 fn limit(plans: bool) -> u64
-    ensures value { result ≡ spec.limit plans }
+    ensures { result ≡ spec.limit plans }
 {
     if plans { MOST_PLANS } else { MOST_PATHS }
 }
 
 // x, counted up to the cap.
 fn capped(plans: bool, x: u64) -> u64
-    ensures value { result ≡ min (spec.cap plans) x }
+    ensures { result ≡ min (spec.cap plans) x }
 {
     let cap = limit(plans) + 1;
     if x < cap { x } else { cap }
@@ -48,7 +49,7 @@ fn capped(plans: bool, x: u64) -> u64
 
 // The total of no outcomes.
 fn none(plans: bool) -> u64
-    ensures value { result ≡ spec.none plans }
+    ensures { result ≡ spec.none plans }
 {
     if plans { 1 } else { 0 }
 }
@@ -56,7 +57,7 @@ fn none(plans: bool) -> u64
 // The totals of two outcomes together.
 fn joined(plans: bool, x: u64, y: u64) -> u64
     requires { (x ≤ 1000001) × (y ≤ 1000001) }
-    ensures value { result ≡ min (spec.cap plans) (spec.joined plans x y) }
+    ensures { result ≡ min (spec.cap plans) (spec.joined plans x y) }
 {
     if plans {
         return capped(plans, x * y);
@@ -75,7 +76,7 @@ fn choice_total(
 ) -> u64
     requires prepared { Prepared m.now × (at + 32 ≤ 224) × (s < state_count m.now) × (i < choices_in m.now s) }
     requires by_index { (k : ℕ) → get_or table.now k 0 ≤ spec.cap plans }
-    ensures value { let table = table.entry.now in let m = m.entry.now in
+    ensures { let table = table.entry.now in let m = m.entry.now in
         result ≡ min (spec.cap plans) (gather plans (λ o. get_or table (at + o.target) 0) (outcomes (model_in m) s (choice_in m s i))) }
 {
     let count = prepared_model::outcomes(m, s, i);
@@ -93,7 +94,7 @@ fn choice_total(
 fn state_total(m: &[u16; MODEL], plans: bool, table: &[u64; COUNTS], at: usize, s: usize) -> u64
     requires prepared { Prepared m.now × (at + 32 ≤ 224) × (s < state_count m.now) }
     requires by_index { (k : ℕ) → get_or table.now k 0 ≤ spec.cap plans }
-    ensures value { let m = m.entry.now in let table = table.entry.now in
+    ensures { let m = m.entry.now in let table = table.entry.now in
         result ≡ min (spec.cap plans) (step_total plans (model_in m) (λ t. get_or table (at + t) 0) s) }
 {
     let n = prepared_model::choices(m, s);
@@ -110,7 +111,7 @@ fn state_total(m: &[u16; MODEL], plans: bool, table: &[u64; COUNTS], at: usize, 
 // counted.
 fn totals(m: &[u16; MODEL], plans: bool, rows: usize) -> [u64; COUNTS]
     requires { Prepared m.now × (rows ≤ 7) }
-    ensures value { Totals plans (model_in m.now) rows result }
+    ensures { Totals plans (model_in m.now) rows result }
 {
     let states = prepared_model::states(m);
     let end = STATES * rows;
@@ -128,7 +129,7 @@ fn totals(m: &[u16; MODEL], plans: bool, rows: usize) -> [u64; COUNTS]
 // How many plans of n steps there are from s, by that table.
 pub fn plans_counted(counts: &[u64; COUNTS], n: u8, s: usize) -> u64
     requires { (n ≤ 6) × (s < 32) }
-    ensures value { result ≡ get_or counts.now (32 * n + s) 0 }
+    ensures { result ≡ get_or counts.now (32 * n + s) 0 }
 {
     counts[STATES * n as usize + s]
 }
@@ -136,7 +137,7 @@ pub fn plans_counted(counts: &[u64; COUNTS], n: u8, s: usize) -> u64
 // Whether the totals of n steps are within the limit, for each of the first states.
 fn row_fits(table: &[u64; COUNTS], n: usize, states: usize, plans: bool) -> bool
     requires { (n ≤ 6) × (states ≤ 32) }
-    ensures value { result ≡ every states (λ s. leb (get_or table.now (32 * n + s) 0) (spec.limit plans)) }
+    ensures { result ≡ every states (λ s. leb (get_or table.now (32 * n + s) 0) (spec.limit plans)) }
 {
     let most = limit(plans);
     let mut right = true;
@@ -151,7 +152,7 @@ fn row_fits(table: &[u64; COUNTS], n: usize, states: usize, plans: bool) -> bool
 // Whether a limit is set to node i: it sets a bound on plans, and where plans are counted its relation is "equal".
 fn bounded(q: &[u8; QUESTION], i: u8, plans: bool) -> bool
     requires { i < 40 }
-    ensures value { result ≡ spec.bounded plans (node_of q.now i) }
+    ensures { result ≡ spec.bounded plans (node_of q.now i) }
 {
     if sets_bound(operator(q, i)) {
         return !plans || asks_equal(q, i);
@@ -162,7 +163,7 @@ fn bounded(q: &[u8; QUESTION], i: u8, plans: bool) -> bool
 // The rows of a table that node i needs: up to its steps, or none where no limit is set to it.
 fn node_rows(q: &[u8; QUESTION], i: u8, plans: bool) -> usize
     requires { i < 40 }
-    ensures value { let x = node_of q.now i in
+    ensures { let x = node_of q.now i in
         (spec.bounded plans x ≡ true → result ≡ x.n + 1) × (spec.bounded plans x ≡ false → result ≡ 0) }
 {
     if bounded(q, i, plans) {
@@ -172,7 +173,7 @@ fn node_rows(q: &[u8; QUESTION], i: u8, plans: bool) -> usize
 }
 
 fn larger(x: usize, y: usize) -> usize
-    ensures value { (x ≤ result) × (y ≤ result) × (x ≤ 7 → y ≤ 7 → result ≤ 7) }
+    ensures { (x ≤ result) × (y ≤ result) × (x ≤ 7 → y ≤ 7 → result ≤ 7) }
 {
     if x < y {
         return y;
@@ -183,7 +184,7 @@ fn larger(x: usize, y: usize) -> usize
 // The rows that all nodes need.
 fn rows_needed(q: &[u8; QUESTION], plans: bool) -> usize
     requires { ((i : ℕ) → i < node_count q.now → sets_bound (node_of q.now i).operator ≡ true → Compares (node_of q.now i)) × (node_count q.now ≤ 40) }
-    ensures value { Needed plans q.now (node_count q.now) result }
+    ensures { Needed plans q.now (node_count q.now) result }
 {
     let n = prepared_question::count(q);
     let mut rows: usize = 0;
@@ -198,7 +199,7 @@ fn rows_needed(q: &[u8; QUESTION], plans: bool) -> usize
 // The numbers of plans, for those who count them: where no limit is set to any node, nobody does.
 pub fn plan_totals(m: &[u16; MODEL], q: &[u8; QUESTION]) -> [u64; COUNTS]
     requires { Prepared m.now × Nodes (state_count m.now) (action_count m.now) (prop_count m.now) q.now }
-    ensures value { Counted m.now q.now result }
+    ensures { Counted m.now q.now result }
 {
     if rows_needed(q, true) == 0 {
         return totals(m, true, 0);
@@ -215,7 +216,7 @@ fn node_fits(
 ) -> bool
     requires { Prepared m.now × (spec.bounded plans (node_of q.now i) ≡ true → Totals plans (model_in m.now) ((node_of q.now i).n + 1) table.now)
         × (i < 40) × (sets_bound (node_of q.now i).operator ≡ true → Compares (node_of q.now i)) }
-    ensures value { result ≡ node_fits plans (model_in m.now) (node_of q.now i) }
+    ensures { result ≡ node_fits plans (model_in m.now) (node_of q.now i) }
 {
     if !bounded(q, i, plans) {
         return true;
@@ -233,7 +234,7 @@ fn node_fits(
 fn nodes_fit(m: &[u16; MODEL], q: &[u8; QUESTION], table: &[u64; COUNTS], plans: bool) -> bool
     requires { Prepared m.now × Nodes (state_count m.now) (action_count m.now) (prop_count m.now) q.now
         × Serves plans m.now q.now table.now }
-    ensures value { let m = m.entry.now in let q = q.entry.now in
+    ensures { let m = m.entry.now in let q = q.entry.now in
         result ≡ every_plan (fits plans (model_in m)) (model_in m) (formulas_of q) }
 {
     let n = prepared_question::count(q);
@@ -249,7 +250,7 @@ fn nodes_fit(m: &[u16; MODEL], q: &[u8; QUESTION], table: &[u64; COUNTS], plans:
 // The test of ground 24: no node that sets a bound on plans has too many paths.
 pub fn paths_fit(m: &[u16; MODEL], q: &[u8; QUESTION]) -> bool
     requires { Prepared m.now × Nodes (state_count m.now) (action_count m.now) (prop_count m.now) q.now }
-    ensures value { let m = m.entry.now in let q = q.entry.now in
+    ensures { let m = m.entry.now in let q = q.entry.now in
         result ≡ every_plan (fits false (model_in m)) (model_in m) (formulas_of q) }
 {
     let table = totals(m, false, rows_needed(q, false));
@@ -260,7 +261,7 @@ pub fn paths_fit(m: &[u16; MODEL], q: &[u8; QUESTION]) -> bool
 pub fn plans_fit(m: &[u16; MODEL], q: &[u8; QUESTION], counts: &[u64; COUNTS]) -> bool
     requires prepared { Prepared m.now × Nodes (state_count m.now) (action_count m.now) (prop_count m.now) q.now }
     requires counted { Counted m.now q.now counts.now }
-    ensures value { let m = m.entry.now in let q = q.entry.now in
+    ensures { let m = m.entry.now in let q = q.entry.now in
         result ≡ every_plan (fits true (model_in m)) (model_in m) (formulas_of q) }
 {
     nodes_fit(m, q, counts, true)
@@ -271,7 +272,7 @@ pub fn plans_fit(m: &[u16; MODEL], q: &[u8; QUESTION], counts: &[u64; COUNTS]) -
 pub fn limit_refusal(m: &[u16; MODEL], q: &[u8; QUESTION], counts: &[u64; COUNTS]) -> u32
     requires prepared { Prepared m.now × Nodes (state_count m.now) (action_count m.now) (prop_count m.now) q.now }
     requires counted { Counted m.now q.now counts.now }
-    ensures value { result ≡ refusal (limits (model_in m.now) (question_of q.now).nodes) }
+    ensures { result ≡ refusal (limits (model_in m.now) (question_of q.now).nodes) }
 {
     if !paths_fit(m, q) {
         return 24;

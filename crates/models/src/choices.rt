@@ -11,7 +11,7 @@ use crate::{SILENT, action_at, action_count, entries, holds, state_mask, target}
 // Whether an action is enabled in the state s. Where none is, the work is over.
 fn has_action(b: &[u8], s: usize) -> bool
     requires { s < 256 }
-    ensures value { let b = b.entry.now in
+    ensures { let b = b.entry.now in
         result ≡ some_below (action_count b) (λ a. true_of (pre_of b a) (state_mask b s)) }
 {
     let v = state_mask(b, s);
@@ -28,7 +28,7 @@ fn has_action(b: &[u8], s: usize) -> bool
 // How many outcomes the choice a has in the state s: none where it is no choice.
 pub fn outcome_count(b: &[u8], s: usize, a: usize) -> usize
     requires { (refusal (read_model b.now) ≡ 0) × (s < state_count b.now) × (a < 256) }
-    ensures value { result ≡ length (outcomes (model_of b.now) s a) }
+    ensures { result ≡ length (outcomes (model_of b.now) s a) }
 {
     if a != SILENT {
         return entries(b, s, a);
@@ -43,7 +43,7 @@ pub fn outcome_count(b: &[u8], s: usize, a: usize) -> usize
 pub fn outcome_target(b: &[u8], s: usize, a: usize, i: usize) -> usize
     requires { (refusal (read_model b.now) ≡ 0) × (s < state_count b.now) × (a < 256)
         × (i < length (outcomes (model_of b.now) s a)) }
-    ensures value { let m = model_of b.now in
+    ensures { let m = model_of b.now in
         result ≡ (get_or (outcomes m s a) i (silent_step m s)).target }
 {
     if a == SILENT {

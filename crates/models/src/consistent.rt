@@ -20,7 +20,7 @@ use blocks::u32_at;
 // Whether the literals at two places contradict.
 fn contradict(b: &[u8], i: usize, j: usize) -> bool
     requires { (i < 65536) × (j < 65536) }
-    ensures value { result ≡ model.contradict (literals b.now i) (literals b.now j) }
+    ensures { result ≡ model.contradict (literals b.now i) (literals b.now j) }
 {
     (u32_at(b, i) & u32_at(b, j + NEGATIVE_AT) != 0)
         | (u32_at(b, j) & u32_at(b, i + NEGATIVE_AT) != 0)
@@ -29,7 +29,7 @@ fn contradict(b: &[u8], i: usize, j: usize) -> bool
 // Whether postcondition i of an action contradicts each before it.
 pub fn post_contradicts(b: &[u8], a: usize, i: usize) -> bool
     requires { (a < 256) × (i < 256) }
-    ensures value { result ≡ every i (λ j. model.contradict (post_of b.now a j) (post_of b.now a i)) }
+    ensures { result ≡ every i (λ j. model.contradict (post_of b.now a j) (post_of b.now a i)) }
 {
     let mut right = true;
     let mut j: usize = 0;
@@ -43,7 +43,7 @@ pub fn post_contradicts(b: &[u8], a: usize, i: usize) -> bool
 // Whether the target of outcome i of a cell makes its postcondition true.
 pub fn target_true(b: &[u8], s: usize, a: usize, i: usize) -> bool
     requires { (s < 256) × (a < 256) × (i < 256) }
-    ensures value { let b = b.entry.now in
+    ensures { let b = b.entry.now in
         result ≡ true_of (post_of b a i) (state_mask b (outcome_of b s a i).target) }
 {
     holds(b, post_at(a, i), state_mask(b, target(b, s, a, i)))
@@ -52,7 +52,7 @@ pub fn target_true(b: &[u8], s: usize, a: usize, i: usize) -> bool
 // The sum of a cell's first n weights.
 fn weight_sum(b: &[u8], s: usize, a: usize, n: usize) -> usize
     requires { (s < 256) × (a < 256) × (n < 256) }
-    ensures value { result ≡ sum_below n (λ i. (outcome_of b.now s a i).weight) }
+    ensures { result ≡ sum_below n (λ i. (outcome_of b.now s a i).weight) }
 {
     let mut sum: usize = 0;
     let mut i: usize = 0;
@@ -66,14 +66,14 @@ fn weight_sum(b: &[u8], s: usize, a: usize, n: usize) -> usize
 // A cell with n used outcomes.
 pub fn cell_consistent(b: &[u8], s: usize, a: usize, n: usize) -> bool
     requires { (s < 256) × (a < 256) × (n < 256) × (n ≡ entries b.now s a) }
-    ensures value { result ≡ cell_consistent b.now s a }
+    ensures { result ≡ cell_consistent b.now s a }
 {
     outcomes_pass(b, 7, s, a, n) & ((n == 0) | (weight_sum(b, s, a, n) == denominator(b)))
 }
 
 pub fn consistent(b: &[u8], used: &[u8; CELLS]) -> bool
     requires { Earlier 7 b.now × Used b.now used.now }
-    ensures value { result ≡ grounds.consistent b.now }
+    ensures { result ≡ grounds.consistent b.now }
 {
     actions_pass(b, 7) & cells_pass(b, used, 7, ACTIONS * state_count(b))
 }

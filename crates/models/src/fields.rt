@@ -21,14 +21,14 @@ const MOST_REWARD: i16 = 1000;
 // Whether a mask has no bit from n up.
 fn below_bit(v: u32, n: usize) -> bool
     requires { n ≤ 32 }
-    ensures value { result ≡ ltb v (2 ^ n) }
+    ensures { result ≡ ltb v (2 ^ n) }
 {
     (v as u64) >> n == 0
 }
 
 pub fn literals_in_range(b: &[u8], at: usize) -> bool
     requires { (at < 65536) × (prop_count b.now ≤ 32) }
-    ensures value { result ≡ literals_in_range b.now (literals b.now at) }
+    ensures { result ≡ literals_in_range b.now (literals b.now at) }
 {
     let n = prop_count(b);
     let positive = u32_at(b, at);
@@ -39,7 +39,7 @@ pub fn literals_in_range(b: &[u8], at: usize) -> bool
 // The masks of all states.
 fn masks_in_range(b: &[u8]) -> bool
     requires { prop_count b.now ≤ 32 }
-    ensures value { let b = b.entry.now in
+    ensures { let b = b.entry.now in
         result ≡ every (state_count b) (λ s. mask_in_range b (state_mask b s)) }
 {
     let states = state_count(b);
@@ -55,14 +55,14 @@ fn masks_in_range(b: &[u8]) -> bool
 
 pub fn action_in_range(b: &[u8], a: usize) -> bool
     requires { (a < 256) × (prop_count b.now ≤ 32) }
-    ensures value { result ≡ action_in_range b.now a }
+    ensures { result ≡ action_in_range b.now a }
 {
     literals_in_range(b, action_at(a)) & within(1, POSTS, post_count(b, a)) & posts_pass(b, 5, a)
 }
 
 pub fn outcome_in_range(b: &[u8], s: usize, a: usize, i: usize) -> bool
     requires { (s < 256) × (a < 256) × (i < 256) }
-    ensures value { result ≡ outcome_in_range b.now (outcome_of b.now s a i) }
+    ensures { result ≡ outcome_in_range b.now (outcome_of b.now s a i) }
 {
     let gain = reward(b, s, a, i);
     (target(b, s, a, i) < state_count(b))
@@ -74,7 +74,7 @@ pub fn outcome_in_range(b: &[u8], s: usize, a: usize, i: usize) -> bool
 // The cells are looked at last, once the counts of postconditions are known to be small.
 pub fn fields_right(b: &[u8], used: &[u8; CELLS]) -> bool
     requires { Earlier 5 b.now × Used b.now used.now }
-    ensures value { result ≡ fields_right b.now }
+    ensures { result ≡ fields_right b.now }
 {
     if !masks_in_range(b) {
         return false;

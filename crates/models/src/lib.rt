@@ -1,6 +1,7 @@
 // Models: readers of their bytes, and the grounds on which they are refused (document 01, numbers 1 to 7; document 02, A.1, took ground 8
 // away).
 #![tactic(auto)]
+
 ghost use Rattle.std.specs.Prelude.{◌≡◌, ℕ, ◌+◌, ◌*◌, ◌/◌, ◌<◌, ◌≤◌, true};
 ghost use Rattle.logic.specs.Model.{true_of};
 ghost use Rattle.logic.specs.promises.Refusal.{refusal};
@@ -121,7 +122,7 @@ pub fn denominator(b: &[u8]) -> usize
 // Whether the literals at a place are true of a mask.
 pub fn holds(b: &[u8], at: usize, v: u32) -> bool
     requires { at < 65536 }
-    ensures value { result ≡ true_of (literals b.now at) v }
+    ensures { result ≡ true_of (literals b.now at) v }
 {
     let positive = u32_at(b, at);
     let negative = u32_at(b, at + NEGATIVE_AT);
@@ -131,7 +132,7 @@ pub fn holds(b: &[u8], at: usize, v: u32) -> bool
 // The mask of a state.
 pub fn state_mask(b: &[u8], s: usize) -> u32
     requires { s < 256 }
-    ensures value { result ≡ state_mask b.now s }
+    ensures { result ≡ state_mask b.now s }
 {
     u32_at(b, MASKS_AT + MASK_SIZE * s)
 }
@@ -139,7 +140,7 @@ pub fn state_mask(b: &[u8], s: usize) -> u32
 // Where an action stands, and first in it its precondition.
 pub fn action_at(a: usize) -> usize
     requires { a < 256 }
-    ensures value { result ≡ action_at a }
+    ensures { result ≡ action_at a }
 {
     ACTIONS_AT + ACTION_SIZE * a
 }
@@ -147,7 +148,7 @@ pub fn action_at(a: usize) -> usize
 // Where a postcondition of an action stands.
 pub fn post_at(a: usize, i: usize) -> usize
     requires { (a < 256) × (i < 256) }
-    ensures value { result ≡ action_at a + 12 + 8 * i }
+    ensures { result ≡ action_at a + 12 + 8 * i }
 {
     action_at(a) + POSTS_AT + LITERALS_SIZE * i
 }
@@ -210,7 +211,7 @@ pub fn weight(b: &[u8], s: usize, a: usize, i: usize) -> usize
 
 pub fn reward(b: &[u8], s: usize, a: usize, i: usize) -> i16
     requires { (s < 256) × (a < 256) × (i < 256) }
-    ensures value { result ≡ (outcome_of b.now s a i).reward }
+    ensures { result ≡ (outcome_of b.now s a i).reward }
 {
     i16_at(b, outcome_at(s, a, i) + REWARD_AT)
 }
@@ -225,7 +226,7 @@ fn widened(x: u8) -> usize
 
 // Where the cells of the model's states end among all cells.
 fn cells_end(b: &[u8]) -> usize
-    ensures value { (result ≤ 264) × ((k : ℕ) → k < 264 → result ≤ k → state_count b.now ≤ k / 8) }
+    ensures { (result ≤ 264) × ((k : ℕ) → k < 264 → result ≤ k → state_count b.now ≤ k / 8) }
 {
     let states = state_count(b);
     if states < CELLS / ACTIONS {
@@ -236,7 +237,7 @@ fn cells_end(b: &[u8]) -> usize
 
 // The number of used outcomes of every cell, 8 to a state: none in the cells of no state.
 fn used_entries(b: &[u8]) -> [u8; CELLS]
-    ensures value { Used b.now result }
+    ensures { Used b.now result }
 {
     let end = cells_end(b);
     let mut used = [0u8; CELLS];
@@ -251,14 +252,14 @@ fn used_entries(b: &[u8]) -> [u8; CELLS]
 // Ground 3: of the head, and of the row blocks.
 fn kinds_right(b: &[u8]) -> bool
     requires { whole_blocks 2 12 b.now ≡ true }
-    ensures value { result ≡ kinds_right b.now }
+    ensures { result ≡ kinds_right b.now }
 {
     headed(b, 0, KIND_HEAD, 0) & passes::rows_pass(b, 3)
 }
 
 // Ground 4.
 fn sizes_right(b: &[u8]) -> bool
-    ensures value { result ≡ sizes_right b.now }
+    ensures { result ≡ sizes_right b.now }
 {
     let s = state_count(b);
     let rows = b.len() / BLOCK == 1 + (s + 2) / ROW_STATES;
@@ -271,7 +272,7 @@ fn sizes_right(b: &[u8]) -> bool
 
 // The number of the first ground on which a model is refused; 0 where there is none.
 pub fn model_refusal(b: &[u8]) -> u32
-    ensures value { result ≡ refusal (read_model b.now) }
+    ensures { result ≡ refusal (read_model b.now) }
 {
     if !whole_blocks(b, LEAST_BLOCKS, BLOCKS) {
         return 1;

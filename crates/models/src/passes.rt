@@ -15,7 +15,7 @@ use blocks::{BLOCK, KIND_ROW, headed};
 // Ground 3 or 6 of row block k + 1.
 fn row_passes(b: &[u8], ground: u32, k: usize) -> bool
     requires { (whole_blocks 2 12 b.now ≡ true) × (k < block_count b.now - 1) }
-    ensures value { result ≡ row_passes ground b.now k }
+    ensures { result ≡ row_passes ground b.now k }
 {
     match ground {
         3 => headed(b, k + 1, KIND_ROW, k + 1),
@@ -26,7 +26,7 @@ fn row_passes(b: &[u8], ground: u32, k: usize) -> bool
 // Whether every row block passes.
 pub fn rows_pass(b: &[u8], ground: u32) -> bool
     requires { whole_blocks 2 12 b.now ≡ true }
-    ensures value { result ≡ every (block_count b.now - 1) (row_passes ground b.now) }
+    ensures { result ≡ every (block_count b.now - 1) (row_passes ground b.now) }
 {
     let rows = b.len() / BLOCK - 1;
     let mut right = true;
@@ -41,7 +41,7 @@ pub fn rows_pass(b: &[u8], ground: u32) -> bool
 // Ground 5 or 7 of postcondition i of an action.
 fn post_passes(b: &[u8], ground: u32, a: usize, i: usize) -> bool
     requires { (a < 256) × (i < 256) × (prop_count b.now ≤ 32) }
-    ensures value { result ≡ post_passes ground b.now a i }
+    ensures { result ≡ post_passes ground b.now a i }
 {
     match ground {
         5 => literals_in_range(b, post_at(a, i)),
@@ -52,7 +52,7 @@ fn post_passes(b: &[u8], ground: u32, a: usize, i: usize) -> bool
 // Whether every postcondition of an action passes.
 pub fn posts_pass(b: &[u8], ground: u32, a: usize) -> bool
     requires { (a < 256) × (prop_count b.now ≤ 32) }
-    ensures value { result ≡ every (post_count b.now a) (post_passes ground b.now a) }
+    ensures { result ≡ every (post_count b.now a) (post_passes ground b.now a) }
 {
     let n = post_count(b, a);
     let mut right = true;
@@ -67,7 +67,7 @@ pub fn posts_pass(b: &[u8], ground: u32, a: usize) -> bool
 // Ground 5, 6 or 7 of an action.
 fn action_passes(b: &[u8], ground: u32, a: usize) -> bool
     requires { Earlier ground b.now × (a < action_count b.now) }
-    ensures value { result ≡ action_passes ground b.now a }
+    ensures { result ≡ action_passes ground b.now a }
 {
     match ground {
         5 => action_in_range(b, a),
@@ -79,7 +79,7 @@ fn action_passes(b: &[u8], ground: u32, a: usize) -> bool
 // Whether every action passes.
 pub fn actions_pass(b: &[u8], ground: u32) -> bool
     requires { Earlier ground b.now }
-    ensures value { result ≡ every (action_count b.now) (action_passes ground b.now) }
+    ensures { result ≡ every (action_count b.now) (action_passes ground b.now) }
 {
     let actions = action_count(b);
     let mut right = true;
@@ -94,7 +94,7 @@ pub fn actions_pass(b: &[u8], ground: u32) -> bool
 // Ground 5 or 7 of outcome i of a cell.
 fn outcome_passes(b: &[u8], ground: u32, s: usize, a: usize, i: usize) -> bool
     requires { (s < 256) × (a < 256) × (i < 256) }
-    ensures value { result ≡ outcome_passes ground b.now s a i }
+    ensures { result ≡ outcome_passes ground b.now s a i }
 {
     match ground {
         5 => outcome_in_range(b, s, a, i),
@@ -105,7 +105,7 @@ fn outcome_passes(b: &[u8], ground: u32, s: usize, a: usize, i: usize) -> bool
 // Whether the first n outcomes of a cell pass.
 pub fn outcomes_pass(b: &[u8], ground: u32, s: usize, a: usize, n: usize) -> bool
     requires { (s < 256) × (a < 256) × (n < 256) }
-    ensures value { result ≡ every n (outcome_passes ground b.now s a) }
+    ensures { result ≡ every n (outcome_passes ground b.now s a) }
 {
     let mut right = true;
     let mut i: usize = 0;
@@ -119,7 +119,7 @@ pub fn outcomes_pass(b: &[u8], ground: u32, s: usize, a: usize, n: usize) -> boo
 // Ground 5, 6 or 7 of cell k.
 fn cell_passes(b: &[u8], used: &[u8; CELLS], ground: u32, k: usize) -> bool
     requires { Earlier ground b.now × Used b.now used.now × (k < 24 * (block_count b.now - 1)) }
-    ensures value { result ≡ cell_passes ground b.now (k / 8) (k % 8) }
+    ensures { result ≡ cell_passes ground b.now (k / 8) (k % 8) }
 {
     let s = k / ACTIONS;
     let a = k % ACTIONS;
@@ -134,7 +134,7 @@ fn cell_passes(b: &[u8], used: &[u8; CELLS], ground: u32, k: usize) -> bool
 // Whether the first cells pass, as many as are asked for.
 pub fn cells_pass(b: &[u8], used: &[u8; CELLS], ground: u32, cells: usize) -> bool
     requires { Earlier ground b.now × Used b.now used.now × (cells ≤ 24 * (block_count b.now - 1)) }
-    ensures value { result ≡ every cells (λ k. cell_passes ground b.now (k / 8) (k % 8)) }
+    ensures { result ≡ every cells (λ k. cell_passes ground b.now (k / 8) (k % 8)) }
 {
     let mut right = true;
     let mut k: usize = 0;

@@ -38,7 +38,7 @@ const ROW_END_SIZE: usize = LAST_WORD - ROW_END;
 // Of an action: the 3 bytes after the count, and the postconditions beyond it.
 pub fn action_spare(b: &[u8], a: usize) -> bool
     requires { (a < 8) × (post_count b.now a ≤ 4) × (1024 ≤ length b.now) }
-    ensures value { result ≡ action_spare b.now a }
+    ensures { result ≡ action_spare b.now a }
 {
     let n = post_count(b, a);
     zeros(b, action_at(a) + ACTION_SPARE_AT, ACTION_SPARE_SIZE)
@@ -47,7 +47,7 @@ pub fn action_spare(b: &[u8], a: usize) -> bool
 
 fn head_spare(b: &[u8]) -> bool
     requires { Earlier 6 b.now }
-    ensures value { result ≡ head_spare b.now }
+    ensures { result ≡ head_spare b.now }
 {
     let masks = MASK_SIZE * state_count(b);
     let end = action_at(action_count(b));
@@ -59,7 +59,7 @@ fn head_spare(b: &[u8]) -> bool
 
 pub fn row_spare(b: &[u8], k: usize) -> bool
     requires { (k < 128) × (512 * k + 512 ≤ length b.now) }
-    ensures value { result ≡ row_spare b.now k }
+    ensures { result ≡ row_spare b.now k }
 {
     let at = BLOCK * k;
     zeros(b, at + ROW_SPARE_AT, ROW_SPARE_SIZE) & zeros(b, at + ROW_END, ROW_END_SIZE)
@@ -68,7 +68,7 @@ pub fn row_spare(b: &[u8], k: usize) -> bool
 // Of a cell with n used outcomes: what follows them.
 pub fn cell_spare(b: &[u8], s: usize, a: usize, n: usize) -> bool
     requires { (s < 256) × (a < 8) × (n ≤ 4) × (n ≡ entries b.now s a) × (cell_at s a + 16 ≤ length b.now) }
-    ensures value { result ≡ cell_spare b.now s a }
+    ensures { result ≡ cell_spare b.now s a }
 {
     zeros(b, outcome_at(s, a, n), CELL_SIZE - OUTCOME_SIZE * n)
 }
@@ -76,7 +76,7 @@ pub fn cell_spare(b: &[u8], s: usize, a: usize, n: usize) -> bool
 // Every cell of the row blocks is looked at, also those of no state.
 pub fn spare_zero(b: &[u8], used: &[u8; CELLS]) -> bool
     requires { Earlier 6 b.now × Used b.now used.now }
-    ensures value { result ≡ (head_spare b.now && rows_spare b.now && cells_spare b.now) }
+    ensures { result ≡ (head_spare b.now && rows_spare b.now && cells_spare b.now) }
 {
     let cells = ROW_CELLS * (b.len() / BLOCK - 1);
     head_spare(b) & rows_pass(b, 6) & cells_pass(b, used, 6, cells)

@@ -30,7 +30,7 @@ fn choice(
     n: usize,
 ) -> u8
     requires { Prepared m.now × (s < state_count m.now) × Placed m.now places.now n × (1 ≤ n) }
-    ensures value { result ≡ choice_at (by_place m.now places.now n s) d (drop from src.now) }
+    ensures { result ≡ choice_at (by_place m.now places.now n s) d (drop from src.now) }
 {
     if d == 0 {
         return prepared_model::choice(m, s, places[STATES * n + s] as usize);
@@ -40,7 +40,7 @@ fn choice(
 
 // One choice is read while there are steps to read.
 fn taken(d: usize) -> usize
-    ensures value { result ≡ min 1 d }
+    ensures { result ≡ min 1 d }
 {
     if d == 0 { 0 } else { 1 }
 }
@@ -60,7 +60,7 @@ fn extend_from(
 ) -> Cursor
     requires prepared { Prepared m.now × (s < state_count m.now) }
     requires placed { Placed m.now places.now n × (from + most_choices n ≤ 65536) × (at + most_choices n ≤ length dst.old) }
-    ensures effect { let dst' = dst.exit.now in let m = m.entry.now in let places = places.entry.now in let src = src.entry.now in
+    ensures { let dst' = dst.exit.now in let m = m.entry.now in let places = places.entry.now in let src = src.entry.now in
         let dst = dst.entry.now in
         Ran (spec.extend (model_in m) (by_place m places) d n s (drop from src)) (most_choices n) src from result.from dst dst' at result.at }
 {

@@ -44,7 +44,7 @@ fn block_of(m: &[u16; MODEL], counts: &[u64; COUNTS], s: usize, n: u8, i: u64) -
     requires prepared { Prepared m.now × Totals true (model_in m.now) 7 counts.now }
     requires s_bound { (s < state_count m.now) × (n < 6) × (plan_total (model_in m.now) (n + 1) s ≤ 65536)
         × (i < plan_total (model_in m.now) (n + 1) s) }
-    ensures value { let m = m.entry.now in
+    ensures { let m = m.entry.now in
         (result.at < choices_in m s) × Found (model_in m) n s i (choice_in m s result.at) result.size result.place }
 {
     let c = prepared_model::choices(m, s);
@@ -84,7 +84,7 @@ fn nth_from(
     requires prepared { Prepared m.now × Totals true (model_in m.now) 7 counts.now }
     requires s_bound { (s < state_count m.now) × (n ≤ 6) × (plan_total (model_in m.now) n s ≤ 65536) × (i < plan_total (model_in m.now) n s)
         × (at + most_choices n ≤ length choices.old) }
-    ensures effect { let choices' = choices.exit.now in let m = m.entry.now in let choices = choices.entry.now in
+    ensures { let choices' = choices.exit.now in let m = m.entry.now in let choices = choices.entry.now in
         Wrote (plan.choices n (plan_at (model_in m) n s i)) (most_choices n) choices choices' at result }
 {
     if n == 0 {

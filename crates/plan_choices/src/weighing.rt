@@ -41,7 +41,7 @@ pub struct Part {
 // One choice further, but not beyond the end.
 fn after(choices: &[u8], at: usize) -> usize
     requires { at ≤ length choices.now }
-    ensures value { let choices = choices.entry.now in
+    ensures { let choices = choices.entry.now in
         (result ≤ length choices) × (drop result choices ≡ drop 1 (drop at choices)) }
 {
     if at < choices.len() {
@@ -53,7 +53,7 @@ fn after(choices: &[u8], at: usize) -> usize
 // A sum with the weight of an outcome times x.
 fn plus(m: &[u16; MODEL], s: u8, i: usize, o: usize, sum: u64, x: u64) -> u64
     requires { (s < 32) × (i < 8) × (o < 4) × (sum + (step_in m.now s i o).weight * x < 2 ^ 64) }
-    ensures value { result ≡ sum + (step_in m.now s i o).weight * x }
+    ensures { result ≡ sum + (step_in m.now s i o).weight * x }
 {
     sum + weight(m, s as usize, i, o) * x
 }
@@ -74,7 +74,7 @@ fn weigh_from(
     requires d_value { (0 < length cone.now → spot.d ≡ depth (formula q.now (root_of cone.now))) × (spot.a ≤ spot.d) }
     requires here { Here m.now q.now spot.start spot.d cone.now trail.old gains.old v.old spot.h spot.s spot.k
         × (spot.at ≤ length choices.now) }
-    ensures effect { let trail' = trail.exit.now in let gains' = gains.new in let v' = v.new in let m = m.entry.now in
+    ensures { let trail' = trail.exit.now in let gains' = gains.new in let v' = v.new in let m = m.entry.now in
         let q = q.entry.now in let cone = cone.entry.now in let trail = trail.entry.now in let choices = choices.entry.now in
         let f = worth_on m q spot.start spot.a spot.d cone (take spot.h trail) in
         Ran (weigh (model_in m) spot.k spot.s f (drop spot.at choices)) m q spot.start cone spot.h trail trail' gains' v'

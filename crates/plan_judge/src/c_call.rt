@@ -17,7 +17,7 @@ use sheets::writer::write_sheet;
 // Gives 0 for no, 1 for yes, or 100 plus the refusal. The sheet buffer changes only by the write.
 #[unsafe(no_mangle)]
 pub extern "C" fn plan_judge(model: &[u8], question: &[u8], sheet: &mut [u8]) -> u32
-    ensures effect { let sheet' = sheet.exit.now in let model = model.entry.now in let question = question.entry.now in
+    ensures { let sheet' = sheet.exit.now in let model = model.entry.now in let question = question.entry.now in
         let sheet = sheet.entry.now in
         Tells (c_chain model question (length sheet)) sheet sheet' result }
 {
@@ -36,7 +36,7 @@ pub extern "C" fn plan_judge(model: &[u8], question: &[u8], sheet: &mut [u8]) ->
 fn told(model: &[u8], question: &[u8], sheet: &mut [u8]) -> u32
     requires { (refusal (read_model model.now) ≡ 0)
         × (refusal (read_question (state_count model.now) (action_count model.now) (prop_count model.now) question.now) ≡ 0) }
-    ensures effect { let sheet' = sheet.exit.now in let model = model.entry.now in let question = question.entry.now in
+    ensures { let sheet' = sheet.exit.now in let model = model.entry.now in let question = question.entry.now in
         let sheet = sheet.entry.now in
         Tells (told_on (length sheet) (model_of model) (question_of question)) sheet sheet' result }
 {
@@ -56,7 +56,7 @@ fn told(model: &[u8], question: &[u8], sheet: &mut [u8]) -> u32
 // Writes the sheet of the plan with which the choices begin, and gives 1; or ground 12, where the buffer has no room for it.
 fn told_plan(model: &[u8], question: &[u8], sheet: &mut [u8], total: i64, choices: &[u8]) -> u32
     requires { PlanRoot model.now question.now × Begins model.now question.now choices.now × (length choices.now ≤ 1365) }
-    ensures effect { let sheet' = sheet.exit.now in let model = model.entry.now in let question = question.entry.now in
+    ensures { let sheet' = sheet.exit.now in let model = model.entry.now in let question = question.entry.now in
         let sheet = sheet.entry.now in let choices = choices.entry.now in
         let n = size_in (choices_in (model_of model) (question_of question) choices) in
         Tells (told_sheet question (length sheet) total (take n choices)) sheet sheet' result }

@@ -1,6 +1,7 @@
 // The plan judge as it is offered to callers: the desk (document 01's word for the judge's state) and its calls. No call asks anything of
 // its caller; a refusal leaves the desk, and each lent buffer, as found.
 #![tactic(auto)]
+
 ghost use Rattle.std.specs.Prelude.{◌≡◌, true, ◌*◌, ◌-◌, ◌≤◌, ◌<◌, min, length, take};
 ghost use Rattle.logic.specs.Checked.{refused};
 ghost use Rattle.logic.specs.promises.Refusal.{refusal};
@@ -100,7 +101,7 @@ pub enum Checking {
 
 // What stands for a verdict where a desk is not judged.
 fn unjudged() -> Verdict
-    ensures value { result ≡ unjudged }
+    ensures { result ≡ unjudged }
 {
     Verdict::No(Denial {
         count: 0,
@@ -110,7 +111,7 @@ fn unjudged() -> Verdict
 
 // A desk that holds nothing.
 pub fn empty() -> Desk
-    ensures value { result ≡ nothing }
+    ensures { result ≡ nothing }
 {
     Desk {
         blocks: 0,
@@ -125,7 +126,7 @@ pub fn empty() -> Desk
 
 // Loads a model, which clears the question and the verdict; or refuses it by grounds 1 to 7.
 pub fn load(d: Desk, b: &[u8]) -> Taking
-    ensures value { result ≡ loaded_by d b.now }
+    ensures { result ≡ loaded_by d b.now }
 {
     let k = models::model_refusal(b);
     if k != 0 {
@@ -154,7 +155,7 @@ pub fn load(d: Desk, b: &[u8]) -> Taking
 
 // Where the bytes of so many blocks end in a slice of this length.
 fn blocks_end(len: usize, blocks: usize) -> usize
-    ensures value { result ≡ min (512 * blocks) len }
+    ensures { result ≡ min (512 * blocks) len }
 {
     if blocks <= len / BLOCK {
         return BLOCK * blocks;
@@ -164,7 +165,7 @@ fn blocks_end(len: usize, blocks: usize) -> usize
 
 // How many bytes of a desk's model are held: all that it says, if they are a model that load would accept, else none.
 fn held_bytes(model: &[u8], blocks: usize) -> usize
-    ensures value { result ≡ held_size model.now blocks }
+    ensures { result ≡ held_size model.now blocks }
 {
     let n = blocks_end(model.len(), blocks);
     if models::model_refusal(&model[..n]) != 0 {
@@ -175,7 +176,7 @@ fn held_bytes(model: &[u8], blocks: usize) -> usize
 
 // The ground on which a question is refused for the model in these bytes: 1 to 6, 9 and 13; 0 where there is none.
 fn question_ground(b: &[u8], model: &[u8]) -> u32
-    ensures value { let model = model.entry.now in let b = b.entry.now in
+    ensures { let model = model.entry.now in let b = b.entry.now in
         result ≡ refusal (read_question (byte model 2) (byte model 3) (byte model 4) b) }
 {
     let states = models::state_count(model);
@@ -186,7 +187,7 @@ fn question_ground(b: &[u8], model: &[u8]) -> u32
 
 // Puts a question, which clears the verdict; or refuses it by grounds 20, then 1 to 6, 9 and 13.
 pub fn put(d: Desk, b: &[u8]) -> Taking
-    ensures value { result ≡ put_by d b.now }
+    ensures { result ≡ put_by d b.now }
 {
     if held_bytes(&d.model, d.blocks) == 0 {
         return Taking {
@@ -221,7 +222,7 @@ pub fn put(d: Desk, b: &[u8]) -> Taking
 
 // The ground of the desk on which judge is refused: no model, no question; 0 where both are held.
 fn state_ground(d: Desk) -> u32
-    ensures value { result ≡ refusal (held_both (view d)) }
+    ensures { result ≡ refusal (held_both (view d)) }
 {
     if held_bytes(&d.model, d.blocks) == 0 {
         return 20;
@@ -238,7 +239,7 @@ fn state_ground(d: Desk) -> u32
 
 // The answer where judging is refused: the desk stays.
 fn turned_away(d: Desk, k: u32) -> Judging
-    ensures value { result ≡ judging d (refused k) }
+    ensures { result ≡ judging d (refused k) }
 {
     let choices = [0u8; CHOICES];
     Judging {
@@ -259,7 +260,7 @@ pub struct Ruling {
 fn judged_on(m: &[u8], q: &[u8]) -> Ruling
     requires { (refusal (read_model m.now) ≡ 0)
         × (refusal (read_question (state_count m.now) (action_count m.now) (prop_count m.now) q.now) ≡ 0) }
-    ensures value { result ≡ ruling (judge_on (model_of m.now) (question_of q.now)) }
+    ensures { result ≡ ruling (judge_on (model_of m.now) (question_of q.now)) }
 {
     let model = prepare_model(m);
     let query = prepare_question(q);
@@ -281,7 +282,7 @@ fn judged_on(m: &[u8], q: &[u8]) -> Ruling
 
 // Judges the question that is held and sets the verdict; or refuses by grounds 20, 21, 24, 25.
 pub fn judge(d: Desk) -> Judging
-    ensures value { result ≡ judged_by d }
+    ensures { result ≡ judged_by d }
 {
     let k = state_ground(d);
     if k != 0 {
@@ -313,7 +314,7 @@ pub fn judge(d: Desk) -> Judging
 
 // The ground of the desk on which write and check are refused: no model, no question, a root that sets no bound on plans; else 0.
 fn plan_ground(d: Desk) -> u32
-    ensures value { result ≡ refusal (held_goal (view d)) }
+    ensures { result ≡ refusal (held_goal (view d)) }
 {
     let k = state_ground(d);
     if k != 0 {
@@ -328,7 +329,7 @@ fn plan_ground(d: Desk) -> u32
 // How many choices the n-step plan has with which these choices begin; 0 where they begin with none.
 fn plan_size(m: &[u8], choices: &[u8], n: usize, s: usize) -> usize
     requires { (refusal (read_model m.now) ≡ 0) × (s < state_count m.now) }
-    ensures value { result ≡ plan_size n (read_plan (model_of m.now) n s choices.now) }
+    ensures { result ≡ plan_size n (read_plan (model_of m.now) n s choices.now) }
 {
     let end = sheets::plans::plan_end(m, choices, n, s, 0);
     match end {
@@ -340,7 +341,7 @@ fn plan_size(m: &[u8], choices: &[u8], n: usize, s: usize) -> usize
 // The same for the plan that the root of a question asks for.
 fn first_size(model: &[u8], blocks: usize, q: &[u8], choices: &[u8]) -> usize
     requires { PlanRoot (take (512 * blocks) model.now) q.now }
-    ensures value { let model = model.entry.now in let q = q.entry.now in let choices = choices.entry.now in
+    ensures { let model = model.entry.now in let q = q.entry.now in let choices = choices.entry.now in
         result ≡ size_in (choices_in (model_of (take (512 * blocks) model)) (question_of q) choices) }
 {
     let n = blocks_end(model.len(), blocks);
@@ -355,7 +356,7 @@ fn first_size(model: &[u8], blocks: usize, q: &[u8], choices: &[u8]) -> usize
 // How many choices the shown plan has; 0 where none is shown.
 fn shown_size(d: Desk) -> usize
     requires { refusal (held_goal (view d)) ≡ 0 }
-    ensures value { result ≡ shown_size (view d).verdict }
+    ensures { result ≡ shown_size (view d).verdict }
 {
     if !d.judged {
         return 0;
@@ -372,7 +373,7 @@ fn shown_size(d: Desk) -> usize
 
 // How many choices the plan has that is held as shown; 0 where there is none.
 pub fn shown_choices(d: Desk) -> usize
-    ensures value { result ≡ shown_size (view d).verdict }
+    ensures { result ≡ shown_size (view d).verdict }
 {
     if plan_ground(d) != 0 {
         return 0;
@@ -382,7 +383,7 @@ pub fn shown_choices(d: Desk) -> usize
 
 // The total in the record of a shown plan.
 fn shown_total(v: Verdict) -> i64
-    ensures value { result ≡ shown_total v }
+    ensures { result ≡ shown_total v }
 {
     match v {
         Verdict::YesPlan(p) => p.total,
@@ -394,7 +395,7 @@ fn shown_total(v: Verdict) -> i64
 // The bytes of a sheet with so many choices.
 fn sheet_size(count: usize) -> usize
     requires { count ≤ 1365 }
-    ensures value { result ≡ 512 * blocks_for count }
+    ensures { result ≡ 512 * blocks_for count }
 {
     BLOCK * sheets::blocks_for(count)
 }
@@ -444,7 +445,7 @@ pub fn write_model(d: Desk, buf: &mut [u8]) -> Written
 // The first ground, 1 to 6 or 10, on which a sheet is refused for a question that asks for a plan; 0 where it has one.
 fn sheet_ground(m: &[u8], q: &[u8], b: &[u8]) -> u32
     requires { PlanRoot m.now q.now }
-    ensures value { let m = m.entry.now in let q = q.entry.now in let b = b.entry.now in
+    ensures { let m = m.entry.now in let q = q.entry.now in let b = b.entry.now in
         result ≡ refusal (plan_on (model_of m) (node_of q (node_count q - 1)).n (start_of q) b) }
 {
     let n = questions::root_steps(q) as usize;
@@ -467,7 +468,7 @@ fn sheet_weighed(
 ) -> judging::Weighed
     requires { Served m.now q.now × Counted m.now q.now counts.now × (sets_bound (node_of q.now (node_count q.now - 1)).operator ≡ true) × Blocks 6 b.now
         × Spelled (model_in m.now) q.now (sheet_of b.now).choices }
-    ensures value { Weighs (model_in m.now) q.now (sheet_of b.now).choices result }
+    ensures { Weighs (model_in m.now) q.now (sheet_of b.now).choices result }
 {
     let mut choices = [0u8; GATHERED];
     let count = sheets::gather(b, &mut choices);
@@ -477,7 +478,7 @@ fn sheet_weighed(
 // Checks a sheet for a question that asks for a plan: grounds 24 and 25, those of the sheet, then 11.
 fn check_on(m: &[u8], q: &[u8], b: &[u8]) -> Checking
     requires { PlanRoot m.now q.now }
-    ensures value { result ≡ checking (check_on (model_of m.now) (question_of q.now) b.now) }
+    ensures { result ≡ checking (check_on (model_of m.now) (question_of q.now) b.now) }
 {
     let model = prepare_model(m);
     let query = prepare_question(q);
@@ -504,7 +505,7 @@ fn check_on(m: &[u8], q: &[u8], b: &[u8]) -> Checking
 // Checks a sheet for the question that is held, and reports whether its total meets the bound, and its lamp; or refuses it by grounds 20, 21, 22, 24,
 // 25, then 1 to 6, 10, 11.
 pub fn check(d: Desk, b: &[u8]) -> Checking
-    ensures value { result ≡ checked_by d b.now }
+    ensures { result ≡ checked_by d b.now }
 {
     let k = plan_ground(d);
     if k != 0 {

@@ -1,5 +1,6 @@
 // A model prepared for those who go through its choices: one array of numbers, made once, in which the choices of a state stand in order.
 #![tactic(auto)]
+
 ghost use Rattle.std.specs.Prelude.{◌≡◌, ℕ, ◌<◌, ◌≤◌, ◌/◌, ◌%◌, length, get_or};
 ghost use Rattle.logic.specs.promises.Refusal.{refusal};
 ghost use Rattle.models.specs.Grounds.{read_model};
@@ -60,13 +61,13 @@ fn widened(x: u16) -> usize
 // ---- the head
 
 pub fn states(m: &[u16; MODEL]) -> usize
-    ensures value { result ≡ state_count m.now }
+    ensures { result ≡ state_count m.now }
 {
     widened(m[STATE_COUNT_AT])
 }
 
 pub fn denominator(m: &[u16; MODEL]) -> usize
-    ensures value { result ≡ denominator_of m.now }
+    ensures { result ≡ denominator_of m.now }
 {
     widened(m[DENOMINATOR_AT])
 }
@@ -83,7 +84,7 @@ fn pair(m: &[u16; MODEL], k: usize) -> u32
 // The mask of a state.
 fn mask(m: &[u16; MODEL], s: usize) -> u32
     requires { Prepared m.now × (s < 32) }
-    ensures value { result ≡ state_mask m.now s }
+    ensures { result ≡ state_mask m.now s }
 {
     pair(m, MASKS_AT + MASK_SIZE * s) + 65536 * pair(m, UPPER_HALVES_AT + MASK_SIZE * s)
 }
@@ -91,7 +92,7 @@ fn mask(m: &[u16; MODEL], s: usize) -> u32
 // Whether proposition i is true in s.
 pub fn holds(m: &[u16; MODEL], s: usize, i: u8) -> bool
     requires { Prepared m.now × (s < state_count m.now) × (i < 32) }
-    ensures value { result ≡ prop_in (model_in m.now) s i }
+    ensures { result ≡ prop_in (model_in m.now) s i }
 {
     (mask(m, s) >> i as u32) % 2 == 1
 }
@@ -101,7 +102,7 @@ pub fn holds(m: &[u16; MODEL], s: usize, i: u8) -> bool
 // How many choices a state has.
 pub fn choices(m: &[u16; MODEL], s: usize) -> usize
     requires { s < 32 }
-    ensures value { result ≡ choices_in m.now s }
+    ensures { result ≡ choices_in m.now s }
 {
     widened(m[ROWS + ROW * s + COUNT])
 }
@@ -109,7 +110,7 @@ pub fn choices(m: &[u16; MODEL], s: usize) -> usize
 // The byte of choice i: its action's number, or 255.
 pub fn choice(m: &[u16; MODEL], s: usize, i: usize) -> u8
     requires { Prepared m.now × (s < state_count m.now) × (i < choices_in m.now s) }
-    ensures value { result ≡ choice_in m.now s i }
+    ensures { result ≡ choice_in m.now s i }
 {
     m[ROWS + ROW * s + i] as u8
 }
@@ -117,14 +118,14 @@ pub fn choice(m: &[u16; MODEL], s: usize, i: usize) -> u8
 // How many outcomes it has.
 pub fn outcomes(m: &[u16; MODEL], s: usize, i: usize) -> usize
     requires { (s < 32) × (i < 8) }
-    ensures value { result ≡ outcomes_in m.now s i }
+    ensures { result ≡ outcomes_in m.now s i }
 {
     widened(m[ROWS + ROW * s + OUTCOMES + i])
 }
 
 pub fn target(m: &[u16; MODEL], s: usize, i: usize, o: usize) -> usize
     requires { (s < 32) × (i < 8) × (o < 4) }
-    ensures value { result ≡ (step_in m.now s i o).target }
+    ensures { result ≡ (step_in m.now s i o).target }
 {
     widened(m[ROWS + ROW * s + TARGETS + 4 * i + o])
 }
@@ -146,14 +147,14 @@ fn long(x: u16) -> u64
 
 // A reward of its two bytes, which stand in the row as they are.
 fn signed(x: u16) -> i16
-    ensures value { result ≡ bytes.signed 15 x }
+    ensures { result ≡ bytes.signed 15 x }
 {
     signed16(x as u32)
 }
 
 pub fn reward(m: &[u16; MODEL], s: usize, i: usize, o: usize) -> i16
     requires { (s < 32) × (i < 8) × (o < 4) }
-    ensures value { result ≡ (step_in m.now s i o).reward }
+    ensures { result ≡ (step_in m.now s i o).reward }
 {
     signed(m[ROWS + ROW * s + REWARDS + 4 * i + o])
 }
@@ -169,7 +170,7 @@ pub fn lane_target(m: &[u16; MODEL], s: usize, k: usize) -> usize
 
 pub fn lane_reward(m: &[u16; MODEL], s: usize, k: usize) -> i16
     requires { (s < 32) × (k < 32) }
-    ensures value { result ≡ (step_in m.now s (k / 4) (k % 4)).reward }
+    ensures { result ≡ (step_in m.now s (k / 4) (k % 4)).reward }
 {
     signed(m[ROWS + ROW * s + REWARDS + k])
 }
@@ -194,7 +195,7 @@ pub struct Row {
 
 pub fn row_of(m: &[u16; MODEL], s: usize, a: u8) -> Row
     requires { Prepared m.now × (s < state_count m.now) }
-    ensures value { RowOf m.now s a result.at result.count }
+    ensures { RowOf m.now s a result.at result.count }
 {
     let n = choices(m, s);
     let mut i: usize = 0;
@@ -222,7 +223,7 @@ fn short(x: u8) -> u16
 // The head block, and room for the rows.
 fn head(b: &[u8]) -> [u16; MODEL]
     requires { 512 ≤ length b.now }
-    ensures value { (length result ≡ 8704) × ((k : ℕ) → k < 512 → (get_or result k 0 ≡ get_or b.now k 0) × (get_or result k 0 < 256)) }
+    ensures { (length result ≡ 8704) × ((k : ℕ) → k < 512 → (get_or result k 0 ≡ get_or b.now k 0) × (get_or result k 0 < 256)) }
 {
     let mut m = [0u16; MODEL];
     let mut k: usize = 0;
@@ -236,7 +237,7 @@ fn head(b: &[u8]) -> [u16; MODEL]
 // Prepares the model of accepted blocks: the one maker of what every search, count and weighing reads.
 pub fn prepare_model(b: &[u8]) -> [u16; MODEL]
     requires { refusal (read_model b.now) ≡ 0 }
-    ensures value { Prepares b.now result }
+    ensures { Prepares b.now result }
 {
     let mut m = head(b);
     let states = state_count(b);

@@ -13,13 +13,13 @@ use models::{SILENT, action_count, denominator, entries, outcome_at};
 
 fn short(x: usize) -> u16
     requires { x < 65536 }
-    ensures value { result ≡ x }
+    ensures { result ≡ x }
 {
     x as u16
 }
 
 fn number(x: u16) -> usize
-    ensures value { result ≡ x }
+    ensures { result ≡ x }
 {
     x as usize
 }
@@ -27,7 +27,7 @@ fn number(x: u16) -> usize
 // Lists the action a, which has c outcomes, behind the i choices listed, if it has any; gives the number listed.
 fn list(row: &mut [u16], i: usize, a: usize, c: usize) -> usize
     requires { (i < 8) × (a < 256) × (c < 256) × (length row.old ≡ 256) }
-    ensures effect { let row' = row.exit.now in let row = row.entry.now in
+    ensures { let row' = row.exit.now in let row = row.entry.now in
         (c ≡ 0 → (result ≡ i) × (row' ≡ row)) × (0 < c → (result ≡ i + 1) × (row' ≡ set (set row i a) (8 + i) c)) }
 {
     if c == 0 {
@@ -41,7 +41,7 @@ fn list(row: &mut [u16], i: usize, a: usize, c: usize) -> usize
 // Lists the choices of the state s in order, each with the number of its outcomes, and counts them.
 fn choose(b: &[u8], row: &mut [u16], s: usize)
     requires { (refusal (read_model b.now) ≡ 0) × (s < state_count b.now) × (length row.old ≡ 256) }
-    ensures frame { Chosen b.now s row.new }
+    ensures { Chosen b.now s row.new }
 {
     let n = action_count(b);
     let mut i: usize = 0;
@@ -68,7 +68,7 @@ fn put(b: &[u8], row: &mut [u16], at: usize, k: usize)
 // Spells out the outcomes of the choices listed, 4 to a choice.
 fn spell(b: &[u8], row: &mut [u16], s: usize)
     requires { (refusal (read_model b.now) ≡ 0) × (s < state_count b.now) × (length row.old ≡ 256) × Chosen b.now s row.old }
-    ensures frame { let row' = row.new in let b = b.entry.now in
+    ensures { let row' = row.new in let b = b.entry.now in
         Chosen b s row' × Spelled b s (4 * get_or row' 16 0) row' }
 {
     let n = 4 * number(row[COUNT]);
@@ -84,7 +84,7 @@ fn spell(b: &[u8], row: &mut [u16], s: usize)
 // the number of choices.
 fn or_silent(row: &mut [u16], s: usize, d: usize) -> usize
     requires { (s < 256) × (d < 256) × (length row.old ≡ 256) }
-    ensures effect { let row' = row.exit.now in let row = row.entry.now in
+    ensures { let row' = row.exit.now in let row = row.entry.now in
         (0 < get_or row 16 0 → (result ≡ get_or row 16 0) × (row' ≡ row))
         × (get_or row 16 0 ≡ 0 → (result ≡ 1) × (row' ≡ silent_at row s d)) }
 {
@@ -116,7 +116,7 @@ fn part(w: u16, y: u16) -> u16
 // The four weights whose bits are 1, summed.
 fn parts(w0: u16, w1: u16, w2: u16, w3: u16, y: u16) -> u16
     requires { (w0 < 256) × (w1 < 256) × (w2 < 256) × (w3 < 256) }
-    ensures value { result ≡ w0 * lane y 0 + w1 * lane y 1 + w2 * lane y 2 + w3 * lane y 3 }
+    ensures { result ≡ w0 * lane y 0 + w1 * lane y 1 + w2 * lane y 2 + w3 * lane y 3 }
 {
     part(w0, y) + part(w1, y >> 1) + part(w2, y >> 2) + part(w3, y >> 3)
 }
@@ -124,7 +124,7 @@ fn parts(w0: u16, w1: u16, w2: u16, w3: u16, y: u16) -> u16
 // Puts the sums of the weights of the choice at place i, by pattern.
 fn sum_choice(row: &mut [u16], i: usize)
     requires { (i < 8) × (length row.old ≡ 256) × ((o : ℕ) → o < 4 → get_or row.old (64 + 4 * i + o) 0 < 256) }
-    ensures frame { Partly i 16 row.old row.new }
+    ensures { Partly i 16 row.old row.new }
 {
     let from = WEIGHTS + 4 * i;
     let w0 = row[from];
@@ -141,7 +141,7 @@ fn sum_choice(row: &mut [u16], i: usize)
 // Puts the sums of all n choices.
 fn sum_choices(row: &mut [u16], n: usize)
     requires { (n ≤ 8) × (length row.old ≡ 256) × ((j : ℕ) → j < 4 * n → get_or row.old (64 + j) 0 < 256) }
-    ensures frame { Summed n row.old row.new }
+    ensures { Summed n row.old row.new }
 {
     let mut i: usize = 0;
     while i < n {
@@ -153,7 +153,7 @@ fn sum_choices(row: &mut [u16], n: usize)
 // Fills the row of the state s.
 pub fn fill(b: &[u8], row: &mut [u16], s: usize)
     requires { (refusal (read_model b.now) ≡ 0) × (s < state_count b.now) × (length row.old ≡ 256) }
-    ensures frame { Row b.now s row.new }
+    ensures { Row b.now s row.new }
 {
     choose(b, row, s);
     spell(b, row, s);

@@ -1,6 +1,7 @@
 // The question prepared for judging: one array, made once. Its nodes point past every "and" whose two halves are one node (the judge values
 // each node that it meets, and such a node has its half's value), and the depth of each stands behind the block.
 #![tactic(auto)]
+
 ghost use Rattle.std.specs.Prelude.{◌≡◌, ℕ, ◌+◌, ◌<◌, eqb, length, get_or};
 ghost use Rattle.logic.specs.promises.Refusal.{refusal};
 ghost use Rattle.logic.specs.Formula as formulas;
@@ -28,20 +29,20 @@ pub const DEPTHS: usize = 512;
 // ---- reading it
 
 pub fn start(q: &[u8; QUESTION]) -> u8
-    ensures value { result ≡ start_of q.now }
+    ensures { result ≡ start_of q.now }
 {
     q[START_AT]
 }
 
 pub fn count(q: &[u8; QUESTION]) -> u8
-    ensures value { result ≡ layout.node_count q.now }
+    ensures { result ≡ layout.node_count q.now }
 {
     q[NODE_COUNT_AT]
 }
 
 pub fn operator(q: &[u8; QUESTION], j: u8) -> u8
     requires { j < 40 }
-    ensures value { result ≡ (node_of q.now j).operator }
+    ensures { result ≡ (node_of q.now j).operator }
 {
     q[NODES_AT + NODE_SIZE * j as usize]
 }
@@ -49,7 +50,7 @@ pub fn operator(q: &[u8; QUESTION], j: u8) -> u8
 // Another byte of node j.
 fn cell(q: &[u8; QUESTION], j: u8, k: usize) -> u8
     requires { (j < 40) × (k < 12) }
-    ensures value { result ≡ get_or q.now (node_at j + k) 0 }
+    ensures { result ≡ get_or q.now (node_at j + k) 0 }
 {
     q[NODES_AT + NODE_SIZE * j as usize + k]
 }
@@ -57,21 +58,21 @@ fn cell(q: &[u8; QUESTION], j: u8, k: usize) -> u8
 // The n of "gain", "plan" or operator 9.
 pub fn steps(q: &[u8; QUESTION], j: u8) -> u8
     requires { j < 40 }
-    ensures value { result ≡ (node_of q.now j).n }
+    ensures { result ≡ (node_of q.now j).n }
 {
     cell(q, j, STEPS_AT)
 }
 
 pub fn left(q: &[u8; QUESTION], j: u8) -> u8
     requires { j < 40 }
-    ensures value { result ≡ (node_of q.now j).left }
+    ensures { result ≡ (node_of q.now j).left }
 {
     cell(q, j, LEFT_AT)
 }
 
 pub fn right(q: &[u8; QUESTION], j: u8) -> u8
     requires { j < 40 }
-    ensures value { result ≡ (node_of q.now j).right }
+    ensures { result ≡ (node_of q.now j).right }
 {
     cell(q, j, RIGHT_AT)
 }
@@ -79,7 +80,7 @@ pub fn right(q: &[u8; QUESTION], j: u8) -> u8
 // The bound of "gain", or the p of the bound that "plan" or operator 9 sets.
 pub fn bound(q: &[u8; QUESTION], j: u8) -> i32
     requires { j < 40 }
-    ensures value { result ≡ (node_of q.now j).p }
+    ensures { result ≡ (node_of q.now j).p }
 {
     blocks::i32_at(q, NODES_AT + NODE_SIZE * j as usize + P_AT)
 }
@@ -87,14 +88,14 @@ pub fn bound(q: &[u8; QUESTION], j: u8) -> i32
 // The q of that bound.
 pub fn parts(q: &[u8; QUESTION], j: u8) -> u32
     requires { j < 40 }
-    ensures value { result ≡ (node_of q.now j).q }
+    ensures { result ≡ (node_of q.now j).q }
 {
     blocks::u32_at(q, NODES_AT + NODE_SIZE * j as usize + Q_AT)
 }
 
 pub fn depth(q: &[u8; QUESTION], j: u8) -> u8
     requires { j < 40 }
-    ensures value { result ≡ depth_in q.now j }
+    ensures { result ≡ depth_in q.now j }
 {
     q[DEPTHS + j as usize]
 }
@@ -102,7 +103,7 @@ pub fn depth(q: &[u8; QUESTION], j: u8) -> u8
 // Whether node j, of "gain", "plan" or operator 9, asks for less than its bound.
 pub fn asks_less(q: &[u8; QUESTION], j: u8) -> bool
     requires { j < 40 }
-    ensures value { result ≡ eqb (node_of q.now j).right 1 }
+    ensures { result ≡ eqb (node_of q.now j).right 1 }
 {
     right(q, j) == LESS
 }
@@ -110,7 +111,7 @@ pub fn asks_less(q: &[u8; QUESTION], j: u8) -> bool
 // Whether it asks for just its bound.
 pub fn asks_equal(q: &[u8; QUESTION], j: u8) -> bool
     requires { j < 40 }
-    ensures value { result ≡ eqb (node_of q.now j).right 2 }
+    ensures { result ≡ eqb (node_of q.now j).right 2 }
 {
     right(q, j) == EQUAL
 }
@@ -119,7 +120,7 @@ pub fn asks_equal(q: &[u8; QUESTION], j: u8) -> bool
 
 // The node that node c comes down to: of an "and" of one node with itself, that node.
 fn past(b: &[u8], c: u8) -> u8
-    ensures value { result ≡ replaced.past b.now c }
+    ensures { result ≡ replaced.past b.now c }
 {
     let l = questions::left(b, c);
     if (questions::operator(b, c) == AND) & (l == questions::right(b, c)) {
@@ -130,7 +131,7 @@ fn past(b: &[u8], c: u8) -> u8
 
 // The cells of node i of q; b is what the nodes before it have become.
 fn left_for(q: &[u8], b: &[u8], i: u8) -> u8
-    ensures value { result ≡ left_for q.now b.now i }
+    ensures { result ≡ left_for q.now b.now i }
 {
     if has_left(questions::operator(q, i)) {
         return past(b, questions::left(q, i));
@@ -139,7 +140,7 @@ fn left_for(q: &[u8], b: &[u8], i: u8) -> u8
 }
 
 fn right_for(q: &[u8], b: &[u8], i: u8) -> u8
-    ensures value { result ≡ right_for q.now b.now i }
+    ensures { result ≡ right_for q.now b.now i }
 {
     if questions::operator(q, i) == AND {
         return past(b, questions::right(q, i));
@@ -150,7 +151,7 @@ fn right_for(q: &[u8], b: &[u8], i: u8) -> u8
 // Node i gets its new cells and its depth.
 fn put(q: &[u8], b: &mut [u8; QUESTION], i: u8, d: u8)
     requires { ChildrenBefore q.now × (i < layout.node_count q.now) × Pointed q.now b.old i × (d ≡ formulas.depth (formula q.now i)) }
-    ensures frame { Pointed q.now b.new (i + 1) }
+    ensures { Pointed q.now b.new (i + 1) }
 {
     let l = left_for(q, b, i);
     let r = right_for(q, b, i);
@@ -162,7 +163,7 @@ fn put(q: &[u8], b: &mut [u8; QUESTION], i: u8, d: u8)
 
 fn copied(q: &[u8]) -> [u8; QUESTION]
     requires { length q.now ≡ 512 }
-    ensures value { Pointed q.now result 0 }
+    ensures { Pointed q.now result 0 }
 {
     let mut b = [0u8; QUESTION];
     copy(&mut b, q);
@@ -172,7 +173,7 @@ fn copied(q: &[u8]) -> [u8; QUESTION]
 // The question with every child that is an "and" of one node with itself replaced by that node, and with its depths.
 pub fn prepare_question(q: &[u8]) -> [u8; QUESTION]
     requires { ChildrenBefore q.now }
-    ensures value { (S A N : ℕ) → refusal (read_question S A N q.now) ≡ 0 → Shared S A N q.now result }
+    ensures { (S A N : ℕ) → refusal (read_question S A N q.now) ≡ 0 → Shared S A N q.now result }
 {
     let n = questions::node_count(q);
     let depths = questions::depth_table(q);

@@ -1,5 +1,6 @@
 // The line that the program `verdict` prints: the calls load, put and judge in turn, from the empty desk, up to the first refusal.
 #![tactic(auto)]
+
 ghost use Rattle.std.specs.Prelude.{◌≡◌, cond, false, ◌^◌, ◌≤◌, length};
 ghost use Rattle.models.specs.Layout.{denominator_of, model_of};
 ghost use Rattle.questions.specs.Layout.{node_count, question_of};
@@ -17,7 +18,7 @@ use verdict_line::{LINE, MOST_INPUT};
 // The line of a no.
 fn no_line(out: &mut [u8], q: &[u8], count: u32, lamp: OptionalLamp) -> usize
     requires { (8192 ≤ length out.old) × (1 ≤ node_count q.now) }
-    ensures effect { let out' = out.exit.now in let q = q.entry.now in let out = out.entry.now in
+    ensures { let out' = out.exit.now in let q = q.entry.now in let out = out.entry.now in
         Put (cond (plan_root q) (no_plans_line count (said_optional lamp)) (plain_line false)) out out' 0 result }
 {
     if questions::root_sets_bound(q) {
@@ -29,7 +30,7 @@ fn no_line(out: &mut [u8], q: &[u8], count: u32, lamp: OptionalLamp) -> usize
 // D to the n: the total weight of all paths of a plan.
 fn whole(model: &[u8], steps: u32) -> u64
     requires { (denominator_of model.now ≤ 100) × (steps ≤ 6) }
-    ensures value { result ≡ denominator_of model.now ^ steps }
+    ensures { result ≡ denominator_of model.now ^ steps }
 {
     bounds::power(models::denominator(model), steps as u8)
 }
@@ -37,7 +38,7 @@ fn whole(model: &[u8], steps: u32) -> u64
 // The line of a verdict, with its choices beside it.
 fn verdict_line(out: &mut [u8], model: &[u8], q: &[u8], v: Verdict, choices: &[u8]) -> usize
     requires { (8192 ≤ length out.old) × Shown model.now q.now v choices.now }
-    ensures effect { let out' = out.exit.now in let model = model.entry.now in let q = q.entry.now in let choices = choices.entry.now in
+    ensures { let out' = out.exit.now in let model = model.entry.now in let q = q.entry.now in let choices = choices.entry.now in
         let out = out.entry.now in
         Put (shown_line (denominator_of model) (plan_root q) v choices) out out' 0 result }
 {
@@ -57,7 +58,7 @@ fn verdict_line(out: &mut [u8], model: &[u8], q: &[u8], v: Verdict, choices: &[u
 // The line where the model and the question are on the desk.
 fn judging_line(out: &mut [u8], model: &[u8], q: &[u8], d: Desk) -> usize
     requires { (8192 ≤ length out.old) × Asked d model.now q.now }
-    ensures effect { let out' = out.exit.now in let model = model.entry.now in let q = q.entry.now in let out = out.entry.now in
+    ensures { let out' = out.exit.now in let model = model.entry.now in let q = q.entry.now in let out = out.entry.now in
         Put (line_of (judging_line (model_of model) (question_of q))) out out' 0 result }
 {
     let r = plan_judge::judge(d);
@@ -76,7 +77,7 @@ fn judging_line(out: &mut [u8], model: &[u8], q: &[u8], d: Desk) -> usize
 // The line where the model is on the desk.
 fn asking_line(out: &mut [u8], model: &[u8], q: &[u8], d: Desk) -> usize
     requires { (8192 ≤ length out.old) × Loaded d model.now }
-    ensures effect { let out' = out.exit.now in let model = model.entry.now in let q = q.entry.now in let out = out.entry.now in
+    ensures { let out' = out.exit.now in let model = model.entry.now in let q = q.entry.now in let out = out.entry.now in
         Put (line_of (asking_line (model_of model) q)) out out' 0 result }
 {
     let r = plan_judge::put(d, q);
@@ -91,7 +92,7 @@ fn asking_line(out: &mut [u8], model: &[u8], q: &[u8], d: Desk) -> usize
 // The line of a model and a question.
 fn loading_line(out: &mut [u8], model: &[u8], q: &[u8]) -> usize
     requires { 8192 ≤ length out.old }
-    ensures effect { Put (line_of (loading_line model.now q.now)) out.old out.new 0 result }
+    ensures { Put (line_of (loading_line model.now q.now)) out.old out.new 0 result }
 {
     let r = plan_judge::load(plan_judge::empty(), model);
     let a = r.answer;
@@ -104,7 +105,7 @@ fn loading_line(out: &mut [u8], model: &[u8], q: &[u8]) -> usize
 
 // The line that the program verdict prints for its input: a model followed by a question in the last 512 bytes.
 pub fn answer(input: &[u8], out: &mut [u8; LINE]) -> usize
-    ensures effect { Put (answer_text verdict_says input.now) out.old out.new 0 result }
+    ensures { Put (answer_text verdict_says input.now) out.old out.new 0 result }
 {
     let n = input.len();
     if n < BLOCK {

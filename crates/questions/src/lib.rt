@@ -1,5 +1,6 @@
 // Reading questions: the grounds of refusal 1 to 6, 9 and 13, and the fields of a node. A node's number is a byte, so the readers are total.
 #![tactic(auto)]
+
 ghost use Rattle.std.specs.Prelude.{◌≡◌, true, ◌&&◌, ◌+◌, ◌-◌, ◌≤◌, ◌<◌, max, min, ltb, length, get_or, take};
 ghost use Rattle.logic.specs.Lists.{every};
 ghost use Rattle.logic.specs.promises.Refusal.{refusal};
@@ -96,13 +97,13 @@ pub const SPAN_BASE: u8 = 8;
 
 // The start state.
 pub fn start(b: &[u8]) -> u8
-    ensures value { result ≡ start_of b.now }
+    ensures { result ≡ start_of b.now }
 {
     blocks::byte(b, START_AT)
 }
 
 pub fn node_count(b: &[u8]) -> u8
-    ensures value { result ≡ node_count b.now }
+    ensures { result ≡ node_count b.now }
 {
     blocks::byte(b, NODE_COUNT_AT)
 }
@@ -116,7 +117,7 @@ fn node_at(i: u8) -> usize
 }
 
 pub fn operator(b: &[u8], i: u8) -> u8
-    ensures value { result ≡ (node_of b.now i).operator }
+    ensures { result ≡ (node_of b.now i).operator }
 {
     blocks::byte(b, node_at(i))
 }
@@ -124,45 +125,45 @@ pub fn operator(b: &[u8], i: u8) -> u8
 // The byte of node i at a place after its operator.
 fn cell(b: &[u8], i: u8, at: usize) -> u8
     requires { at < 12 }
-    ensures value { result ≡ byte b.now (node_at i + at) }
+    ensures { result ≡ byte b.now (node_at i + at) }
 {
     blocks::byte(b, node_at(i) + at)
 }
 
 // The n of "gain", "plan" or operator 9.
 pub fn steps(b: &[u8], i: u8) -> u8
-    ensures value { result ≡ (node_of b.now i).n }
+    ensures { result ≡ (node_of b.now i).n }
 {
     cell(b, i, STEPS_AT)
 }
 
 pub fn left(b: &[u8], i: u8) -> u8
-    ensures value { result ≡ (node_of b.now i).left }
+    ensures { result ≡ (node_of b.now i).left }
 {
     cell(b, i, LEFT_AT)
 }
 
 pub fn right(b: &[u8], i: u8) -> u8
-    ensures value { result ≡ (node_of b.now i).right }
+    ensures { result ≡ (node_of b.now i).right }
 {
     cell(b, i, RIGHT_AT)
 }
 
 pub fn p(b: &[u8], i: u8) -> i32
-    ensures value { result ≡ (node_of b.now i).p }
+    ensures { result ≡ (node_of b.now i).p }
 {
     blocks::i32_at(b, node_at(i) + P_AT)
 }
 
 pub fn q(b: &[u8], i: u8) -> u32
-    ensures value { result ≡ (node_of b.now i).q }
+    ensures { result ≡ (node_of b.now i).q }
 {
     blocks::u32_at(b, node_at(i) + Q_AT)
 }
 
 // The number of a question's root, its last node.
 pub fn root(q: &[u8]) -> u8
-    ensures value { result ≡ node_count q.now - 1 }
+    ensures { result ≡ node_count q.now - 1 }
 {
     let count = node_count(q);
     if count == 0 {
@@ -173,28 +174,28 @@ pub fn root(q: &[u8]) -> u8
 
 // Whether an operator sets a bound on plans: "plan", or 9.
 pub fn sets_bound(operator: u8) -> bool
-    ensures value { result ≡ sets_bound operator }
+    ensures { result ≡ sets_bound operator }
 {
     (operator == PLAN) | (operator == EARNS)
 }
 
 // Whether the root's operator sets a bound on plans.
 pub fn root_sets_bound(q: &[u8]) -> bool
-    ensures value { result ≡ sets_bound (node_of q.now (node_count q.now - 1)).operator }
+    ensures { result ≡ sets_bound (node_of q.now (node_count q.now - 1)).operator }
 {
     sets_bound(operator(q, root(q)))
 }
 
 // The steps of a root that sets a bound on plans.
 pub fn root_steps(q: &[u8]) -> u8
-    ensures value { result ≡ (node_of q.now (node_count q.now - 1)).n }
+    ensures { result ≡ (node_of q.now (node_count q.now - 1)).n }
 {
     steps(q, root(q))
 }
 
 // Whether a number stands for a relation.
 fn relation_in_range(relation: u8) -> bool
-    ensures value { result ≡ within 1 3 relation }
+    ensures { result ≡ within 1 3 relation }
 {
     match relation {
         LESS | EQUAL | GREATER => true,
@@ -204,19 +205,19 @@ fn relation_in_range(relation: u8) -> bool
 
 // Whether the steps and the relation of node i, a "gain", a "plan" or of operator 9, are in range.
 fn compares(b: &[u8], i: u8) -> bool
-    ensures value { result ≡ spec.compares (node_of b.now i) }
+    ensures { result ≡ spec.compares (node_of b.now i) }
 {
     blocks::within(1, MOST_STEPS, steps(b, i) as usize) & relation_in_range(right(b, i))
 }
 
 fn gain_bound(p: i32, q: u32) -> bool
-    ensures value { result ≡ gain_bound p q }
+    ensures { result ≡ gain_bound p q }
 {
     (q == 1) & (LEAST_GAIN <= p) & (p <= MOST_GAIN)
 }
 
 fn plan_bound(p: i32, q: u32) -> bool
-    ensures value { result ≡ plan_bound p q }
+    ensures { result ≡ plan_bound p q }
 {
     if !blocks::within(1, MOST_Q, q as usize) {
         return false;
@@ -225,14 +226,14 @@ fn plan_bound(p: i32, q: u32) -> bool
 }
 
 fn plan_in_range(b: &[u8], i: u8) -> bool
-    ensures value { result ≡ plan_in_range i (node_of b.now i) }
+    ensures { result ≡ plan_in_range i (node_of b.now i) }
 {
     compares(b, i) & (left(b, i) < i) & plan_bound(p(b, i), q(b, i))
 }
 
 // Whether a left byte l + 8 u has 1 ≤ l ≤ u ≤ n.
 fn span(left: u8, n: u8) -> bool
-    ensures value { result ≡ spec.span left n }
+    ensures { result ≡ spec.span left n }
 {
     let l = left % SPAN_BASE;
     let u = left / SPAN_BASE;
@@ -240,20 +241,20 @@ fn span(left: u8, n: u8) -> bool
 }
 
 fn expected_bound(p: i32, q: u32) -> bool
-    ensures value { result ≡ expected_bound p q }
+    ensures { result ≡ expected_bound p q }
 {
     blocks::within(1, MOST_EARNED_Q, q as usize) & (LEAST_EARNED <= p) & (p <= MOST_EARNED)
 }
 
 fn earns_in_range(b: &[u8], i: u8) -> bool
-    ensures value { result ≡ earns_in_range (node_of b.now i) }
+    ensures { result ≡ earns_in_range (node_of b.now i) }
 {
     compares(b, i) & span(left(b, i), steps(b, i)) & expected_bound(p(b, i), q(b, i))
 }
 
 // Ground 5 of node i.
 fn node_in_range(b: &[u8], i: u8, actions: usize, props: usize) -> bool
-    ensures value { result ≡ node_in_range actions props i (node_of b.now i) }
+    ensures { result ≡ node_in_range actions props i (node_of b.now i) }
 {
     let op = operator(b, i);
     match op {
@@ -272,7 +273,7 @@ fn node_in_range(b: &[u8], i: u8, actions: usize, props: usize) -> bool
 // Whether the node at a place, which uses the left cell alone, has zeros in the others.
 fn only_left(b: &[u8], at: usize) -> bool
     requires { at + 12 ≤ length b.now }
-    ensures value { let b = b.entry.now in
+    ensures { let b = b.entry.now in
         result ≡ (zeros b (at + 1) 1 && zeros b (at + 3) 1 && zeros b (at + 4) 8) }
 {
     blocks::zeros(b, at + STEPS_AT, 1) & blocks::zeros(b, at + RIGHT_AT, FROM_RIGHT)
@@ -281,7 +282,7 @@ fn only_left(b: &[u8], at: usize) -> bool
 // Ground 6 of node i.
 fn node_spare(b: &[u8], i: u8) -> bool
     requires { (length b.now ≡ 512) × (i < 40) }
-    ensures value { result ≡ node_spare b.now i }
+    ensures { result ≡ node_spare b.now i }
 {
     let at = node_at(i);
     let op = operator(b, i);
@@ -296,7 +297,7 @@ fn node_spare(b: &[u8], i: u8) -> bool
 }
 
 fn larger(x: u32, y: u32) -> u32
-    ensures value { result ≡ max x y }
+    ensures { result ≡ max x y }
 {
     if x < y {
         return y;
@@ -306,7 +307,7 @@ fn larger(x: u32, y: u32) -> u32
 
 // How many nodes a table holds: the node count, at most 40.
 fn nodes_held(b: &[u8]) -> u8
-    ensures value { result ≡ min (node_count b.now) 40 }
+    ensures { result ≡ min (node_count b.now) 40 }
 {
     let n = node_count(b);
     if n < NODES as u8 {
@@ -318,7 +319,7 @@ fn nodes_held(b: &[u8]) -> u8
 // The depth of a child of node i, from the table; 0 for a node that is not before i.
 fn child_depth(depths: &[u32; NODES], i: u8, child: u8) -> u32
     requires { i ≤ 40 }
-    ensures value { result ≡ get_or (take i depths.now) child 0 }
+    ensures { result ≡ get_or (take i depths.now) child 0 }
 {
     if child < i {
         let at = child as usize;
@@ -330,7 +331,7 @@ fn child_depth(depths: &[u32; NODES], i: u8, child: u8) -> u32
 // The depth of node i, from those of the nodes before it.
 fn node_depth(b: &[u8], depths: &[u32; NODES], i: u8) -> u32
     requires { (i < 40) × (depths.now ≡ table depth (formulas_before b.now i)) }
-    ensures value { result ≡ depth (formula_of (formulas_before b.now i) (node_of b.now i)) }
+    ensures { result ≡ depth (formula_of (formulas_before b.now i) (node_of b.now i)) }
 {
     let op = operator(b, i);
     match op {
@@ -348,7 +349,7 @@ fn node_depth(b: &[u8], depths: &[u32; NODES], i: u8) -> u32
 
 // The depths of all nodes.
 pub fn depth_table(b: &[u8]) -> [u32; NODES]
-    ensures value { result ≡ table depth (formulas_of b.now) }
+    ensures { result ≡ table depth (formulas_of b.now) }
 {
     let n = nodes_held(b);
     let mut depths = [0u32; NODES];
@@ -365,7 +366,7 @@ pub fn depth_table(b: &[u8]) -> [u32; NODES]
 // Ground 9 of node i: a "plan" has no child too deep.
 fn node_shallow(b: &[u8], depths: &[u32; NODES], i: u8) -> bool
     requires { (i < node_count b.now) × (i < 40) × (depths.now ≡ table depth (formulas_of b.now)) }
-    ensures value { result ≡ shallow (get_or (formulas_of b.now) i never) }
+    ensures { result ≡ shallow (get_or (formulas_of b.now) i never) }
 {
     let op = operator(b, i);
     match op {
@@ -384,7 +385,7 @@ fn node_passes(
     depths: &[u32; NODES],
 ) -> bool
     requires { (i < node_count b.now) × Nodes b.now depths.now }
-    ensures value { result ≡ passes ground actions props b.now i }
+    ensures { result ≡ passes ground actions props b.now i }
 {
     match ground {
         5 => node_in_range(b, i, actions, props),
@@ -396,7 +397,7 @@ fn node_passes(
 // Whether every node passes.
 fn nodes_pass(b: &[u8], ground: u32, actions: usize, props: usize, depths: &[u32; NODES]) -> bool
     requires { Nodes b.now depths.now }
-    ensures value { result ≡ every (node_count b.now) (passes ground actions props b.now) }
+    ensures { result ≡ every (node_count b.now) (passes ground actions props b.now) }
 {
     let n = node_count(b);
     let mut right = true;
@@ -411,7 +412,7 @@ fn nodes_pass(b: &[u8], ground: u32, actions: usize, props: usize, depths: &[u32
 // Ground 6: of the nodes, and of the bytes before and after them.
 fn spare_zero(b: &[u8], actions: usize, props: usize, depths: &[u32; NODES]) -> bool
     requires { Nodes b.now depths.now }
-    ensures value { result ≡ spare_zero b.now }
+    ensures { result ≡ spare_zero b.now }
 {
     let end = node_at(node_count(b));
     blocks::zeros(b, SPARE_AT, SPARE_SIZE)
@@ -422,7 +423,7 @@ fn spare_zero(b: &[u8], actions: usize, props: usize, depths: &[u32; NODES]) -> 
 // Ground 9. By ground 5 "gain" has a step, so that the path formulas are those of some depth.
 fn formed(b: &[u8], actions: usize, props: usize, depths: &[u32; NODES]) -> bool
     requires { Nodes b.now depths.now × (every (node_count b.now) (passes 5 actions props b.now) ≡ true) }
-    ensures value { result ≡ spec.formed (question_of b.now) }
+    ensures { result ≡ spec.formed (question_of b.now) }
 {
     let root = node_count(b) as usize - 1;
     (depths[root] == 0) & nodes_pass(b, 9, actions, props, depths)
@@ -430,14 +431,14 @@ fn formed(b: &[u8], actions: usize, props: usize, depths: &[u32; NODES]) -> bool
 
 // Ground 4.
 fn counts_right(b: &[u8], states: usize) -> bool
-    ensures value { result ≡ (ltb (start_of b.now) states && within 1 40 (node_count b.now)) }
+    ensures { result ≡ (ltb (start_of b.now) states && within 1 40 (node_count b.now)) }
 {
     ((start(b) as usize) < states) & blocks::within(1, NODES, node_count(b) as usize)
 }
 
 // The first ground on which the question's bytes are refused, for a model of so many states, actions and propositions; 0 for none.
 pub fn question_refusal(b: &[u8], states: usize, actions: usize, props: usize) -> u32
-    ensures value { result ≡ refusal (read_question states actions props b.now) }
+    ensures { result ≡ refusal (read_question states actions props b.now) }
 {
     if !blocks::whole_blocks(b, 1, 1) {
         return 1;

@@ -10,14 +10,14 @@ use blocks::buffers::store;
 
 // Whether a node has a child in the left cell, by its operator.
 pub fn has_left(op: u8) -> bool
-    ensures value { result ≡ has_left op }
+    ensures { result ≡ has_left op }
 {
     (op == NOT) | (op == AND) | (op == NEXT) | (op == PLAN)
 }
 
 // Marks the children of node i.
 fn mark_children(b: &[u8], marks: &mut [u8; NODES], i: u8)
-    ensures frame { marks.new ≡ mark_each (children (node_of b.now i)) marks.old }
+    ensures { marks.new ≡ mark_each (children (node_of b.now i)) marks.old }
 {
     let op = operator(b, i);
     if has_left(op) {
@@ -30,7 +30,7 @@ fn mark_children(b: &[u8], marks: &mut [u8; NODES], i: u8)
 
 // A mark for each node that is a child of some node.
 fn children_marked(b: &[u8]) -> [u8; NODES]
-    ensures value { Marks b.now result }
+    ensures { Marks b.now result }
 {
     let n = node_count(b);
     let mut marks = [0u8; NODES];
@@ -46,7 +46,7 @@ fn children_marked(b: &[u8]) -> [u8; NODES]
 // to the root: all nodes are reached if each before the root is some node's child.
 pub fn all_reached(b: &[u8]) -> bool
     requires { Downward b.now }
-    ensures value { result ≡ spec.all_reached b.now }
+    ensures { result ≡ spec.all_reached b.now }
 {
     let marks = children_marked(b);
     let last = root(b);

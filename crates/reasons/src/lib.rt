@@ -1,6 +1,7 @@
 // Why a question is answered no: what could have been had. Document 02, A.5. One search finds both the verdict and the reason: for "less" and
 // "greater" the plan that leads, met or not; for "equal" the list of all plans' totals, of which those nearest to the bound are kept.
 #![tactic(auto)]
+
 ghost use Rattle.std.specs.Prelude.{◌≡◌, List, ℕ, ◌≤◌, ◌<◌, length};
 ghost use Rattle.logic.specs.Formula as formulas;
 ghost use Rattle.models.specs.Layout.{state_count};
@@ -78,7 +79,7 @@ pub enum Explanation {
 // What is said of the plan that leads, of so many choices.
 fn of_leader(m: &[u16; MODEL], q: &[u8; QUESTION], j: u8, r: Decision, size: usize) -> Explanation
     requires { Bounded m.now q.now j × (r.raised ≤ most_of m.now q.now j) }
-    ensures value { result ≡ led_code m.now q.now j r.met r.raised size }
+    ensures { result ≡ led_code m.now q.now j r.met r.raised size }
 {
     let total = lowered(m, q, j, r.raised);
     let all = whole(m, q, j);
@@ -115,7 +116,7 @@ fn by_leader(
 ) -> Explanation
     requires asked { Asked m.now q.now counts.now × Posed m.now q.now truth.now j s }
     requires fact { ((node_of q.now j).right ≡ 2 → ⊥) × (1365 ≤ length choices.old) }
-    ensures effect { let choices' = choices.exit.now in let m = m.entry.now in let q = q.entry.now in let choices = choices.entry.now in
+    ensures { let choices' = choices.exit.now in let m = m.entry.now in let q = q.entry.now in let choices = choices.entry.now in
         ((further : List ℕ) → TellsOf (model_in m) s (formula q j) result choices choices' further further) }
 {
     let mut scratch = [0u8; STACK];
@@ -141,7 +142,7 @@ fn at_node(
     requires asked { Asked m.now q.now counts.now × (j < node_count q.now) × (s < state_count m.now) }
     requires supplied { Supplied m.now q.now truth.now j s × (formulas.depth (formula q.now j) ≡ 0) × (1365 ≤ length choices.old)
         × (1365 ≤ length further.old) }
-    ensures effect { let choices' = choices.exit.now in let further' = further.exit.now in let m = m.entry.now in let q = q.entry.now in
+    ensures { let choices' = choices.exit.now in let further' = further.exit.now in let m = m.entry.now in let q = q.entry.now in
         let choices = choices.entry.now in let further = further.entry.now in
         TellsOf (model_in m) s (formula q j) result choices choices' further further' }
 {
@@ -169,7 +170,7 @@ pub fn explained(
 ) -> Explanation
     requires served { Served m.now q.now × Counted m.now q.now counts.now }
     requires in_bounds { (1365 ≤ length choices.old) × (1365 ≤ length further.old) }
-    ensures effect { let choices' = choices.exit.now in let further' = further.exit.now in let m = m.entry.now in let q = q.entry.now in
+    ensures { let choices' = choices.exit.now in let further' = further.exit.now in let m = m.entry.now in let q = q.entry.now in
         let choices = choices.entry.now in let further = further.entry.now in
         TellsOf (model_in m) (start_of q) (formula q (root q)) result choices choices' further further' }
 {

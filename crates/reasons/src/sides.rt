@@ -36,7 +36,7 @@ fn neighbours(
     x: u64,
 ) -> Neighbours
     requires { Asked m.now q.now counts.now × Posed m.now q.now truth.now j s × ((node_of q.now j).right ≡ 2) }
-    ensures value { Around (raised_totals m.now q.now j s) x result }
+    ensures { Around (raised_totals m.now q.now j s) x result }
 {
     let mut nodes = [0u8; NODES];
     let w = worth_of(m, q, j, &mut nodes);
@@ -51,7 +51,7 @@ fn neighbours(
 
 // Whether some plan meets the bound: the least total that is not below it is the one that does.
 fn at_bound(x: Exact, least: Near, all: usize) -> bool
-    ensures value { result ≡ at_bound x least all }
+    ensures { result ≡ at_bound x least all }
 {
     if !x.whole {
         return false;
@@ -131,7 +131,7 @@ pub fn by_list(
 ) -> Explanation
     requires asked { Asked m.now q.now counts.now × Posed m.now q.now truth.now j s × ((node_of q.now j).right ≡ 2) }
     requires in_bounds { (1365 ≤ length choices.old) × (1365 ≤ length further.old) }
-    ensures effect { let choices' = choices.exit.now in let further' = further.exit.now in let m = m.entry.now in let q = q.entry.now in
+    ensures { let choices' = choices.exit.now in let further' = further.exit.now in let m = m.entry.now in let q = q.entry.now in
         let choices = choices.entry.now in let further = further.entry.now in
         TellsOf (model_in m) s (formula q j) result choices choices' further further' }
 {

@@ -1,6 +1,7 @@
 // What is made ready before anything is judged: which nodes matter in which states, and the nodes of a condition in the order in which
 // their values are made.
 #![tactic(auto)]
+
 ghost use Rattle.std.specs.Prelude.{◌≡◌, ◌+◌, ◌*◌, ◌/◌, ◌%◌, ℕ, ◌<◌, ◌≤◌, get_or, set, length, take};
 ghost use Rattle.models.specs.Layout.{state_count};
 ghost use Rattle.prepared_model.specs.promises.Rows.{choices_in, outcomes_in, step_in, Offers, Prepared};
@@ -22,13 +23,13 @@ use questions::{AND, NEXT, NODES, NOT, PLAN};
 
 // Where a node and a state stand in a table.
 pub fn place(j: u8, s: u8) -> usize
-    ensures value { result ≡ 32 * j + s }
+    ensures { result ≡ 32 * j + s }
 {
     STATES * j as usize + s as usize
 }
 
 fn mark(need: &mut [u8], j: u8, s: u8)
-    ensures frame { need.new ≡ set need.old (32 * j + s) 1 }
+    ensures { need.new ≡ set need.old (32 * j + s) 1 }
 {
     store(need, place(j, s), 1);
 }
@@ -37,7 +38,7 @@ fn mark(need: &mut [u8], j: u8, s: u8)
 fn mark_outcomes(m: &[u16; MODEL], need: &mut [u8; TRUTHS], child: u8, s: u8, i: usize)
     requires prepared { Prepared m.now × (child < 40) }
     requires s_bound { (s < state_count m.now) × (i < choices_in m.now s) }
-    ensures frame { let need' = need.exit.now in let m = m.entry.now in let need = need.entry.now in
+    ensures { let need' = need.exit.now in let m = m.entry.now in let need = need.entry.now in
         Grown (Below (state_count m) (32 * child + 32)) need need'
         × ((o : ℕ) → o < outcomes_in m s i → Marked need' child (step_in m s i o).target) }
 {
@@ -52,7 +53,7 @@ fn mark_outcomes(m: &[u16; MODEL], need: &mut [u8; TRUTHS], child: u8, s: u8, i:
 // Marks the child of "next" wherever a step from s can lead.
 fn mark_next(m: &[u16; MODEL], need: &mut [u8; TRUTHS], child: u8, s: u8)
     requires { Prepared m.now × (child < 40) × (s < state_count m.now) }
-    ensures frame { let need' = need.exit.now in let m = m.entry.now in let need = need.entry.now in
+    ensures { let need' = need.exit.now in let m = m.entry.now in let need = need.entry.now in
         Grown (Below (state_count m) (32 * child + 32)) need need'
         × ((i o : ℕ) → Offers m s i o → Marked need' child (step_in m s i o).target) }
 {
@@ -68,7 +69,7 @@ fn mark_next(m: &[u16; MODEL], need: &mut [u8; TRUTHS], child: u8, s: u8)
 fn pass_on(m: &[u16; MODEL], q: &[u8; QUESTION], need: &mut [u8; TRUTHS], k: usize)
     requires given { Given m.now q.now × (k < 32 * question.node_count q.now) }
     requires k_bound { get_or need.old k 0 ≡ 1 → k % 32 < state_count m.now }
-    ensures frame { let need' = need.exit.now in let m = m.entry.now in let need = need.entry.now in let q = q.entry.now in
+    ensures { let need' = need.exit.now in let m = m.entry.now in let need = need.entry.now in let q = q.entry.now in
         Grown (Below (state_count m) (32 * (k / 32))) need need' × (get_or need k 0 ≡ 1 → PassedOn m q need' (k / 32) (k % 32)) }
 {
     if byte(need, k) != 1 {
@@ -91,7 +92,7 @@ fn pass_on(m: &[u16; MODEL], q: &[u8; QUESTION], need: &mut [u8; TRUTHS], k: usi
 // Marks from the root in the start state downwards: children have smaller numbers.
 pub fn needed(m: &[u16; MODEL], q: &[u8; QUESTION]) -> [u8; TRUTHS]
     requires { Given m.now q.now }
-    ensures value { Needs m.now q.now result }
+    ensures { Needs m.now q.now result }
 {
     let mut need = [0u8; TRUTHS];
     let root = count(q) - 1;
@@ -110,7 +111,7 @@ pub fn needed(m: &[u16; MODEL], q: &[u8; QUESTION]) -> [u8; TRUTHS]
 // Marks the children of node j, if it is marked and no state formula.
 fn enter(q: &[u8; QUESTION], marks: &mut [u8; NODES], j: u8)
     requires { Asked q.now × (j < question.node_count q.now) }
-    ensures frame { let marks' = marks.exit.now in let marks = marks.entry.now in let q = q.entry.now in
+    ensures { let marks' = marks.exit.now in let marks = marks.entry.now in let q = q.entry.now in
         Grown (Below 32 j) marks marks' × (get_or marks j 0 ≡ 1 → Entered q marks' j) }
 {
     if byte(marks, j as usize) != 1 {
@@ -133,7 +134,7 @@ fn enter(q: &[u8; QUESTION], marks: &mut [u8; NODES], j: u8)
 // Marks from the condition c downwards.
 fn chosen(q: &[u8; QUESTION], c: u8) -> [u8; NODES]
     requires { Asked q.now × (c < question.node_count q.now) }
-    ensures value { Chosen q.now c result }
+    ensures { Chosen q.now c result }
 {
     let mut marks = [0u8; NODES];
     let top = c as usize;
@@ -149,7 +150,7 @@ fn chosen(q: &[u8; QUESTION], c: u8) -> [u8; NODES]
 // Lists node i after the first n places, if it is marked; gives the number of places listed.
 fn list_node(marks: &[u8; NODES], out: &mut [u8], i: u8, n: usize) -> usize
     requires { Listed marks.now i n out.old × (i < 40) × (length out.old ≡ 40) }
-    ensures effect { Listed marks.now (i + 1) result out.new }
+    ensures { Listed marks.now (i + 1) result out.new }
 {
     if byte(marks, i as usize) == 1 {
         store(out, n, i);
@@ -161,7 +162,7 @@ fn list_node(marks: &[u8; NODES], out: &mut [u8], i: u8, n: usize) -> usize
 // The nodes of the condition c, children before parents; gives their number.
 pub fn cone(q: &[u8; QUESTION], c: u8, out: &mut [u8]) -> usize
     requires { Asked q.now × (c < question.node_count q.now) × (length out.old ≡ 40) }
-    ensures effect { let nodes = take result out.new in
+    ensures { let nodes = take result out.new in
         (result ≤ 40) × Cone q.now nodes × (root_of nodes ≡ c) × (0 < length nodes) }
 {
     let marks = chosen(q, c);

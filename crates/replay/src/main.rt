@@ -2,6 +2,7 @@
 // that the two can be compared. Operation 7 is no call: it puts another desk in the place of the last one, so that calls are tried on desks
 // that no call gave back. A record that is cut short, too long or of another operation ends the list.
 #![tactic(auto)]
+
 ghost use Rattle.std.specs.Prelude.{◌+◌, ◌≤◌, ◌≡◌, length};
 
 use libc::{STDIN_FILENO, STDOUT_FILENO};
@@ -28,14 +29,14 @@ struct Turn {
 
 fn put_refused(out: &mut [u8], at: usize, k: u32) -> usize
     requires { at + 29 ≤ length out.old }
-    ensures range { result ≤ at + 29 }
+    ensures { result ≤ at + 29 }
 {
     verdict_line::put_decimal(out, at, b" refused ", k as u64)
 }
 
 fn put_taken(out: &mut [u8], at: usize, answer: Taken) -> usize
     requires { at + 29 ≤ length out.old }
-    ensures range { result ≤ at + 29 }
+    ensures { result ≤ at + 29 }
 {
     match answer {
         Taken::Done => verdict_line::put_text(out, at, b" done"),
@@ -45,7 +46,7 @@ fn put_taken(out: &mut [u8], at: usize, answer: Taken) -> usize
 
 fn put_plan(out: &mut [u8], at: usize, p: PlanRecord, choices: &[u8]) -> usize
     requires { (at + 5600 ≤ length out.old) × (length choices.now ≤ 1365) }
-    ensures range { result ≤ at + 5600 }
+    ensures { result ≤ at + 5600 }
 {
     let mut next = verdict_line::put_signed(out, at, b" yes ", p.total);
     next = verdict_line::put_decimal(out, next, b" ", p.steps as u64);
@@ -58,7 +59,7 @@ fn put_plan(out: &mut [u8], at: usize, p: PlanRecord, choices: &[u8]) -> usize
 
 fn put_denial(out: &mut [u8], at: usize, x: Denial) -> usize
     requires { at + 30 ≤ length out.old }
-    ensures range { result ≤ at + 30 }
+    ensures { result ≤ at + 30 }
 {
     let next = verdict_line::put_decimal(out, at, b" no ", x.count as u64);
     let lamp = x.lamp;
@@ -67,7 +68,7 @@ fn put_denial(out: &mut [u8], at: usize, x: Denial) -> usize
 
 fn put_verdict(out: &mut [u8], at: usize, v: Verdict, choices: &[u8]) -> usize
     requires { (at + 5600 ≤ length out.old) × (length choices.now ≤ 1365) }
-    ensures range { result ≤ at + 5600 }
+    ensures { result ≤ at + 5600 }
 {
     match v {
         Verdict::No(x) => put_denial(out, at, x),
@@ -78,7 +79,7 @@ fn put_verdict(out: &mut [u8], at: usize, v: Verdict, choices: &[u8]) -> usize
 
 fn put_judged(out: &mut [u8], at: usize, r: Judging) -> usize
     requires { at + 5600 ≤ length out.old }
-    ensures range { result ≤ at + 5600 }
+    ensures { result ≤ at + 5600 }
 {
     let a = r.answer;
     let choices = r.choices;
@@ -94,7 +95,7 @@ fn put_judged(out: &mut [u8], at: usize, r: Judging) -> usize
 
 fn put_written(out: &mut [u8], at: usize, answer: Written) -> usize
     requires { at + 29 ≤ length out.old }
-    ensures range { result ≤ at + 29 }
+    ensures { result ≤ at + 29 }
 {
     match answer {
         Written::Bytes(n) => verdict_line::put_decimal(out, at, b" ", n as u64),
@@ -104,7 +105,7 @@ fn put_written(out: &mut [u8], at: usize, answer: Written) -> usize
 
 fn put_met(out: &mut [u8], at: usize, met: bool) -> usize
     requires { at + 29 ≤ length out.old }
-    ensures range { result ≤ at + 29 }
+    ensures { result ≤ at + 29 }
 {
     if met {
         return verdict_line::put_text(out, at, b" accepted met");
@@ -114,7 +115,7 @@ fn put_met(out: &mut [u8], at: usize, met: bool) -> usize
 
 fn put_report(out: &mut [u8], at: usize, r: Report) -> usize
     requires { at + 35 ≤ length out.old }
-    ensures range { result ≤ at + 35 }
+    ensures { result ≤ at + 35 }
 {
     let next = put_met(out, at, r.met);
     let lamp = r.lamp;
@@ -123,7 +124,7 @@ fn put_report(out: &mut [u8], at: usize, r: Report) -> usize
 
 fn put_checked(out: &mut [u8], at: usize, answer: Checking) -> usize
     requires { at + 35 ≤ length out.old }
-    ensures range { result ≤ at + 35 }
+    ensures { result ≤ at + 35 }
 {
     match answer {
         Checking::Accepted(r) => put_report(out, at, r),
@@ -152,7 +153,7 @@ fn adler(bytes: &[u8]) -> Sums {
 
 fn put_sums(out: &mut [u8], at: usize, bytes: &[u8]) -> usize
     requires { at + 42 ≤ length out.old }
-    ensures range { result ≤ at + 42 }
+    ensures { result ≤ at + 42 }
 {
     let sums = adler(bytes);
     let next = verdict_line::put_decimal(out, at, b" ", sums.a as u64);

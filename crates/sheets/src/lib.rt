@@ -1,5 +1,6 @@
 // Sheets: reading, writing, and the plan that the choices spell. A sheet is document 01's word for a certificate.
 #![tactic(auto)]
+
 ghost use Rattle.std.specs.Prelude.{◌≡◌, ◌+◌, ◌*◌, ◌≤◌, ◌<◌, length};
 ghost use Rattle.logic.specs.Lists.{every};
 ghost use Rattle.logic.specs.promises.Refusal.{refusal};
@@ -68,14 +69,14 @@ fn count_at(b: &[u8], k: usize) -> usize
 // The weight in block k, as the number of its eight bytes.
 fn weight_at(b: &[u8], k: usize) -> u64
     requires { k < 3 }
-    ensures value { result ≡ weight_of b.now k }
+    ensures { result ≡ weight_of b.now k }
 {
     blocks::u64_at(b, BLOCK * k + WEIGHT_AT)
 }
 
 // The total that the sheet claims.
 pub fn total_at(b: &[u8]) -> i64
-    ensures value { result ≡ (sheet_of b.now).weight }
+    ensures { result ≡ (sheet_of b.now).weight }
 {
     blocks::i64_at(b, WEIGHT_AT)
 }
@@ -83,7 +84,7 @@ pub fn total_at(b: &[u8]) -> i64
 // Ground 4 of block k.
 fn head_right(b: &[u8], k: usize, n: usize, start: usize) -> bool
     requires { k < 3 }
-    ensures value { result ≡ head_right n start b.now k }
+    ensures { result ≡ head_right n start b.now k }
 {
     let at = BLOCK * k;
     (blocks::wide(b, at + STEPS_AT) == n) & (blocks::wide(b, at + START_AT) == start)
@@ -92,7 +93,7 @@ fn head_right(b: &[u8], k: usize, n: usize, start: usize) -> bool
 // Ground 5 of block k: its count.
 fn count_right(b: &[u8], k: usize) -> bool
     requires { k < 3 }
-    ensures value { result ≡ count_right b.now k }
+    ensures { result ≡ count_right b.now k }
 {
     let c = count_at(b, k);
     if k + 1 < b.len() / BLOCK {
@@ -104,7 +105,7 @@ fn count_right(b: &[u8], k: usize) -> bool
 // Ground 5 of block k: its weight.
 fn weight_right(b: &[u8], k: usize) -> bool
     requires { k < 3 }
-    ensures value { result ≡ weight_right b.now k }
+    ensures { result ≡ weight_right b.now k }
 {
     weight_at(b, k) == weight_at(b, 0)
 }
@@ -112,7 +113,7 @@ fn weight_right(b: &[u8], k: usize) -> bool
 // Ground 6 of block k.
 fn spare_right(b: &[u8], k: usize) -> bool
     requires { (k < 3) × (512 * k + 512 ≤ length b.now) × (count_of b.now k ≤ 490) }
-    ensures value { result ≡ spare_right b.now k }
+    ensures { result ≡ spare_right b.now k }
 {
     let at = BLOCK * k;
     let c = count_at(b, k);
@@ -123,7 +124,7 @@ fn spare_right(b: &[u8], k: usize) -> bool
 // What a ground from 3 to 6 asks of block k.
 fn block_passes(b: &[u8], ground: u32, k: usize, n: usize, start: usize) -> bool
     requires { (3 ≤ ground) × (k < 3) × (512 * k + 512 ≤ length b.now) × (5 < ground → count_of b.now k ≤ 490) }
-    ensures value { result ≡ passes ground n start b.now k }
+    ensures { result ≡ passes ground n start b.now k }
 {
     match ground {
         3 => blocks::headed(b, k, KIND_SHEET, k),
@@ -136,7 +137,7 @@ fn block_passes(b: &[u8], ground: u32, k: usize, n: usize, start: usize) -> bool
 // Whether every block passes.
 fn all_pass(b: &[u8], ground: u32, n: usize, start: usize) -> bool
     requires { Blocks ground b.now }
-    ensures value { result ≡ every (block_count b.now) (passes ground n start b.now) }
+    ensures { result ≡ every (block_count b.now) (passes ground n start b.now) }
 {
     let count = b.len() / BLOCK;
     let mut right = true;
@@ -150,7 +151,7 @@ fn all_pass(b: &[u8], ground: u32, n: usize, start: usize) -> bool
 
 // The number of the first ground, 1 to 6, on which a sheet is refused for a question with n steps and this start; 0 where there is none.
 pub fn sheet_refusal(b: &[u8], n: usize, start: usize) -> u32
-    ensures value { result ≡ refusal (read_sheet n start b.now) }
+    ensures { result ≡ refusal (read_sheet n start b.now) }
 {
     if !blocks::whole_blocks(b, 1, BLOCKS) {
         return 1;
@@ -176,7 +177,7 @@ pub fn sheet_refusal(b: &[u8], n: usize, start: usize) -> u32
 // The choices of all blocks, one after the other, at the front of `out`; gives their number.
 pub fn gather(b: &[u8], out: &mut [u8]) -> usize
     requires { Blocks 6 b.now × (1470 ≤ length out.old) }
-    ensures effect { Gathered (sheet_of b.now).choices out.old out.new result }
+    ensures { Gathered (sheet_of b.now).choices out.old out.new result }
 {
     let count = b.len() / BLOCK;
     let mut at: usize = 0;

@@ -20,7 +20,7 @@ pub enum End {
 #[cycle(below_plan_end)]
 pub fn plan_end(m: &[u8], choices: &[u8], n: usize, s: usize, at: usize) -> End
     requires { (refusal (read_model m.now) ≡ 0) × (s < state_count m.now) × (at ≤ length choices.now) }
-    ensures value { let choices = choices.entry.now in let m = m.entry.now in
+    ensures { let choices = choices.entry.now in let m = m.entry.now in
         result ≡ end_of (length choices) (read_plan (model_of m) n s (drop at choices)) }
 {
     if n == 0 {
@@ -42,7 +42,7 @@ pub fn plan_end(m: &[u8], choices: &[u8], n: usize, s: usize, at: usize) -> End
 fn below(m: &[u8], choices: &[u8], k: usize, s: usize, a: usize, count: usize, at: usize) -> End
     requires { (refusal (read_model m.now) ≡ 0) × (s < state_count m.now) × (a < 256)
         × (count ≡ length (outcomes (model_of m.now) s a)) × (at ≤ length choices.now) }
-    ensures value { let choices = choices.entry.now in let m = m.entry.now in
+    ensures { let choices = choices.entry.now in let m = m.entry.now in
         result ≡ end_of (length choices) (read_each (λ o. read_plan (model_of m) k o.target) (outcomes (model_of m) s a) (drop at choices)) }
 {
     let mut next = at;
@@ -61,7 +61,7 @@ fn below(m: &[u8], choices: &[u8], k: usize, s: usize, a: usize, count: usize, a
 // Ground 10: 0 if the choices are an n-step plan from the state s, all of them.
 pub fn plan_refusal(m: &[u8], choices: &[u8], n: usize, s: usize) -> u32
     requires { (refusal (read_model m.now) ≡ 0) × (s < state_count m.now) }
-    ensures value { result ≡ refusal (plan_of (model_of m.now) n s choices.now) }
+    ensures { result ≡ refusal (plan_of (model_of m.now) n s choices.now) }
 {
     let end = plan_end(m, choices, n, s, 0);
     match end {

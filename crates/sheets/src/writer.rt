@@ -23,7 +23,7 @@ const KIND: u8 = 4;
 // The first bytes of block k, which is zero as yet.
 fn head(dst: &mut [u8], k: u8, n: u8, start: u8)
     requires { (length dst.old ≡ 512) × (dst.old ≡ replicate (length dst.old) 0) }
-    ensures frame { dst.new ≡ started n start k }
+    ensures { dst.new ≡ started n start k }
 {
     dst[0] = KIND;
     dst[NUMBER_AT] = k;
@@ -34,7 +34,7 @@ fn head(dst: &mut [u8], k: u8, n: u8, start: u8)
 // Begins block k of a sheet: all but its choices and its last word.
 fn begin(dst: &mut [u8], k: u8, n: u8, start: u8, weight: u64, count: u64)
     requires { length dst.old ≡ 512 }
-    ensures frame { dst.new ≡ unsealed n start weight k count [] }
+    ensures { dst.new ≡ unsealed n start weight k count [] }
 {
     clear(dst);
     head(dst, k, n, start);
@@ -45,7 +45,7 @@ fn begin(dst: &mut [u8], k: u8, n: u8, start: u8, weight: u64, count: u64)
 // How many of a sheet's choices stand in block k: 490, or what is left.
 fn chunk_size(count: usize, k: usize) -> u64
     requires { (k < 3) × (490 * k ≤ count) }
-    ensures value { result ≡ chunk_size count k }
+    ensures { result ≡ chunk_size count k }
 {
     let left = count - IN_BLOCK * k;
     if left < IN_BLOCK {
@@ -57,7 +57,7 @@ fn chunk_size(count: usize, k: usize) -> u64
 // Begins the blocks of a sheet with so many choices, at the front of buf.
 fn begin_blocks(buf: &mut [u8], n: u8, start: u8, weight: u64, count: usize)
     requires { (count ≤ 1365) × (512 * blocks_for count ≤ length buf.old) }
-    ensures frame { buf.new ≡ begun n start weight count ++ drop (512 * blocks_for count) buf.old }
+    ensures { buf.new ≡ begun n start weight count ++ drop (512 * blocks_for count) buf.old }
 {
     let blocks = blocks_for(count);
     let mut k: usize = 0;
@@ -73,7 +73,7 @@ fn begin_blocks(buf: &mut [u8], n: u8, start: u8, weight: u64, count: usize)
 // Stores choice i of a block.
 fn store_in_block(block: &mut [u8], i: usize, a: u8)
     requires { (length block.old ≡ 512) × (i < 490) }
-    ensures frame { block.new ≡ set block.old (18 + i) a }
+    ensures { block.new ≡ set block.old (18 + i) a }
 {
     store(&mut block[CHOICES_AT..CHOICES_END], i, a);
 }
@@ -81,7 +81,7 @@ fn store_in_block(block: &mut [u8], i: usize, a: u8)
 // Stores choice p of a sheet in its block.
 fn store_choice(buf: &mut [u8], p: usize, a: u8)
     requires { (p < 1470) × (512 * (p / 490) + 512 ≤ length buf.old) }
-    ensures frame { buf.new ≡ set buf.old (place p) a }
+    ensures { buf.new ≡ set buf.old (place p) a }
 {
     let from = BLOCK * (p / IN_BLOCK);
     let to = from + BLOCK;
@@ -93,7 +93,7 @@ fn store_choice(buf: &mut [u8], p: usize, a: u8)
 fn store_plan(buf: &mut [u8], m: &[u8], choices: &[u8], n: usize, s: usize, p: usize) -> usize
     requires m_value { (refusal (read_model m.now) ≡ 0) × (s < state_count m.now) }
     requires ahead { Ahead (read_plan (model_of m.now) n s (drop p choices.now)) choices.now p buf.old }
-    ensures effect { let buf' = buf.exit.now in let m = m.entry.now in let choices = choices.entry.now in let buf = buf.entry.now in
+    ensures { let buf' = buf.exit.now in let m = m.entry.now in let choices = choices.entry.now in let buf = buf.entry.now in
         Stored (read_plan (model_of m) n s (drop p choices)) choices p result buf buf' }
 {
     if n == 0 {
@@ -118,7 +118,7 @@ fn store_below(
     requires m_value { (refusal (read_model m.now) ≡ 0) × (s < state_count m.now) × (a < 256) }
     requires ahead { Ahead (read_each (λ o. read_plan (model_of m.now) k o.target) (outcomes (model_of m.now) s a) (drop p choices.now))
         choices.now p buf.old }
-    ensures effect { let buf' = buf.exit.now in let m = m.entry.now in let choices = choices.entry.now in let buf = buf.entry.now in
+    ensures { let buf' = buf.exit.now in let m = m.entry.now in let choices = choices.entry.now in let buf = buf.entry.now in
         Stored (read_each (λ o. read_plan (model_of m) k o.target) (outcomes (model_of m) s a) (drop p choices)) choices p result buf buf' }
 {
     let count = outcome_count(m, s, a);
@@ -135,7 +135,7 @@ fn store_below(
 // Seals the first blocks of buf.
 fn seal_blocks(buf: &mut [u8], blocks: usize)
     requires { (blocks ≤ 3) × (512 * blocks ≤ length buf.old) }
-    ensures frame { buf.new ≡ sealed blocks buf.old }
+    ensures { buf.new ≡ sealed blocks buf.old }
 {
     let mut k: usize = 0;
     while k < blocks {

@@ -1,5 +1,6 @@
 // Reads a model followed by a question from standard input and prints the line of the verdict.
 #![tactic(auto)]
+
 use libc::{STDIN_FILENO, STDOUT_FILENO};
 use verdict_line::LINE;
 

@@ -1,5 +1,6 @@
 // The one line that the program `verdict` prints, formed in a lent buffer; what `whynot` prints of a no (`reason_lines`).
 #![tactic(auto)]
+
 ghost use mathlib.Core.List.{◌++◌, flat_map};
 ghost use Rattle.std.specs.Prelude.{◌+◌, ◌*◌, ◌≤◌, length};
 ghost use Rattle.lamp.specs.Said.{said_lamp, said_optional};
@@ -19,7 +20,7 @@ pub const LINE: usize = 8192;
 // Writes a text at a place; gives the place after it.
 pub fn put_text(out: &mut [u8], at: usize, text: &[u8]) -> usize
     requires { at + length text.now ≤ length out.old }
-    ensures effect { Put text.now out.old out.new at result }
+    ensures { Put text.now out.old out.new at result }
 {
     blocks::buffers::copy(&mut out[at..], text);
     at + text.len()
@@ -93,7 +94,7 @@ pub fn put_optional(out: &mut [u8], at: usize, lamp: OptionalLamp) -> usize
 // A refusal's line. Every line leaves what stands behind it in the buffer.
 pub fn refused_line(out: &mut [u8], k: u32) -> usize
     requires { 8192 ≤ length out.old }
-    ensures effect { Put (refused_line k) out.old out.new 0 result }
+    ensures { Put (refused_line k) out.old out.new 0 result }
 {
     let next = put_decimal(out, 0, b"refused ", k as u64);
     put_text(out, next, b"\n")
@@ -102,7 +103,7 @@ pub fn refused_line(out: &mut [u8], k: u32) -> usize
 // The line of a root that sets no bound on plans.
 pub fn plain_line(out: &mut [u8], yes: bool) -> usize
     requires { 8192 ≤ length out.old }
-    ensures effect { Put (plain_line yes) out.old out.new 0 result }
+    ensures { Put (plain_line yes) out.old out.new 0 result }
 {
     if yes {
         return put_text(out, 0, b"yes\n");
@@ -113,7 +114,7 @@ pub fn plain_line(out: &mut [u8], yes: bool) -> usize
 // The line of a no to a root that sets a bound on plans.
 pub fn no_plans_line(out: &mut [u8], count: u32, lamp: OptionalLamp) -> usize
     requires { 8192 ≤ length out.old }
-    ensures effect { Put (no_plans_line count (said_optional lamp)) out.old out.new 0 result }
+    ensures { Put (no_plans_line count (said_optional lamp)) out.old out.new 0 result }
 {
     let mut next = put_decimal(out, 0, b"no plans ", count as u64);
     next = put_optional(out, next, lamp);
@@ -130,7 +131,7 @@ pub fn yes_plan_line(
     choices: &[u8],
 ) -> usize
     requires { (8192 ≤ length out.old) × (length choices.now ≤ 1365) }
-    ensures effect { let out' = out.exit.now in let out = out.entry.now in let choices = choices.entry.now in
+    ensures { let out' = out.exit.now in let out = out.entry.now in let choices = choices.entry.now in
         Put (yes_plan_line total whole (said_lamp lamp) count choices) out out' 0 result }
 {
     let mut next = put_signed(out, 0, b"yes ", total);

@@ -45,7 +45,7 @@ pub fn put_nothing(out: &mut [u8], at: usize, word: &[u8]) -> usize
 // The text of a no to a root that sets no bound on plans.
 pub fn no_reason_text(out: &mut [u8]) -> usize
     requires { 8192 ≤ length out.old }
-    ensures effect { Put (reason_text no_reason) out.old out.new 0 result }
+    ensures { Put (reason_text no_reason) out.old out.new 0 result }
 {
     put_text(out, 0, b"no reason\n")
 }

@@ -1,5 +1,6 @@
 // Reads a model followed by a question from standard input and prints why it is answered no; where it is not, the line of the verdict.
 #![tactic(auto)]
+
 use libc::{STDIN_FILENO, STDOUT_FILENO};
 use verdict_line::reason_lines::TEXT;
 
