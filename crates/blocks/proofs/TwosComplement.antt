@@ -18,11 +18,11 @@ use mir.ValLaws.{to_z_pos, to_z-of_z}
 use borrow.Author.Tests.{lt-ltb, le-ltb, ltb-true, ltb-false, ne_eqb}
 use Rattle.blocks.specs.Bytes.{signed, twos_complement}
 
-pub get_d_past : (l : List ℕ) (i : ℕ) → length l ≤ i → get_or l i 0 ≡ 0
-get_d_past [] zero h = refl
-get_d_past [] (suc i) h = refl
-get_d_past (x ∷ l) zero h = absurd (omega arith)
-get_d_past (x ∷ l) (suc i) h = get_d_past l i (omega arith)
+pub get_or_past : (l : List ℕ) (i : ℕ) → length l ≤ i → get_or l i 0 ≡ 0
+get_or_past [] zero h = refl
+get_or_past [] (suc i) h = refl
+get_or_past (x ∷ l) zero h = absurd (omega arith)
+get_or_past (x ∷ l) (suc i) h = get_or_past l i (omega arith)
 
 -- ---- the signed reading of a number
 

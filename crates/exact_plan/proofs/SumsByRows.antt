@@ -44,10 +44,10 @@ module _ (buf : List ℕ) where
 
 -- ---- one row
 
-get_d_map : (f : ℕ → ℕ) (l : List ℕ) (j : ℕ) → j < length l → get_or (map f l) j 0 ≡ f (get_or l j 0)
-get_d_map f [] j h = absurd (omega arith)
-get_d_map f (z ∷ l) zero h = refl
-get_d_map f (z ∷ l) (suc j) h = get_d_map f l j (omega arith)
+get_or_map : (f : ℕ → ℕ) (l : List ℕ) (j : ℕ) → j < length l → get_or (map f l) j 0 ≡ f (get_or l j 0)
+get_or_map f [] j h = absurd (omega arith)
+get_or_map f (z ∷ l) zero h = refl
+get_or_map f (z ∷ l) (suc j) h = get_or_map f l j (omega arith)
 
 module _ (y x : ℕ) (l : List ℕ) {r : ℕ} where
   pub row_nowhere : r ≡ length l → ((z : ℕ) → Memᴰ z l → (y + z ≡ x → ⊥)) → First (map (λ z. y + z) l) x r
@@ -57,7 +57,7 @@ module _ (y x : ℕ) (l : List ℕ) {r : ℕ} where
         few = omega arith;
         none_before = λ j k p.
             let i : j < length l = omega arith in
-            h (get_or l j 0) (get_or_member l j 0 i) (sym (get_d_map (λ z. y + z) l j i) ∙ p);
+            h (get_or l j 0) (get_or_member l j 0 i) (sym (get_or_map (λ z. y + z) l j i) ∙ p);
         there = λ k. absurd (omega arith);
       }
 
@@ -66,8 +66,8 @@ module _ (y x : ℕ) (l : List ℕ) {r : ℕ} where
       let n : length (map (λ z. y + z) l) ≡ length l = length-map l (λ z. y + z) in
       record {
         few = omega (arith, F.few);
-        none_before = λ j k p. F.none_before j k (omega (arith, sym (get_d_map (λ z. y + z) l j (omega (arith, F.few))) ∙ p));
-        there = λ k. omega (arith, get_d_map (λ z. y + z) l r (omega arith), F.there (omega arith));
+        none_before = λ j k p. F.none_before j k (omega (arith, sym (get_or_map (λ z. y + z) l j (omega (arith, F.few))) ∙ p));
+        there = λ k. omega (arith, get_or_map (λ z. y + z) l r (omega arith), F.there (omega arith));
       }
 
 -- ---- row after row

@@ -25,7 +25,7 @@ use Rattle.logic.proofs.Dictionary.{plans_are}
 use Rattle.logic.proofs.FirstBest.{ordered, additive}
 use Rattle.logic.proofs.Lengthening.{weight_longer, best_longer}
 use Rattle.logic.proofs.Recursion.{best_plan_first}
-use Rattle.logic.proofs.Tests.{get_d_tabulate}
+use Rattle.logic.proofs.Tests.{get_or_tabulate}
 use Rattle.blocks.specs.Bytes.{Bytes}
 use Rattle.models.specs.Layout.{state_count, denominator_of}
 use Rattle.prepared_model.specs.promises.Rows.{choices_in, choice_in, model_in}
@@ -137,7 +137,7 @@ module _ {m q : Bytes} {j : ℕ} (b : Bounded m q j) (o : (node_of q j).operator
     zero_first k t l =
         let h : t < state_count m = subst (λ n. t < n) (states_are m) l in
         ap (choice_in m t) (zeros 224 (32 * suc k + t))
-        ∙ sym (ap (λ (e : List ℕ). get_or e 0 0) (b.prepared.choices t h) ∙ get_d_tabulate (choice_in m t) (choices_in m t) 0 (some_choice b.prepared t h))
+        ∙ sym (ap (λ (e : List ℕ). get_or e 0 0) (b.prepared.choices t h) ∙ get_or_tabulate (choice_in m t) (choices_in m t) 0 (some_choice b.prepared t h))
 
     pub zero_table : Placed m (replicate 224 0) (node_of q j).n
     zero_table = record { few = P.few; inside = λ k t l g. subst (λ i. i < choices_in m t) (sym (zeros 224 (32 * suc k + t))) (some_choice b.prepared t g) }

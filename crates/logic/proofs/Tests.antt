@@ -268,9 +268,9 @@ module _ {A : Type 0} (f : ℕ → A) where
   get_or_counted k (suc n) zero d h = ap f (omega arith)
   get_or_counted k (suc n) (suc i) d h = get_or_counted (suc k) n i d (le_of_suc-le-suc h) ∙ ap f (omega arith)
 
-  pub get_d_tabulate : (n : ℕ) {i : ℕ} (d : A) → i < n → get_or (tabulate n f) i d ≡ f i
+  pub get_or_tabulate : (n : ℕ) {i : ℕ} (d : A) → i < n → get_or (tabulate n f) i d ≡ f i
   unfolding tabulate
-  get_d_tabulate n {i} d h = get_or_counted 0 n i d h ∙ ap f (omega arith)
+  get_or_tabulate n {i} d h = get_or_counted 0 n i d h ∙ ap f (omega arith)
 
   -- A test of all of a tabulated list is a test of every place.
   pub all_tabulate : (t : A → Bool) (n : ℕ) → all t (tabulate n f) ≡ every n (λ i. t (f i))

@@ -9,7 +9,7 @@ use lib.ListN.{length, get_or}
 use Rattle.logic.specs.Lists.{is_empty, every, some_below}
 use Rattle.logic.specs.promises.Refusal.{refusal}
 use Rattle.logic.specs.Model.{true_of, silent, silent_step, enabled_actions, deadlocked, outcomes}
-use Rattle.logic.proofs.Tests.{and_right, every_at, member_place, length_some, some_below_at, some_below_index, length_tabulate, get_d_tabulate}
+use Rattle.logic.proofs.Tests.{and_right, every_at, member_place, length_some, some_below_at, some_below_index, length_tabulate, get_or_tabulate}
 use Rattle.logic.proofs.SilentMove.{silent_outcomes, outcomes_stored, action_outcomes}
 use Rattle.blocks.specs.Bytes.{Bytes, zeros}
 use Rattle.blocks.specs.Block.{block_count}
@@ -74,7 +74,7 @@ module _ (b : Bytes) (e : refusal (read_model b) ≡ 0) (s : ℕ) (h : s < state
       ap (λ o. o.target)
       (sym
       (ap (λ r. get_or r i (silent_step (model_of b) s)) held
-      ∙ get_d_tabulate (outcome_of b s a) (entries b s a) (silent_step (model_of b) s) (omega (arith, action_count_is a n))))
+      ∙ get_or_tabulate (outcome_of b s a) (entries b s a) (silent_step (model_of b) s) (omega (arith, action_count_is a n))))
 
   pub silent_target : (a i : ℕ) → a ≡ silent → i < length (outcomes (model_of b) s a) → s ≡ (get_or (outcomes (model_of b) s a) i (silent_step (model_of b) s)).target
   silent_target a i z l = by (some_action b s h) refl

@@ -18,7 +18,7 @@ use Rattle.logic.specs.Order.{Rising, nothing, first}
 use Rattle.logic.specs.Plan.{Match, ends, pair}
 use Rattle.logic.specs.Accepted.{posts_of, Accepted}
 use Rattle.logic.proofs.Members.{map_member}
-use Rattle.logic.proofs.Tests.{and_both, eqb_eq, ne_eqb, ltb_lt, every_at, counted_in, counted_range, length_tabulate, get_d_tabulate, count_more, in_keep, keep_member, keep_same}
+use Rattle.logic.proofs.Tests.{and_both, eqb_eq, ne_eqb, ltb_lt, every_at, counted_in, counted_range, length_tabulate, get_or_tabulate, count_more, in_keep, keep_member, keep_same}
 use Rattle.logic.proofs.Sums.{naturals_additive, sum-append, sum-map}
 use Rattle.logic.proofs.Contradiction.{not_both}
 use Rattle.logic.proofs.SilentMove.{action_outcomes}
@@ -87,7 +87,7 @@ module _ (b : Bytes) where
 
   pub mask_held : (s : ℕ) → s < state_count b → mask (model_of b) s ≡ state_mask b s
   unfolding model_of mask
-  mask_held s h = get_d_tabulate (state_mask b) (state_count b) 0 h
+  mask_held s h = get_or_tabulate (state_mask b) (state_count b) 0 h
 
   -- The postconditions of an action.
   posts_held : (a : ℕ) → a < action_count b → (a ≡ silent → ⊥) → posts_of (model_of b) a ≡ tabulate (post_count b a) (post_of b a)
@@ -95,7 +95,7 @@ module _ (b : Bytes) where
   posts_held a h n =
       ap (λ t. cond t (always ∷ []) (get_or (model_of b).actions a no_action).posts) (ne_eqb a silent n)
       ∙ ap (λ (x : Action). x.posts)
-      (get_d_tabulate (λ a. record { pre = pre_of b a; posts = tabulate (post_count b a) (post_of b a) }) (action_count b) no_action h)
+      (get_or_tabulate (λ a. record { pre = pre_of b a; posts = tabulate (post_count b a) (post_of b a) }) (action_count b) no_action h)
 
   actions_held : length (model_of b).actions ≡ action_count b
   unfolding model_of
@@ -109,7 +109,7 @@ module _ (b : Bytes) where
       let acts : ℕ → Action = λ a. record { pre = pre_of b a; posts = tabulate (post_count b a) (post_of b a) } in
       ap (λ n. keep (λ a. true_of (get_or (tabulate (action_count b) acts) a no_action).pre (mask (model_of b) s)) (count_from 0 n)) (length_tabulate acts (action_count b))
       ∙ keep_same _ _ (count_from 0 (action_count b))
-      (λ a i. ap₂ (λ (x : Action) v. true_of x.pre v) (get_d_tabulate acts (action_count b) no_action (omega (arith, (counted_range 0 (action_count b) i).1))) (mask_held s h))
+      (λ a i. ap₂ (λ (x : Action) v. true_of x.pre v) (get_or_tabulate acts (action_count b) no_action (omega (arith, (counted_range 0 (action_count b) i).1))) (mask_held s h))
 
   pub enabled_in : (s a : ℕ) → s < state_count b → a < action_count b → true_of (pre_of b a) (state_mask b s) ≡ true → Memᴰ a (enabled_actions (model_of b) s)
   enabled_in s a h g e =

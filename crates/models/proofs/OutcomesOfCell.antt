@@ -9,7 +9,7 @@ use lib.Dec.{eqb}
 use lib.ListN.{length, get_or, get_or-eq_default}
 use Rattle.logic.specs.Lists.{count_from, tabulate}
 use Rattle.logic.specs.Model.{Step, true_of, silent, silent_step, deadlocked, stored, outcomes}
-use Rattle.logic.proofs.Tests.{length_tabulate, get_d_tabulate}
+use Rattle.logic.proofs.Tests.{length_tabulate, get_or_tabulate}
 use Rattle.blocks.specs.Bytes.{Bytes}
 use Rattle.models.specs.Layout.{state_count, action_count, state_mask, pre_of, post_count, outcome_of, entries, model_of}
 use Rattle.models.specs.promises.Readable.{Readable}
@@ -46,9 +46,9 @@ module _ (b : Bytes) where
       nothing e = rw e refl
 
       go : Dec (s < state_count b) → Dec (a < action_count b) → get_or (get_or rows s []) a [] ≡ cell s a
-      go (yes h) (yes g) = ap (λ l. get_or l a []) (get_d_tabulate row (state_count b) [] h) ∙ get_d_tabulate (cell s) (action_count b) [] g
+      go (yes h) (yes g) = ap (λ l. get_or l a []) (get_or_tabulate row (state_count b) [] h) ∙ get_or_tabulate (cell s) (action_count b) [] g
       go (yes h) (no g) =
-          ap (λ l. get_or l a []) (get_d_tabulate row (state_count b) [] h)
+          ap (λ l. get_or l a []) (get_or_tabulate row (state_count b) [] h)
           ∙ get_or-eq_default (row s) [] (rw (length_tabulate (cell s) (action_count b)) (omega arith))
           ∙ nothing (entries_past_actions b s a (omega arith))
       go (no h) g =

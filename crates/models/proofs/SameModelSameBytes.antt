@@ -12,7 +12,7 @@ use lib.Seq.{ext_get_or}
 use borrow.Author.Tests.{ltb-true, ltb-false}
 use Rattle.logic.specs.Lists.{tabulate, every}
 use Rattle.logic.specs.Model.{Step, Literals, Action, no_action, mask, stored}
-use Rattle.logic.proofs.Tests.{and_left, and_right, eqb_eq, every_at, length_tabulate, get_d_tabulate}
+use Rattle.logic.proofs.Tests.{and_left, and_right, eqb_eq, every_at, length_tabulate, get_or_tabulate}
 use Rattle.blocks.specs.Bytes.{Bytes, AllBytes, byte, u16, u32, i16, signed, zeros}
 use Rattle.blocks.specs.Block.{block_count, word_sum, sums_right, headed}
 use Rattle.blocks.proofs.NumberReadBack.{same_16, word_small}
@@ -161,7 +161,7 @@ module _ (b c : Bytes) where
 
       action_held : (l : Bytes) (a : ℕ) → a < action_count l → get_or (model_of l).actions a no_action ≡ action_in l a
       unfolding model_of
-      action_held l a h = get_d_tabulate (action_in l) (action_count l) no_action h
+      action_held l a h = get_or_tabulate (action_in l) (action_count l) no_action h
 
       same_action : (a : ℕ) → a < action_count b → action_in b a ≡ action_in c a
       same_action a h = sym (action_held b a h) ∙ ap (λ m. get_or m.actions a no_action) e ∙ action_held c a (subst (λ n. a < n) same_actions h)
@@ -173,8 +173,8 @@ module _ (b c : Bytes) where
         same_post : (i : ℕ) → i < post_count b a → post_of b a i ≡ post_of c a i
         same_post i l =
             let d : Literals = post_of b a i in
-            sym (get_d_tabulate (post_of b a) (post_count b a) d l) ∙ ap (λ x. get_or x.posts i d) (same_action a h)
-            ∙ get_d_tabulate (post_of c a) (post_count c a) d (subst (λ n. i < n) same_count l)
+            sym (get_or_tabulate (post_of b a) (post_count b a) d l) ∙ ap (λ x. get_or x.posts i d) (same_action a h)
+            ∙ get_or_tabulate (post_of c a) (post_count c a) d (subst (λ n. i < n) same_count l)
 
         agree_action : Agree (action_at a) 44
         unfolding action_spare pre_of post_of post_count
@@ -251,8 +251,8 @@ module _ (b c : Bytes) where
         same_outcome : (i : ℕ) → i < entries b s a → outcome_of b s a i ≡ outcome_of c s a i
         same_outcome i l =
             let d : Step = outcome_of b s a i in
-            sym (get_d_tabulate (outcome_of b s a) (entries b s a) d l) ∙ ap (λ x. get_or x i d) same_cell
-            ∙ get_d_tabulate (outcome_of c s a) (entries c s a) d (subst (λ n. i < n) same_entries l)
+            sym (get_or_tabulate (outcome_of b s a) (entries b s a) d l) ∙ ap (λ x. get_or x i d) same_cell
+            ∙ get_or_tabulate (outcome_of c s a) (entries c s a) d (subst (λ n. i < n) same_entries l)
 
         agree_outcome : (i : ℕ) → i < entries b s a → Agree (cell_at s a + 4 * i) 4
         unfolding outcome_of i16

@@ -33,13 +33,13 @@ module _ {A : Type 0} where
   any_default (x ∷ l) (suc k) d e h = any_default l k d e (le_of_suc-le-suc h)
 
   -- Past the first of two lists.
-  get_d_past : (l r : List A) (k : ℕ) (d : A) → length l ≤ k → get_or (l ++ r) k d ≡ get_or r (k - length l) d
-  get_d_past [] r k d h = ap (λ z. get_or r z d) (omega arith)
-  get_d_past (x ∷ l) r zero d h = absurd (not-suc-le-zero h)
-  get_d_past (x ∷ l) r (suc k) d h = get_d_past l r k d (le_of_suc-le-suc h) ∙ ap (λ z. get_or r z d) (omega arith)
+  get_or_past : (l r : List A) (k : ℕ) (d : A) → length l ≤ k → get_or (l ++ r) k d ≡ get_or r (k - length l) d
+  get_or_past [] r k d h = ap (λ z. get_or r z d) (omega arith)
+  get_or_past (x ∷ l) r zero d h = absurd (not-suc-le-zero h)
+  get_or_past (x ∷ l) r (suc k) d h = get_or_past l r k d (le_of_suc-le-suc h) ∙ ap (λ z. get_or r z d) (omega arith)
 
-get_d_map : {A B : Type 0} (f : A → B) (l : List A) (k : ℕ) (d : B) (e : A) → k < length l → get_or (map f l) k d ≡ f (get_or l k e)
-get_d_map f l k d e h = any_default (map f l) k d (f e) (subst (λ z. k < z) (sym (length-map l f)) h) ∙ ListN.get_d_map f l k e
+get_or_map : {A B : Type 0} (f : A → B) (l : List A) (k : ℕ) (d : B) (e : A) → k < length l → get_or (map f l) k d ≡ f (get_or l k e)
+get_or_map f l k d e h = any_default (map f l) k d (f e) (subst (λ z. k < z) (sym (length-map l f)) h) ∙ ListN.get_or-map f l k e
 
 -- ---- blocks of given sizes
 
@@ -64,7 +64,7 @@ module _ {B : Type 0} (size : ℕ → ℕ) (block : ℕ → List B) (d : B) (len
       go r (no i) =
           let w = r (omega arith) in
           subst (λ t. At (cond t (a, k) (block_of size l (k - size a)))) (sym (le-ltb k (size a) (omega arith))) (
-            get_d_past (block a) (flat_map block l) k d (subst (λ z. z ≤ k) (sym (lengths a)) (omega arith))
+            get_or_past (block a) (flat_map block l) k d (subst (λ z. z ≤ k) (sym (lengths a)) (omega arith))
                 ∙ ap (λ z. get_or (flat_map block l) (k - z) d) (lengths a)
                 ∙ w.0,
             w.1,
@@ -90,12 +90,12 @@ module _ {B : Type 0} (P : List (List B)) (d : List B) (e : B) where
           → Dec (k < length P) → get_or (row ++ rows) k d ≡ get_or (b ∷ l) (k / length P) e ∷ get_or P (k % length P) d
       go q (yes i) =
           get_or-append row rows d k (subst (λ z. k < z) (sym (length-map P (λ r. b ∷ r))) i)
-          ∙ get_d_map (λ r. b ∷ r) P k d d i
+          ∙ get_or_map (λ r. b ∷ r) P k d d i
           ∙ ap₂ (λ x y. get_or (b ∷ l) x e ∷ get_or P y d) (sym (div-eq_of_lt i)) (sym (mod-eq_of_lt i))
       go q (no f) =
           let i : length P ≤ k = omega arith in
           let n : 0 < length P = positive (suc (length l)) (length P) h in
-          get_d_past row rows k d (subst (λ z. z ≤ k) (sym (length-map P (λ r. b ∷ r))) i)
+          get_or_past row rows k d (subst (λ z. z ≤ k) (sym (length-map P (λ r. b ∷ r))) i)
           ∙ ap (λ z. get_or rows (k - z) d) (length-map P (λ r. b ∷ r))
           ∙ q (omega (arith, suc-mul (length l) (length P)))
           ∙ ap₂ (λ x y. get_or (b ∷ l) x e ∷ get_or P y d) (sym (add-one ((k - length P) / length P)) ∙ sym (div-eq-sub-div n i)) (sym (mod-eq-sub-mod i))
@@ -142,7 +142,7 @@ module _ (m : Model) where
       let x : ℕ × ℕ = block_of (ways m n s) (enabled m s) k in
       let P : List (List (Plan n)) = product (map g (outcomes m s x.0)) in
       w.0
-      ∙ get_d_map {B = Plan (suc n)} (λ qs. (x.0, qs)) P x.1 d [] (subst (λ z. x.1 < z) (sym (count x.0)) w.1)
+      ∙ get_or_map {B = Plan (suc n)} (λ qs. (x.0, qs)) P x.1 d [] (subst (λ z. x.1 < z) (sym (count x.0)) w.1)
       ∙ ap {B = Plan (suc n)} (λ qs. (x.0, qs))
       (products_at g (below m n) (λ o. plan_count m n o.target) (λ o i. plan_at m n o.target i) (any_plan n)
       (λ o i q. plan_at_is n o.target i (any_plan n) q) (outcomes m s x.0) x.1 [] w.1)

@@ -13,7 +13,7 @@ use lib.Seq.{ext_get_or}
 use Rattle.logic.specs.promises.Refusal.{refusal}
 use Rattle.logic.specs.Lists.{count_from, tabulate}
 use Rattle.logic.specs.Model.{Model, Action, Step, true_of, deadlocked}
-use Rattle.logic.proofs.Tests.{and_both, length_some, length_tabulate, get_d_tabulate, tabulate_more, counted_range, keep_same}
+use Rattle.logic.proofs.Tests.{and_both, length_some, length_tabulate, get_or_tabulate, tabulate_more, counted_range, keep_same}
 use Rattle.blocks.specs.Bytes.{Bytes, byte, u16, u32, i16, signed, within}
 use Rattle.blocks.specs.Block.{sum_below}
 use Rattle.models.specs.Grounds.{outcome_in_range, read_model}
@@ -125,7 +125,7 @@ module _ (b : Bytes) (e : refusal (read_model b) ≡ 0) (m : List ℕ) (small : 
     listed_is : listed b s (action_count b) ≡ tabulate (choices_in m s) (choice_in m s)
     listed_is =
         ext_get_or 0 _ _ (sym count_is ∙ sym (length_tabulate (choice_in m s) (choices_in m s)))
-        (λ i g. let l : i < choices_in m s = omega (arith, count_is) in sym (choice_is i l) ∙ sym (get_d_tabulate (choice_in m s) (choices_in m s) 0 l))
+        (λ i g. let l : i < choices_in m s = omega (arith, count_is) in sym (choice_is i l) ∙ sym (get_or_tabulate (choice_in m s) (choices_in m s) 0 l))
 
     -- Some action is listed, so the work is not over.
     not_over : deadlocked (model_of b) s ≡ false

@@ -14,7 +14,7 @@ use lib.Seq.{get_or_at, get_or-take, take_all, take-append-le, ext_get_or, get_o
 use borrow.Author.Tests.{eqb-true}
 use Rattle.logic.specs.Lists.{all, every, count_from, tabulate}
 use Rattle.logic.specs.Formula.{Formula, never, Node, formula_of, formulas}
-use Rattle.logic.proofs.Tests.{length_tabulate, get_d_tabulate, all_tabulate, and_left, and_right, tabulate_more}
+use Rattle.logic.proofs.Tests.{length_tabulate, get_or_tabulate, all_tabulate, and_left, and_right, tabulate_more}
 use Rattle.blocks.specs.Bytes.{Bytes, byte, zeros, within}
 use Rattle.blocks.specs.Block.{whole_blocks, block_count}
 use Rattle.questions.specs.Layout.{node_at, node_of, node_count, formulas_of}
@@ -58,7 +58,7 @@ spare_all b k =
 -- A test of all of a list is a test of every place.
 pub all_every : {A : Type 0} (t : A → Bool) (d : A) (l : List A) → all t l ≡ every (length l) (λ i. t (get_or l i d))
 unfolding all
-all_every t d l = ap (all t) (ext_get_or d l (tabulate (length l) (λ i. get_or l i d)) (sym (length_tabulate (λ i. get_or l i d) (length l))) (λ i h. sym (get_d_tabulate (λ i. get_or l i d) (length l) d h))) ∙ all_tabulate (λ i. get_or l i d) t (length l)
+all_every t d l = ap (all t) (ext_get_or d l (tabulate (length l) (λ i. get_or l i d)) (sym (length_tabulate (λ i. get_or l i d) (length l))) (λ i h. sym (get_or_tabulate (λ i. get_or l i d) (length l) d h))) ∙ all_tabulate (λ i. get_or l i d) t (length l)
 
 -- A question that passes ground 1 is one block.
 pub one_block : (b : Bytes) → whole_blocks 1 1 b ≡ true → length b ≡ 512
@@ -198,7 +198,7 @@ module _ {A : Type 0} (f : Formula → A) (b : Bytes) where
 
   pub table_at : (fs : List Formula) (i : ℕ) → i < 40 → get_or (table f fs) i (f never) ≡ f (get_or fs i never)
   unfolding table
-  table_at fs i h = get_d_tabulate (λ i. f (get_or fs i never)) 40 (f never) h
+  table_at fs i h = get_or_tabulate (λ i. f (get_or fs i never)) 40 (f never) h
 
   -- What a table says of a child: the first i places are those of the formulas before node i.
   pub child_at : (i j k : ℕ) → i ≤ k → i ≤ 40 → get_or (take i (table f (formulas_before b k))) j (f never) ≡ f (get_or (formulas_before b i) j never)

@@ -1,0 +1,11 @@
+-- What is put in is told by the sum of all words and by the last word as it was, which may be any.
+use borrow.Author.Rules.{rules}
+use Rattle.blocks.proofs.WordSumSealed.{sealed}
+use Rattle.blocks.proofs.seal.Goals as goal
+
+pub returns : goal.returns
+returns c = let S = c in
+    let sum = c.word_sum-sum in
+    let last = c.pair-last in
+    let put = c.put_number in
+    sealed S.args.block.now put.new.dst sum.result last.result S.requires sum.ensures last.ensures.value last.ensures.range put.ensures

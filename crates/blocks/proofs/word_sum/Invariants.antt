@@ -1,0 +1,13 @@
+use Prim.Native.Nat.{◌+◌, ◌-◌, ◌*◌, ◌%◌, ◌≤◌}
+use native.Mathlib.Omega.{arith}
+use native.Mathlib.Numerals.{add-one}
+use mathlib.Core.Path.{◌≡◌, refl, ap, ◌∙◌}
+use Rattle.blocks.specs.Bytes.{u16}
+use Rattle.blocks.specs.Block.{sum_below, word_sum}
+use Rattle.blocks.proofs.word_sum.Given as goal
+
+abbrev pub invariant-loop-j : goal.invariant-loop-j
+invariant-loop-j l = (l.at ≡ 512 * l.k) × (l.j ≤ 256) × (l.sum ≤ 65535 * l.j) × (l.sum ≡ sum_below l.j (λ i. u16 l.b (512 * l.k + 2 * i)))
+
+abbrev pub decreases-loop-j : goal.decreases-loop-j
+decreases-loop-j l = 256 - l.j
