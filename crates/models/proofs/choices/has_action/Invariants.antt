@@ -1,0 +1,14 @@
+use Prim.Native.Nat.{◌-◌, ◌≤◌}
+use native.Mathlib.Omega.{arith}
+use mathlib.Core.Path.{◌≡◌, refl, ap, ap₂, ◌∙◌}
+use Rattle.logic.specs.Lists.{some_below}
+use Rattle.logic.specs.Model.{true_of}
+use Rattle.models.specs.Layout.{literals, pre_of, state_mask, action_count}
+use Rattle.logic.proofs.Tests.{some_more}
+use Rattle.models.proofs.choices.has_action.Given as goal
+
+abbrev pub invariant-loop-a : goal.invariant-loop-a
+invariant-loop-a l = (l.a ≤ l.actions) × (l.found ≡ some_below l.a (λ a'. true_of (pre_of l.b a') (state_mask l.b l.s)))
+
+abbrev pub decreases-loop-a : goal.decreases-loop-a
+decreases-loop-a l = l.actions - l.a

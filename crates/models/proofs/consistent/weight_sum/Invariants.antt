@@ -1,0 +1,13 @@
+use Prim.Native.Nat.{◌*◌, ◌-◌, ◌≤◌, ◌+◌}
+use native.Mathlib.Omega.{arith}
+use native.Mathlib.Numerals.{add-one}
+use mathlib.Core.Path.{◌≡◌, refl, ap, ap₂, ◌∙◌}
+use Rattle.blocks.specs.Block.{sum_below}
+use Rattle.models.specs.Layout.{outcome_of}
+use Rattle.models.proofs.consistent.weight_sum.Given as goal
+
+abbrev pub invariant-loop-i : goal.invariant-loop-i
+invariant-loop-i l = (l.i ≤ l.n) × (l.sum ≡ sum_below l.i (λ i'. (outcome_of l.b l.s l.a i').weight)) × (l.sum ≤ 255 * l.i)
+
+abbrev pub decreases-loop-i : goal.decreases-loop-i
+decreases-loop-i l = l.n - l.i

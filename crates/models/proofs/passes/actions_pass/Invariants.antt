@@ -1,0 +1,14 @@
+use Prim.Native.Nat.{◌-◌, ◌≤◌}
+use native.Mathlib.Omega.{arith}
+use mathlib.Core.Path.{◌≡◌, refl, ap, ◌∙◌}
+use Rattle.logic.specs.Lists.{every}
+use Rattle.models.specs.Layout.{action_count}
+use Rattle.models.specs.promises.Passes.{action_passes}
+use Rattle.logic.proofs.Tests.{every_more}
+use Rattle.models.proofs.passes.actions_pass.Given as goal
+
+abbrev pub invariant-loop-a : goal.invariant-loop-a
+invariant-loop-a l = (l.a ≤ l.actions) × (l.right ≡ every l.a (action_passes l.ground l.b))
+
+abbrev pub decreases-loop-a : goal.decreases-loop-a
+decreases-loop-a l = l.actions - l.a

@@ -1,0 +1,13 @@
+use Prim.Native.Nat.{◌-◌, ◌≤◌}
+use native.Mathlib.Omega.{arith}
+use mathlib.Core.Path.{◌≡◌, refl, ap, ◌∙◌}
+use Rattle.logic.specs.Lists.{every}
+use Rattle.models.specs.promises.Passes.{outcome_passes}
+use Rattle.logic.proofs.Tests.{every_more}
+use Rattle.models.proofs.passes.outcomes_pass.Given as goal
+
+abbrev pub invariant-loop-i : goal.invariant-loop-i
+invariant-loop-i l = (l.i ≤ l.n) × (l.right ≡ every l.i (outcome_passes l.ground l.b l.s l.a))
+
+abbrev pub decreases-loop-i : goal.decreases-loop-i
+decreases-loop-i l = l.n - l.i

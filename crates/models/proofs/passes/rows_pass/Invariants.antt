@@ -1,0 +1,15 @@
+use Prim.Native.Nat.{◌-◌, ◌≤◌}
+use native.Mathlib.Omega.{arith}
+use mathlib.Core.Path.{◌≡◌, refl, ap, ◌∙◌}
+use Rattle.logic.specs.Lists.{every}
+use Rattle.blocks.specs.Block.{block_count}
+use Rattle.models.specs.promises.Passes.{row_passes}
+use Rattle.logic.proofs.Tests.{every_more}
+use Rattle.blocks.proofs.RangeTests.{blocks_within}
+use Rattle.models.proofs.passes.rows_pass.Given as goal
+
+abbrev pub invariant-loop-k : goal.invariant-loop-k
+invariant-loop-k l = (l.k ≤ l.rows) × (l.right ≡ every l.k (row_passes l.ground l.b))
+
+abbrev pub decreases-loop-k : goal.decreases-loop-k
+decreases-loop-k l = l.rows - l.k

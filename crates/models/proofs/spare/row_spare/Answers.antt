@@ -1,0 +1,8 @@
+-- The two ranges are the definition.
+use native.Mathlib.Omega.{arith}
+use Rattle.models.specs.Grounds.{row_spare}
+use Rattle.models.proofs.spare.row_spare.Goals as goal
+
+pub returns : goal.returns
+unfolding row_spare
+returns c = cc

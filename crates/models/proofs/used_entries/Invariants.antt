@@ -1,0 +1,16 @@
+use Prim.Native.Nat.{ℕ, ◌-◌, ◌/◌, ◌%◌, ◌≤◌, ◌<◌}
+use native.Mathlib.Omega.{arith}
+use mathlib.Core.Path.{◌≡◌, refl, sym, ◌∙◌}
+use lib.ListN.{length, get_or, length-set}
+use lib.Seq.{get_or-set_other}
+use Rattle.models.specs.Layout.{entries}
+use Rattle.models.proofs.EveryCell.{filled_more, filled_whole, zeros_read, entries_past_states}
+use Rattle.models.proofs.used_entries.Given as goal
+
+abbrev pub invariant-loop-k : goal.invariant-loop-k
+invariant-loop-k l =
+    (l.k ≤ l.end) × (length l.used ≡ 264) × ((j : ℕ) → j < l.k → get_or l.used j 0 ≡ entries l.b (j / 8) (j % 8)) × ((j : ℕ) → l.k ≤ j → get_or l.used j 0 ≡ 0)
+    × (l.end ≤ 264)
+
+abbrev pub decreases-loop-k : goal.decreases-loop-k
+decreases-loop-k l = l.end - l.k
