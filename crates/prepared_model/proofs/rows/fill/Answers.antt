@@ -1,0 +1,27 @@
+-- The choices are listed and spelled out, the silent move is put where there is none, and then all are summed.
+use Rattle.prepared_model.proofs.RowFilled.{states_few, ready, row_filled}
+use native.Mathlib.Omega.{arith}
+use mathlib.Core.Path.{◌∙◌}
+use borrow.Author.Rules.{rules}
+use Rattle.prepared_model.proofs.rows.fill.Goals as goal
+
+pub denominator-requires : goal.denominator-requires
+denominator-requires c = tt
+
+pub or_silent-n-requires : goal.or_silent-n-requires
+or_silent-n-requires c = let S = c in
+    (omega (arith, S.requires.1, states_few _ S.requires.0), c.denominator.ensures.range, c.spell.auto.row ∙ c.choose.auto.row ∙ S.requires.2)
+
+pub sum_choices-requires : goal.sum_choices-requires
+sum_choices-requires c = let S = c in
+    let r = c.spell in
+    let d = c.denominator.ensures in
+    let o = c.or_silent-n.ensures in
+    ready S.requires.0 r.ensures.0 r.ensures.1 (r.auto.row ∙ c.choose.auto.row ∙ S.requires.2) d.value d.range o.0 o.1
+
+pub returns : goal.returns
+returns c = let S = c in
+    let r = c.spell in
+    let d = c.denominator.ensures in
+    let o = c.or_silent-n.ensures in
+    row_filled S.requires.0 r.ensures.0 r.ensures.1 (r.auto.row ∙ c.choose.auto.row ∙ S.requires.2) d.value d.range o.0 o.1 c.sum_choices.ensures

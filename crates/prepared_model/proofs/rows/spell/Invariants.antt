@@ -1,0 +1,14 @@
+use Rattle.models.specs.Layout.{cell_at}
+use Rattle.prepared_model.specs.promises.Filled.{Chosen, Spelled, source}
+use Rattle.prepared_model.proofs.RowFilled.{states_few, chosen_few, chosen_byte, spelled_none, put_length, put_count, put_kept, put_more}
+use Prim.Native.Nat.{◌+◌, ◌*◌, ◌-◌, ◌≤◌, ◌/◌, ◌%◌}
+use native.Mathlib.Omega.{arith}
+use mathlib.Core.Path.{◌≡◌, sym, ap, subst, ◌∙◌}
+use lib.ListN.{length, get_or}
+use Rattle.prepared_model.proofs.rows.spell.Given as goal
+
+abbrev pub invariant-loop-k : goal.invariant-loop-k
+invariant-loop-k l = (l.n ≡ 4 * get_or l.row 16 0) × (get_or l.row 16 0 ≤ 8) × (l.k ≤ l.n) × (length l.row ≡ 256) × Chosen l.b l.s l.row × Spelled l.b l.s l.k l.row
+
+abbrev pub decreases-loop-k : goal.decreases-loop-k
+decreases-loop-k l = l.n - l.k

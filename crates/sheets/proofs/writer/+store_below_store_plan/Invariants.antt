@@ -1,0 +1,23 @@
+use Prim.Native.Nat.{◌+◌, ◌-◌, ◌≤◌, ℕ, ◌<◌}
+use native.Mathlib.Omega.{arith}
+use mathlib.Core.Path.{ap, ◌∙◌}
+use lib.ListN.{length}
+use Rattle.logic.specs.Model.{outcomes}
+use Rattle.models.specs.Layout.{state_count, model_of}
+use Rattle.sheets.specs.Layout.{blocks_for}
+use Rattle.sheets.proofs.PlanEnds.{target_inside}
+use Rattle.sheets.proofs.StoredChoices.{stored_length}
+use Rattle.sheets.proofs.StoredBelow.{no_step, choice_there, below_ahead, choice_stored, Walked, walked_none, outcome_ahead, walked_more, walked_all}
+use Rattle.sheets.proofs.writer.+store_below_store_plan.Given as goal
+
+abbrev pub decreases-store_below : goal.decreases-store_below
+decreases-store_below l = l.k + l.k + 1
+
+abbrev pub decreases-store_plan : goal.decreases-store_plan
+decreases-store_plan l = l.n + l.n
+
+abbrev pub invariant-store_below-loop-i : goal.invariant-store_below-loop-i
+invariant-store_below-loop-i l = (l.i ≤ l.count) × Walked l.m l.choices l.s l.a l.k l.i l.p l.next l.initial.buf l.buf
+
+abbrev pub decreases-store_below-loop-i : goal.decreases-store_below-loop-i
+decreases-store_below-loop-i l = l.count - l.i

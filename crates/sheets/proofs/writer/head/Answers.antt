@@ -1,0 +1,18 @@
+-- The four stores compute.
+use native.Mathlib.Omega.{arith}
+use mathlib.Core.Path.{◌≡◌, ap, ◌∙◌}
+use lib.ListN.{set, replicate, length-set}
+use borrow.Author.Rules.{rules}
+use Rattle.sheets.specs.promises.Writer.{started}
+use Rattle.sheets.proofs.writer.head.Goals as goal
+
+pub bounds-dst-1 : goal.bounds-dst-1
+bounds-dst-1 c = simp length-set (omega arith)
+
+pub bounds-dst-2 : goal.bounds-dst-2
+bounds-dst-2 c = simp length-set (omega arith)
+
+pub returns : goal.returns
+unfolding started
+returns c = let z : c.args.dst.now ≡ replicate 512 0 = c.requires.1 ∙ ap (λ n. replicate n 0) c.requires.0 in
+    ap (λ l. set (set (set (set l 0 4) 1 c.args.k) 2 c.args.n) 3 c.args.start) z
