@@ -1,0 +1,15 @@
+use Prim.Native.Nat.{◌≤◌, ◌-◌}
+use native.Mathlib.Omega.{arith}
+use mathlib.Core.Path.{◌≡◌, refl, ap, ◌∙◌}
+use lib.ListN.{length, take}
+use lib.Seq.{take_all}
+use borrow.Author.Rules.{rules}
+use Rattle.evaluation.specs.promises.Learnt.{learnt}
+use Rattle.evaluation.proofs.LearntInOrder.{learnt_more}
+use Rattle.evaluation.proofs.learn.Given as goal
+
+abbrev pub invariant-loop-i : goal.invariant-loop-i
+invariant-loop-i l = (l.i ≤ length l.cone) × (l.v ≡ learnt l.q l.truth l.trail l.gains l.h l.s (take l.i l.cone) l.initial.v)
+
+abbrev pub decreases-loop-i : goal.decreases-loop-i
+decreases-loop-i l = length l.cone - l.i

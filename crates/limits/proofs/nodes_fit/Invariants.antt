@@ -1,0 +1,18 @@
+use Prim.Native.Nat.{◌-◌, ◌≤◌}
+use native.Mathlib.Omega.{arith}
+use mathlib.Core.Path.{◌≡◌, refl, sym, ap, ◌∙◌}
+use borrow.Author.Rules.{rules}
+use Rattle.questions.proofs.SetsBound.{bound_compares}
+use Rattle.logic.specs.Lists.{every}
+use Rattle.prepared_model.specs.promises.Rows.{model_in}
+use Rattle.questions.specs.Layout.{node_count, node_of}
+use Rattle.limits.specs.promises.Totals.{fits, node_fits}
+use Rattle.limits.proofs.NodeByNode.{nodes_all}
+use Rattle.logic.proofs.Tests.{every_more}
+use Rattle.limits.proofs.nodes_fit.Given as goal
+
+abbrev pub invariant-loop-i : goal.invariant-loop-i
+invariant-loop-i l = (l.n ≡ node_count l.q) × (l.i ≤ l.n) × (l.right ≡ every l.i (λ i'. node_fits l.plans (model_in l.m) (node_of l.q i')))
+
+abbrev pub decreases-loop-i : goal.decreases-loop-i
+decreases-loop-i l = l.n - l.i

@@ -1,0 +1,14 @@
+use Prim.Native.Nat.{◌-◌, ◌≤◌}
+use native.Mathlib.Omega.{arith}
+use mathlib.Core.Path.{◌≡◌}
+use borrow.Author.Rules.{rules}
+use Rattle.questions.specs.Layout.{node_count, node_of}
+use Rattle.limits.specs.promises.Counted.{Needed}
+use Rattle.limits.proofs.RowsForNodes.{needed_none, needed_more, needed_all}
+use Rattle.limits.proofs.rows_needed.Given as goal
+
+abbrev pub invariant-loop-i : goal.invariant-loop-i
+invariant-loop-i l = (l.n ≡ node_count l.q) × (l.i ≤ l.n) × Needed l.plans l.q l.i l.rows
+
+abbrev pub decreases-loop-i : goal.decreases-loop-i
+decreases-loop-i l = l.n - l.i
