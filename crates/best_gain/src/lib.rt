@@ -16,7 +16,7 @@ use prepared_model::{
 };
 
 // The steps of a plan, those before the first that earns, and the last that does.
-#[derive(Drop)]
+#[derive(Clone, Copy)]
 pub struct Window {
     pub steps: u8,
     pub before: u8,
@@ -24,7 +24,7 @@ pub struct Window {
 }
 
 // The best total of a state, and the place of the first choice that has it.
-#[derive(Drop)]
+#[derive(Clone, Copy)]
 pub struct Picked {
     value: u64,
     place: u8,

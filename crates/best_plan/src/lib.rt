@@ -29,7 +29,7 @@ pub const STACK: usize = 4095;
 
 // Where a search stands: h steps led from the start to the state s, and k are left; choices are written from `at` on. And whether the least
 // total is looked for.
-#[derive(Drop)]
+#[derive(Clone, Copy)]
 pub struct Spot {
     start: u8,
     h: u8,
@@ -40,14 +40,14 @@ pub struct Spot {
 }
 
 // What was found: the best plan's total, and the number of its choices.
-#[derive(Drop)]
+#[derive(Clone, Copy)]
 pub struct Found {
     pub value: u64,
     pub count: usize,
 }
 
 // The best of the choices tried so far: whether there is one, its total, and where its plan's choices end.
-#[derive(Drop)]
+#[derive(Clone, Copy)]
 pub struct Best {
     found: bool,
     value: u64,
@@ -55,7 +55,7 @@ pub struct Best {
 }
 
 // The total of a choice's outcomes, and where the choices below them end.
-#[derive(Drop)]
+#[derive(Clone, Copy)]
 pub struct Walked {
     value: u64,
     end: usize,

@@ -98,7 +98,7 @@ fn lift(m: &[u16; MODEL], q: &[u8; QUESTION], j: u8) -> u64
 }
 
 // The two sides of a bound on a raised total x, with nothing negative on either: `parts` times x and `down`, and `up`.
-#[derive(Drop)]
+#[derive(Clone, Copy)]
 struct Sides {
     parts: u64,
     up: u64,
@@ -143,7 +143,7 @@ pub fn meets(m: &[u16; MODEL], q: &[u8; QUESTION], j: u8, x: u64) -> bool
 }
 
 // The least raised total that is not below the bound, and whether it is equal to it: then it is the one that meets "equal", else none does.
-#[derive(Drop)]
+#[derive(Clone, Copy)]
 pub struct Exact {
     pub whole: bool,
     pub total: u64,

@@ -34,7 +34,7 @@ pub const TRUTHS: usize = 1280;
 pub const VALUES: usize = 280;
 
 // A place of a path: where it starts, how many steps were taken, and the state that they led to.
-#[derive(Drop)]
+#[derive(Clone, Copy)]
 pub struct Place {
     pub start: u8,
     pub h: u8,

@@ -37,7 +37,7 @@ pub const ROOM: usize = 65819;
 
 // What is listed: the totals of all n-step plans from s. A path is worth the value of the condition at the cone's root, which looks d steps ahead, or
 // with no nodes in the cone the raised gain of steps a + 1 to d.
-#[derive(Drop)]
+#[derive(Clone, Copy)]
 pub struct Sought {
     pub s: u8,
     pub a: u8,

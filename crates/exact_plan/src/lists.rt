@@ -23,7 +23,7 @@ use questions::NODES;
 
 // Where a list is made: after h steps from the start, in the state s, with k steps to go, and written from `at` on. The worth of a path
 // looks d steps ahead; a gain is that of the steps after the first a.
-#[derive(Drop)]
+#[derive(Clone, Copy)]
 pub struct Spot {
     pub start: u8,
     pub a: u8,
@@ -35,14 +35,14 @@ pub struct Spot {
 }
 
 // The outcome o of the choice at place i.
-#[derive(Drop)]
+#[derive(Clone, Copy)]
 pub struct Outcome {
     pub i: usize,
     pub o: usize,
 }
 
 // A further outcome to combine a list of `len` totals with, on its right or on its left.
-#[derive(Drop)]
+#[derive(Clone, Copy)]
 pub struct Further {
     i: usize,
     o: usize,

@@ -15,14 +15,14 @@ use prepared_model::MODEL;
 use prepared_question::QUESTION;
 
 // A number of a list, and its place there; the list's length where there is none.
-#[derive(Drop)]
+#[derive(Clone, Copy)]
 pub struct Near {
     pub place: usize,
     pub total: u64,
 }
 
 // The nearest total below a number, and the nearest of those that are not below it.
-#[derive(Drop)]
+#[derive(Clone, Copy)]
 pub struct Neighbours {
     pub below: Near,
     pub above: Near,

@@ -26,7 +26,7 @@ use questions::NODES;
 
 // Where a total was sought among those of some plans: its first place, which is their number where it is not there; their number; and whether it
 // is there.
-#[derive(Drop)]
+#[derive(Clone, Copy)]
 pub struct Placed {
     pub place: usize,
     pub all: usize,
@@ -34,7 +34,7 @@ pub struct Placed {
 }
 
 // Bounds of some numbers: the least and the greatest.
-#[derive(Drop)]
+#[derive(Clone, Copy)]
 pub struct Ends {
     low: u64,
     high: u64,

@@ -15,7 +15,7 @@ use questions::{AND, NODES};
 use relevance::{cone, place};
 
 // What is left of a condition in a state: nothing where it is false on every path, else a node that means the same there.
-#[derive(Drop)]
+#[derive(Clone, Copy)]
 pub struct Peeled {
     pub dead: bool,
     pub node: u8,

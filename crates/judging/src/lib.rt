@@ -46,7 +46,7 @@ use relevance::needed;
 const BESTS: usize = 2560;
 
 // What goes with a no: for "equal" the number of all plans, else 0; for "less" and "greater" how the least or greatest total compares with the bound.
-#[derive(Drop)]
+#[derive(Clone, Copy)]
 pub struct Denial {
     pub count: u32,
     pub lamp: OptionalLamp,
@@ -54,7 +54,7 @@ pub struct Denial {
 
 // The record of a shown plan: its total (W, or the expected gain times D to the n), how that compares with the bound, its steps, and its place in
 // dictionary order for "equal", else 0.
-#[derive(Drop)]
+#[derive(Clone, Copy)]
 pub struct PlanRecord {
     pub total: i64,
     pub lamp: Lamp,
@@ -63,7 +63,7 @@ pub struct PlanRecord {
 }
 
 // No, yes to a root that sets no bound on plans, or yes with a shown plan.
-#[derive(Drop)]
+#[derive(Clone, Copy)]
 pub enum Verdict {
     No(Denial),
     Yes,
@@ -225,7 +225,7 @@ fn root_total(m: &[u16; MODEL], q: &[u8; QUESTION], truth: &[u8; TRUTHS], choice
 }
 
 // The total of a plan for the root, whether it meets the root's bound, and its lamp.
-#[derive(Drop)]
+#[derive(Clone, Copy)]
 pub struct Weighed {
     pub total: i64,
     pub met: bool,

@@ -28,7 +28,7 @@ use questions::{EARNS, NODES};
 
 // What deciding a node in a state came to: whether it is true, the raised total of the plan found, its place for "equal" (from 0; the number of
 // all plans if there is none), and how many steps of that plan the scratch has.
-#[derive(Drop)]
+#[derive(Clone, Copy)]
 pub struct Decision {
     pub met: bool,
     pub raised: u64,

@@ -12,7 +12,7 @@ use questions::{EARNS, NODES, SPAN_BASE};
 use relevance::cone;
 
 // How many nodes of the condition are listed, how many steps come before those that are looked at, and the last that is.
-#[derive(Drop)]
+#[derive(Clone, Copy)]
 pub struct Worth {
     pub count: usize,
     pub before: u8,

@@ -6,7 +6,7 @@ ghost use Rattle.logic.specs.Quantity.{naturals};
 ghost use Rattle.logic.specs.Bound as bounds;
 ghost use Rattle.lamp.specs.promises.Codes.{lamp_code};
 
-#[derive(Drop)]
+#[derive(Clone, Copy)]
 pub enum Lamp {
     Below,
     At,
@@ -14,7 +14,7 @@ pub enum Lamp {
 }
 
 // A lamp, or none.
-#[derive(Drop)]
+#[derive(Clone, Copy)]
 pub enum OptionalLamp {
     Missing,
     Present(Lamp),

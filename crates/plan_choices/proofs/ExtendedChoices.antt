@@ -28,6 +28,8 @@ module _ {A : Type 0} (f : A → List ℕ → Run) where
       → Match (λ x y. (r : List ℕ) → f x (c y ++ r) ≡ (w x y, r)) xs ys → each f xs (flat_map c ys ++ rest) ≡ (join w xs ys, rest)
   unfolding each flat_map join
   each_read c w [] [] rest ends = refl
+  each_read {B = B} c w [] (y ∷ ys) rest h = elim h [ ]
+  each_read {B = B} c w (x ∷ xs) [] rest h = elim h [ ]
   each_read c w (x ∷ xs) (y ∷ ys) rest (pair h t) =
       ap (λ cs. ((f x cs).0 ++ (each f xs (f x cs).1).0, (each f xs (f x cs).1).1)) (append_assoc (c y) (flat_map c ys) rest)
       ∙ ap (λ (z : Run). (z.0 ++ (each f xs z.1).0, (each f xs z.1).1)) (h (flat_map c ys ++ rest))

@@ -31,7 +31,7 @@ factors x y {z} e h =
     let q : 0 < x = positive y x {k = 0} (rw (mul_comm y x, e) h) in
     (q, p, omega (arith, le-mul_of_pos_right x p, e), omega (arith, le-mul_of_pos_right y q, mul_comm y x, e))
 
-member_most : {A : Type 0} (f : A → ℕ) {l : List A} {x : A} → Memᴰ x l → f x ≤ sum naturals f l
+member_most : {A : Type 0} (f : A → ℕ) {x : A} {l : List A} → Memᴰ x l → f x ≤ sum naturals f l
 unfolding sum
 member_most f (Memᴰ.head {x} {xs} e) = rw e (omega arith)
 member_most f (Memᴰ.tail {x} {xs} i) = omega (arith, member_most f i)

@@ -13,7 +13,7 @@ use models::STATES;
 use prepared_model::{MODEL, STAGES};
 
 // Where to read on, and where to write on.
-#[derive(Drop)]
+#[derive(Clone, Copy)]
 pub struct Cursor {
     from: usize,
     at: usize,

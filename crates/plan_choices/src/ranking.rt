@@ -14,7 +14,7 @@ use limits::{COUNTS, plans_counted};
 use prepared_model::MODEL;
 
 // The place of a choice in the row of its state, and which of the `size` ways to go on below it.
-#[derive(Drop)]
+#[derive(Clone, Copy)]
 struct Block {
     at: usize,
     size: u64,

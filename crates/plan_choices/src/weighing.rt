@@ -20,7 +20,7 @@ use prepared_question::QUESTION;
 
 // Where a sum is made: after h steps from the start, in the state s, with k steps to go; the choices are read from `at` on. The worth of a
 // path looks d steps ahead; a gain is that of the steps after the first a.
-#[derive(Drop)]
+#[derive(Clone, Copy)]
 pub struct Spot {
     start: u8,
     a: u8,
@@ -32,7 +32,7 @@ pub struct Spot {
 }
 
 // A sum, and where to read on.
-#[derive(Drop)]
+#[derive(Clone, Copy)]
 pub struct Part {
     value: u64,
     next: usize,

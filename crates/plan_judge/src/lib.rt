@@ -52,7 +52,7 @@ pub struct Desk {
 }
 
 // The answer of load and put.
-#[derive(Drop)]
+#[derive(Clone, Copy)]
 pub enum Taken {
     Done,
     Refused(u32),
@@ -65,7 +65,7 @@ pub struct Taking {
 }
 
 // The answer of judge; the choices of a shown plan stand beside it.
-#[derive(Drop)]
+#[derive(Clone, Copy)]
 pub enum Judgement {
     Judged(Verdict),
     Refused(u32),
@@ -79,21 +79,21 @@ pub struct Judging {
 }
 
 // The answer of write and write_model: the number of bytes written.
-#[derive(Drop)]
+#[derive(Clone, Copy)]
 pub enum Written {
     Bytes(usize),
     Refused(u32),
 }
 
 // What check reports of a sheet that it accepts: whether the sheet's total meets the bound, and its lamp.
-#[derive(Drop)]
+#[derive(Clone, Copy)]
 pub struct Report {
     pub met: bool,
     pub lamp: Lamp,
 }
 
 // The answer of check.
-#[derive(Drop)]
+#[derive(Clone, Copy)]
 pub enum Checking {
     Accepted(Report),
     Refused(u32),

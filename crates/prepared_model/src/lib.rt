@@ -187,7 +187,7 @@ pub fn sum(m: &[u16; MODEL], s: usize, i: usize, y: usize) -> u64
 // ---- a choice by its byte
 
 // Where the outcomes of a choice stand, and how many they are.
-#[derive(Drop)]
+#[derive(Clone, Copy)]
 pub struct Row {
     pub at: usize,
     pub count: usize,

@@ -34,7 +34,7 @@ use questions::sets_bound;
 
 // A plan that is shown on yes: its total, over what all paths weigh together, how that compares with the bound, the plan's place for "equal", else 0,
 // and how many choices it has; they stand in the first lent buffer.
-#[derive(Drop)]
+#[derive(Clone, Copy)]
 pub struct ShownPlan {
     pub total: i64,
     pub whole: u64,
@@ -44,7 +44,7 @@ pub struct ShownPlan {
 }
 
 // A total that some plan reaches, over what all paths weigh together, and how many choices the first plan has that reaches it.
-#[derive(Drop)]
+#[derive(Clone, Copy)]
 pub struct Reached {
     pub total: i64,
     pub whole: u64,
@@ -52,21 +52,21 @@ pub struct Reached {
 }
 
 // What is reached on a side, if anything is.
-#[derive(Drop)]
+#[derive(Clone, Copy)]
 pub enum Side {
     Nothing,
     Something(Reached),
 }
 
 // What is reached on either side of the bound; the choices stand in the first lent buffer and in the second.
-#[derive(Drop)]
+#[derive(Clone, Copy)]
 pub struct Between {
     pub below: Side,
     pub above: Side,
 }
 
 // A yes, with a shown plan or without, or the reason of a no.
-#[derive(Drop)]
+#[derive(Clone, Copy)]
 pub enum Explanation {
     Yes,
     Shown(ShownPlan),

@@ -133,7 +133,7 @@ fn put_checked(out: &mut [u8], at: usize, answer: Checking) -> usize
 }
 
 // The two Adler sums of a buffer, a short stand-in for its bytes.
-#[derive(Drop)]
+#[derive(Clone, Copy)]
 struct Sums {
     a: u32,
     b: u32,

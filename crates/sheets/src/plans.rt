@@ -10,7 +10,7 @@ ghost use Rattle.sheets.specs.promises.Ends.{end_of};
 use models::choices::{outcome_count, outcome_target};
 
 // Where the choices of a plan end, or the number of a refusal.
-#[derive(Drop)]
+#[derive(Clone, Copy)]
 pub enum End {
     At(usize),
     Refused(u32),

@@ -1,0 +1,16 @@
+use Prim.Native.Nat.{◌-◌, ◌≤◌}
+use native.Mathlib.Omega.{arith}
+use mathlib.Core.Path.{◌≡◌, sym, subst, ◌∙◌}
+use mathlib.Core.Logic.{⊎_elim}
+use Rattle.prepared_model.specs.promises.Rows.{choices_in}
+use Rattle.prepared_model.proofs.ReadByPlace.{some_choice}
+use Rattle.best_gain.specs.promises.Tabled.{Picks}
+use Rattle.best_gain.proofs.TableRows.{picks_first, picks_won, picks_lost}
+use borrow.Author.Rules.{rules}
+use Rattle.best_gain.proofs.pick.Given as goal
+
+abbrev pub invariant-loop-i : goal.invariant-loop-i
+invariant-loop-i l = (l.n ≡ choices_in l.m l.s) × (l.i ≤ l.n) × Picks l.least l.m l.best l.at l.unit l.s l.i l.value l.place
+
+abbrev pub decreases-loop-i : goal.decreases-loop-i
+decreases-loop-i l = l.n - l.i

@@ -1,0 +1,35 @@
+use native.Mathlib.Omega.{arith}
+use mathlib.Core.Path.{◌≡◌, ◌∙◌}
+use mathlib.Core.Logic.{⊎_elim}
+use borrow.Author.Rules.{rules}
+use lib.ListN.{take, length-set}
+use Rattle.models.specs.Layout.{denominator_of}
+use Rattle.prepared_model.specs.promises.Rows.{choices_in, outcomes_in, Offers}
+use Rattle.evaluation.specs.promises.Reached.{on_path}
+use Rattle.evaluation.specs.promises.Known.{Stepped}
+use Rattle.best_plan.proofs.OutcomesWalked.{Walking, walking_none}
+use Rattle.best_plan.proofs.HopelessLoses.{weighed, weighed_none}
+use Rattle.best_plan.proofs.PathOneStepOn.{state_here, place_here, few_here, picked_leaf, Kept, back_none, kept_none}
+use Rattle.best_plan.proofs.LoopsKeepBuffers.{hopeless_asked, hopeless_cannot_win, rest_after_outcome, step_asked, pick_room, last_room, pick_setting, last_setting, Below, below_last, sum_with_outcome_fits, one_outcome_more_walked, buffers_kept_below, all_outcomes_walked, ChoicesTried, no_choice_tried, walk_room, walk_setting, all_choices_tried, keep_asked, one_choice_more_tried, same}
+use Prim.Native.Nat.{ℕ, ◌+◌, ◌-◌, ◌≤◌, ◌<◌}
+use Rattle.best_plan.proofs.+pick_walk.Given as goal
+
+abbrev pub decreases-pick : goal.decreases-pick
+decreases-pick l = l.spot.k + l.spot.k
+
+abbrev pub decreases-walk : goal.decreases-walk
+decreases-walk l = l.spot.k + l.spot.k + 1
+
+abbrev pub invariant-pick-loop-i : goal.invariant-pick-loop-i
+invariant-pick-loop-i l = (l.n ≡ choices_in l.m l.spot.s) × (l.i ≤ l.n) × ChoicesTried l.spot.least l.m l.q l.spot.start l.cone l.spot.h l.spot.s l.spot.k l.spot.at l.initial.trail l.initial.gains l.initial.v l.initial.choices l.i l.trail l.gains l.v l.choices l.best
+
+abbrev pub decreases-pick-loop-i : goal.decreases-pick-loop-i
+decreases-pick-loop-i l = l.n - l.i
+
+abbrev pub invariant-walk-loop-o : goal.invariant-walk-loop-o
+invariant-walk-loop-o l = (l.n ≡ outcomes_in l.m l.spot.s l.i) × (l.o ≤ l.n) × Walking l.spot.least l.m l.spot.s l.i l.spot.k (on_path l.m l.q l.spot.start l.cone (take l.spot.h l.initial.trail)) l.o l.spot.at l.initial.choices l.choices l.sum l.end
+    × Kept l.m l.q l.spot.start l.cone l.spot.h l.initial.trail l.initial.gains l.initial.v l.initial.choices l.trail l.gains l.v l.choices
+    × (l.rest + weighed l.m l.spot.s l.i l.o ≡ denominator_of l.m)
+
+abbrev pub decreases-walk-loop-o : goal.decreases-walk-loop-o
+decreases-walk-loop-o l = l.n - l.o

@@ -1,0 +1,50 @@
+-- `last_choice`: the best of the choices tried so far (`LastStepBest`).
+use Prim.Native.Nat.{◌-◌, ◌≤◌, ◌<◌}
+use native.Mathlib.Omega.{arith}
+use mathlib.Core.Path.{◌≡◌, sym, ◌∙◌}
+use mathlib.Core.Logic.{⊎_elim}
+use borrow.Author.Rules.{rules}
+use Rattle.prepared_model.specs.promises.Rows.{choices_in}
+use Rattle.prepared_model.proofs.ReadByPlace.{some_choice}
+use Rattle.best_plan.proofs.LastStepBest.{Ending, ending_first, ending_won, ending_lost, ending_all}
+use Rattle.best_plan.proofs.last_choice.Goals as goal
+
+pub choices-n-requires : goal.choices-n-requires
+choices-n-requires c = omega (arith, c.requires.0.states, c.requires.1)
+
+pub total-value-requires : goal.total-value-requires
+total-value-requires c = let S = c in
+    (S.requires.0, S.requires.1, some_choice S.requires.0 S.args.s S.requires.1)
+
+pub loop-i-init : goal.loop-i-init
+loop-i-init c = let S = c in
+    let some = some_choice S.requires.0 S.args.s S.requires.1 in
+    (c.choices-n.ensures, omega (arith, c.choices-n.ensures), ending_first S.args.least S.requires.0 S.requires.1 some c.total-value.ensures)
+
+pub total-v-requires : goal.total-v-requires
+total-v-requires c = let S = c in
+    (S.requires.0, S.requires.1, omega (arith, c.loop-i.invariant.0, c.loop-i-test.true))
+
+pub loop-i-preserved : goal.loop-i-preserved
+loop-i-preserved c = let S = c in
+    let L = c.loop-i in
+    let l : L.i < choices_in S.args.m.now S.args.s = omega (arith, L.invariant.0, c.loop-i-test.true) in
+    let v = c.total-v.ensures in
+    let e = sym c.exceeds.ensures in (
+      L.invariant.0,
+      omega (arith, c.loop-i-test.true),
+      ⊎_elim
+          (λ w. rw (w.1, w.2) (ending_won S.args.least S.requires.0 S.requires.1 L.invariant.2 l v (e ∙ w.0.taken)))
+          (λ w. rw (w.1, w.2) (ending_lost S.args.least S.requires.0 S.requires.1 L.invariant.2 l v (e ∙ w.0.left)))
+          c.if-exceeds.branch,
+    )
+
+pub choice-requires : goal.choice-requires
+choice-requires c = let S = c in
+    let L = c.loop-i in
+    (S.requires.0, S.requires.1, omega (arith, L.invariant.0, L.invariant.1, L.invariant.2.inside))
+
+pub returns : goal.returns
+returns c = let S = c in
+    let L = c.loop-i in
+    rw c.choice.ensures (ending_all S.args.least S.requires.0 S.requires.1 L.invariant.2 (omega (arith, L.invariant.0, L.invariant.1, c.loop-i-test.false)) (omega (arith, S.requires.2)))

@@ -1,0 +1,15 @@
+use Prim.Native.Nat.{◌-◌, ◌≤◌, ◌<◌}
+use native.Mathlib.Omega.{arith}
+use mathlib.Core.Path.{◌≡◌, sym, ◌∙◌}
+use mathlib.Core.Logic.{⊎_elim}
+use borrow.Author.Rules.{rules}
+use Rattle.prepared_model.specs.promises.Rows.{choices_in}
+use Rattle.prepared_model.proofs.ReadByPlace.{some_choice}
+use Rattle.best_plan.proofs.LastStepBest.{Ending, ending_first, ending_won, ending_lost, ending_all}
+use Rattle.best_plan.proofs.last_choice.Given as goal
+
+abbrev pub invariant-loop-i : goal.invariant-loop-i
+invariant-loop-i l = (l.n ≡ choices_in l.m l.s) × (l.i ≤ l.n) × Ending l.least l.m l.s l.x l.i l.value l.place
+
+abbrev pub decreases-loop-i : goal.decreases-loop-i
+decreases-loop-i l = l.n - l.i

@@ -1,0 +1,8 @@
+-- `leaf`: the value known of the cone's root.
+use mathlib.Core.Path.{refl, ap, ◌∙◌}
+use borrow.Author.Rules.{rules}
+use Rattle.evaluation.specs.promises.Learnt.{known}
+use Rattle.best_plan.proofs.leaf.Goals as goal
+
+pub returns : goal.returns
+returns c = (c.known.ensures ∙ ap (λ j. known c.args.v.now j 0) c.root.ensures, refl)

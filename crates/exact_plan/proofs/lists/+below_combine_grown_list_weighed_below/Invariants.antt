@@ -1,0 +1,48 @@
+use Prim.Native.Nat.{ℕ, suc, ◌+◌, ◌*◌, ◌-◌, ◌<◌}
+use native.Mathlib.Omega.{arith}
+use mathlib.Core.List.{List}
+use mathlib.Core.Path.{◌≡◌, refl, sym, ap, subst, ◌∙◌}
+use lib.ListN.{length, take}
+use borrow.Author.Rules.{rules}
+use Rattle.logic.specs.Model.{Step, outcomes}
+use Rattle.logic.specs.Limits.{plan_total}
+use Rattle.prepared_model.specs.promises.Rows.{choices_in, choice_in, model_in}
+use Rattle.prepared_model.proofs.ReadByPlace.{some_outcome}
+use Rattle.prepared_model.proofs.PlacesInRange.{place_range}
+use Rattle.evaluation.specs.promises.Worth.{worth_on}
+use Rattle.exact_plan.specs.promises.Room.{Room}
+use Rattle.exact_plan.specs.promises.Totals.{combined, weighed}
+use Rattle.exact_plan.proofs.OutcomesJoined.{Place, placed, count_right, weighed_shifts, weighed_written, span_outcome, Spanned, ways, first_room, first_before, first_spanned, span_end, span_grows, span_wider, grown_joins, grown_written}
+use Rattle.exact_plan.proofs.ListsWritten.{within, state_small, reached, offered, below_here, below_written, decides, decided_room, decided_written, rebased}
+use Rattle.exact_plan.proofs.ChoiceByChoice.{choice_few, Listed, listed_none, choice_room, choice_here, choice_listed, listed_all}
+use Rattle.exact_plan.proofs.OneOutcomeJoined.{beside_inside, wider_less}
+use Rattle.exact_plan.proofs.lists.+below_combine_grown_list_weighed_below.Given as goal
+
+abbrev pub decreases-below : goal.decreases-below
+decreases-below l = 4 * l.spot.k + 1
+
+abbrev pub decreases-combine : goal.decreases-combine
+decreases-combine l = 4 * l.spot.k + 3
+
+abbrev pub decreases-grown : goal.decreases-grown
+decreases-grown l = 4 * l.spot.k + 2
+
+abbrev pub decreases-list : goal.decreases-list
+decreases-list l = 4 * l.spot.k
+
+abbrev pub decreases-below : goal.decreases-below
+decreases-below l = 4 * l.spot.k + 2
+
+abbrev pub invariant-combine-loop-hi : goal.invariant-combine-loop-hi
+invariant-combine-loop-hi l =
+    Spanned l.m l.q l.spot.start l.spot.a l.spot.d l.cone l.spot.h l.spot.s l.i l.spot.k l.spot.at l.c l.initial.trail l.initial.buf l.trail l.gains l.v l.buf l.lo l.hi l.len
+
+abbrev pub decreases-combine-loop-hi : goal.decreases-combine-loop-hi
+decreases-combine-loop-hi l = l.c - (l.hi - l.lo)
+
+abbrev pub invariant-list-loop-i : goal.invariant-list-loop-i
+invariant-list-loop-i l =
+    (l.n ≡ choices_in l.m l.spot.s) × (l.spot.h < l.spot.d) × Listed l.m l.q l.spot.start l.spot.a l.spot.d l.cone l.spot.h l.spot.s l.spot.k (l.spot.k - 1) l.spot.at l.initial.trail l.initial.buf l.trail l.gains l.v l.buf l.len l.i
+
+abbrev pub decreases-list-loop-i : goal.decreases-list-loop-i
+decreases-list-loop-i l = l.n - l.i

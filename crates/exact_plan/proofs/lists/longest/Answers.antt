@@ -1,0 +1,49 @@
+-- `lists::longest`: the best of the outcomes before o, by the table.
+use Prim.Native.Nat.{◌+◌, ◌-◌, ◌*◌, ◌≤◌, ◌<◌}
+use native.Mathlib.Nat.{le_refl}
+use native.Mathlib.Omega.{arith}
+use mathlib.Core.Path.{◌≡◌, ap, subst, ◌∙◌}
+use mathlib.Core.Logic.{⊎_elim}
+use lib.ListN.{get_or}
+use Rattle.exact_plan.specs.promises.Listing.{Longest}
+use Rattle.exact_plan.proofs.LongestOutcome.{size, longer, no_longer}
+use Rattle.exact_plan.proofs.lists.longest.Goals as goal
+
+pub loop-o-init : goal.loop-o-init
+loop-o-init c = (omega arith, omega (arith, c.requires.3), record { inside = omega arith; most = λ o h. let z : o ≡ 0 = omega arith in rw z (le_refl _) })
+
+pub target-requires : goal.target-requires
+target-requires c = let S = c in (S.requires.1, S.requires.2, omega (arith, S.requires.4, c.loop-o-test.true))
+
+pub plans_counted-n-requires : goal.plans_counted-n-requires
+plans_counted-n-requires c = let S = c in
+    (S.requires.0, rw c.target.ensures (S.requires.5 c.loop-o.o c.loop-o-test.true))
+
+pub target-requires-in-loop-o : goal.target-requires-in-loop-o
+target-requires-in-loop-o c = let S = c in (S.requires.1, S.requires.2, omega (arith, S.requires.4, c.loop-o.invariant.2.inside))
+
+pub plans_counted-requires : goal.plans_counted-requires
+plans_counted-requires c = let S = c in
+    let L = c.loop-o in
+    (S.requires.0, rw c.target-in-loop-o.ensures (S.requires.5 L.best (omega (arith, L.invariant.2.inside))))
+
+pub loop-o-preserved : goal.loop-o-preserved
+loop-o-preserved c = let S = c in
+    let L = c.loop-o in
+    let n = c.plans_counted-n in
+    let n2 = c.plans_counted in
+    let e : n.result ≡ size L.invariant.2 L.o = n.ensures ∙ ap (λ x. get_or S.args.table.now (32 * S.args.k + x) 0) c.target.ensures in
+    let e2 : n2.result ≡ size L.invariant.2 L.best = n2.ensures ∙ ap (λ x. get_or S.args.table.now (32 * S.args.k + x) 0) c.target-in-loop-o.ensures in (
+      omega arith,
+      omega arith,
+      ⊎_elim
+          (λ w. let g : size L.invariant.2 L.best < size L.invariant.2 L.o = omega (arith, w.0.taken) in rw w.1 (longer L.invariant.2 g))
+          (λ w. let g : size L.invariant.2 L.o ≤ size L.invariant.2 L.best = omega (arith, w.0.left) in rw w.1 (no_longer L.invariant.2 g))
+          c.if-plans_counted-n.branch,
+    )
+
+pub returns : goal.returns
+returns c = let L = c.loop-o in
+    let S = c in
+    let e : L.o ≡ S.args.c = omega arith in
+    subst (λ j. Longest S.args.m.now S.args.table.now S.args.s S.args.i j S.args.k L.best) e L.invariant.2

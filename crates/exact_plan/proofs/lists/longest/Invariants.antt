@@ -1,0 +1,15 @@
+use Prim.Native.Nat.{◌+◌, ◌-◌, ◌*◌, ◌≤◌, ◌<◌}
+use native.Mathlib.Nat.{le_refl}
+use native.Mathlib.Omega.{arith}
+use mathlib.Core.Path.{◌≡◌, ap, subst, ◌∙◌}
+use mathlib.Core.Logic.{⊎_elim}
+use lib.ListN.{get_or}
+use Rattle.exact_plan.specs.promises.Listing.{Longest}
+use Rattle.exact_plan.proofs.LongestOutcome.{size, longer, no_longer}
+use Rattle.exact_plan.proofs.lists.longest.Given as goal
+
+abbrev pub invariant-loop-o : goal.invariant-loop-o
+invariant-loop-o l = (1 ≤ l.o) × (l.o ≤ l.c) × Longest l.m l.table l.s l.i l.o l.k l.best
+
+abbrev pub decreases-loop-o : goal.decreases-loop-o
+decreases-loop-o l = l.c - l.o

@@ -1,0 +1,30 @@
+-- The nearest of the numbers before i.
+use Prim.Native.Nat.{◌-◌, ◌≤◌}
+use native.Mathlib.Omega.{arith}
+use mathlib.Core.Path.{◌≡◌, refl, sym, subst, ◌∙◌}
+use mathlib.Core.Logic.{⊎_elim}
+use Rattle.exact_plan.specs.promises.Sides.{NearestIn}
+use Rattle.exact_plan.proofs.NearestPlace.{none_yet, won, lost}
+use borrow.Author.Rules.{rules}
+use Rattle.exact_plan.proofs.nearest.nearest_in.Goals as goal
+
+pub loop-i-init : goal.loop-i-init
+loop-i-init c = let A = c.args in (omega arith, none_yet A.buf.now A.len A.above A.x refl)
+
+pub loop-i-preserved : goal.loop-i-preserved
+loop-i-preserved c = let A = c.args in
+    let L = c.loop-i in
+    let t = c.loop-i-test.true in
+    let w = c.wins.ensures in (
+      omega arith,
+      ⊎_elim
+          (λ k. rw k.1 (won A.buf.now A.len A.above A.x t L.invariant.1 refl (sym w ∙ k.0.taken)))
+          (λ k. rw k.1 (lost A.buf.now A.len A.above A.x t L.invariant.1 refl (sym w ∙ k.0.left)))
+          c.if-wins.branch,
+    )
+
+pub returns : goal.returns
+returns c = let A = c.args in
+    let L = c.loop-i in
+    let e : L.i ≡ A.len = omega arith in
+    subst (λ i. NearestIn A.buf.now i A.len A.above A.x L.best) e L.invariant.1

@@ -1,0 +1,16 @@
+use Prim.Native.Nat.{ℕ, ◌+◌, ◌-◌, ◌<◌, ◌≤◌}
+use native.Mathlib.Omega.{arith}
+use mathlib.Core.Path.{◌≡◌}
+use Rattle.prepared_model.specs.promises.Rows.{choices_in}
+use Rattle.prepared_model.proofs.PlacesInRange.{place_range}
+use borrow.Author.Rules.{rules}
+use Rattle.exact_plan.specs.promises.Search.{stored_at}
+use Rattle.exact_plan.proofs.PlansBelow.{all_counted, most_more}
+use Rattle.exact_plan.proofs.rooms.stored.Given as goal
+
+abbrev pub invariant-loop-i : goal.invariant-loop-i
+invariant-loop-i l =
+    (l.n ≡ choices_in l.m l.l.s) × (0 < l.l.d) × (l.i ≤ l.n) × (l.most ≤ 65537) × ((j : ℕ) → j < l.i → stored_at l.m l.l.s j (l.l.n - 1) ≤ l.most)
+
+abbrev pub decreases-loop-i : goal.decreases-loop-i
+decreases-loop-i l = l.n - l.i

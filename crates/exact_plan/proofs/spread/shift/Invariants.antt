@@ -1,0 +1,14 @@
+use Prim.Native.Nat.{◌-◌, ◌≤◌}
+use native.Mathlib.Omega.{arith}
+use mathlib.Core.Path.{◌≡◌, sym, ap, ◌∙◌}
+use lib.ListN.{length}
+use Rattle.blocks.proofs.Splice.{splice_none}
+use Rattle.exact_plan.specs.promises.Totals.{part}
+use Rattle.exact_plan.proofs.JoinedInPlace.{shifted, shift_whole, shift_one_more}
+use Rattle.exact_plan.proofs.spread.shift.Given as goal
+
+abbrev pub invariant-loop-i : goal.invariant-loop-i
+invariant-loop-i l = (l.i ≤ l.count) × (l.buf ≡ shifted l.initial.buf l.from l.to l.w l.x l.i)
+
+abbrev pub decreases-loop-i : goal.decreases-loop-i
+decreases-loop-i l = l.count - l.i

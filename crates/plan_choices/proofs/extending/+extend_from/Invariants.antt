@@ -1,0 +1,26 @@
+use Prim.Native.Nat.{ℕ, ◌+◌, ◌*◌, ◌-◌, ◌≤◌, ◌<◌}
+use native.Mathlib.Omega.{arith}
+use native.Mathlib.Nat.{min-le_right}
+use mathlib.Core.Path.{◌≡◌, refl, ◌∙◌}
+use lib.ListN.{length, drop, length-set}
+use borrow.Author.Rules.{rules}
+use Rattle.prepared_model.specs.promises.Rows.{step_in, model_in}
+use Rattle.prepared_model.proofs.PlacesInRange.{read_range}
+use Rattle.logic.specs.promises.MostChoices.{most_choices}
+use Rattle.plan_choices.specs.promises.Extended.{by_place, Ran}
+use Rattle.logic.proofs.MostChoices.{most_choices_more, most_choices_step}
+use Rattle.plan_choices.proofs.Runs.{runs, runs_none, runs_more, runs_all, extend_none, extend_choice, min_one, placed_less}
+use Rattle.plan_choices.proofs.extending.extend_from.Kinds.{ps}
+use Rattle.plan_choices.proofs.extending.+extend_from.Given as goal
+
+abbrev pub decreases-extend_from : goal.decreases-extend_from
+decreases-extend_from l = l.n
+
+abbrev pub invariant-loop-o : goal.invariant-loop-o
+invariant-loop-o l =
+    (l.o ≤ l.row.count)
+    × Ran (runs (model_in l.m) (by_place l.m l.places) (step_in l.m l.s l.row.at) (l.d - l.k) (l.n - 1) l.src l.o (drop l.initial.next.from l.src)) (l.o * most_choices (l.n - 1)) l.src l.initial.next.from l.next.from l.initial.dst l.dst l.initial.next.at l.next.at
+    × (length l.dst ≡ length l.initial.dst)
+
+abbrev pub decreases-loop-o : goal.decreases-loop-o
+decreases-loop-o l = l.row.count - l.o

@@ -1,0 +1,16 @@
+use Prim.Native.Nat.{◌+◌, ◌*◌, ◌-◌, ◌≤◌}
+use native.Mathlib.Nat.{one-mul, mul-le-mul}
+use native.Mathlib.Omega.{arith}
+use mathlib.Core.Path.{◌≡◌, ap, ◌∙◌}
+use borrow.Author.Rules.{rules}
+use Rattle.prepared_model.specs.promises.Rows.{choice_in, outcomes_in, model_in}
+use Rattle.prepared_model.proofs.PlacesInRange.{place_range, read_range}
+use Rattle.plan_choices.specs.promises.Numbered.{ways}
+use Rattle.plan_choices.proofs.Ways.{ways_left, ways_most, ways_all, count_here, ways_one_outcome_more, count_end}
+use Rattle.plan_choices.proofs.ranking.ways.Given as goal
+
+abbrev pub invariant-loop-o : goal.invariant-loop-o
+invariant-loop-o l = (l.c ≡ outcomes_in l.m l.s l.i) × (l.o ≤ l.c) × (l.size * ways_left l.m l.s l.i l.n l.o ≡ ways (model_in l.m) l.n l.s (choice_in l.m l.s l.i))
+
+abbrev pub decreases-loop-o : goal.decreases-loop-o
+decreases-loop-o l = l.c - l.o

@@ -1,0 +1,19 @@
+use Prim.Native.Nat.{ℕ, ◌-◌, ◌≤◌, ◌<◌}
+use native.Mathlib.Omega.{arith}
+use lib.ListN.{take, drop}
+use borrow.Author.Rules.{rules}
+use Rattle.plan_choices.specs.promises.Weighed.{Ran}
+use Rattle.plan_choices.proofs.OutcomeSummed.{runs, state_here, leaf_readable, weigh_done, weigh_choice, runs_none, BeforeOutcome, within, offered, known_here, here_next, runs_fit, runs_more}
+use Rattle.plan_choices.proofs.weighing.weigh_from.Kinds.{ps}
+use Rattle.plan_choices.proofs.weighing.+weigh_from.Given as goal
+
+abbrev pub decreases-weigh_from : goal.decreases-weigh_from
+decreases-weigh_from l = l.spot.k
+
+abbrev pub invariant-loop-o : goal.invariant-loop-o
+invariant-loop-o l =
+    (l.o ≤ l.row.count)
+    × Ran (runs l.m l.q l.spot.start l.spot.a l.spot.d l.cone (take l.spot.h l.initial.trail) (l.spot.k - 1) l.spot.s l.row.at l.o (drop l.initial.next l.choices)) l.m l.q l.spot.start l.cone l.spot.h l.initial.trail l.trail l.gains l.v l.choices l.sum l.next
+
+abbrev pub decreases-loop-o : goal.decreases-loop-o
+decreases-loop-o l = l.row.count - l.o
