@@ -15,6 +15,7 @@ use Rattle.best_plan.proofs.PathOneStepOn.{state_here, place_here, few_here, pic
 use Rattle.best_plan.proofs.LoopsKeepBuffers.{hopeless_asked, hopeless_cannot_win, rest_after_outcome, step_asked, pick_room, last_room, pick_setting, last_setting, Below, below_last, sum_with_outcome_fits, one_outcome_more_walked, buffers_kept_below, all_outcomes_walked, ChoicesTried, no_choice_tried, walk_room, walk_setting, all_choices_tried, keep_asked, one_choice_more_tried, same}
 use Prim.Native.Nat.{ℕ, ◌+◌, ◌-◌, ◌≤◌, ◌<◌}
 use Rattle.best_plan.proofs.+pick_walk.Goals as goal
+use Rattle.best_plan.proofs.+pick_walk.Goals.{walk-then-k-eq1, walk-else-k-eq1}
 
 pub pick-leaf-requires : goal.pick-leaf-requires
 pick-leaf-requires t c = c.requires.setting.marked.some
@@ -45,7 +46,7 @@ pick-bounds-choices-from t c = let S = c in
 pub pick-overflow_add-below : goal.pick-overflow_add-below
 pick-overflow_add-below t c = let S = c in
     let L = c.loop-i in
-    omega (arith, (walk_room S.requires.setting c.if-spot-eq0.false L.invariant.2 S.requires.k_in_bounds).0, L.invariant.2.kept.room, S.well_formed.1.1.1.1.1.1.1.1.0.0)
+    omega (arith, (walk_room S.requires.setting c.if-spot-eq0.false L.invariant.2 S.requires.k_in_bounds).0, L.invariant.2.kept.room)
 
 pub pick-walk-w-requires : goal.pick-walk-w-requires
 pick-walk-w-requires t c = let S = c in
@@ -167,12 +168,13 @@ walk-add_mul-sum-requires t c =
     let L = c.loop-o in
     let T = c.step-t in
     let P = Below S.args.spot.least S.args.m.now S.args.q.now S.args.spot.start S.args.cone.now (S.args.spot.h + 1) T.result S.args.spot.k L.end T.new.trail T.new.gains T.new.v L.choices in
-    ⊎_elim
-    (λ w. same P w.8 w.9 w.10 w.11 w.12
-    (below_last S.args.spot.k S.requires.setting L.invariant.3 L.invariant.2 here stepped
-    {choices'' = w.5.last.1.1.1.1.1.1.1.1.0} w.0.taken w.5.ensures w.5.kept.1.1.1.1.1.1.1.1.0))
-    (λ w. same P w.8 w.9 w.10 w.11 w.12 (record { picked = w.5.ensures.0; kept = record { back = w.5.ensures.1; room = w.5.kept.1.1.1.1.1.1.1.1.0 } }))
-    c.if-k-eq1.branch in
+    elim c.if-k-eq1.branch [
+      | walk-then-k-eq1 w ↦ same P w.trail-is w.gains-is w.v-is w.choices-is w.b-is
+        (below_last S.args.spot.k S.requires.setting L.invariant.3 L.invariant.2 here stepped
+        {choices'' = w.pick_last-b.new.choices} w.if-k-eq1.true w.pick_last-b.ensures w.pick_last-b.auto.choices)
+      | walk-else-k-eq1 w ↦ same P w.trail-is w.gains-is w.v-is w.choices-is w.b-is
+        (record { picked = w.pick-b.ensures.effect; kept = record { back = w.pick-b.ensures.frame; room = w.pick-b.auto.choices } })
+    ] in
     let S = c in
     let L = c.loop-o in
     sum_with_outcome_fits S.args.spot.k S.requires.setting L.invariant.3 L.invariant.2 here stepped below_here c.weight-w.result c.weight-w.ensures.value
@@ -204,12 +206,13 @@ walk-loop-o-preserved t c =
     let L = c.loop-o in
     let T = c.step-t in
     let P = Below S.args.spot.least S.args.m.now S.args.q.now S.args.spot.start S.args.cone.now (S.args.spot.h + 1) T.result S.args.spot.k L.end T.new.trail T.new.gains T.new.v L.choices in
-    ⊎_elim
-    (λ w. same P w.8 w.9 w.10 w.11 w.12
-    (below_last S.args.spot.k S.requires.setting L.invariant.3 L.invariant.2 here stepped
-    {choices'' = w.5.last.1.1.1.1.1.1.1.1.0} w.0.taken w.5.ensures w.5.kept.1.1.1.1.1.1.1.1.0))
-    (λ w. same P w.8 w.9 w.10 w.11 w.12 (record { picked = w.5.ensures.0; kept = record { back = w.5.ensures.1; room = w.5.kept.1.1.1.1.1.1.1.1.0 } }))
-    c.if-k-eq1.branch in
+    elim c.if-k-eq1.branch [
+      | walk-then-k-eq1 w ↦ same P w.trail-is w.gains-is w.v-is w.choices-is w.b-is
+        (below_last S.args.spot.k S.requires.setting L.invariant.3 L.invariant.2 here stepped
+        {choices'' = w.pick_last-b.new.choices} w.if-k-eq1.true w.pick_last-b.ensures w.pick_last-b.auto.choices)
+      | walk-else-k-eq1 w ↦ same P w.trail-is w.gains-is w.v-is w.choices-is w.b-is
+        (record { picked = w.pick-b.ensures.effect; kept = record { back = w.pick-b.ensures.frame; room = w.pick-b.auto.choices } })
+    ] in
     let S = c in
     let L = c.loop-o in
     let D = below_here in (

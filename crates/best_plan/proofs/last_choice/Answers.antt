@@ -8,6 +8,7 @@ use Rattle.prepared_model.specs.promises.Rows.{choices_in}
 use Rattle.prepared_model.proofs.ReadByPlace.{some_choice}
 use Rattle.best_plan.proofs.LastStepBest.{Ending, ending_first, ending_won, ending_lost, ending_all}
 use Rattle.best_plan.proofs.last_choice.Goals as goal
+use Rattle.best_plan.proofs.last_choice.Goals.{then-exceeds, else-exceeds}
 
 pub choices-n-requires : goal.choices-n-requires
 choices-n-requires c = omega (arith, c.requires.0.states, c.requires.1)
@@ -33,10 +34,10 @@ loop-i-preserved c = let S = c in
     let e = sym c.exceeds.ensures in (
       L.invariant.0,
       omega (arith, c.loop-i-test.true),
-      ⊎_elim
-          (λ w. rw (w.1, w.2) (ending_won S.args.least S.requires.0 S.requires.1 L.invariant.2 l v (e ∙ w.0.taken)))
-          (λ w. rw (w.1, w.2) (ending_lost S.args.least S.requires.0 S.requires.1 L.invariant.2 l v (e ∙ w.0.left)))
-          c.if-exceeds.branch,
+      elim c.if-exceeds.branch [
+        | then-exceeds w ↦ rw (w.value-is, w.place-is) (ending_won S.args.least S.requires.0 S.requires.1 L.invariant.2 l v (e ∙ w.if-exceeds.true))
+        | else-exceeds w ↦ rw (w.value-is, w.place-is) (ending_lost S.args.least S.requires.0 S.requires.1 L.invariant.2 l v (e ∙ w.if-exceeds.false))
+      ],
     )
 
 pub choice-requires : goal.choice-requires

@@ -12,7 +12,7 @@ mask-x-requires c = let P = c.requires.setting in
 pub last_choice-requires : goal.last_choice-requires
 unfolding most_choices
 last_choice-requires c = let P = c.requires in
-    (P.0.ready.prepared, state_here P.0, P.1)
+    (P.setting.ready.prepared, state_here P.setting, P.most_choices_in_bounds)
 
 pub returns : goal.returns
 returns c = c.last_choice.ensures.picked _ c.mask-x.ensures

@@ -70,7 +70,7 @@ below-returns t c =
     below_written S.requires.given S.args.to.i S.args.to.o S.args.spot.k S.requires.here.0 S.requires.here.1 c.step-t.ensures c.list.ensures
 
 pub weighed_below-below-n-requires : goal.weighed_below-below-n-requires
-weighed_below-below-n-requires t c = let S = c in (omega (arith, S.decreases), S.requires.1)
+weighed_below-below-n-requires t c = let S = c in (omega (arith, S.decreases), (S.requires.given, (S.requires.here, S.requires.room)))
 
 pub weighed_below-weight-w-requires : goal.weighed_below-weight-w-requires
 weighed_below-weight-w-requires t c = let S = c in within S.requires.given S.requires.here.0 S.args.to.i S.args.to.o S.requires.here.1
@@ -111,14 +111,14 @@ pub combine-overflow_add-hi : goal.combine-overflow_add-hi
 combine-overflow_add-hi t c =
     let S = c in
     let I = S.requires.here in
-    record { fits = omega (arith, c.longest-lo.ensures.contiguous, I.3, S.requires.given.ready.prepared.few_outcomes S.args.spot.s S.args.i S.requires.here.0.inside I.1) }
+    record { fits = omega (arith, c.longest-lo.ensures.inside, I.3, S.requires.given.ready.prepared.few_outcomes S.args.spot.s S.args.i S.requires.here.0.inside I.1) }
 
 pub combine-weighed_below-len-requires : goal.combine-weighed_below-len-requires
 combine-weighed_below-len-requires t c =
     let combine-place : Place c.args.m.now c.args.spot.d c.args.spot.s c.args.i c.args.spot.k = placed c.args.i c.args.spot.k c.requires.here.0 c.requires.here.1 in
     let S = c in
     let I = S.requires.here in
-    let l = c.longest-lo.ensures.contiguous in
+    let l = c.longest-lo.ensures.inside in
     (omega (arith, S.decreases), (S.requires.given, ((S.requires.here.0, (I.1, omega (arith, l, I.3)), I.4), first_room S.requires.given combine-place I.3 S.requires.room c.longest-lo.result l)))
 
 pub combine-loop-hi-init : goal.combine-loop-hi-init
@@ -127,7 +127,7 @@ combine-loop-hi-init t c =
     let S = c in
     let b = c.weighed_below-len in
     let L = c.longest-lo in
-    first_spanned S.requires.given combine-place S.requires.here.3 S.requires.room L.result L.ensures.contiguous refl S.requires.here.0 b.ensures L.ensures refl
+    first_spanned S.requires.given combine-place S.requires.here.3 S.requires.room L.result L.ensures.inside refl S.requires.here.0 b.ensures L.ensures refl
 
 pub combine-overflow_sub-hi : goal.combine-overflow_sub-hi
 combine-overflow_sub-hi t c = omega (arith, c.loop-hi.invariant.some)
@@ -177,7 +177,7 @@ combine-returns t c =
     let M = S.args.m.now in
     let f : List ℕ → List Step → ℕ = worth_on M S.args.q.now S.args.spot.start S.args.spot.a S.args.spot.d S.args.cone.now in
     rebased (λ T. combined (weighed (model_in M) S.args.spot.k (f T)) (take S.args.c (outcomes (model_in M) S.args.spot.s (choice_in M S.args.spot.s S.args.i))))
-    b.ensures.back.kept (first_before S.requires.given combine-place S.requires.here.3 S.requires.room L.result L.ensures.contiguous refl S.requires.here.0 b.ensures)
+    b.ensures.back.kept (first_before S.requires.given combine-place S.requires.here.3 S.requires.room L.result L.ensures.inside refl S.requires.here.0 b.ensures)
     (span_end S.requires.given combine-place S.requires.here.3 S.requires.room c.loop-hi.invariant b.auto.buf (omega arith))
 
 pub grown-target-requires : goal.grown-target-requires
@@ -263,8 +263,8 @@ list-one_decides-requires t c = omega (arith, c.requires.here.0.steps)
 pub list-by_last_step-requires : goal.list-by_last_step-requires
 list-by_last_step-requires t c =
     let S = c in
-    let P = S.requires.1.1 in
-    let d = c.one_decides.ensures c.if-one_decides.true in record { given = S.requires.given; here = (P.0.0, P.0.1, d.0, d.1); room = P.1 }
+    let H = S.requires.here in
+    let d = c.one_decides.ensures c.if-one_decides.true in record { given = S.requires.given; here = (H.0, H.1, d.0, d.1); room = S.requires.room }
 
 pub list-shape_of-buf-then-one_decides : goal.list-shape_of-buf-then-one_decides
 list-shape_of-buf-then-one_decides t c = c.by_last_step.auto.buf

@@ -30,8 +30,8 @@ decreases-grown l = 4 * l.spot.k + 2
 abbrev pub decreases-list : goal.decreases-list
 decreases-list l = 4 * l.spot.k
 
-abbrev pub decreases-below : goal.decreases-below
-decreases-below l = 4 * l.spot.k + 2
+abbrev pub decreases-weighed_below : goal.decreases-weighed_below
+decreases-weighed_below l = 4 * l.spot.k + 2
 
 abbrev pub invariant-combine-loop-hi : goal.invariant-combine-loop-hi
 invariant-combine-loop-hi l =

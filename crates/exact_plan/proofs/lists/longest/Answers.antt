@@ -3,11 +3,11 @@ use Prim.Native.Nat.{◌+◌, ◌-◌, ◌*◌, ◌≤◌, ◌<◌}
 use native.Mathlib.Nat.{le_refl}
 use native.Mathlib.Omega.{arith}
 use mathlib.Core.Path.{◌≡◌, ap, subst, ◌∙◌}
-use mathlib.Core.Logic.{⊎_elim}
 use lib.ListN.{get_or}
 use Rattle.exact_plan.specs.promises.Listing.{Longest}
 use Rattle.exact_plan.proofs.LongestOutcome.{size, longer, no_longer}
 use Rattle.exact_plan.proofs.lists.longest.Goals as goal
+use Rattle.exact_plan.proofs.lists.longest.Goals.{then-plans_counted-n, else-plans_counted-n}
 
 pub loop-o-init : goal.loop-o-init
 loop-o-init c = (omega arith, omega (arith, c.requires.3), record { inside = omega arith; most = λ o h. let z : o ≡ 0 = omega arith in rw z (le_refl _) })
@@ -36,10 +36,10 @@ loop-o-preserved c = let S = c in
     let e2 : n2.result ≡ size L.invariant.2 L.best = n2.ensures ∙ ap (λ x. get_or S.args.table.now (32 * S.args.k + x) 0) c.target-in-loop-o.ensures in (
       omega arith,
       omega arith,
-      ⊎_elim
-          (λ w. let g : size L.invariant.2 L.best < size L.invariant.2 L.o = omega (arith, w.0.taken) in rw w.1 (longer L.invariant.2 g))
-          (λ w. let g : size L.invariant.2 L.o ≤ size L.invariant.2 L.best = omega (arith, w.0.left) in rw w.1 (no_longer L.invariant.2 g))
-          c.if-plans_counted-n.branch,
+      elim c.if-plans_counted-n.branch [
+        | then-plans_counted-n w ↦ let g : size L.invariant.2 L.best < size L.invariant.2 L.o = omega (arith, w.if-plans_counted-n.true) in rw w.best-is (longer L.invariant.2 g)
+        | else-plans_counted-n w ↦ let g : size L.invariant.2 L.o ≤ size L.invariant.2 L.best = omega (arith, w.if-plans_counted-n.false) in rw w.best-is (no_longer L.invariant.2 g)
+      ],
     )
 
 pub returns : goal.returns

@@ -2,11 +2,11 @@
 use Prim.Native.Nat.{◌-◌, ◌≤◌}
 use native.Mathlib.Omega.{arith}
 use mathlib.Core.Path.{◌≡◌, refl, sym, subst, ◌∙◌}
-use mathlib.Core.Logic.{⊎_elim}
 use Rattle.exact_plan.specs.promises.Sides.{NearestIn}
 use Rattle.exact_plan.proofs.NearestPlace.{none_yet, won, lost}
 use borrow.Author.Rules.{rules}
 use Rattle.exact_plan.proofs.nearest.nearest_in.Goals as goal
+use Rattle.exact_plan.proofs.nearest.nearest_in.Goals.{then-wins, else-wins}
 
 pub loop-i-init : goal.loop-i-init
 loop-i-init c = let A = c.args in (omega arith, none_yet A.buf.now A.len A.above A.x refl)
@@ -17,10 +17,10 @@ loop-i-preserved c = let A = c.args in
     let t = c.loop-i-test.true in
     let w = c.wins.ensures in (
       omega arith,
-      ⊎_elim
-          (λ k. rw k.1 (won A.buf.now A.len A.above A.x t L.invariant.1 refl (sym w ∙ k.0.taken)))
-          (λ k. rw k.1 (lost A.buf.now A.len A.above A.x t L.invariant.1 refl (sym w ∙ k.0.left)))
-          c.if-wins.branch,
+      elim c.if-wins.branch [
+        | then-wins k ↦ rw k.best-is (won A.buf.now A.len A.above A.x t L.invariant.1 refl (sym w ∙ k.if-wins.true))
+        | else-wins k ↦ rw k.best-is (lost A.buf.now A.len A.above A.x t L.invariant.1 refl (sym w ∙ k.if-wins.false))
+      ],
     )
 
 pub returns : goal.returns

@@ -4,11 +4,8 @@ use Rattle.exact_plan.proofs.NearestPlace.{nearest_listed}
 use borrow.Author.Rules.{rules}
 use Rattle.exact_plan.proofs.nearest.nearest_within.Goals as goal
 
-clauses_given_d_le_n : {A B : Type 0} → A × B → record { given : A; d_le_n : B }
-clauses_given_d_le_n p = record { given = p.0; d_le_n = p.1 }
-
 pub totals-len-requires : goal.totals-len-requires
-totals-len-requires c = clauses_given_d_le_n (c.requires)
+totals-len-requires c = record { given = c.requires.given; d_le_n = c.requires.d_le_n }
 
 pub nearest_in-requires : goal.nearest_in-requires
 nearest_in-requires c = c.totals-len.ensures.fits

@@ -16,38 +16,38 @@ use Rattle.exact_plan.proofs.SumsByRows.{rows_none, row_found, row_passed}
 use Rattle.exact_plan.proofs.search.first_sum.Goals as goal
 
 -- The lists, and the turns.
-module _ (S : tie.Start invariant_loop decreases_loop) where
+module _ (buf : List ℕ) (at slow fast x : ℕ) (room : (at + slow) + fast ≤ length buf) where
   abbrev xs : List ℕ
-  xs = part S.args.buf.now S.args.at S.args.slow
+  xs = part buf at slow
 
   abbrev ys : List ℕ
-  ys = part S.args.buf.now (S.args.at + S.args.slow) S.args.fast
+  ys = part buf (at + slow) fast
 
-  slow-length : length xs ≡ S.args.slow
-  slow-length = part_length S.args.buf.now S.args.at S.args.slow (omega (arith, S.pre.1))
+  slow-length : length xs ≡ slow
+  slow-length = part_length buf at slow (omega (arith, room))
 
-  fast-length : length ys ≡ S.args.fast
-  fast-length = part_length S.args.buf.now (S.args.at + S.args.slow) S.args.fast S.pre.1
+  fast-length : length ys ≡ fast
+  fast-length = part_length buf (at + slow) fast room
 
-  all-length : S.args.slow * S.args.fast ≡ length (grid xs ys)
+  all-length : slow * fast ≡ length (grid xs ys)
   all-length = sym (length_grid xs ys ∙ ap₂ ◌*◌ slow-length fast-length)
 
-  module _ {i j : ℕ} (h : i < S.args.slow) (F : First (grid (take i xs) ys) S.args.x (i * S.args.fast)) (J : First (map (λ z. get_or xs i 0 + z) ys) S.args.x j) where
-    F₁ : First (grid (take i xs) ys) S.args.x (i * length ys)
-    F₁ = subst (λ n. First (grid (take i xs) ys) S.args.x (i * n)) (sym fast-length) F
+  module _ {i j : ℕ} (h : i < slow) (F : First (grid (take i xs) ys) x (i * fast)) (J : First (map (λ z. get_or xs i 0 + z) ys) x j) where
+    F₁ : First (grid (take i xs) ys) x (i * length ys)
+    F₁ = subst (λ n. First (grid (take i xs) ys) x (i * n)) (sym fast-length) F
 
     h₁ : i < length xs
     h₁ = rw slow-length h
 
-    found : j < S.args.fast → First (grid xs ys) S.args.x (i * S.args.fast + j)
-    found l = subst (λ n. First (grid xs ys) S.args.x (i * n + j)) fast-length (row_found xs ys S.args.x h₁ F₁ J (rw fast-length l))
+    found : j < fast → First (grid xs ys) x (i * fast + j)
+    found l = subst (λ n. First (grid xs ys) x (i * n + j)) fast-length (row_found xs ys x h₁ F₁ J (rw fast-length l))
 
-    passed : S.args.fast ≤ j → First (grid (take (i + 1) xs) ys) S.args.x ((i + 1) * S.args.fast)
-    passed l = subst (λ n. First (grid (take (i + 1) xs) ys) S.args.x ((i + 1) * n)) fast-length (row_passed xs ys S.args.x h₁ F₁ J (rw fast-length l))
+    passed : fast ≤ j → First (grid (take (i + 1) xs) ys) x ((i + 1) * fast)
+    passed l = subst (λ n. First (grid (take (i + 1) xs) ys) x ((i + 1) * n)) fast-length (row_passed xs ys x h₁ F₁ J (rw fast-length l))
 
     -- A place in the row is one of all.
-    inside : j < S.args.fast → i * S.args.fast + j < S.args.slow * S.args.fast
-    inside l = omega (arith, suc-mul i S.args.fast, mul-le-mul_right S.args.fast h)
+    inside : j < fast → i * fast + j < slow * fast
+    inside l = omega (arith, suc-mul i fast, mul-le-mul_right fast h)
 
 pub overflow_add-from : goal.overflow_add-from
 overflow_add-from c = omega (arith, c.requires.1)
@@ -96,7 +96,7 @@ overflow_mul-result c =
     (sym (get_d_part A.buf.now A.at A.slow i c.loop-i-test.true))
     (subst (λ l. First (map (λ z. get_or A.buf.now (A.at + i) 0 + z) l) A.x c.first_with-j.result) (rest_part A.buf.now (A.at + A.slow) A.fast S.requires.1) c.first_with-j.ensures) in
     let S = c in
-    record { fits = omega (arith, inside S c.loop-i-test.true c.loop-i.invariant.1 row c.if-j-fast.true, S.requires.2) }
+    record { fits = omega (arith, inside c.args.buf.now c.args.at c.args.slow c.args.fast c.args.x c.requires.1 c.loop-i-test.true c.loop-i.invariant.1 row c.if-j-fast.true, S.requires.2) }
 
 pub overflow_add-result : goal.overflow_add-result
 overflow_add-result c =
@@ -108,7 +108,7 @@ overflow_add-result c =
     (sym (get_d_part A.buf.now A.at A.slow i c.loop-i-test.true))
     (subst (λ l. First (map (λ z. get_or A.buf.now (A.at + i) 0 + z) l) A.x c.first_with-j.result) (rest_part A.buf.now (A.at + A.slow) A.fast S.requires.1) c.first_with-j.ensures) in
     let S = c in
-    record { fits = omega (arith, inside S c.loop-i-test.true c.loop-i.invariant.1 row c.if-j-fast.true, S.requires.2) }
+    record { fits = omega (arith, inside c.args.buf.now c.args.at c.args.slow c.args.fast c.args.x c.requires.1 c.loop-i-test.true c.loop-i.invariant.1 row c.if-j-fast.true, S.requires.2) }
 
 pub returns-then-j-fast : goal.returns-then-j-fast
 returns-then-j-fast c =
@@ -122,9 +122,9 @@ returns-then-j-fast c =
     let S = c in
     let F = c.loop-i.invariant.1 in
     record {
-      first = found S c.loop-i-test.true F row c.if-j-fast.true;
-      all = all-length S;
-      found = sym (lt-ltb _ _ (inside S c.loop-i-test.true F row c.if-j-fast.true));
+      first = found c.args.buf.now c.args.at c.args.slow c.args.fast c.args.x c.requires.1 c.loop-i-test.true F row c.if-j-fast.true;
+      all = all-length c.args.buf.now c.args.at c.args.slow c.args.fast c.args.x c.requires.1;
+      found = sym (lt-ltb _ _ (inside c.args.buf.now c.args.at c.args.slow c.args.fast c.args.x c.requires.1 c.loop-i-test.true F row c.if-j-fast.true));
     }
 
 pub overflow_add-i : goal.overflow_add-i
@@ -143,7 +143,7 @@ loop-i-preserved c =
     (sym (get_d_part A.buf.now A.at A.slow i c.loop-i-test.true))
     (subst (λ l. First (map (λ z. get_or A.buf.now (A.at + i) 0 + z) l) A.x c.first_with-j.result) (rest_part A.buf.now (A.at + A.slow) A.fast S.requires.1) c.first_with-j.ensures) in
     let S = c in
-    (omega (arith, c.loop-i-test.true), passed S c.loop-i-test.true c.loop-i.invariant.1 row c.if-j-fast.false)
+    (omega (arith, c.loop-i-test.true), passed c.args.buf.now c.args.at c.args.slow c.args.fast c.args.x c.requires.1 c.loop-i-test.true c.loop-i.invariant.1 row c.if-j-fast.false)
 
 pub returns : goal.returns
 returns c = let S = c in
@@ -152,8 +152,8 @@ returns c = let S = c in
     let e : L.i ≡ A.slow = omega (arith, L.invariant.0) in
     record {
       first =
-          subst (λ l. First (grid l (ys S)) A.x (A.slow * A.fast)) (ap (λ n. take n (xs S)) (sym (slow-length S)) ∙ take-length (xs S))
-          (subst (λ n. First (grid (take n (xs S)) (ys S)) A.x (n * A.fast)) e L.invariant.1);
-      all = all-length S;
+          subst (λ l. First (grid l (ys c.args.buf.now c.args.at c.args.slow c.args.fast c.args.x c.requires.1)) A.x (A.slow * A.fast)) (ap (λ n. take n (xs c.args.buf.now c.args.at c.args.slow c.args.fast c.args.x c.requires.1)) (sym (slow-length c.args.buf.now c.args.at c.args.slow c.args.fast c.args.x c.requires.1)) ∙ take-length (xs c.args.buf.now c.args.at c.args.slow c.args.fast c.args.x c.requires.1))
+          (subst (λ n. First (grid (take n (xs c.args.buf.now c.args.at c.args.slow c.args.fast c.args.x c.requires.1)) (ys c.args.buf.now c.args.at c.args.slow c.args.fast c.args.x c.requires.1)) A.x (n * A.fast)) e L.invariant.1);
+      all = all-length c.args.buf.now c.args.at c.args.slow c.args.fast c.args.x c.requires.1;
       found = sym (le-ltb (A.slow * A.fast) (A.slow * A.fast) (le_refl _));
     }
