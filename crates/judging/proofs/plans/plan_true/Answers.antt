@@ -3,9 +3,6 @@ use Rattle.judging.proofs.SearchHanded.{asked_equal, asked_other, placed_truth}
 use borrow.Author.Rules.{rules}
 use Rattle.judging.proofs.plans.plan_true.Goals as goal
 
-clauses_value_frame : {A B : Type 0} → A × B → record { value : A; frame : B }
-clauses_value_frame p = record { value = p.0; frame = p.1 }
-
 pub first-r-requires : goal.first-r-requires
 first-r-requires c = let S = c in record { asked = S.requires.asked; j_value = asked_equal S.args.q.now S.args.j c.asks_equal.ensures c.if-asks_equal.true }
 
@@ -19,4 +16,4 @@ plan_led-requires c = let S = c in
     let n = asked_other S.args.q.now S.args.j c.asks_equal.ensures c.if-asks_equal.false in record { given = (P.0.given, P.1, S.requires.j_value.0 n); fact = (n, S.requires.j_value.1, S.requires.j_value.2) }
 
 pub returns : goal.returns
-returns c = clauses_value_frame (c.plan_led.ensures)
+returns c = record { value = c.plan_led.ensures.value; frame = c.plan_led.ensures.frame }

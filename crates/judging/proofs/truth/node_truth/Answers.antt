@@ -1,11 +1,11 @@
 -- One table for all states, or each state by itself.
 use mathlib.Core.Path.{sym, ◌∙◌}
-use mathlib.Core.Logic.{⊎_elim}
 use borrow.Author.Tests.{not-true, not-false}
 use Rattle.judging.proofs.SearchHanded.{asked_equal, asked_other}
 use Rattle.judging.proofs.TruthByOperator.{row_whole}
 use borrow.Author.Rules.{rules}
 use Rattle.judging.proofs.truth.node_truth.Goals as goal
+use Rattle.judging.proofs.truth.node_truth.Goals.{then-operator-eq-EARNS+else-not-asks_equal, else-operator-eq-EARNS}
 
 pub by_table-requires : goal.by_table-requires
 by_table-requires c = let S = c in
@@ -17,11 +17,14 @@ returns-then-not-asks_equal c = row_whole c.requires.rows c.by_table.ensures
 
 pub by_state-requires : goal.by_state-requires
 by_state-requires c = let S = c in
-    let P = S.requires.asked in record { asked = (
+    let P = S.requires.asked in record {
+      asked = (
         P.0,
         P.1,
-        λ o. ⊎_elim
-            (λ w. asked_equal S.args.q.now S.args.j w.1.ensures (not-false _ w.2.left))
-            (λ w. absurd (w.left (c.operator.ensures ∙ o)))
-            c.if-operator-eq-EARNS.branch,
-      ); rows = S.requires.rows }
+        λ o. elim c.if-operator-eq-EARNS.branch [
+          | then-operator-eq-EARNS+else-not-asks_equal w ↦ asked_equal S.args.q.now S.args.j w.asks_equal.ensures w.if-not-asks_equal.false
+          | else-operator-eq-EARNS w ↦ absurd (w.if-operator-eq-EARNS.false (c.operator.ensures ∙ o))
+        ],
+      );
+      rows = S.requires.rows;
+    }
