@@ -40,7 +40,7 @@ pub const MODEL_BYTES: usize = 6144;
 
 // The desk, document 01's word for the judge's state: the blocks of a model (none: 0 blocks), the block of a question, and a verdict with
 // its choices beside it. What is not held is zero.
-#[derive(Drop)]
+#[derive(Clone, Copy)]
 pub struct Desk {
     pub blocks: usize,
     pub model: [u8; MODEL_BYTES],
@@ -58,7 +58,7 @@ pub enum Taken {
     Refused(u32),
 }
 
-#[derive(Drop)]
+#[derive(Clone, Copy)]
 pub struct Taking {
     pub answer: Taken,
     pub desk: Desk,
@@ -71,7 +71,7 @@ pub enum Judgement {
     Refused(u32),
 }
 
-#[derive(Drop)]
+#[derive(Clone, Copy)]
 pub struct Judging {
     pub answer: Judgement,
     pub choices: [u8; CHOICES],
@@ -250,7 +250,7 @@ fn turned_away(d: Desk, k: u32) -> Judging
 }
 
 // What judging came to: the answer, and the choices of a shown plan beside it.
-#[derive(Drop)]
+#[derive(Clone, Copy)]
 pub struct Ruling {
     pub answer: Judgement,
     pub choices: [u8; CHOICES],

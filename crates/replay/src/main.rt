@@ -19,7 +19,7 @@ const ADLER: u32 = 65521;
 const RECORD: usize = 16384;
 
 // The desk after a call, and whether there was one.
-#[derive(Drop)]
+#[derive(Clone, Copy)]
 struct Turn {
     going: bool,
     desk: Desk,

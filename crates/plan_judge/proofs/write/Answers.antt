@@ -1,0 +1,119 @@
+-- Each return by its ground, or by the sheet written.
+-- Past the grounds of the state, and past 23.
+use Prim.Native.Nat.{◌*◌, ◌-◌, ◌≤◌}
+use native.Mathlib.Omega.{arith}
+use mathlib.Core.Path.{◌≡◌, sym, ap, ap₂, ◌∙◌}
+use mathlib.Core.List.{◌++◌}
+use lib.ListN.{length, take, drop}
+use lib.Seq.{length-take-le}
+use mir.Syntax.{w64}
+use mir.ValLaws.{to_z-of_z}
+use borrow.Author.Rules.{rules}
+use Rattle.logic.specs.promises.Refusal.{refusal}
+use Rattle.logic.specs.Choices.{read_plan}
+use Rattle.models.specs.Layout.{state_count, model_of}
+use Rattle.models.specs.Grounds.{read_model}
+use Rattle.questions.specs.Layout.{start_of, node_count, node_of}
+use Rattle.questions.proofs.AcceptedFacts.{accepted}
+use Rattle.sheets.specs.promises.Ends.{end_of}
+use Rattle.sheets.specs.Layout.{blocks_for, sheet_bytes}
+use Rattle.plan_judge.specs.View.{view}
+use Rattle.plan_judge.specs.promises.State.{held_goal}
+use Rattle.plan_judge.proofs.LoadPutReturn.{said_bytes, cut_inside, cut_said}
+use Rattle.plan_judge.proofs.StateGrounds.{plan_asked}
+use Rattle.plan_judge.proofs.WriteReturns.{choices_read, found_shown, write_state, write_none, count_few, write_short, write_done}
+use Rattle.plan_judge.proofs.write.Goals as goal
+
+clauses_value_frame : {A B : Type 0} → A × B → record { value : A; frame : B }
+clauses_value_frame p = record { value = p.0; frame = p.1 }
+
+pub returns-then-k-ne0 : goal.returns-then-k-ne0
+returns-then-k-ne0 c = clauses_value_frame (write_state c.args.d c.args.buf.now c.plan_ground-k.result c.plan_ground-k.ensures c.if-k-ne0.true)
+
+pub returns-then-count-eq0 : goal.returns-then-count-eq0
+returns-then-count-eq0 c =
+    let asked : refusal (held_goal (view c.args.d)) ≡ 0 = sym c.plan_ground-k.ensures ∙ c.if-k-ne0.false in
+    clauses_value_frame (write_none c.args.d c.args.buf.now asked c.shown_size-count.result c.shown_size-count.ensures c.if-count-eq0.true)
+
+pub sheet_size-requires : goal.sheet_size-requires
+sheet_size-requires c =
+    let asked : refusal (held_goal (view c.args.d)) ≡ 0 = sym c.plan_ground-k.ensures ∙ c.if-k-ne0.false in
+    let few : c.shown_size-count.result ≤ length c.args.d.choices = count_few c.args.d c.args.buf.now asked c.shown_size-count.result c.shown_size-count.ensures c.if-count-eq0.false in
+    let small : c.shown_size-count.result ≤ 1365 = let l = few in
+    let k : length c.args.d.choices ≡ 1365 = search rules in
+    omega arith in
+    small
+
+pub returns-then-buf-sheet_size : goal.returns-then-buf-sheet_size
+returns-then-buf-sheet_size c =
+    let asked : refusal (held_goal (view c.args.d)) ≡ 0 = sym c.plan_ground-k.ensures ∙ c.if-k-ne0.false in
+    let E = c in clauses_value_frame (write_short E.args.d E.args.buf.now asked E.shown_size-count.result E.shown_size-count.ensures E.if-count-eq0.false (omega (arith, c.sheet_size.ensures)))
+
+pub slice_bounds-m-end : goal.slice_bounds-m-end
+slice_bounds-m-end c =
+    let inside : c.blocks_end-end.result ≤ length c.args.d.model = cut_inside c.args.d (search rules) c.blocks_end-end.result c.blocks_end-end.ensures in
+    inside
+
+pub slice_bounds-write_sheet-end : goal.slice_bounds-write_sheet-end
+slice_bounds-write_sheet-end c =
+    let inside : c.blocks_end-end.result ≤ length c.args.d.model = cut_inside c.args.d (search rules) c.blocks_end-end.result c.blocks_end-end.ensures in
+    let P = c in sym (length-take-le P.blocks_end-end.result c.args.d.model inside)
+
+pub slice_bounds-cs-end : goal.slice_bounds-cs-end
+slice_bounds-cs-end c =
+    let asked : refusal (held_goal (view c.args.d)) ≡ 0 = sym c.plan_ground-k.ensures ∙ c.if-k-ne0.false in
+    let few : c.shown_size-count.result ≤ length c.args.d.choices = count_few c.args.d c.args.buf.now asked c.shown_size-count.result c.shown_size-count.ensures c.if-count-eq0.false in
+    few
+
+pub slice_bounds-write_sheet-end-2 : goal.slice_bounds-write_sheet-end-2
+slice_bounds-write_sheet-end-2 c =
+    let asked : refusal (held_goal (view c.args.d)) ≡ 0 = sym c.plan_ground-k.ensures ∙ c.if-k-ne0.false in
+    let few : c.shown_size-count.result ≤ length c.args.d.choices = count_few c.args.d c.args.buf.now asked c.shown_size-count.result c.shown_size-count.ensures c.if-count-eq0.false in
+    let whole : length (take c.shown_size-count.result c.args.d.choices) ≡ c.shown_size-count.result = length-take-le c.shown_size-count.result c.args.d.choices few in
+    sym whole
+
+pub write_sheet-requires : goal.write_sheet-requires
+write_sheet-requires c =
+    let asked : refusal (held_goal (view c.args.d)) ≡ 0 = sym c.plan_ground-k.ensures ∙ c.if-k-ne0.false in
+    let few : c.shown_size-count.result ≤ length c.args.d.choices = count_few c.args.d c.args.buf.now asked c.shown_size-count.result c.shown_size-count.ensures c.if-count-eq0.false in
+    let small : c.shown_size-count.result ≤ 1365 = let l = few in
+    let k : length c.args.d.choices ≡ 1365 = search rules in
+    omega arith in
+    let whole : length (take c.shown_size-count.result c.args.d.choices) ≡ c.shown_size-count.result = length-take-le c.shown_size-count.result c.args.d.choices few in
+    let cut : take c.blocks_end-end.result c.args.d.model ≡ said_bytes c.args.d = cut_said c.args.d (search rules) c.blocks_end-end.result c.blocks_end-end.ensures in
+    let P = c in
+    let E = c in
+    let S = E.before.before.before.before.before in
+    let d = S.args.d in
+    let q = d.question in
+    let l = take E.shown_size-count.result d.choices in
+    let r = plan_asked d (asked E.before.before) in
+    let n = P.root_steps-n in
+    let s = P.start-s in
+    let e = cut in
+    let found = found_shown d S.args.buf.now (asked E.before.before) E.shown_size-count.result E.shown_size-count.ensures E.if-count-eq0.left in record { m_value = (
+        ap (λ z. refusal (read_model z)) e ∙ r.passed,
+        omega (arith, (accepted _ _ _ q r.asked).formed.starts, s.ensures, ap state_count e),
+        choices_read (said_bytes d) q r d.choices l found
+            ∙ ap₂ (λ n s. end_of (length l) (read_plan (model_of (said_bytes d)) n s l)) (sym n.ensures) (sym s.ensures)
+            ∙ ap (λ z. end_of (length l) (read_plan (model_of z) n.result s.result l)) (sym e),
+      ); choices_len_bound = (omega (arith, small E, whole E), omega (arith, ap (λ k. 512 * blocks_for k) (whole E), P.sheet_size.ensures, P.if-buf-sheet_size.false)) }
+
+pub returns : goal.returns
+returns c =
+    let asked : refusal (held_goal (view c.args.d)) ≡ 0 = sym c.plan_ground-k.ensures ∙ c.if-k-ne0.false in
+    let P = c in
+    let E = c in
+    let S = E.before.before.before.before.before in
+    let q = S.args.d.question in
+    let cs = take E.shown_size-count.result S.args.d.choices in
+    let n = P.root_steps-n in
+    let s = P.start-s in
+    let w = P.shown_total-w in
+    let sheet = c.write_sheet in
+    let rest = drop sheet.result S.args.buf.now in clauses_value_frame (write_done S.args.d S.args.buf.now (asked E.before.before) E.shown_size-count.result E.shown_size-count.ensures E.if-count-eq0.left
+    (omega (arith, P.sheet_size.ensures, P.if-buf-sheet_size.false)) sheet.result sheet.ensures.value sheet.new.buf
+    (sheet.ensures.effect
+    ∙ ap (λ z. sheet_bytes n.result s.result z cs ++ rest) (to_z-of_z w64 w.result (record { sfits = w.type_inv }))
+    ∙ ap₂ (λ n s. sheet_bytes n s w.result cs ++ rest) n.ensures s.ensures
+    ∙ ap (λ w. sheet_bytes (node_of q (node_count q - 1)).n (start_of q) w cs ++ rest) w.ensures))

@@ -1,0 +1,15 @@
+use Prim.Native.Nat.{◌+◌, ◌*◌, ◌-◌, ◌≤◌, ◌<◌}
+use native.Mathlib.Omega.{arith}
+use mathlib.Core.Path.{◌≡◌, refl, ◌∙◌}
+use mathlib.Core.List.{[], ◌∷◌, flat_map}
+use lib.ListN.{length, get_or}
+use borrow.Author.Rules.{rules}
+use Rattle.verdict_line.specs.Text.{text}
+use Rattle.verdict_line.proofs.PutInTurn.{put_none, number_room, ChoicesPut, choices_more, choices_all}
+use Rattle.verdict_line.proofs.put_choices.Given as goal
+
+abbrev pub invariant-loop-i : goal.invariant-loop-i
+invariant-loop-i l = (l.i ≤ length l.choices) × (length l.out ≡ length l.initial.out) × (l.next ≤ l.at + 4 * l.i) × ChoicesPut l.choices l.initial.out l.out l.at l.next l.i
+
+abbrev pub decreases-loop-i : goal.decreases-loop-i
+decreases-loop-i l = length l.choices - l.i
