@@ -18,7 +18,7 @@ use Rattle.plan_judge.specs.Said.{said_taken, said_judgement, said_written, said
 use Rattle.plan_judge.specs.promises.Session.{asked, step, desk_after}
 use Rattle.protocol.specs.Replies.{replies_after, replies_to}
 use Rattle.plan_judge.proofs.DesksHoldHistory.{replies, desk_holds}
-use Rattle.plan_judge.proofs.Claims.Ran.{Slice, Asked, writes, checks, writes_model, Answered, loads, puts, judges, asks, Ran, began, further, Described, OfTheCode}
+use Rattle.plan_judge.proofs.Claims.Ran.{Slice, Buffer, Asked, writes, checks, writes_model, Answered, loads, puts, judges, asks, Ran, began, further, Described, OfTheCode}
 use Rattle.plan_judge.proofs.Claims.Demand1.{Next}
 use Rattle.plan_judge.proofs.Claims.Delivery.{There}
 
@@ -88,16 +88,20 @@ every_list h = record { answers = every_reply h; contents = every_ran h }
 abbrev pub slice : Bytes → Slice
 slice b = record { ref_ptr = (0, 0); now = b }
 
+-- A buffer with these bytes.
+abbrev pub buffer : Bytes → Buffer
+buffer b = record { ref_ptr = (0, 0); ghost_name = 0; now = b }
+
 -- Every call is answered.
 pub answer_there : (d : Desk) (c : Call) → Next d c
 answer_there d (load b) = record { reply = _; desk = _; answered = loads ([], tt) (slice b) (loaded_by d b) (λ _. refl) }
 answer_there d (put b) = record { reply = _; desk = _; answered = puts ([], tt) (slice b) (put_by d b) (λ _. refl) }
 answer_there d judge = record { reply = _; desk = _; answered = judges (judged_by d) (λ _. refl) }
 answer_there d (query (write a)) =
-    record { reply = _; desk = _; answered = asks (writes ([], tt) (slice a) (slice (filled_by d a)) (written_by d (length a)) (λ _. (refl, refl))) }
+    record { reply = _; desk = _; answered = asks (writes ([], tt) (buffer a) (buffer (filled_by d a)) (written_by d (length a)) (λ _. (refl, refl))) }
 answer_there d (query (check b)) = record { reply = _; desk = _; answered = asks (checks ([], tt) (slice b) (checked_by d b) (λ _. refl)) }
 answer_there d (query (write_model a)) =
-    record { reply = _; desk = _; answered = asks (writes_model ([], tt) (slice a) (slice (model_filled_by d a)) (model_written_by d (length a)) (λ _. (refl, refl))) }
+    record { reply = _; desk = _; answered = asks (writes_model ([], tt) (buffer a) (buffer (model_filled_by d a)) (model_written_by d (length a)) (λ _. (refl, refl))) }
 
 there_after : (before : List Call) → There before → (cs : List Call) → There (before ++ cs)
 there_after before t [] = subst There (sym (append-nil before)) t

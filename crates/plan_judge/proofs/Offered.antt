@@ -7,7 +7,7 @@ use lib.ListN.{length}
 use Rattle.plan_judge.specs.View.{view}
 use Rattle.plan_judge.specs.promises.State.{shown_size}
 use Rattle.plan_judge.specs.promises.CChain.{c_chain, c_number, c_buffer}
-use Rattle.plan_judge.proofs.EveryList.{slice}
+use Rattle.plan_judge.proofs.EveryList.{buffer}
 use Rattle.plan_judge.proofs.CList.{c_list}
 use Rattle.plan_judge.proofs.Claims.Offered.{CCallTold, choices_shown, ShownChoicesTold}
 
@@ -16,7 +16,7 @@ c_call_told =
     record {
       answers = λ κ model question found.
           let c = c_chain model.now question.now (length found.now) in
-          (slice (c_buffer found.now c), c_number c, record { number = refl; buffer = refl });
+          (buffer (c_buffer found.now c), c_number c, record { number = refl; buffer = refl });
       tells = λ κ model question found left r p.
           ap₂ (λ n b. record { number = n; buffer = b }) (p tt).number (p tt).buffer ∙ sym (c_list model.now question.now found.now);
     }

@@ -13,7 +13,7 @@ use Rattle.protocol.specs.Calls.{Call, lent, refuse, Reply, yields}
 use Rattle.protocol.specs.Demand1.{listed}
 use Rattle.plan_judge.specs.declared.Desk.{Desk}
 use Rattle.plan_judge.specs.View.{view}
-use Rattle.plan_judge.proofs.Claims.Ran.{Slice, Answered}
+use Rattle.plan_judge.proofs.Claims.Ran.{Slice, Buffer, Answered}
 use Rattle.plan_judge.proofs.empty.Reads as empty-reads
 use Rattle.plan_judge.proofs.load.Reads as load-reads
 use Rattle.plan_judge.proofs.put.Reads as put_reads
@@ -30,11 +30,11 @@ pub record AsksNothing : Type 0 where
   pub of_load : (κ : Lfts 1) (d : Desk) (b : Slice) → load-reads.Pre κ (d, (b, tt))
   pub of_put : (κ : Lfts 1) (d : Desk) (b : Slice) → put_reads.Pre κ (d, (b, tt))
   pub of_judge : (d : Desk) → judge-reads.Pre tt (d, tt)
-  pub of_write : (κ : Lfts 1) (d : Desk) (a : Slice) → write-reads.Pre κ (d, (a, tt))
+  pub of_write : (κ : Lfts 1) (d : Desk) (a : Buffer) → write-reads.Pre κ (d, (a, tt))
   pub of_check : (κ : Lfts 1) (d : Desk) (b : Slice) → check-reads.Pre κ (d, (b, tt))
-  pub of_write_model : (κ : Lfts 1) (d : Desk) (a : Slice) → write-model-reads.Pre κ (d, (a, tt))
+  pub of_write_model : (κ : Lfts 1) (d : Desk) (a : Buffer) → write-model-reads.Pre κ (d, (a, tt))
   pub of_shown_choices : (d : Desk) → shown-reads.Pre tt (d, tt)
-  pub of_c_call : (κ : Lfts 3) (model question sheet : Slice) → c-reads.Pre κ (model, (question, (sheet, tt)))
+  pub of_c_call : (κ : Lfts 3) (model question : Slice) (sheet : Buffer) → c-reads.Pre κ (model, (question, (sheet, tt)))
 
 -- What a call leads to.
 pub record Next (d : Desk) (c : Call) : Type 0 where

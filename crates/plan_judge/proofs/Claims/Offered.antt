@@ -10,15 +10,15 @@ use Rattle.logic.specs.Verdict.{Verdict, no, yes, yes_plan}
 use Rattle.protocol.specs.CCall.{c_call}
 use Rattle.plan_judge.specs.declared.Desk.{Desk}
 use Rattle.plan_judge.specs.View.{view}
-use Rattle.plan_judge.proofs.Claims.Ran.{Slice}
+use Rattle.plan_judge.proofs.Claims.Ran.{Slice, Buffer}
 use Rattle.plan_judge.proofs.c_call.plan_judge.Reads as c-reads
 use Rattle.plan_judge.proofs.shown_choices.Reads as shown-reads
 
 -- The C call gives the number, and leaves the buffer, that the list load, put, judge, write on an empty desk tells.
 pub record CCallTold : Type 0 where
-  pub answers : (κ : Lfts 3) (model question found : Slice)
-      → (left : Slice) × (r : ℕ) × c-reads.Post κ (model, (question, (found, tt))) r (model, (question, (left, tt)))
-  pub tells : (κ : Lfts 3) (model question found left : Slice) (r : ℕ)
+  pub answers : (κ : Lfts 3) (model question : Slice) (found : Buffer)
+      → (left : Buffer) × (r : ℕ) × c-reads.Post κ (model, (question, (found, tt))) r (model, (question, (left, tt)))
+  pub tells : (κ : Lfts 3) (model question : Slice) (found left : Buffer) (r : ℕ)
       → (c-reads.Pre κ (model, (question, (found, tt))) → c-reads.Post κ (model, (question, (found, tt))) r (model, (question, (left, tt))))
       → record { number = r; buffer = left.now } ≡ c_call model.now question.now found.now
 

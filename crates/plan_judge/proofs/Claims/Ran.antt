@@ -6,7 +6,7 @@
 use mathlib.Core.Path.{◌≡◌}
 use mathlib.Core.List.{List, [], ◌∷◌, ◌++◌}
 use contract.Lifetimes.{Lfts}
-use denote.Ref.{Bor}
+use Rattle.std.proofs.Common.{Bor, MutBor}
 use Rattle.blocks.specs.Bytes.{Bytes}
 use Rattle.protocol.specs.Calls.{Query, write, check, write_model, Call, load, put, judge, query, Reply, says}
 use Rattle.protocol.specs.History.{after}
@@ -27,19 +27,22 @@ use Rattle.plan_judge.proofs.write.Reads as write-reads
 use Rattle.plan_judge.proofs.check.Reads as check-reads
 use Rattle.plan_judge.proofs.write_model.Reads as write-model-reads
 
--- A slice of bytes that is lent to a call, wherever it lies and for however long.
+-- A slice of bytes that is lent to a call, wherever it lies and for however long: to read, or to write.
 abbrev pub Slice : Type 0
 Slice = Bor Bytes
 
+abbrev pub Buffer : Type 0
+Buffer = MutBor Bytes
+
 -- A query c on the desk d is answered r, as the contract of its function says. It gives no desk back.
 pub data Asked (d : Desk) : Query → Reply → Type 0 where
-  writes : (κ : Lfts 1) (found left : Slice) (r : Written)
+  writes : (κ : Lfts 1) (found left : Buffer) (r : Written)
       → (write-reads.Pre κ (d, (found, tt)) → write-reads.Post κ (d, (found, tt)) r (d, (left, tt)))
       → Asked d (write found.now) (record { answer = said_written r; buffer = left.now })
   checks : (κ : Lfts 1) (b : Slice) (r : Checking)
       → (check-reads.Pre κ (d, (b, tt)) → check-reads.Post κ (d, (b, tt)) r (d, (b, tt)))
       → Asked d (check b.now) (says (said_checking r))
-  writes_model : (κ : Lfts 1) (found left : Slice) (r : Written)
+  writes_model : (κ : Lfts 1) (found left : Buffer) (r : Written)
       → (write-model-reads.Pre κ (d, (found, tt)) → write-model-reads.Post κ (d, (found, tt)) r (d, (left, tt)))
       → Asked d (write_model found.now) (record { answer = said_written r; buffer = left.now })
 

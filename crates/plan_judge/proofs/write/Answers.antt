@@ -83,35 +83,35 @@ write_sheet-requires c =
     let cut : take c.blocks_end-end.result c.args.d.model ≡ said_bytes c.args.d = cut_said c.args.d (search rules) c.blocks_end-end.result c.blocks_end-end.ensures in
     let P = c in
     let E = c in
-    let S = E.before.before.before.before.before in
+    let S = c in
     let d = S.args.d in
     let q = d.question in
     let l = take E.shown_size-count.result d.choices in
-    let r = plan_asked d (asked E.before.before) in
+    let r = plan_asked d asked in
     let n = P.root_steps-n in
     let s = P.start-s in
     let e = cut in
-    let found = found_shown d S.args.buf.now (asked E.before.before) E.shown_size-count.result E.shown_size-count.ensures E.if-count-eq0.left in record { m_value = (
+    let found = found_shown d S.args.buf.now asked E.shown_size-count.result E.shown_size-count.ensures E.if-count-eq0.false in record { m_value = (
         ap (λ z. refusal (read_model z)) e ∙ r.passed,
         omega (arith, (accepted _ _ _ q r.asked).formed.starts, s.ensures, ap state_count e),
         choices_read (said_bytes d) q r d.choices l found
             ∙ ap₂ (λ n s. end_of (length l) (read_plan (model_of (said_bytes d)) n s l)) (sym n.ensures) (sym s.ensures)
             ∙ ap (λ z. end_of (length l) (read_plan (model_of z) n.result s.result l)) (sym e),
-      ); choices_len_bound = (omega (arith, small E, whole E), omega (arith, ap (λ k. 512 * blocks_for k) (whole E), P.sheet_size.ensures, P.if-buf-sheet_size.false)) }
+      ); choices_len_bound = (omega (arith, small, whole), omega (arith, ap (λ k. 512 * blocks_for k) whole, P.sheet_size.ensures, P.if-buf-sheet_size.false)) }
 
 pub returns : goal.returns
 returns c =
     let asked : refusal (held_goal (view c.args.d)) ≡ 0 = sym c.plan_ground-k.ensures ∙ c.if-k-ne0.false in
     let P = c in
     let E = c in
-    let S = E.before.before.before.before.before in
+    let S = c in
     let q = S.args.d.question in
     let cs = take E.shown_size-count.result S.args.d.choices in
     let n = P.root_steps-n in
     let s = P.start-s in
     let w = P.shown_total-w in
     let sheet = c.write_sheet in
-    let rest = drop sheet.result S.args.buf.now in clauses_value_frame (write_done S.args.d S.args.buf.now (asked E.before.before) E.shown_size-count.result E.shown_size-count.ensures E.if-count-eq0.left
+    let rest = drop sheet.result S.args.buf.now in clauses_value_frame (write_done S.args.d S.args.buf.now asked E.shown_size-count.result E.shown_size-count.ensures E.if-count-eq0.false
     (omega (arith, P.sheet_size.ensures, P.if-buf-sheet_size.false)) sheet.result sheet.ensures.value sheet.new.buf
     (sheet.ensures.effect
     ∙ ap (λ z. sheet_bytes n.result s.result z cs ++ rest) (to_z-of_z w64 w.result (record { sfits = w.type_inv }))

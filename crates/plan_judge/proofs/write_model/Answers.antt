@@ -42,7 +42,7 @@ returns-then-n-buf c =
     let desk : Desk = c.args.d in
     let lent : Bytes = c.args.buf.now in
     let T = c in
-    let E = T.before in clauses_value_frame (write_model_done (desk E) (lent E) E.before.held_bytes.result E.before.held_bytes.ensures E.if1.false (omega (arith, T.if-n-buf.true)) c.copy.new.dst c.copy.ensures)
+    clauses_value_frame (write_model_done desk lent c.held_bytes-n.result c.held_bytes-n.ensures c.if-n-eq0.false (omega (arith, T.if-n-buf.true)) c.copy.new.dst c.copy.ensures)
 
 pub returns : goal.returns
 returns c =
