@@ -18,7 +18,7 @@ whynot_printed =
       asks_nothing = λ κ input found. tt;
       answers = λ κ input found.
           let line : List ℕ = answer_text whynot_says input.now in
-          (record { ref_ptr = (0, 0); now = splice found.now 0 line }, length line, record { wrote = refl; next = omega arith });
+          (record { ref_ptr = (0, 0); ghost_name = 0; now = splice found.now 0 line }, length line, record { wrote = refl; next = omega arith });
       prints = λ κ input found left r p. subst (λ l. Put l found.now left.now 0 r) (sym (explained_is input.now)) (p tt);
       as_verdict = λ b h. same_text b h;
       on_no = λ b x d. why b x d;

@@ -17,6 +17,6 @@ answer_printed =
       asks_nothing = λ κ input found. tt;
       answers = λ κ input found.
           let line : List ℕ = answer_text verdict_says input.now in
-          (record { ref_ptr = (0, 0); now = splice found.now 0 line }, length line, record { wrote = refl; next = omega arith });
+          (record { ref_ptr = (0, 0); ghost_name = 0; now = splice found.now 0 line }, length line, record { wrote = refl; next = omega arith });
       prints = λ κ input found left r p. subst (λ l. Put l found.now left.now 0 r) (sym (printed_is input.now)) (p tt);
     }

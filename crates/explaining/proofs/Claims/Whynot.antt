@@ -5,7 +5,7 @@ use Prim.Native.Nat.{ℕ}
 use mathlib.Core.Path.{◌≡◌}
 use mathlib.Core.Option.{some}
 use contract.Lifetimes.{Lfts}
-use denote.Ref.{Bor}
+use Rattle.std.proofs.Common.{Bor, MutBor}
 use Rattle.logic.specs.Model.{Model}
 use Rattle.logic.specs.Verdict.{Denial, no}
 use Rattle.blocks.specs.Bytes.{Bytes}
@@ -17,9 +17,9 @@ use Rattle.verdict_line.specs.Reasons.{explained, held_of, judge_answer, Why}
 use Rattle.explaining.proofs.answer.Reads as answer-reads
 
 pub record WhynotPrinted : Type 0 where
-  pub asks_nothing : (κ : Lfts 2) (input found : Bor Bytes) → answer-reads.Pre κ (input, (found, tt))
-  pub answers : (κ : Lfts 2) (input found : Bor Bytes) → (left : Bor Bytes) × (r : ℕ) × answer-reads.Post κ (input, (found, tt)) r (input, (left, tt))
-  pub prints : (κ : Lfts 2) (input found left : Bor Bytes) (r : ℕ)
+  pub asks_nothing : (κ : Lfts 2) (input : Bor Bytes) (found : MutBor Bytes) → answer-reads.Pre κ (input, (found, tt))
+  pub answers : (κ : Lfts 2) (input : Bor Bytes) (found : MutBor Bytes) → (left : MutBor Bytes) × (r : ℕ) × answer-reads.Post κ (input, (found, tt)) r (input, (left, tt))
+  pub prints : (κ : Lfts 2) (input : Bor Bytes) (found left : MutBor Bytes) (r : ℕ)
       → (answer-reads.Pre κ (input, (found, tt)) → answer-reads.Post κ (input, (found, tt)) r (input, (left, tt)))
       → Put (explained input.now) found.now left.now 0 r
   -- "Yes and refusals print as in verdict."
