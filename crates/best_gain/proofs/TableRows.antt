@@ -25,7 +25,7 @@ use Rattle.models.specs.Layout.{state_count, denominator_of}
 use Rattle.models.proofs.ModelOfBytes.{sum_tabulate}
 use Rattle.bounds.proofs.Powers.{power_le}
 use Rattle.prepared_model.specs.promises.Rows.{choices_in, choice_in, outcomes_in, step_in, Offers, model_in, Prepared}
-use Rattle.prepared_model.proofs.ReadByPlace.{states_are, denominator_is, some_choice, weights_sum, choice_enabled, modest_rewards}
+use Rattle.prepared_model.proofs.ReadByPlace.{states_are, denominator_is, weights_sum, choice_enabled, modest_rewards}
 use Rattle.best_gain.specs.declared.Window.{Window}
 use Rattle.best_gain.specs.promises.Tabled.{worth_by, Low, Picks, WindowRight, before_left, last_left, best_left, Filled}
 

@@ -6,9 +6,7 @@ use mathlib.Core.Path.{◌≡◌, refl, sym, ap, subst, ◌∙◌}
 use mathlib.Core.Bool.{Bool, true, false}
 use mathlib.Core.List.{List}
 use Rattle.logic.specs.Model.{Model}
-use Rattle.logic.specs.Formula.{Node}
 use Rattle.blocks.specs.Bytes.{Bytes}
-use Rattle.models.specs.Layout.{state_count, action_count, prop_count}
 use Rattle.questions.specs.Layout.{node_count, node_of}
 use Rattle.questions.specs.promises.Formed.{Compares, sets_bound}
 use Rattle.questions.proofs.SetsBound.{bound_compares}

@@ -10,7 +10,7 @@ use Rattle.logic.specs.Checked.{Checked, ok, refused, ◌>>=◌, ◌>>◌, guard
 use Rattle.logic.specs.promises.Refusal.{refusal}
 use Rattle.logic.specs.Model.{Model, Step, enabled, outcomes}
 use Rattle.logic.specs.Quantity.{naturals}
-use Rattle.logic.specs.Plan.{Plan, weight}
+use Rattle.logic.specs.Plan.{Plan}
 use Rattle.logic.specs.Choices.{read_each, read_plan, plan_of}
 use Rattle.logic.specs.Bound.{total}
 use Rattle.logic.proofs.Checked.{not_ok, ok_same, bind_ok, guard_ok}

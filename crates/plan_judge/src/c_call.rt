@@ -15,8 +15,7 @@ use models::model_refusal;
 use sheets::writer::write_sheet;
 
 // Gives 0 for no, 1 for yes, or 100 plus the refusal. The sheet buffer changes only by the write.
-#[unsafe(no_mangle)]
-pub extern "C" fn plan_judge(model: &[u8], question: &[u8], sheet: &mut [u8]) -> u32
+pub fn plan_judge(model: &[u8], question: &[u8], sheet: &mut [u8]) -> u32
     ensures { let sheet' = sheet.exit.now in let model = model.entry.now in let question = question.entry.now in
         let sheet = sheet.entry.now in
         Tells (c_chain model question (length sheet)) sheet sheet' result }

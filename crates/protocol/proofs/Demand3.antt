@@ -18,7 +18,7 @@ use Rattle.logic.specs.Checked.{Checked, ok, refused, ◌>>=◌, ◌>>◌, guard
 use Rattle.logic.specs.promises.Refusal.{held, refusal}
 use Rattle.logic.specs.Lists.{all}
 use Rattle.logic.specs.Quantity.{integers}
-use Rattle.logic.specs.Plan.{Plan, plans, choices, paths, weight}
+use Rattle.logic.specs.Plan.{Plan, plans, choices, paths}
 use Rattle.logic.specs.Bound.{weighed, gain_between}
 use Rattle.logic.specs.Formula.{Formula, sat, W}
 use Rattle.logic.specs.Model.{Model}
@@ -38,7 +38,7 @@ use Rattle.sheets.specs.Grounds.{sheet_grounds, read_sheet}
 use Rattle.protocol.specs.Calls.{Call, judge, query, write, check, Held, Report, Answer, judged, written, accepted, refuse, Reply, says, written_bytes, same, reported, yields}
 use Rattle.protocol.specs.Demand3.{PlanQuestion, OnCondition, OnGain, total, meets_bound, lamp, Claims, Accepts, Differs, MeetingSheet, SaysYes, WritesShown, Demand3}
 use Rattle.protocol.specs.promises.Chains.{sheet_shown, do_write, check_on, do_check, answered, by_chain}
-use Rattle.protocol.proofs.AfterEachCall.{Sound, sound}
+use Rattle.protocol.proofs.AfterEachCall.{Sound}
 use Rattle.protocol.proofs.Refusals.{first_passes, decided_none, decided_first, decided_ok, plan_only}
 use Rattle.protocol.proofs.FirstGround.{yields_is}
 use Rattle.protocol.proofs.Demand2.{judge_yields}

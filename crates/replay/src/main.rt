@@ -5,11 +5,11 @@
 
 ghost use Rattle.std.specs.Prelude.{◌+◌, ◌≤◌, ◌≡◌, length};
 
-use libc::{STDIN_FILENO, STDOUT_FILENO};
 use plan_judge::{
     Checking, Denial, Desk, Judgement, Judging, MODEL_BYTES, PlanRecord, Report, Taken, Verdict,
     Written,
 };
+use std::io::{Stdin, Stdout};
 use verdict_line::LINE;
 
 // The modulus of the checksum Adler-32, by which the lines tell bytes.
@@ -142,11 +142,9 @@ struct Sums {
 fn adler(bytes: &[u8]) -> Sums {
     let mut a: u32 = 1;
     let mut b: u32 = 0;
-    let mut i: usize = 0;
-    while i < bytes.len() {
-        a = (a + bytes[i] as u32) % ADLER;
+    for byte in bytes {
+        a = (a + *byte as u32) % ADLER;
         b = (b + a) % ADLER;
-        i += 1;
     }
     Sums { a, b }
 }
@@ -163,60 +161,60 @@ fn put_sums(out: &mut [u8], at: usize, bytes: &[u8]) -> usize
 // ---- each call with its line
 
 // Ends the line and writes it.
-fn say(out: &mut [u8], at: usize)
+fn say(to: &mut Stdout, out: &mut [u8], at: usize)
     requires { at + 1 ≤ length out.old }
 {
     let end = verdict_line::put_text(out, at, b"\n");
-    io::write_all(STDOUT_FILENO, &out[..end]);
+    streams::write_all(to, &out[..end]);
 }
 
-fn load(desk: Desk, input: &[u8], out: &mut [u8; LINE]) -> Desk {
+fn load(to: &mut Stdout, desk: Desk, input: &[u8], out: &mut [u8; LINE]) -> Desk {
     let r = plan_judge::load(desk, input);
     let a = r.answer;
     let name = verdict_line::put_text(out, 0, b"load");
     let end = put_taken(out, name, a);
-    say(out, end);
+    say(to, out, end);
     r.desk
 }
 
-fn put(desk: Desk, input: &[u8], out: &mut [u8; LINE]) -> Desk {
+fn put(to: &mut Stdout, desk: Desk, input: &[u8], out: &mut [u8; LINE]) -> Desk {
     let r = plan_judge::put(desk, input);
     let a = r.answer;
     let name = verdict_line::put_text(out, 0, b"put");
     let end = put_taken(out, name, a);
-    say(out, end);
+    say(to, out, end);
     r.desk
 }
 
-fn judge(desk: Desk, out: &mut [u8; LINE]) -> Desk {
+fn judge(to: &mut Stdout, desk: Desk, out: &mut [u8; LINE]) -> Desk {
     let r = plan_judge::judge(desk);
     let name = verdict_line::put_text(out, 0, b"judge");
     let end = put_judged(out, name, r);
-    say(out, end);
+    say(to, out, end);
     r.desk
 }
 
-fn write(desk: Desk, buffer: &mut [u8], out: &mut [u8; LINE]) {
+fn write(to: &mut Stdout, desk: Desk, buffer: &mut [u8], out: &mut [u8; LINE]) {
     let a = plan_judge::write(desk, buffer);
     let name = verdict_line::put_text(out, 0, b"write");
     let next = put_written(out, name, a);
     let end = put_sums(out, next, buffer);
-    say(out, end);
+    say(to, out, end);
 }
 
-fn write_model(desk: Desk, buffer: &mut [u8], out: &mut [u8; LINE]) {
+fn write_model(to: &mut Stdout, desk: Desk, buffer: &mut [u8], out: &mut [u8; LINE]) {
     let a = plan_judge::write_model(desk, buffer);
     let name = verdict_line::put_text(out, 0, b"write-model");
     let next = put_written(out, name, a);
     let end = put_sums(out, next, buffer);
-    say(out, end);
+    say(to, out, end);
 }
 
-fn check(desk: Desk, input: &[u8], out: &mut [u8; LINE]) {
+fn check(to: &mut Stdout, desk: Desk, input: &[u8], out: &mut [u8; LINE]) {
     let a = plan_judge::check(desk, input);
     let name = verdict_line::put_text(out, 0, b"check");
     let end = put_checked(out, name, a);
-    say(out, end);
+    say(to, out, end);
 }
 
 // ---- a desk put together by hand
@@ -234,12 +232,12 @@ fn by_hand(input: &[u8]) -> Desk
 }
 
 // It takes the place of the last desk; a record of another length ends the list.
-fn lay(desk: Desk, input: &[u8], out: &mut [u8; LINE]) -> Turn {
+fn lay(to: &mut Stdout, desk: Desk, input: &[u8], out: &mut [u8; LINE]) -> Turn {
     if input.len() != 8 + MODEL_BYTES {
         return Turn { going: false, desk };
     }
     let name = verdict_line::put_text(out, 0, b"desk");
-    say(out, name);
+    say(to, out, name);
     going_on(by_hand(input))
 }
 
@@ -249,32 +247,44 @@ fn going_on(desk: Desk) -> Turn {
     Turn { going: true, desk }
 }
 
-fn call(desk: Desk, operation: u8, input: &mut [u8], out: &mut [u8; LINE]) -> Turn {
+fn call(
+    to: &mut Stdout,
+    desk: Desk,
+    operation: u8,
+    input: &mut [u8],
+    out: &mut [u8; LINE],
+) -> Turn {
     match operation {
-        1 => going_on(load(desk, input, out)),
-        2 => going_on(put(desk, input, out)),
-        3 => going_on(judge(desk, out)),
+        1 => going_on(load(to, desk, input, out)),
+        2 => going_on(put(to, desk, input, out)),
+        3 => going_on(judge(to, desk, out)),
         4 => {
-            write(desk, input, out);
+            write(to, desk, input, out);
             going_on(desk)
         }
         5 => {
-            check(desk, input, out);
+            check(to, desk, input, out);
             going_on(desk)
         }
         6 => {
-            write_model(desk, input, out);
+            write_model(to, desk, input, out);
             going_on(desk)
         }
-        7 => lay(desk, input, out),
+        7 => lay(to, desk, input, out),
         _ => Turn { going: false, desk },
     }
 }
 
 // Reads one record into the lent buffer, and makes its call.
-fn replay_one(desk: Desk, space: &mut [u8], out: &mut [u8; LINE]) -> Turn {
+fn replay_one(
+    from: &mut Stdin,
+    to: &mut Stdout,
+    desk: Desk,
+    space: &mut [u8],
+    out: &mut [u8; LINE],
+) -> Turn {
     let mut head = [0u8; 5];
-    let got = io::read_full(STDIN_FILENO, &mut head);
+    let got = streams::read_full(from, &mut head).count;
     if got < 5 {
         return Turn { going: false, desk };
     }
@@ -283,29 +293,27 @@ fn replay_one(desk: Desk, space: &mut [u8], out: &mut [u8; LINE]) -> Turn {
     if space.len() < n {
         return Turn { going: false, desk };
     }
-    let more = io::read_full(STDIN_FILENO, &mut space[..n]);
+    let more = streams::read_full(from, &mut space[..n]).count;
     if more < n {
         return Turn { going: false, desk };
     }
-    call(desk, operation, &mut space[..n], out)
+    call(to, desk, operation, &mut space[..n], out)
 }
 
-// A proved loop has to end, and nothing says that the input does: it counts down from a number that no run uses up.
-fn replay_all(space: &mut [u8], out: &mut [u8; LINE]) {
-    let mut state = Turn {
-        going: true,
-        desk: plan_judge::empty(),
-    };
-    let mut left = u64::MAX;
-    while left > 0 && state.going {
-        let d = state.desk;
-        state = replay_one(d, space, out);
-        left -= 1;
+// A proved loop has to end, and nothing says that the input does: it counts up to a number that no run reaches.
+fn replay_all(from: &mut Stdin, to: &mut Stdout, space: &mut [u8], out: &mut [u8; LINE]) {
+    let mut desk = plan_judge::empty();
+    for _ in 0..u64::MAX {
+        let turn = replay_one(from, to, desk, space, out);
+        if !turn.going {
+            return;
+        }
+        desk = turn.desk;
     }
 }
 
-fn main() {
+fn main(rt: HostRuntime) {
     let mut space = [0u8; RECORD];
     let mut line = [0u8; LINE];
-    replay_all(&mut space, &mut line);
+    replay_all(&mut rt.stdin(), &mut rt.stdout(), &mut space, &mut line);
 }

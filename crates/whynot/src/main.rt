@@ -1,16 +1,15 @@
 // Reads a model followed by a question from standard input and prints why it is answered no; where it is not, the line of the verdict.
 #![tactic(auto)]
 
-use libc::{STDIN_FILENO, STDOUT_FILENO};
 use verdict_line::reason_lines::TEXT;
 
 // Room for a byte more than 13 blocks, so that longer input is seen to be too long.
 const INPUT: usize = 6657;
 
-fn main() {
+fn main(rt: HostRuntime) {
     let mut input = [0u8; INPUT];
-    let n = io::read_full(STDIN_FILENO, &mut input);
+    let n = streams::read_full(&mut rt.stdin(), &mut input).count;
     let mut text = [0u8; TEXT];
     let k = explaining::answer(&input[..n], &mut text);
-    io::write_all(STDOUT_FILENO, &text[..k]);
+    streams::write_all(&mut rt.stdout(), &text[..k]);
 }

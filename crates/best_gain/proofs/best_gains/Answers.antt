@@ -3,16 +3,14 @@ use Prim.Native.Nat.{ℕ, suc, ◌+◌, ◌*◌, ◌-◌, ◌/◌, ◌%◌, ◌^
 use native.Mathlib.Omega.{arith}
 use native.Mathlib.Nat.{div-add-mod}
 use mathlib.Core.Path.{◌≡◌, refl, sym, ap, subst, ◌∙◌}
-use mathlib.Core.Logic.{⊎_elim}
 use mathlib.Core.Bool.{Bool}
 use mathlib.Core.List.{List}
 use lib.ListN.{length, set, length-set, length-replicate}
 use Rattle.logic.specs.promises.Raised.{pay}
-use Rattle.models.specs.Layout.{state_count, denominator_of}
+use Rattle.models.specs.Layout.{denominator_of}
 use Rattle.best_gain.specs.declared.Window.{Window}
 use Rattle.best_gain.specs.promises.Tabled.{Low, Picks, before_left, last_left, Filled}
 use Rattle.best_gain.proofs.TableRows.{row_low, filled_more, filled_past, filled_none}
-use borrow.Author.Rules.{rules}
 use Rattle.best_gain.proofs.best_gains.Goals as goal
 use Rattle.best_gain.proofs.best_gains.Goals.{then-k-count, else-k-count}
 
@@ -71,31 +69,31 @@ loop-k-preserved c = let S = c in
     let L = c.loop-k in
     let few = steps_left L.k S.args.window.steps L.invariant.2 L.invariant.1 c.loop-k-test.true in
     elim c.if-k-count.branch [
-    | then-k-count w ↦
-    let x = w.pick-x.result in (
-      L.invariant.0,
-      refl,
-      omega arith,
-      omega (arith, L.invariant.1, c.loop-k-test.true),
-      ap length w.best-is ∙ length-set L.best L.k x.value ∙ L.invariant.4,
-      ap length w.places-is ∙ length-set L.places L.k x.place ∙ L.invariant.5,
-      subst (λ y. Filled S.args.least S.args.m.now S.args.window y c.if-k-count.places (L.k + 1)) (sym w.best-is)
-          (subst (λ y. Filled S.args.least S.args.m.now S.args.window (set L.best L.k x.value) y (L.k + 1)) (sym w.places-is)
-          (filled_more S.args.least S.requires.0 S.args.window S.requires.1 few.0 few.1 L.invariant.6 (omega (arith, L.invariant.0, w.if-k-count.true))
-          (rebased S.args.least S.args.m.now L.best S.args.window L.k L.invariant.2 w.unit_of-unit.ensures.value w.pick-x.ensures)
-          (omega (arith, div-add-mod L.k 32, L.invariant.2)) (omega (arith, L.invariant.1, L.invariant.4, c.loop-k-test.true, S.requires.1.few)) (omega (arith, L.invariant.1, L.invariant.5, c.loop-k-test.true, S.requires.1.few)))),
-    )
-    | else-k-count w ↦ (
-      L.invariant.0,
-      refl,
-      omega arith,
-      omega (arith, L.invariant.1, c.loop-k-test.true),
-      ap length w.best-is ∙ L.invariant.4,
-      ap length w.places-is ∙ L.invariant.5,
-      subst (λ x. Filled S.args.least S.args.m.now S.args.window x c.if-k-count.places (L.k + 1)) (sym w.best-is)
-          (subst (λ x. Filled S.args.least S.args.m.now S.args.window L.best x (L.k + 1)) (sym w.places-is)
-          (filled_past S.args.least S.requires.0 S.args.window S.requires.1 (omega (arith, L.invariant.0, w.if-k-count.false)) L.invariant.6)),
-    )
+      | then-k-count w ↦
+          let x = w.pick-x.result in (
+            L.invariant.0,
+            refl,
+            omega arith,
+            omega (arith, L.invariant.1, c.loop-k-test.true),
+            ap length w.best-is ∙ length-set L.best L.k x.value ∙ L.invariant.4,
+            ap length w.places-is ∙ length-set L.places L.k x.place ∙ L.invariant.5,
+            subst (λ y. Filled S.args.least S.args.m.now S.args.window y c.if-k-count.places (L.k + 1)) (sym w.best-is)
+                (subst (λ y. Filled S.args.least S.args.m.now S.args.window (set L.best L.k x.value) y (L.k + 1)) (sym w.places-is)
+                (filled_more S.args.least S.requires.0 S.args.window S.requires.1 few.0 few.1 L.invariant.6 (omega (arith, L.invariant.0, w.if-k-count.true))
+                (rebased S.args.least S.args.m.now L.best S.args.window L.k L.invariant.2 w.unit_of-unit.ensures.value w.pick-x.ensures)
+                (omega (arith, div-add-mod L.k 32, L.invariant.2)) (omega (arith, L.invariant.1, L.invariant.4, c.loop-k-test.true, S.requires.1.few)) (omega (arith, L.invariant.1, L.invariant.5, c.loop-k-test.true, S.requires.1.few)))),
+          )
+      | else-k-count w ↦ (
+        L.invariant.0,
+        refl,
+        omega arith,
+        omega (arith, L.invariant.1, c.loop-k-test.true),
+        ap length w.best-is ∙ L.invariant.4,
+        ap length w.places-is ∙ L.invariant.5,
+        subst (λ x. Filled S.args.least S.args.m.now S.args.window x c.if-k-count.places (L.k + 1)) (sym w.best-is)
+            (subst (λ x. Filled S.args.least S.args.m.now S.args.window L.best x (L.k + 1)) (sym w.places-is)
+            (filled_past S.args.least S.requires.0 S.args.window S.requires.1 (omega (arith, L.invariant.0, w.if-k-count.false)) L.invariant.6)),
+      )
     ]
 
 pub returns : goal.returns

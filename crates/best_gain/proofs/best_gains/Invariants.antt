@@ -1,17 +1,8 @@
-use Prim.Native.Nat.{ℕ, suc, ◌+◌, ◌*◌, ◌-◌, ◌/◌, ◌%◌, ◌^◌, ◌≤◌, ◌<◌}
-use native.Mathlib.Omega.{arith}
-use native.Mathlib.Nat.{div-add-mod}
-use mathlib.Core.Path.{◌≡◌, refl, sym, ap, subst, ◌∙◌}
-use mathlib.Core.Logic.{⊎_elim}
-use mathlib.Core.Bool.{Bool}
-use mathlib.Core.List.{List}
-use lib.ListN.{length, set, length-set, length-replicate}
-use Rattle.logic.specs.promises.Raised.{pay}
-use Rattle.models.specs.Layout.{state_count, denominator_of}
-use Rattle.best_gain.specs.declared.Window.{Window}
-use Rattle.best_gain.specs.promises.Tabled.{Low, Picks, before_left, last_left, Filled}
-use Rattle.best_gain.proofs.TableRows.{row_low, filled_more, filled_past, filled_none}
-use borrow.Author.Rules.{rules}
+use Prim.Native.Nat.{◌+◌, ◌*◌, ◌-◌, ◌≤◌}
+use mathlib.Core.Path.{◌≡◌}
+use lib.ListN.{length}
+use Rattle.models.specs.Layout.{state_count}
+use Rattle.best_gain.specs.promises.Tabled.{Filled}
 use Rattle.best_gain.proofs.best_gains.Given as goal
 
 abbrev pub invariant-loop-k : goal.invariant-loop-k

@@ -1,16 +1,12 @@
 -- `choice_worth`: the sum over the first o outcomes. The measure is what is left of the outcomes.
 -- What the first o outcomes add.
-use Prim.Native.Nat.{ℕ, ◌+◌, ◌*◌, ◌-◌, ◌^◌, ◌≤◌, ◌<◌}
+use Prim.Native.Nat.{ℕ, ◌+◌, ◌*◌, ◌^◌, ◌≤◌, ◌<◌}
 use native.Mathlib.Omega.{arith}
 use mathlib.Core.Path.{◌≡◌, refl, sym, ap, ap₂, subst, ◌∙◌}
-use mathlib.Core.List.{List}
-use lib.ListN.{get_or}
-use Rattle.logic.specs.promises.Raised.{raise}
 use Rattle.blocks.specs.Block.{sum_below}
-use Rattle.prepared_model.specs.promises.Rows.{outcomes_in, step_in, Offers}
+use Rattle.prepared_model.specs.promises.Rows.{outcomes_in, Offers}
 use Rattle.prepared_model.proofs.PlacesInRange.{read_range}
 use Rattle.best_gain.proofs.TableRows.{weighed, sum_fits, worth_all, next_sum}
-use borrow.Author.Rules.{rules}
 use Rattle.best_gain.proofs.choice_worth.Invariants.{so_far}
 use Rattle.best_gain.proofs.choice_worth.Goals as goal
 

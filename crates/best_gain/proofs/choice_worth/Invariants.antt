@@ -1,14 +1,10 @@
-use Prim.Native.Nat.{ℕ, ◌+◌, ◌*◌, ◌-◌, ◌^◌, ◌≤◌, ◌<◌}
-use native.Mathlib.Omega.{arith}
-use mathlib.Core.Path.{◌≡◌, refl, sym, ap, ap₂, subst, ◌∙◌}
+use Prim.Native.Nat.{ℕ, ◌+◌, ◌*◌, ◌-◌, ◌≤◌}
+use mathlib.Core.Path.{◌≡◌}
 use mathlib.Core.List.{List}
 use lib.ListN.{get_or}
 use Rattle.logic.specs.promises.Raised.{raise}
 use Rattle.blocks.specs.Block.{sum_below}
-use Rattle.prepared_model.specs.promises.Rows.{outcomes_in, step_in, Offers}
-use Rattle.prepared_model.proofs.PlacesInRange.{read_range}
-use Rattle.best_gain.proofs.TableRows.{weighed, sum_fits, worth_all, next_sum}
-use borrow.Author.Rules.{rules}
+use Rattle.prepared_model.specs.promises.Rows.{outcomes_in, step_in}
 use Rattle.best_gain.proofs.choice_worth.Given as goal
 
 abbrev pub so_far : (m best : List ℕ) (at unit s i o : ℕ) → ℕ

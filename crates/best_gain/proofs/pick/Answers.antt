@@ -1,13 +1,10 @@
 -- `pick`: the first of the best of the choices tried so far. The measure is what is left of the choices.
-use Prim.Native.Nat.{◌-◌, ◌≤◌}
 use native.Mathlib.Omega.{arith}
 use mathlib.Core.Path.{◌≡◌, sym, subst, ◌∙◌}
-use mathlib.Core.Logic.{⊎_elim}
 use Rattle.prepared_model.specs.promises.Rows.{choices_in}
 use Rattle.prepared_model.proofs.ReadByPlace.{some_choice}
 use Rattle.best_gain.specs.promises.Tabled.{Picks}
 use Rattle.best_gain.proofs.TableRows.{picks_first, picks_won, picks_lost}
-use borrow.Author.Rules.{rules}
 use Rattle.best_gain.proofs.pick.Goals as goal
 use Rattle.best_gain.proofs.pick.Goals.{then-exceeds, else-exceeds}
 

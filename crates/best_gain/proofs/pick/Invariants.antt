@@ -1,12 +1,7 @@
 use Prim.Native.Nat.{◌-◌, ◌≤◌}
-use native.Mathlib.Omega.{arith}
-use mathlib.Core.Path.{◌≡◌, sym, subst, ◌∙◌}
-use mathlib.Core.Logic.{⊎_elim}
+use mathlib.Core.Path.{◌≡◌}
 use Rattle.prepared_model.specs.promises.Rows.{choices_in}
-use Rattle.prepared_model.proofs.ReadByPlace.{some_choice}
 use Rattle.best_gain.specs.promises.Tabled.{Picks}
-use Rattle.best_gain.proofs.TableRows.{picks_first, picks_won, picks_lost}
-use borrow.Author.Rules.{rules}
 use Rattle.best_gain.proofs.pick.Given as goal
 
 abbrev pub invariant-loop-i : goal.invariant-loop-i

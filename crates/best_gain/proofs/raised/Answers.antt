@@ -1,12 +1,11 @@
 -- `raised`: a reward from -1000 to 1000 is no less than 0 with 1000 more.
 use native.Mathlib.Omega.{arith}
 use mathlib.Core.Path.{◌≡◌, refl, sym, ap, ◌∙◌}
-use lib.IntN.{ℤ, pos, ◌+ℤ◌}
+use lib.IntN.{pos, ◌+ℤ◌}
 use mir.Syntax.{w16, w64}
 use mir.Val.{to_z, of_z, SFits}
 use mir.ValLaws.{to_z-of_z}
 use Rattle.logic.specs.promises.Raised.{raise}
-use borrow.Author.Rules.{rules}
 use Rattle.best_gain.proofs.raised.Goals as goal
 
 clauses_value_range : {A B : Type 0} → A × B → record { value : A; range : B }

@@ -5,7 +5,6 @@ use mathlib.Core.Path.{◌≡◌, refl, sym, ap, subst, ◌∙◌}
 use Rattle.logic.specs.promises.Raised.{pay}
 use Rattle.models.specs.Layout.{denominator_of}
 use Rattle.bounds.proofs.Powers.{power_le}
-use borrow.Author.Rules.{rules}
 use Rattle.best_gain.proofs.unit_of.Goals as goal
 
 pay_not_yet : (x y : ℕ) → 0 < x → pay x y ≡ 0

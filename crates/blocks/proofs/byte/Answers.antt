@@ -1,6 +1,5 @@
 use mathlib.Core.Path.{sym}
 use Rattle.blocks.proofs.TwosComplement.{get_or_past}
-use borrow.Author.Rules.{rules}
 use Rattle.blocks.proofs.byte.Goals as goal
 
 pub returns : goal.returns

@@ -5,7 +5,6 @@ use lib.Dec.{eqb}
 use lib.ListN.{get_or}
 use borrow.Author.Tests.{eq-eqb, ne_eqb}
 use Rattle.blocks.specs.Block.{headed}
-use borrow.Author.Rules.{rules}
 use Rattle.blocks.proofs.headed.Goals as goal
 
 pub returns-then-wide-kind : goal.returns-then-wide-kind

@@ -2,7 +2,6 @@ use mathlib.Core.Path.{ap, ◌∙◌}
 use mir.Syntax.{w16}
 use mir.ValLaws.{to_z-of_z}
 use Rattle.blocks.specs.Bytes.{i16, signed}
-use borrow.Author.Rules.{rules}
 use Rattle.blocks.proofs.i16_at.Goals as goal
 
 pub signed16-requires : goal.signed16-requires

@@ -2,7 +2,6 @@ use mathlib.Core.Path.{ap, ◌∙◌}
 use mir.Syntax.{w32}
 use Rattle.blocks.specs.Bytes.{i32, signed}
 use Rattle.blocks.proofs.TwosComplement.{low_reads, high_fits, high_reads}
-use borrow.Author.Rules.{rules}
 use Rattle.blocks.proofs.i32_at.Goals as goal
 
 pub returns-then-x-lt2147483648 : goal.returns-then-x-lt2147483648

@@ -2,7 +2,6 @@ use mathlib.Core.Path.{ap, ◌∙◌}
 use mir.Syntax.{w64}
 use Rattle.blocks.specs.Bytes.{i64, signed}
 use Rattle.blocks.proofs.TwosComplement.{low_reads, high_fits, high_reads}
-use borrow.Author.Rules.{rules}
 use Rattle.blocks.proofs.i64_at.Goals as goal
 
 pub returns-then-x-lt9223372036854775808 : goal.returns-then-x-lt9223372036854775808

@@ -2,7 +2,6 @@ use Prim.Native.Nat.{◌+◌}
 use native.Mathlib.Omega.{arith}
 use mathlib.Core.Path.{refl}
 use Rattle.blocks.specs.Bytes.{u16}
-use borrow.Author.Rules.{rules}
 use Rattle.blocks.proofs.pair.Goals as goal
 
 pub overflow_cast-low : goal.overflow_cast-low

@@ -1,5 +1,4 @@
 -- What is put in is told by the sum of all words and by the last word as it was, which may be any.
-use borrow.Author.Rules.{rules}
 use Rattle.blocks.proofs.WordSumSealed.{sealed}
 use Rattle.blocks.proofs.seal.Goals as goal
 

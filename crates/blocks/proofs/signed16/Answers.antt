@@ -7,7 +7,6 @@ use mir.Syntax.{w16, w32}
 use mir.Val.{SFits, to_z, of_z}
 use mir.ValLaws.{to_z_pos, to_z-of_z}
 use Rattle.blocks.proofs.TwosComplement.{signed_low, signed_high, small, high16}
-use borrow.Author.Rules.{rules}
 use Rattle.blocks.proofs.signed16.Goals as goal
 
 difference : (x : ℕ) → 32768 ≤ x → x < 65536 → to_z w32 (of_z w32 (to_z w32 x -ℤ pos 65536)) ≡ negsuc (65535 - x)

@@ -1,14 +1,9 @@
-use Prim.Native.Nat.{◌-◌, ◌/◌, ◌%◌, ◌≤◌}
-use native.Mathlib.Omega.{arith}
-use native.Mathlib.Numerals.{add-one}
-use mathlib.Core.Path.{◌≡◌, sym, refl, ap, ◌∙◌}
+use Prim.Native.Nat.{◌-◌, ◌%◌, ◌≤◌}
+use mathlib.Core.Path.{◌≡◌}
 use mathlib.Core.Bool.{true}
 use lib.Dec.{eqb}
-use lib.ListN.{length}
-use borrow.Author.Tests.{eq-eqb, ne_eqb}
 use Rattle.logic.specs.Lists.{every}
-use Rattle.logic.proofs.Tests.{every_false}
-use Rattle.blocks.specs.Block.{word_sum, sums_right, block_count}
+use Rattle.blocks.specs.Block.{word_sum}
 use Rattle.blocks.proofs.sums_right.Given as goal
 
 abbrev pub invariant-loop-k : goal.invariant-loop-k

@@ -1,9 +1,7 @@
-use Prim.Native.Nat.{◌+◌, ◌-◌, ◌*◌, ◌%◌, ◌≤◌}
-use native.Mathlib.Omega.{arith}
-use native.Mathlib.Numerals.{add-one}
-use mathlib.Core.Path.{◌≡◌, refl, ap, ◌∙◌}
+use Prim.Native.Nat.{◌+◌, ◌-◌, ◌*◌, ◌≤◌}
+use mathlib.Core.Path.{◌≡◌}
 use Rattle.blocks.specs.Bytes.{u16}
-use Rattle.blocks.specs.Block.{sum_below, word_sum}
+use Rattle.blocks.specs.Block.{sum_below}
 use Rattle.blocks.proofs.word_sum.Given as goal
 
 abbrev pub invariant-loop-j : goal.invariant-loop-j

@@ -1,6 +1,6 @@
 -- The sum of the bytes passed is 0 exactly when each of them is: the loop's invariant, with 255 for each byte as a bound on the sum. The
 -- measure is what is left of n.
-use Prim.Native.Nat.{◌+◌, ◌-◌, ◌*◌, ◌≤◌}
+use Prim.Native.Nat.{◌+◌}
 use native.Mathlib.Omega.{arith}
 use native.Mathlib.Numerals.{add-one}
 use mathlib.Core.Path.{◌≡◌, refl, ap, ◌∙◌}

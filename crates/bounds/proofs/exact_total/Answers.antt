@@ -5,7 +5,6 @@ use native.Mathlib.Omega.{arith}
 use native.Mathlib.Nat.{div-le_self}
 use mathlib.Core.Path.{refl}
 use Rattle.bounds.proofs.ProductsFit.{sizes, never, exactly, between}
-use borrow.Author.Rules.{rules}
 use Rattle.bounds.proofs.exact_total.Goals as goal
 
 pub returns-then-s : goal.returns-then-s

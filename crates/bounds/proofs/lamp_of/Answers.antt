@@ -3,7 +3,6 @@ use Prim.Native.Nat.{◌+◌, ◌*◌, ◌^◌, ◌≤◌}
 use native.Mathlib.Omega.{arith}
 use mathlib.Core.Path.{ap, ap₂}
 use Rattle.bounds.proofs.ProductsFit.{total_small, compared_is}
-use borrow.Author.Rules.{rules}
 use Rattle.bounds.proofs.lamp_of.Goals as goal
 
 pub overflow_mul-s : goal.overflow_mul-s

@@ -8,7 +8,6 @@ use Rattle.questions.specs.promises.Formed.{EarnsRange}
 use Rattle.questions.proofs.SetsBound.{sets_which}
 use Rattle.bounds.specs.promises.Bounded.{lift_of}
 use Rattle.bounds.proofs.ProductsFit.{few, of_9, lift_8, lift_9, sizes}
-use borrow.Author.Rules.{rules}
 use Rattle.bounds.proofs.lift.Goals as goal
 
 clauses_value_range : {A B : Type 0} → A × B → record { value : A; range : B }

@@ -1,6 +1,6 @@
 -- `lowered`: both numbers are far below 2 to the 63, and so is their difference.
 -- A difference of natural numbers, and that it is no further from 0 than either.
-use Prim.Native.Nat.{ℕ, zero, suc, ◌*◌, ◌-◌, ◌^◌, ◌≤◌}
+use Prim.Native.Nat.{ℕ, zero, suc, ◌*◌, ◌^◌, ◌≤◌}
 use native.Mathlib.Omega.{arith}
 use mathlib.Core.Path.{◌≡◌, refl, sym, ap, ap₂, subst, ◌∙◌}
 use mathlib.Core.Bool.{Bool, true, false, not}
@@ -11,7 +11,6 @@ use mir.Syntax.{w64}
 use mir.Val.{to_z, of_z, SFits}
 use mir.ValLaws.{to_z-of_z}
 use Rattle.logic.proofs.Integers.{subℕ_ge, subℕ_lt}
-use borrow.Author.Rules.{rules}
 use Rattle.bounds.proofs.lowered.Goals as goal
 
 minus : (x y : ℕ) → pos x -ℤ pos y ≡ sub_ℕ x y

@@ -13,7 +13,6 @@ use Rattle.prepared_model.specs.promises.Rows.{model_in}
 use Rattle.questions.specs.Layout.{node_of}
 use Rattle.bounds.specs.promises.Bounded.{lowered, lamp_at}
 use Rattle.bounds.proofs.ProductsFit.{few, compares}
-use borrow.Author.Rules.{rules}
 use Rattle.bounds.proofs.meets.Goals as goal
 
 pub right-requires : goal.right-requires

@@ -7,7 +7,6 @@ use Rattle.logic.specs.Formula.{relation}
 use Rattle.logic.specs.Bound.{Lamp, below, at, above}
 use Rattle.logic.specs.promises.Lamps.{met_by_lamp}
 use Rattle.lamp.specs.Said.{said_lamp}
-use borrow.Author.Rules.{rules}
 use Rattle.bounds.proofs.met_by_lamp.Goals as goal
 
 number : Lamp → ℕ

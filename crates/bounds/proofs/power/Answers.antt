@@ -1,5 +1,5 @@
 -- `power`: after i turns x is d to the i, which is at most 100 to the 6.
-use Prim.Native.Nat.{◌-◌, ◌≤◌, ◌^◌}
+use Prim.Native.Nat.{◌^◌}
 use native.Mathlib.Nat.{pow-zero}
 use native.Mathlib.Omega.{arith}
 use mathlib.Core.Path.{◌≡◌, sym, ap, ◌∙◌}

@@ -1,8 +1,5 @@
 use Prim.Native.Nat.{◌-◌, ◌≤◌, ◌^◌}
-use native.Mathlib.Nat.{pow-zero}
-use native.Mathlib.Omega.{arith}
-use mathlib.Core.Path.{◌≡◌, sym, ap, ◌∙◌}
-use Rattle.bounds.proofs.Powers.{power_fits, power_more}
+use mathlib.Core.Path.{◌≡◌}
 use Rattle.bounds.proofs.power.Given as goal
 
 abbrev pub invariant-loop-i : goal.invariant-loop-i

@@ -3,7 +3,6 @@ use Prim.Native.Nat.{◌^◌, ◌≤◌}
 use native.Mathlib.Omega.{arith}
 use mathlib.Core.Path.{sym, ap₂, subst, ◌∙◌}
 use Rattle.bounds.proofs.ProductsFit.{small, compares, few, whole_small}
-use borrow.Author.Rules.{rules}
 use Rattle.bounds.proofs.whole.Goals as goal
 
 pub steps-requires : goal.steps-requires

@@ -5,7 +5,6 @@ use mir.Syntax.{w32, w64}
 use mir.Val.{to_z, of_z}
 use mir.ValLaws.{to_z-of_z}
 use Rattle.evaluation.proofs.Integers.{wider, widened, difference_small, difference_fits}
-use borrow.Author.Rules.{rules}
 use Rattle.evaluation.proofs.gain_between.Goals as goal
 
 pub overflow_cast-result : goal.overflow_cast-result

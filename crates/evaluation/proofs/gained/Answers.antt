@@ -4,7 +4,6 @@ use native.Mathlib.Omega.{arith}
 use Rattle.evaluation.specs.promises.Learnt.{gained}
 use mathlib.Core.Path.{refl, ◌∙◌}
 use Rattle.evaluation.proofs.Integers.{wider, widened}
-use borrow.Author.Rules.{rules}
 use Rattle.evaluation.proofs.gained.Goals as goal
 
 pub overflow_cast-bound : goal.overflow_cast-bound

@@ -1,9 +1,6 @@
-use Prim.Native.Nat.{◌≤◌, ◌-◌}
 use native.Mathlib.Omega.{arith}
-use mathlib.Core.Path.{◌≡◌, refl, ap, ◌∙◌}
-use lib.ListN.{length, take}
+use mathlib.Core.Path.{refl, ap, ◌∙◌}
 use lib.Seq.{take_all}
-use borrow.Author.Rules.{rules}
 use Rattle.evaluation.specs.promises.Learnt.{learnt}
 use Rattle.evaluation.proofs.LearntInOrder.{learnt_more}
 use Rattle.evaluation.proofs.learn.Goals as goal

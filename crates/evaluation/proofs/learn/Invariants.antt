@@ -1,11 +1,7 @@
 use Prim.Native.Nat.{◌≤◌, ◌-◌}
-use native.Mathlib.Omega.{arith}
-use mathlib.Core.Path.{◌≡◌, refl, ap, ◌∙◌}
+use mathlib.Core.Path.{◌≡◌}
 use lib.ListN.{length, take}
-use lib.Seq.{take_all}
-use borrow.Author.Rules.{rules}
 use Rattle.evaluation.specs.promises.Learnt.{learnt}
-use Rattle.evaluation.proofs.LearntInOrder.{learnt_more}
 use Rattle.evaluation.proofs.learn.Given as goal
 
 abbrev pub invariant-loop-i : goal.invariant-loop-i

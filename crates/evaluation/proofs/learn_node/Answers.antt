@@ -5,7 +5,6 @@ use lib.ListN.{set}
 use Rattle.prepared_question.specs.promises.Nodes.{depth_in}
 use Rattle.evaluation.specs.promises.Learnt.{value_at, learn_node}
 use Rattle.evaluation.proofs.LearntInOrder.{state_value, path_value, learn_now, learn_later}
-use borrow.Author.Rules.{rules}
 use Rattle.evaluation.proofs.learn_node.Goals as goal
 
 pub returns-then-d-h : goal.returns-then-d-h

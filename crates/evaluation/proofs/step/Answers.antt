@@ -13,7 +13,6 @@ use Rattle.evaluation.proofs.Integers.{fits32, sum16, wide_fits, wide_is, mag_ad
 use Rattle.evaluation.proofs.Trails.{gain_small}
 use Rattle.evaluation.proofs.LearnKnows.{cone_node}
 use Rattle.evaluation.proofs.StepTaken.{state_small, sizes_small, stepped}
-use borrow.Author.Rules.{rules}
 use Rattle.evaluation.proofs.step.Goals as goal
 
 pub choice-requires : goal.choice-requires

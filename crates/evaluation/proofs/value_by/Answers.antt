@@ -8,7 +8,6 @@ use Rattle.logic.specs.Bound.{one_if}
 use Rattle.questions.specs.Layout.{node_of}
 use Rattle.evaluation.specs.promises.Learnt.{value_by, known}
 use Rattle.evaluation.proofs.LearntInOrder.{other_value}
-use borrow.Author.Rules.{rules}
 use Rattle.evaluation.proofs.value_by.Goals as goal
 
 pub returns-in-3 : goal.returns-in-3

@@ -8,7 +8,6 @@ use mir.Val.{to_z, of_z}
 use Rattle.evaluation.specs.promises.Worth.{raised_known}
 use Rattle.evaluation.proofs.Integers.{sum_fits, sum_is, natural_fits}
 use Rattle.evaluation.proofs.PathWorth.{known_of_gain, known_of_value}
-use borrow.Author.Rules.{rules}
 use Rattle.evaluation.proofs.worth.Goals as goal
 
 pub overflow_add-result : goal.overflow_add-result

@@ -1,6 +1,5 @@
 -- `bounded` meets its contract: one answer for each way through the two tests.
 use mathlib.Core.Path.{sym, ap, ◌∙◌}
-use borrow.Author.Rules.{rules}
 use Rattle.questions.specs.promises.Formed.{sets_bound}
 use Rattle.limits.proofs.NodeByNode.{bounded_other, bounded_paths, bounded_plans}
 use Rattle.limits.proofs.bounded.Goals as goal

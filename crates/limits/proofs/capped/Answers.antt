@@ -1,6 +1,5 @@
 -- `capped` meets its contract: a number below the cap is its own minimum with it, and the cap fits since the limit is at most 1,000,000.
 use native.Mathlib.Omega.{arith}
-use borrow.Author.Rules.{rules}
 use Rattle.limits.proofs.CappedTotals.{limit_most}
 use Rattle.limits.proofs.capped.Goals as goal
 

@@ -1,14 +1,13 @@
 -- `choice_total` meets its contract. The loop's invariant: the total is that of the first o outcomes, counted up to the cap. The measure is what is
 -- left of the outcomes; a target is a state of the model, so it stands in the table's row.
-use Prim.Native.Nat.{ℕ, ◌+◌, ◌-◌, ◌≤◌, min}
+use Prim.Native.Nat.{ℕ, ◌+◌, min}
 use native.Mathlib.Omega.{arith}
-use mathlib.Core.Path.{◌≡◌, sym, ap, ◌∙◌}
+use mathlib.Core.Path.{sym, ap, ◌∙◌}
 use mathlib.Core.List.{List}
 use lib.ListN.{get_or}
-use borrow.Author.Rules.{rules}
 use Rattle.logic.specs.Lists.{tabulate}
 use Rattle.logic.specs.Model.{Step}
-use Rattle.prepared_model.specs.promises.Rows.{outcomes_in, step_in}
+use Rattle.prepared_model.specs.promises.Rows.{step_in}
 use Rattle.prepared_model.proofs.PlacesInRange.{place_range, read_range}
 use Rattle.limits.specs.promises.Totals.{gather, cap}
 use Rattle.limits.proofs.CappedTotals.{gather_start, gather_next, small_of, limit_most}

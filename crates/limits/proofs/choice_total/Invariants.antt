@@ -1,15 +1,9 @@
-use Prim.Native.Nat.{ℕ, ◌+◌, ◌-◌, ◌≤◌, min}
-use native.Mathlib.Omega.{arith}
-use mathlib.Core.Path.{◌≡◌, sym, ap, ◌∙◌}
-use mathlib.Core.List.{List}
+use Prim.Native.Nat.{◌+◌, ◌-◌, ◌≤◌, min}
+use mathlib.Core.Path.{◌≡◌}
 use lib.ListN.{get_or}
-use borrow.Author.Rules.{rules}
 use Rattle.logic.specs.Lists.{tabulate}
-use Rattle.logic.specs.Model.{Step}
 use Rattle.prepared_model.specs.promises.Rows.{outcomes_in, step_in}
-use Rattle.prepared_model.proofs.PlacesInRange.{place_range, read_range}
 use Rattle.limits.specs.promises.Totals.{gather, cap}
-use Rattle.limits.proofs.CappedTotals.{gather_start, gather_next, small_of, limit_most}
 use Rattle.limits.proofs.choice_total.Given as goal
 
 abbrev pub invariant-loop-o : goal.invariant-loop-o

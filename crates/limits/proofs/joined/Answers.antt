@@ -3,7 +3,6 @@ use Prim.Native.Nat.{min}
 use native.Mathlib.Omega.{arith}
 use native.Mathlib.Nat.{mul-le-mul}
 use mathlib.Core.Path.{sym, ap, ◌∙◌}
-use borrow.Author.Rules.{rules}
 use Rattle.limits.specs.promises.Totals.{cap}
 use Rattle.limits.proofs.CappedTotals.{joined_times, joined_plus}
 use Rattle.limits.proofs.joined.Goals as goal

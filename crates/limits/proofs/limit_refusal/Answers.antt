@@ -1,7 +1,6 @@
 -- `limit_refusal` meets its contract: paths are tested at every node before plans are, as the two guards of `limits` stand.
 use mathlib.Core.Path.{sym, ◌∙◌}
 use mathlib.Core.Bool.{true, false}
-use borrow.Author.Rules.{rules}
 use borrow.Author.Tests.{not-true, not-false}
 use Rattle.questions.specs.Layout.{question_of}
 use Rattle.limits.proofs.NodeByNode.{limits_paths, limits_plans}

@@ -5,7 +5,6 @@ use mathlib.Core.Path.{sym, ap₂, ◌∙◌}
 use lib.Dec.{leb}
 use lib.ListN.{get_or}
 use borrow.Author.Tests.{not-true, not-false}
-use borrow.Author.Rules.{rules}
 use Rattle.logic.specs.Lists.{every}
 use Rattle.prepared_model.proofs.ReadByPlace.{states_are}
 use Rattle.limits.specs.promises.Totals.{limit}

@@ -1,12 +1,10 @@
 -- `nodes_fit` meets its contract. The loop's invariant: the answer is the test of the first i nodes. The measure is what is left of them.
-use Prim.Native.Nat.{◌-◌, ◌≤◌}
 use native.Mathlib.Omega.{arith}
-use mathlib.Core.Path.{◌≡◌, refl, sym, ap, ◌∙◌}
-use borrow.Author.Rules.{rules}
+use mathlib.Core.Path.{refl, sym, ap, ◌∙◌}
 use Rattle.questions.proofs.SetsBound.{bound_compares}
 use Rattle.logic.specs.Lists.{every}
 use Rattle.prepared_model.specs.promises.Rows.{model_in}
-use Rattle.questions.specs.Layout.{node_count, node_of}
+use Rattle.questions.specs.Layout.{node_of}
 use Rattle.limits.specs.promises.Totals.{fits, node_fits}
 use Rattle.limits.proofs.NodeByNode.{nodes_all}
 use Rattle.logic.proofs.Tests.{every_more}

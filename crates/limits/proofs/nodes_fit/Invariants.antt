@@ -1,14 +1,9 @@
 use Prim.Native.Nat.{◌-◌, ◌≤◌}
-use native.Mathlib.Omega.{arith}
-use mathlib.Core.Path.{◌≡◌, refl, sym, ap, ◌∙◌}
-use borrow.Author.Rules.{rules}
-use Rattle.questions.proofs.SetsBound.{bound_compares}
+use mathlib.Core.Path.{◌≡◌}
 use Rattle.logic.specs.Lists.{every}
 use Rattle.prepared_model.specs.promises.Rows.{model_in}
 use Rattle.questions.specs.Layout.{node_count, node_of}
-use Rattle.limits.specs.promises.Totals.{fits, node_fits}
-use Rattle.limits.proofs.NodeByNode.{nodes_all}
-use Rattle.logic.proofs.Tests.{every_more}
+use Rattle.limits.specs.promises.Totals.{node_fits}
 use Rattle.limits.proofs.nodes_fit.Given as goal
 
 abbrev pub invariant-loop-i : goal.invariant-loop-i

@@ -1,5 +1,4 @@
 -- `paths_fit` meets its contract: as many rows are counted as the nodes need.
-use borrow.Author.Rules.{rules}
 use Rattle.limits.proofs.RowsForNodes.{compared, needed_serves}
 use Rattle.limits.proofs.paths_fit.Goals as goal
 

@@ -1,6 +1,5 @@
 -- `plan_totals` meets its contract: all rows, or none where no node needs one.
 use native.Mathlib.Omega.{arith}
-use borrow.Author.Rules.{rules}
 use Rattle.limits.proofs.RowsForNodes.{compared, none_counted, all_counted}
 use Rattle.limits.proofs.plan_totals.Goals as goal
 

@@ -1,5 +1,4 @@
 -- `plans_fit` meets its contract: a table of all rows has those that each node needs.
-use borrow.Author.Rules.{rules}
 use Rattle.limits.proofs.RowsForNodes.{counted_serves}
 use Rattle.limits.proofs.plans_fit.Goals as goal
 

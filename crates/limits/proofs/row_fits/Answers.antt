@@ -1,10 +1,9 @@
 -- `row_fits` meets its contract. The loop's invariant: the answer is the test of the first s states. The measure is what is left of them.
-use Prim.Native.Nat.{◌+◌, ◌*◌, ◌-◌, ◌≤◌}
+use Prim.Native.Nat.{◌+◌, ◌*◌}
 use native.Mathlib.Omega.{arith}
-use mathlib.Core.Path.{◌≡◌, refl, ap, ◌∙◌}
+use mathlib.Core.Path.{refl, ap, ◌∙◌}
 use lib.Dec.{leb}
 use lib.ListN.{get_or}
-use borrow.Author.Rules.{rules}
 use Rattle.logic.specs.Lists.{every}
 use Rattle.limits.specs.promises.Totals.{limit}
 use Rattle.logic.proofs.Tests.{every_more}

@@ -1,12 +1,9 @@
 use Prim.Native.Nat.{◌+◌, ◌*◌, ◌-◌, ◌≤◌}
-use native.Mathlib.Omega.{arith}
-use mathlib.Core.Path.{◌≡◌, refl, ap, ◌∙◌}
+use mathlib.Core.Path.{◌≡◌}
 use lib.Dec.{leb}
 use lib.ListN.{get_or}
-use borrow.Author.Rules.{rules}
 use Rattle.logic.specs.Lists.{every}
 use Rattle.limits.specs.promises.Totals.{limit}
-use Rattle.logic.proofs.Tests.{every_more}
 use Rattle.limits.proofs.row_fits.Given as goal
 
 abbrev pub invariant-loop-s : goal.invariant-loop-s

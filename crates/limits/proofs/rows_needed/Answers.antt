@@ -1,10 +1,5 @@
 -- `rows_needed` meets its contract. The loop's invariant: so many rows are enough for the first i nodes. The measure is what is left of them.
-use Prim.Native.Nat.{◌-◌, ◌≤◌}
 use native.Mathlib.Omega.{arith}
-use mathlib.Core.Path.{◌≡◌}
-use borrow.Author.Rules.{rules}
-use Rattle.questions.specs.Layout.{node_count, node_of}
-use Rattle.limits.specs.promises.Counted.{Needed}
 use Rattle.limits.proofs.RowsForNodes.{needed_none, needed_more, needed_all}
 use Rattle.limits.proofs.rows_needed.Goals as goal
 

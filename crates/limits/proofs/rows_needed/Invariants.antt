@@ -1,10 +1,7 @@
 use Prim.Native.Nat.{◌-◌, ◌≤◌}
-use native.Mathlib.Omega.{arith}
 use mathlib.Core.Path.{◌≡◌}
-use borrow.Author.Rules.{rules}
-use Rattle.questions.specs.Layout.{node_count, node_of}
+use Rattle.questions.specs.Layout.{node_count}
 use Rattle.limits.specs.promises.Counted.{Needed}
-use Rattle.limits.proofs.RowsForNodes.{needed_none, needed_more, needed_all}
 use Rattle.limits.proofs.rows_needed.Given as goal
 
 abbrev pub invariant-loop-i : goal.invariant-loop-i

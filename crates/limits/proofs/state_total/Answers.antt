@@ -1,14 +1,13 @@
 -- `state_total` meets its contract. The loop's invariant: the total is that of the first i choices, counted up to the cap. The measure is what is
 -- left of the choices.
-use Prim.Native.Nat.{ℕ, ◌+◌, ◌-◌, ◌≤◌, min}
+use Prim.Native.Nat.{ℕ, ◌+◌, min}
 use native.Mathlib.Omega.{arith}
-use mathlib.Core.Path.{◌≡◌, ap, ◌∙◌}
+use mathlib.Core.Path.{ap, ◌∙◌}
 use lib.ListN.{get_or}
-use borrow.Author.Rules.{rules}
 use Rattle.logic.specs.Lists.{tabulate}
 use Rattle.logic.specs.Quantity.{naturals, sum}
 use Rattle.logic.specs.Model.{outcomes}
-use Rattle.prepared_model.specs.promises.Rows.{choices_in, choice_in, model_in}
+use Rattle.prepared_model.specs.promises.Rows.{choice_in, model_in}
 use Rattle.limits.specs.promises.Totals.{gather, cap}
 use Rattle.limits.proofs.CappedTotals.{state_end, small_of, sum_start, sum_next}
 use Rattle.limits.proofs.state_total.Goals as goal

@@ -1,11 +1,8 @@
 -- `totals` meets its contract. The loop's invariant: the table holds the totals of all places before k (`Filled`); a place of no state stays. The
 -- measure is what is left of the rows.
-use Prim.Native.Nat.{◌+◌, ◌*◌, ◌-◌, ◌≤◌}
+use Prim.Native.Nat.{◌+◌}
 use native.Mathlib.Omega.{arith}
-use mathlib.Core.Logic.{⊎_elim}
-use mathlib.Core.Path.{◌≡◌, sym, subst}
-use borrow.Author.Rules.{rules}
-use Rattle.models.specs.Layout.{state_count}
+use mathlib.Core.Path.{sym, subst}
 use Rattle.limits.proofs.CappedTotals.{Filled, filled_start, filled_past, filled_more, filled_rows}
 use Rattle.limits.proofs.totals.Goals as goal
 use Rattle.limits.proofs.totals.Goals.{then-k-states, else-k-states}
@@ -34,9 +31,9 @@ loop-k-preserved c =
       omega arith,
       elim c.if-k-states.branch [
         | then-k-states w ↦ subst (λ t. Filled S.args.plans S.args.m.now t (L.k + 1)) (sym w.table-is)
-          (filled_more S.args.plans S.args.m.now S.requires.0 L.table L.k L.invariant.3 w.state_total.result (omega arith) (omega arith) (omega arith) w.state_total.ensures)
+            (filled_more S.args.plans S.args.m.now S.requires.0 L.table L.k L.invariant.3 w.state_total.result (omega arith) (omega arith) (omega arith) w.state_total.ensures)
         | else-k-states w ↦ subst (λ t. Filled S.args.plans S.args.m.now t (L.k + 1)) (sym w.table-is)
-          (filled_past S.args.plans S.args.m.now S.requires.0 L.table L.k L.invariant.3 (omega arith))
+            (filled_past S.args.plans S.args.m.now S.requires.0 L.table L.k L.invariant.3 (omega arith))
       ],
       L.invariant.4,
       L.invariant.5,

@@ -1,10 +1,7 @@
-use Prim.Native.Nat.{◌+◌, ◌*◌, ◌-◌, ◌≤◌}
-use native.Mathlib.Omega.{arith}
-use mathlib.Core.Logic.{⊎_elim}
-use mathlib.Core.Path.{◌≡◌, sym, subst}
-use borrow.Author.Rules.{rules}
+use Prim.Native.Nat.{◌*◌, ◌-◌, ◌≤◌}
+use mathlib.Core.Path.{◌≡◌}
 use Rattle.models.specs.Layout.{state_count}
-use Rattle.limits.proofs.CappedTotals.{Filled, filled_start, filled_past, filled_more, filled_rows}
+use Rattle.limits.proofs.CappedTotals.{Filled}
 use Rattle.limits.proofs.totals.Given as goal
 
 abbrev pub invariant-loop-k : goal.invariant-loop-k

@@ -1,6 +1,6 @@
 -- The two totals of grounds 24 and 25 as one, by what is counted: paths, or with `plans` true, plans. Below a choice the numbers of its
 -- outcomes are added for paths and multiplied for plans. They are kept exactly up to a cap, one above the limit.
-use Rattle.std.specs.Prelude.{ℕ, ◌+◌, ◌*◌, ◌<◌, ◌≤◌, min, ◌≡◌, Bool, true, false, not, ◌&&◌, ◌||◌, List, [], ◌∷◌, leb, eqb, get_or, length}
+use Rattle.std.specs.Prelude.{ℕ, ◌+◌, ◌*◌, ◌<◌, min, ◌≡◌, Bool, true, false, not, ◌&&◌, ◌||◌, List, [], ◌∷◌, leb, eqb, get_or, length}
 use Rattle.logic.specs.Lists.{every}
 use Rattle.logic.specs.Model.{Model, enabled, outcomes}
 use Rattle.logic.specs.Quantity.{naturals, sum, Relation}

@@ -1,6 +1,5 @@
 -- Beyond S or A nothing is used; inside, the precondition decides between the count of postconditions and none.
 -- The precondition is tested in the state's mask.
-use borrow.Author.Rules.{rules}
 use native.Mathlib.Omega.{arith}
 use mathlib.Core.Path.{◌≡◌, refl, sym, ap₂, ◌∙◌}
 use Rattle.logic.specs.Model.{true_of}

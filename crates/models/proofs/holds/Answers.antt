@@ -3,7 +3,6 @@ use mathlib.Core.Path.{ap₂}
 use mathlib.Core.Bool.{◌&&◌}
 use lib.Bits.{bit_and}
 use lib.Dec.{eqb}
-use native.Mathlib.Omega.{arith}
 use Rattle.logic.specs.Model.{true_of}
 use Rattle.models.specs.Layout.{literals}
 use Rattle.models.proofs.holds.Goals as goal

@@ -1,5 +1,4 @@
 -- The head and the row blocks, as in the definition.
-use borrow.Author.Rules.{rules}
 use mathlib.Core.Path.{ap₂}
 use mathlib.Core.Bool.{◌&&◌}
 use Rattle.models.specs.Grounds.{kinds_right}

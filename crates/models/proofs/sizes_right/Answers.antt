@@ -1,5 +1,4 @@
 -- The four tests and the count of blocks are the definition, of the bytes that the reader gives.
-use native.Mathlib.Omega.{arith}
 use Rattle.blocks.specs.Block.{block_count}
 use Rattle.models.specs.Grounds.{sizes_right}
 use Rattle.models.proofs.sizes_right.Goals as goal

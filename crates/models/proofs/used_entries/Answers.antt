@@ -1,9 +1,9 @@
 -- The invariant: the table has 264 entries, each of those passed is the count of its cell, and the others are 0, which is the count of a cell of no
 -- state.
-use Prim.Native.Nat.{ℕ, ◌-◌, ◌/◌, ◌%◌, ◌≤◌, ◌<◌}
+use Prim.Native.Nat.{◌/◌, ◌%◌}
 use native.Mathlib.Omega.{arith}
-use mathlib.Core.Path.{◌≡◌, refl, sym, ◌∙◌}
-use lib.ListN.{length, get_or, length-set}
+use mathlib.Core.Path.{refl, sym, ◌∙◌}
+use lib.ListN.{length-set}
 use lib.Seq.{get_or-set_other}
 use Rattle.models.specs.Layout.{entries}
 use Rattle.models.proofs.EveryCell.{filled_more, filled_whole, zeros_read, entries_past_states}

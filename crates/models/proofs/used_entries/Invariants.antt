@@ -1,10 +1,7 @@
 use Prim.Native.Nat.{ℕ, ◌-◌, ◌/◌, ◌%◌, ◌≤◌, ◌<◌}
-use native.Mathlib.Omega.{arith}
-use mathlib.Core.Path.{◌≡◌, refl, sym, ◌∙◌}
-use lib.ListN.{length, get_or, length-set}
-use lib.Seq.{get_or-set_other}
+use mathlib.Core.Path.{◌≡◌}
+use lib.ListN.{length, get_or}
 use Rattle.models.specs.Layout.{entries}
-use Rattle.models.proofs.EveryCell.{filled_more, filled_whole, zeros_read, entries_past_states}
 use Rattle.models.proofs.used_entries.Given as goal
 
 abbrev pub invariant-loop-k : goal.invariant-loop-k

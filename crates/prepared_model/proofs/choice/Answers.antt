@@ -1,5 +1,4 @@
 use native.Mathlib.Omega.{arith}
-use borrow.Author.Rules.{rules}
 use Rattle.prepared_model.proofs.choice.Goals as goal
 
 pub overflow_add-result-2 : goal.overflow_add-result-2

@@ -2,7 +2,6 @@ use Prim.Native.Nat.{ℕ, ◌/◌, ◌%◌, ◌^◌}
 use mathlib.Core.Path.{ap, ◌∙◌}
 use lib.Dec.{eqb}
 use Rattle.prepared_model.proofs.ReadByPlace.{prop_is}
-use borrow.Author.Rules.{rules}
 use Rattle.prepared_model.proofs.holds.Goals as goal
 
 pub returns : goal.returns

@@ -5,7 +5,6 @@ use native.Mathlib.Omega.{arith}
 use mathlib.Core.Path.{◌≡◌, ap, ◌∙◌}
 use lib.ListN.{get_or}
 use Rattle.blocks.specs.Bytes.{signed}
-use borrow.Author.Rules.{rules}
 use Rattle.prepared_model.proofs.lane_reward.Goals as goal
 
 pub returns : goal.returns

@@ -3,7 +3,6 @@ use native.Mathlib.Omega.{arith}
 use mathlib.Core.Path.{◌≡◌, ap, ap₂, ◌∙◌}
 use Rattle.blocks.specs.Bytes.{u16, u32}
 use Rattle.models.specs.Layout.{state_mask}
-use borrow.Author.Rules.{rules}
 use Rattle.prepared_model.proofs.mask.Goals as goal
 
 pub returns : goal.returns

@@ -3,11 +3,10 @@ use borrow.Rule.Slice.PartMut.{put_mid, mid_len, same_len_mid}
 use Rattle.prepared_model.proofs.RowFilled.{rows_before, row_put, head_before}
 use Rattle.prepared_model.proofs.RowsAreModel.{prepares}
 use Rattle.models.proofs.GroundsPassed.{passed_all, passed_sized}
-use Prim.Native.Nat.{ℕ, ◌+◌, ◌*◌, ◌-◌, ◌≤◌, ◌<◌}
+use Prim.Native.Nat.{ℕ, ◌+◌, ◌*◌, ◌-◌, ◌≤◌}
 use native.Mathlib.Omega.{arith}
 use mathlib.Core.Path.{◌≡◌, sym, subst, ◌∙◌}
-use lib.ListN.{length, get_or}
-use borrow.Author.Rules.{rules}
+use lib.ListN.{length}
 use Rattle.prepared_model.specs.promises.Filled.{Row}
 use Rattle.prepared_model.proofs.RowFilled.{row_at}
 use Rattle.prepared_model.proofs.prepare_model.Goals as goal

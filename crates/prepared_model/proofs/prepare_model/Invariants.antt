@@ -1,13 +1,6 @@
-use borrow.Author.Count.{below_more}
-use borrow.Rule.Slice.PartMut.{put_mid, mid_len, same_len_mid}
-use Rattle.prepared_model.proofs.RowFilled.{rows_before, row_put, head_before}
-use Rattle.prepared_model.proofs.RowsAreModel.{prepares}
-use Rattle.models.proofs.GroundsPassed.{passed_all, passed_sized}
-use Prim.Native.Nat.{ℕ, ◌+◌, ◌*◌, ◌-◌, ◌≤◌, ◌<◌}
-use native.Mathlib.Omega.{arith}
-use mathlib.Core.Path.{◌≡◌, sym, subst, ◌∙◌}
+use Prim.Native.Nat.{ℕ, ◌-◌, ◌≤◌, ◌<◌}
+use mathlib.Core.Path.{◌≡◌}
 use lib.ListN.{length, get_or}
-use borrow.Author.Rules.{rules}
 use Rattle.prepared_model.specs.promises.Filled.{Row}
 use Rattle.prepared_model.proofs.RowFilled.{row_at}
 use Rattle.prepared_model.proofs.prepare_model.Given as goal

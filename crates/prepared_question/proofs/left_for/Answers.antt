@@ -3,7 +3,6 @@ use mathlib.Core.Path.{sym, ap, ◌∙◌}
 use Rattle.questions.specs.promises.Used.{has_left}
 use Rattle.prepared_question.specs.promises.Replaced.{past}
 use Rattle.prepared_question.proofs.OnlyChildrenChange.{left_replaced, left_kept}
-use borrow.Author.Rules.{rules}
 use Rattle.prepared_question.proofs.left_for.Goals as goal
 
 pub returns-then-has_left : goal.returns-then-has_left

@@ -1,6 +1,5 @@
 use mathlib.Core.Bool.{true, false}
 use Rattle.prepared_question.proofs.OnlyChildrenChange.{past_by}
-use borrow.Author.Rules.{rules}
 use Rattle.prepared_question.proofs.past.Goals as goal
 
 pub returns-then-operator-l : goal.returns-then-operator-l

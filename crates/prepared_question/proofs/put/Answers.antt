@@ -1,6 +1,5 @@
 -- The three stores are the cells of one node more.
 use Rattle.prepared_question.proofs.OnlyChildrenChange.{pointed_more}
-use borrow.Author.Rules.{rules}
 use Rattle.prepared_question.proofs.put.Goals as goal
 
 pub returns : goal.returns

@@ -2,7 +2,6 @@
 use mathlib.Core.Path.{sym, ap, ◌∙◌}
 use Rattle.prepared_question.specs.promises.Replaced.{past}
 use Rattle.prepared_question.proofs.OnlyChildrenChange.{right_replaced, right_kept}
-use borrow.Author.Rules.{rules}
 use Rattle.prepared_question.proofs.right_for.Goals as goal
 
 pub returns-then-operator-eq-AND : goal.returns-then-operator-eq-AND

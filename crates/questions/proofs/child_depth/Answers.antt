@@ -1,6 +1,5 @@
 -- The first i places hold the child, or it is not before node i.
 use Rattle.questions.proofs.TableNodeByNode.{read_below, read_beyond}
-use borrow.Author.Rules.{rules}
 use Rattle.questions.proofs.child_depth.Goals as goal
 
 pub returns-then-child-i : goal.returns-then-child-i

@@ -3,7 +3,6 @@ use mathlib.Core.Path.{ap, ap₂, ◌∙◌}
 use mathlib.Core.Bool.{◌&&◌}
 use Rattle.blocks.specs.Bytes.{within}
 use Rattle.questions.specs.Grounds.{compares}
-use borrow.Author.Rules.{rules}
 use Rattle.questions.proofs.compares.Goals as goal
 
 pub returns : goal.returns

@@ -3,7 +3,6 @@ use mathlib.Core.Path.{ap, ap₂, ◌∙◌}
 use mathlib.Core.Bool.{◌&&◌}
 use lib.Dec.{ltb}
 use Rattle.blocks.specs.Bytes.{within}
-use borrow.Author.Rules.{rules}
 use Rattle.questions.proofs.counts_right.Goals as goal
 
 pub returns : goal.returns

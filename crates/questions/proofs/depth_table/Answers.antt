@@ -1,10 +1,8 @@
 -- The invariant: the table holds the nodes passed.
-use Prim.Native.Nat.{◌≤◌, ◌-◌}
 use native.Mathlib.Numerals.{add-one}
 use native.Mathlib.Omega.{arith}
 use mathlib.Core.Path.{◌≡◌, refl, ap₂, ◌∙◌}
 use lib.ListN.{set}
-use borrow.Author.Rules.{rules}
 use Rattle.logic.specs.Lists.{tabulate, count_from}
 use Rattle.logic.specs.Formula.{depth, formulas}
 use Rattle.questions.specs.promises.Tables.{formulas_before, table}

@@ -1,13 +1,7 @@
 use Prim.Native.Nat.{◌≤◌, ◌-◌}
-use native.Mathlib.Numerals.{add-one}
-use native.Mathlib.Omega.{arith}
-use mathlib.Core.Path.{◌≡◌, refl, ap₂, ◌∙◌}
-use lib.ListN.{set}
-use borrow.Author.Rules.{rules}
-use Rattle.logic.specs.Lists.{tabulate, count_from}
-use Rattle.logic.specs.Formula.{depth, formulas}
+use mathlib.Core.Path.{◌≡◌}
+use Rattle.logic.specs.Formula.{depth}
 use Rattle.questions.specs.promises.Tables.{formulas_before, table}
-use Rattle.questions.proofs.TableNodeByNode.{table_more, table_held}
 use Rattle.questions.proofs.depth_table.Given as goal
 
 abbrev pub invariant-loop-i : goal.invariant-loop-i

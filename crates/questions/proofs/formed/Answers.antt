@@ -12,7 +12,6 @@ use Rattle.questions.specs.promises.Passes.{passes}
 use Rattle.questions.proofs.TableNodeByNode.{table_at}
 use Rattle.questions.proofs.FormulaByOperator.{all_shallow}
 use Rattle.questions.proofs.PathFormulasDeep.{state_depth}
-use borrow.Author.Rules.{rules}
 use Rattle.questions.proofs.formed.Goals as goal
 
 pub returns : goal.returns

@@ -1,5 +1,4 @@
 -- The byte at its place among the node's cells.
-use borrow.Author.Rules.{rules}
 use Rattle.questions.specs.Layout.{node_of}
 use Rattle.questions.proofs.left.Goals as goal
 

@@ -12,7 +12,6 @@ use Rattle.questions.specs.promises.Tables.{formulas_before, table}
 use Rattle.questions.proofs.TableNodeByNode.{child_value, formula_at}
 use Rattle.questions.proofs.FormulaByOperator.{row_3, row_4, row_5, row_6, row_7, other_row}
 use Rattle.questions.proofs.DepthsSmall.{depth_bound}
-use borrow.Author.Rules.{rules}
 use Rattle.questions.proofs.node_depth.Goals as goal
 
 module _ (b : Bytes) (i : ℕ) where

@@ -1,6 +1,5 @@
 -- One arm for each ground, by what the node's own test gives; the last arm is ground 9, of which every other number is taken.
 use mathlib.Core.Path.{sym, refl, ap, ◌∙◌}
-use borrow.Author.Rules.{rules}
 use borrow.Author.Tests.{ne_eqb}
 use Rattle.questions.specs.promises.Passes.{passes}
 use Rattle.questions.proofs.node_passes.Goals as goal

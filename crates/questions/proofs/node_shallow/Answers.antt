@@ -8,7 +8,6 @@ use Rattle.questions.specs.Layout.{node_of, node_count}
 use Rattle.questions.specs.promises.Tables.{formulas_before, table}
 use Rattle.questions.proofs.TableNodeByNode.{child_value, all_before, formula_here}
 use Rattle.questions.proofs.FormulaByOperator.{row_8, other_shallow}
-use borrow.Author.Rules.{rules}
 use Rattle.questions.proofs.node_shallow.Goals as goal
 
 pub returns-in-8 : goal.returns-in-8

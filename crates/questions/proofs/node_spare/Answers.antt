@@ -8,7 +8,6 @@ use Rattle.blocks.specs.Bytes.{Bytes, byte, zeros}
 use Rattle.questions.specs.Layout.{node_at, node_of}
 use Rattle.questions.specs.Grounds.{spare_by, node_spare}
 use Rattle.questions.proofs.TableNodeByNode.{spare_all, other_spare}
-use borrow.Author.Rules.{rules}
 use Rattle.questions.proofs.node_spare.Goals as goal
 
 abbrev row : Bytes → ℕ → ℕ → Bool

@@ -1,10 +1,8 @@
 -- The invariant: the flag is the test of every node passed. The measure is what is left of the count.
-use Prim.Native.Nat.{◌≤◌, ◌-◌}
 use native.Mathlib.Numerals.{add-one}
 use native.Mathlib.Omega.{arith}
 use mathlib.Core.Path.{◌≡◌, refl, ap, ap₂, ◌∙◌}
 use mathlib.Core.Bool.{◌&&◌}
-use borrow.Author.Rules.{rules}
 use Rattle.logic.specs.Lists.{every}
 use Rattle.questions.specs.Layout.{node_count}
 use Rattle.questions.specs.promises.Passes.{passes}

@@ -1,11 +1,6 @@
 use Prim.Native.Nat.{◌≤◌, ◌-◌}
-use native.Mathlib.Numerals.{add-one}
-use native.Mathlib.Omega.{arith}
-use mathlib.Core.Path.{◌≡◌, refl, ap, ap₂, ◌∙◌}
-use mathlib.Core.Bool.{◌&&◌}
-use borrow.Author.Rules.{rules}
+use mathlib.Core.Path.{◌≡◌}
 use Rattle.logic.specs.Lists.{every}
-use Rattle.questions.specs.Layout.{node_count}
 use Rattle.questions.specs.promises.Passes.{passes}
 use Rattle.questions.proofs.nodes_pass.Given as goal
 

@@ -4,7 +4,6 @@ use mathlib.Core.Path.{ap₂, sym, ◌∙◌}
 use mathlib.Core.Bool.{◌&&◌, and_assoc}
 use Rattle.blocks.specs.Bytes.{zeros}
 use Rattle.questions.proofs.TableNodeByNode.{spare_right}
-use borrow.Author.Rules.{rules}
 use Rattle.questions.proofs.only_left.Goals as goal
 
 pub returns : goal.returns

@@ -2,7 +2,6 @@
 use mathlib.Core.Path.{ap, ◌∙◌}
 use lib.ListN.{get_or}
 use Rattle.questions.specs.Layout.{node_of}
-use borrow.Author.Rules.{rules}
 use Rattle.questions.proofs.operator.Goals as goal
 
 pub returns : goal.returns

@@ -3,7 +3,6 @@ use Prim.Native.Nat.{◌+◌}
 use mathlib.Core.Path.{ap, ◌∙◌}
 use Rattle.blocks.specs.Bytes.{u32}
 use Rattle.questions.specs.Layout.{node_of}
-use borrow.Author.Rules.{rules}
 use Rattle.questions.proofs.q.Goals as goal
 
 pub returns : goal.returns

@@ -5,7 +5,6 @@ use mathlib.Core.Path.{◌≡◌, refl, sym, ◌∙◌}
 use mathlib.Core.List.{List}
 use lib.Dec.{ltb}
 use lib.ListN.{drop}
-use borrow.Author.Rules.{rules}
 use Rattle.logic.specs.Checked.{Checked}
 use Rattle.logic.specs.Grounds.{decided}
 use Rattle.logic.specs.Formula.{depth}

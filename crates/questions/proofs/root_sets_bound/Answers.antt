@@ -1,6 +1,5 @@
 -- The field of the last node.
 use mathlib.Core.Path.{ap, ◌∙◌}
-use borrow.Author.Rules.{rules}
 use Rattle.questions.specs.Layout.{node_of}
 use Rattle.questions.specs.promises.Formed.{sets_bound}
 use Rattle.questions.proofs.root_sets_bound.Goals as goal

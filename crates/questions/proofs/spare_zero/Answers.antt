@@ -6,7 +6,6 @@ use Rattle.blocks.specs.Bytes.{zeros}
 use Rattle.questions.specs.Layout.{node_at, node_count}
 use Rattle.questions.specs.Grounds.{spare_zero}
 use Rattle.questions.specs.promises.Passes.{passes}
-use borrow.Author.Rules.{rules}
 use Rattle.questions.proofs.spare_zero.Goals as goal
 
 pub returns : goal.returns

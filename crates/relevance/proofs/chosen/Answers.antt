@@ -1,5 +1,5 @@
 -- The invariant: the marked nodes from j on have been entered.
-use Prim.Native.Nat.{◌+◌, ◌-◌, ◌≤◌}
+use Prim.Native.Nat.{◌-◌}
 use native.Mathlib.Omega.{arith}
 use mathlib.Core.Path.{subst}
 use Rattle.relevance.proofs.ConeListed.{Choosing, choosing_start, choosing_more, choosing_end}

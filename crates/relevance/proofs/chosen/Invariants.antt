@@ -1,7 +1,5 @@
-use Prim.Native.Nat.{◌+◌, ◌-◌, ◌≤◌}
-use native.Mathlib.Omega.{arith}
-use mathlib.Core.Path.{subst}
-use Rattle.relevance.proofs.ConeListed.{Choosing, choosing_start, choosing_more, choosing_end}
+use Prim.Native.Nat.{◌+◌, ◌≤◌}
+use Rattle.relevance.proofs.ConeListed.{Choosing}
 use Rattle.relevance.proofs.chosen.Given as goal
 
 abbrev pub invariant-loop-j : goal.invariant-loop-j

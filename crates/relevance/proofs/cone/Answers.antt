@@ -1,8 +1,7 @@
 -- The invariant: the marked nodes below i are listed. The condition, which is marked, is listed last.
-use Prim.Native.Nat.{ℕ, ◌-◌, ◌≤◌}
+use Prim.Native.Nat.{ℕ}
 use native.Mathlib.Omega.{arith}
-use mathlib.Core.Path.{◌≡◌, sym, subst, ◌∙◌}
-use lib.ListN.{length}
+use mathlib.Core.Path.{sym, subst, ◌∙◌}
 use Rattle.relevance.specs.promises.Chosen.{Listed}
 use Rattle.relevance.proofs.ConeListed.{listed_none, listed_cone}
 use Rattle.relevance.proofs.cone.Goals as goal

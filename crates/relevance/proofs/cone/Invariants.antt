@@ -1,9 +1,7 @@
-use Prim.Native.Nat.{ℕ, ◌-◌, ◌≤◌}
-use native.Mathlib.Omega.{arith}
-use mathlib.Core.Path.{◌≡◌, sym, subst, ◌∙◌}
+use Prim.Native.Nat.{◌-◌, ◌≤◌}
+use mathlib.Core.Path.{◌≡◌}
 use lib.ListN.{length}
 use Rattle.relevance.specs.promises.Chosen.{Listed}
-use Rattle.relevance.proofs.ConeListed.{listed_none, listed_cone}
 use Rattle.relevance.proofs.cone.Given as goal
 
 abbrev pub invariant-loop-i : goal.invariant-loop-i

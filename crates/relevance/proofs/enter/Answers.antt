@@ -6,7 +6,6 @@ use mathlib.Core.List.{List}
 use lib.ListN.{set}
 use Rattle.prepared_question.proofs.Marks.{grown_none}
 use Rattle.relevance.proofs.ConeListed.{NodeDone, entered_flat, entered_none, left_entered, both_entered}
-use borrow.Author.Rules.{rules}
 use Rattle.relevance.proofs.enter.Goals as goal
 
 pub returns-then-byte-ne1 : goal.returns-then-byte-ne1

@@ -2,7 +2,6 @@
 use native.Mathlib.Omega.{arith}
 use mathlib.Core.Path.{sym, subst, ◌∙◌}
 use Prim.Native.Nat.{◌+◌}
-use borrow.Author.Rules.{rules}
 use Rattle.relevance.specs.promises.Chosen.{Listed}
 use Rattle.relevance.proofs.ConeListed.{listed_more, listed_skip}
 use Rattle.relevance.proofs.list_node.Goals as goal

@@ -1,12 +1,9 @@
 -- The invariant: marks were added, and the targets of the choices passed have theirs.
-use Prim.Native.Nat.{ℕ, ◌+◌, ◌*◌, ◌-◌, ◌≤◌, ◌<◌}
+use Prim.Native.Nat.{ℕ, ◌<◌}
 use native.Mathlib.Omega.{arith}
-use mathlib.Core.Path.{◌≡◌}
 use borrow.Author.Count.{below_more}
-use Rattle.models.specs.Layout.{state_count}
-use Rattle.prepared_model.specs.promises.Rows.{choices_in, outcomes_in, step_in}
-use Rattle.prepared_question.specs.promises.Marks.{Grown}
-use Rattle.relevance.specs.promises.Need.{Marked, Below}
+use Rattle.prepared_model.specs.promises.Rows.{outcomes_in, step_in}
+use Rattle.relevance.specs.promises.Need.{Marked}
 use Rattle.prepared_question.proofs.Marks.{grown_none}
 use Rattle.relevance.proofs.MarksPassedOn.{below_then}
 use Rattle.relevance.proofs.mark_next.Goals as goal

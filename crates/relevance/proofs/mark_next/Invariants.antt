@@ -1,13 +1,9 @@
 use Prim.Native.Nat.{ℕ, ◌+◌, ◌*◌, ◌-◌, ◌≤◌, ◌<◌}
-use native.Mathlib.Omega.{arith}
 use mathlib.Core.Path.{◌≡◌}
-use borrow.Author.Count.{below_more}
 use Rattle.models.specs.Layout.{state_count}
 use Rattle.prepared_model.specs.promises.Rows.{choices_in, outcomes_in, step_in}
 use Rattle.prepared_question.specs.promises.Marks.{Grown}
 use Rattle.relevance.specs.promises.Need.{Marked, Below}
-use Rattle.prepared_question.proofs.Marks.{grown_none}
-use Rattle.relevance.proofs.MarksPassedOn.{below_then}
 use Rattle.relevance.proofs.mark_next.Given as goal
 
 abbrev pub invariant-loop-i : goal.invariant-loop-i

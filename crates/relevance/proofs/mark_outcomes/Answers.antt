@@ -1,16 +1,12 @@
 -- The invariant: marks were added, and the targets of the outcomes passed have theirs.
 use Rattle.prepared_question.proofs.Marks.{grown_none}
 use Rattle.relevance.proofs.MarksPassedOn.{outcome_marked, below_then}
-use Prim.Native.Nat.{ℕ, ◌+◌, ◌*◌, ◌-◌, ◌≤◌, ◌<◌}
+use Prim.Native.Nat.{ℕ, ◌<◌}
 use native.Mathlib.Omega.{arith}
-use mathlib.Core.Path.{◌≡◌}
-use borrow.Author.Rules.{rules}
 use borrow.Author.Count.{below_more}
-use Rattle.models.specs.Layout.{state_count}
 use Rattle.prepared_model.specs.promises.Rows.{outcomes_in, step_in}
 use Rattle.prepared_model.proofs.PlacesInRange.{place_range, read_range}
-use Rattle.prepared_question.specs.promises.Marks.{Grown}
-use Rattle.relevance.specs.promises.Need.{Marked, Below}
+use Rattle.relevance.specs.promises.Need.{Marked}
 use Rattle.relevance.proofs.mark_outcomes.Goals as goal
 
 pub outcomes-n-requires : goal.outcomes-n-requires

@@ -1,13 +1,7 @@
-use Rattle.prepared_question.proofs.Marks.{grown_none}
-use Rattle.relevance.proofs.MarksPassedOn.{outcome_marked, below_then}
 use Prim.Native.Nat.{ℕ, ◌+◌, ◌*◌, ◌-◌, ◌≤◌, ◌<◌}
-use native.Mathlib.Omega.{arith}
 use mathlib.Core.Path.{◌≡◌}
-use borrow.Author.Rules.{rules}
-use borrow.Author.Count.{below_more}
 use Rattle.models.specs.Layout.{state_count}
 use Rattle.prepared_model.specs.promises.Rows.{outcomes_in, step_in}
-use Rattle.prepared_model.proofs.PlacesInRange.{place_range, read_range}
 use Rattle.prepared_question.specs.promises.Marks.{Grown}
 use Rattle.relevance.specs.promises.Need.{Marked, Below}
 use Rattle.relevance.proofs.mark_outcomes.Given as goal

@@ -1,9 +1,8 @@
 -- The invariant: the pairs from place k on have passed their marks on.
-use Prim.Native.Nat.{ℕ, ◌+◌, ◌*◌, ◌-◌, ◌≤◌}
+use Prim.Native.Nat.{ℕ, ◌+◌, ◌*◌, ◌-◌}
 use native.Mathlib.Omega.{arith}
 use mathlib.Core.Path.{◌≡◌, sym, subst}
 use lib.ListN.{set}
-use borrow.Author.Rules.{rules}
 use Rattle.questions.specs.Layout.{start_of, node_count}
 use Rattle.prepared_question.proofs.Marks.{blank}
 use Rattle.relevance.proofs.MarksPassedOn.{Passing, first_inside, passing_start, passing_more, passing_end}

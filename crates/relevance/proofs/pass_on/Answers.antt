@@ -11,7 +11,6 @@ use Rattle.prepared_question.specs.promises.Marks.{Grown}
 use Rattle.relevance.specs.promises.Need.{Marked, Below}
 use Rattle.prepared_question.proofs.Marks.{grown_none}
 use Rattle.relevance.proofs.MarksPassedOn.{PairDone, left_marked, both_marked, next_marked, none_marked}
-use borrow.Author.Rules.{rules}
 use Rattle.relevance.proofs.pass_on.Goals as goal
 
 pub returns-then-byte-ne1 : goal.returns-then-byte-ne1

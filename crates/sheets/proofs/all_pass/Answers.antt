@@ -1,5 +1,5 @@
 -- The loop has tested the blocks before k; the counts that ground 6 needs are those that passed ground 5. The measure is what is left of the count.
-use Prim.Native.Nat.{◌-◌, ◌/◌, ◌≤◌, ◌<◌}
+use Prim.Native.Nat.{◌/◌, ◌<◌}
 use native.Mathlib.Omega.{arith}
 use mathlib.Core.Path.{◌≡◌, refl, ap, ◌∙◌}
 use lib.ListN.{length}

@@ -1,13 +1,7 @@
-use Prim.Native.Nat.{◌-◌, ◌/◌, ◌≤◌, ◌<◌}
-use native.Mathlib.Omega.{arith}
-use mathlib.Core.Path.{◌≡◌, refl, ap, ◌∙◌}
-use lib.ListN.{length}
+use Prim.Native.Nat.{◌-◌, ◌≤◌}
+use mathlib.Core.Path.{◌≡◌}
 use Rattle.logic.specs.Lists.{every}
-use Rattle.logic.proofs.Tests.{every_at, every_more}
-use Rattle.blocks.specs.Block.{block_count}
-use Rattle.sheets.specs.Grounds.{count_right}
 use Rattle.sheets.specs.promises.Reader.{passes}
-use Rattle.sheets.proofs.BlockTests.{whole_says, count_says}
 use Rattle.sheets.proofs.all_pass.Given as goal
 
 abbrev pub invariant-loop-k : goal.invariant-loop-k

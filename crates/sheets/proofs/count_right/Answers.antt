@@ -5,7 +5,6 @@ use mathlib.Core.Bool.{◌&&◌}
 use lib.Dec.{eqb, leb}
 use lib.ListN.{length}
 use borrow.Author.Tests.{lt-ltb, le-ltb}
-use borrow.Author.Rules.{rules}
 use Rattle.blocks.specs.Bytes.{within}
 use Rattle.blocks.specs.Block.{block_count}
 use Rattle.sheets.specs.Grounds.{count_right}

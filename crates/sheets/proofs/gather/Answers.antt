@@ -1,10 +1,9 @@
 -- The loop has put in the choices of the blocks before k, one after the other, and nothing behind them. The measure is what is left of the count.
-use Prim.Native.Nat.{◌-◌, ◌*◌, ◌/◌, ◌≤◌}
+use Prim.Native.Nat.{◌-◌, ◌/◌}
 use native.Mathlib.Omega.{arith}
 use mathlib.Core.Path.{◌≡◌, refl, ap, ◌∙◌}
 use mathlib.Core.List.{◌++◌, flat_map}
 use lib.ListN.{length, drop, length-take, length-drop}
-use borrow.Author.Rules.{rules}
 use borrow.Rule.Slice.PartMut.{same_len_mid}
 use Rattle.logic.specs.Lists.{count_from}
 use Rattle.blocks.specs.Block.{block_count}

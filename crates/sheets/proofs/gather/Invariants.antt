@@ -1,15 +1,9 @@
-use Prim.Native.Nat.{◌-◌, ◌*◌, ◌/◌, ◌≤◌}
-use native.Mathlib.Omega.{arith}
-use mathlib.Core.Path.{◌≡◌, refl, ap, ◌∙◌}
-use mathlib.Core.List.{◌++◌, flat_map}
-use lib.ListN.{length, drop, length-take, length-drop}
-use borrow.Author.Rules.{rules}
-use borrow.Rule.Slice.PartMut.{same_len_mid}
-use Rattle.logic.specs.Lists.{count_from}
-use Rattle.blocks.specs.Block.{block_count}
-use Rattle.sheets.specs.Layout.{choices_of, sheet_of}
+use Prim.Native.Nat.{◌-◌, ◌*◌, ◌≤◌}
+use mathlib.Core.Path.{◌≡◌}
+use mathlib.Core.List.{◌++◌}
+use lib.ListN.{length, drop}
+use Rattle.sheets.specs.Layout.{choices_of}
 use Rattle.sheets.proofs.PiecesInOrder.{pieces}
-use Rattle.sheets.proofs.BlockTests.{whole_says, block_says, gather_more}
 use Rattle.sheets.proofs.gather.Given as goal
 
 abbrev pub invariant-loop-k : goal.invariant-loop-k

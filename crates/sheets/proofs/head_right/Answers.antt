@@ -1,5 +1,4 @@
 -- Both bytes are compared.
-use borrow.Author.Rules.{rules}
 use Rattle.sheets.specs.Grounds.{head_right}
 use Rattle.sheets.proofs.head_right.Goals as goal
 

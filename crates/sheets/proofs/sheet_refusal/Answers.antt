@@ -3,7 +3,6 @@
 use native.Mathlib.Omega.{arith}
 use mathlib.Core.Path.{◌≡◌, refl, sym}
 use mathlib.Core.Bool.{true}
-use borrow.Author.Rules.{rules}
 use Rattle.logic.specs.Lists.{every}
 use Rattle.blocks.specs.Block.{block_count, whole_blocks, sums_right}
 use Rattle.sheets.specs.promises.Reader.{passes}

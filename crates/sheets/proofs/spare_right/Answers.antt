@@ -1,5 +1,4 @@
 -- Both spare parts are compared; the second lies in the block, since its count is at most 490.
-use borrow.Author.Rules.{rules}
 use Rattle.sheets.specs.Grounds.{spare_right}
 use Rattle.sheets.proofs.spare_right.Goals as goal
 

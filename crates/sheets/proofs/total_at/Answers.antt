@@ -2,7 +2,6 @@
 use mathlib.Core.Path.{◌∙◌}
 use mir.Syntax.{w64}
 use mir.ValLaws.{to_z-of_z}
-use borrow.Author.Rules.{rules}
 use Rattle.blocks.specs.Bytes.{i64}
 use Rattle.sheets.specs.Layout.{weight_of, claimed_total, sheet_of}
 use Rattle.sheets.proofs.total_at.Goals as goal

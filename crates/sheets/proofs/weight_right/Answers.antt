@@ -1,5 +1,4 @@
 -- Both weights are read and compared.
-use borrow.Author.Rules.{rules}
 use Rattle.sheets.specs.Grounds.{weight_right}
 use Rattle.sheets.proofs.weight_right.Goals as goal
 

@@ -1,10 +1,9 @@
 -- The loop has made the bytes before i zero. The measure is what is left.
-use Prim.Native.Nat.{ℕ, ◌≤◌, ◌<◌, ◌-◌}
+use Prim.Native.Nat.{ℕ, ◌<◌}
 use native.Mathlib.Omega.{arith}
-use mathlib.Core.List.{List, ◌++◌}
+use mathlib.Core.List.{List}
 use mathlib.Core.Path.{◌≡◌, refl, ap, ◌∙◌}
-use lib.ListN.{set, length, drop, replicate, length-set}
-use borrow.Author.Rules.{rules}
+use lib.ListN.{set, length, length-set}
 use borrow.Author.Fill.{fill_more}
 use Rattle.blocks.proofs.PartPutBack.{fill_end}
 use Rattle.blocks.proofs.buffers.clear.Goals as goal

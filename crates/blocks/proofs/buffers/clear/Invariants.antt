@@ -1,11 +1,7 @@
-use Prim.Native.Nat.{ℕ, ◌≤◌, ◌<◌, ◌-◌}
-use native.Mathlib.Omega.{arith}
-use mathlib.Core.List.{List, ◌++◌}
-use mathlib.Core.Path.{◌≡◌, refl, ap, ◌∙◌}
-use lib.ListN.{set, length, drop, replicate, length-set}
-use borrow.Author.Rules.{rules}
-use borrow.Author.Fill.{fill_more}
-use Rattle.blocks.proofs.PartPutBack.{fill_end}
+use Prim.Native.Nat.{◌≤◌, ◌-◌}
+use mathlib.Core.List.{◌++◌}
+use mathlib.Core.Path.{◌≡◌}
+use lib.ListN.{length, drop, replicate}
 use Rattle.blocks.proofs.buffers.clear.Given as goal
 
 abbrev pub invariant-loop-i : goal.invariant-loop-i

@@ -1,10 +1,9 @@
 -- The loop has put in the bytes before i. The measure is what is left of src.
-use Prim.Native.Nat.{◌≤◌, ◌<◌, ◌-◌}
+use Prim.Native.Nat.{◌<◌}
 use native.Mathlib.Omega.{arith}
 use mathlib.Core.Path.{◌≡◌, refl, ◌∙◌}
 use lib.ListN.{get_or, length, length-set}
-use lib.Seq.{paste, paste-zero}
-use borrow.Author.Rules.{rules}
+use lib.Seq.{paste-zero}
 use Rattle.blocks.proofs.PartPutBack.{copy_more, copy_end}
 use Rattle.blocks.proofs.buffers.copy.Goals as goal
 

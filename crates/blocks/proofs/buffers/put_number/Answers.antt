@@ -1,12 +1,11 @@
 -- The loop has put in the lowest i bytes, and `rest` is what is left of the number. The measure is what is left of the bytes.
-use Prim.Native.Nat.{◌-◌, ◌%◌, ◌≤◌, ◌<◌}
+use Prim.Native.Nat.{◌%◌, ◌<◌}
 use native.Mathlib.Nat.{sub-zero, mod-lt}
 use native.Mathlib.Omega.{arith}
 use mathlib.Core.Path.{◌≡◌, sym, refl, ap, ◌∙◌}
 use mathlib.Core.List.{◌++◌}
 use lib.ListN.{length, drop, set, length-set}
-use lib.Seq.{paste, paste-zero}
-use borrow.Author.Rules.{rules}
+use lib.Seq.{paste-zero}
 use Rattle.blocks.specs.Bytes.{little_endian}
 use Rattle.blocks.proofs.PartPutBack.{copy_more, copy_end}
 use Rattle.blocks.proofs.NumberReadBack.{length_bytes, next_byte}

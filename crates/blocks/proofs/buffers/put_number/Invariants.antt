@@ -1,14 +1,8 @@
-use Prim.Native.Nat.{◌-◌, ◌%◌, ◌≤◌, ◌<◌}
-use native.Mathlib.Nat.{sub-zero, mod-lt}
-use native.Mathlib.Omega.{arith}
-use mathlib.Core.Path.{◌≡◌, sym, refl, ap, ◌∙◌}
-use mathlib.Core.List.{◌++◌}
-use lib.ListN.{length, drop, set, length-set}
-use lib.Seq.{paste, paste-zero}
-use borrow.Author.Rules.{rules}
+use Prim.Native.Nat.{◌-◌, ◌≤◌}
+use mathlib.Core.Path.{◌≡◌}
+use lib.ListN.{length, drop}
+use lib.Seq.{paste}
 use Rattle.blocks.specs.Bytes.{little_endian}
-use Rattle.blocks.proofs.PartPutBack.{copy_more, copy_end}
-use Rattle.blocks.proofs.NumberReadBack.{length_bytes, next_byte}
 use Rattle.blocks.proofs.buffers.put_number.Given as goal
 
 abbrev pub invariant-loop-i : goal.invariant-loop-i

@@ -1,6 +1,5 @@
 use mathlib.Core.Path.{sym}
 use lib.Seq.{set_out}
-use borrow.Author.Rules.{rules}
 use Rattle.blocks.proofs.buffers.store.Goals as goal
 
 pub returns-else-i-v : goal.returns-else-i-v

@@ -1,11 +1,9 @@
 -- The invariant: the lanes from k up are made.
-use Prim.Native.Nat.{◌*◌, ◌/◌, ◌≤◌}
 use native.Mathlib.Omega.{arith}
 use mathlib.Core.Path.{◌≡◌, ap}
-use borrow.Author.Rules.{rules}
-use Rattle.last_step.proofs.LaneByLane.{Built, built_none, built_small, built_more, few_lanes, laned}
+use Rattle.last_step.proofs.LaneByLane.{built_none, built_small, built_more, few_lanes, laned}
 use lib.Dec.{eqb}
-use Rattle.prepared_model.specs.promises.Rows.{choices_in, choice_in}
+use Rattle.prepared_model.specs.promises.Rows.{choice_in}
 use Rattle.last_step.proofs.lanes.done.Goals as goal
 
 pub choices-k-requires : goal.choices-k-requires

@@ -1,18 +1,12 @@
 -- The invariant: the lanes from k up are made.
-use Prim.Native.Nat.{ℕ, ◌*◌, ◌/◌, ◌%◌, ◌≤◌}
 use native.Mathlib.Omega.{arith}
 use mathlib.Core.Path.{◌≡◌, ap, ap₂, ◌∙◌}
-use borrow.Author.Rules.{rules}
-use Rattle.last_step.proofs.LaneByLane.{Built, built_none, built_small, built_more, few_lanes, laned}
-use mathlib.Core.Bool.{Bool}
-use mathlib.Core.List.{List}
-use lib.IntN.{ℤ, ◌+ℤ◌, ◌-ℤ◌}
-use mir.Syntax.{w16, w32, w64}
-use mir.Val.{to_z}
+use Rattle.last_step.proofs.LaneByLane.{built_none, built_small, built_more, few_lanes, laned}
+use lib.IntN.{◌+ℤ◌, ◌-ℤ◌}
+use mir.Syntax.{w16, w64}
 use mir.ValLaws.{to_z-of_z}
 use Rattle.logic.specs.Formula.{relation}
 use Rattle.logic.specs.Quantity.{integers, related}
-use Rattle.prepared_model.specs.promises.Rows.{choices_in, step_in}
 use Rattle.evaluation.proofs.Integers.{fits32, wide_fits, wide_is, wider, widened, difference_fits}
 use Rattle.last_step.proofs.GainFits.{difference, difference_is, gain_fits}
 use Rattle.last_step.proofs.lanes.gained.Invariants.{holds}
@@ -74,8 +68,8 @@ loop-k-preserved c =
           (c.related.ensures
           ∙ ap₂ (related integers (relation A.kind))
           (to_z-of_z w64 _ ((let S = c in
-    let z = c.lane_reward in
-    rw (gain_is, wide_is w16 w64 z.result (record { sfits = z.type_inv }) (record { sfits = omega (arith, z.type_inv) })) (gain_fits S.args.after S.args.before S.ranges.after.sfits S.ranges.before.sfits z.result (omega (arith, z.type_inv))))) ∙ ap (◌+ℤ◌ (difference A.after A.before)) (wide_is w16 w64 z.result (record { sfits = z.type_inv }) (record { sfits = omega (arith, z.type_inv) }) ∙ z.ensures))
+          let z = c.lane_reward in
+          rw (gain_is, wide_is w16 w64 z.result (record { sfits = z.type_inv }) (record { sfits = omega (arith, z.type_inv) })) (gain_fits S.args.after S.args.before S.ranges.after.sfits S.ranges.before.sfits z.result (omega (arith, z.type_inv))))) ∙ ap (◌+ℤ◌ (difference A.after A.before)) (wide_is w16 w64 z.result (record { sfits = z.type_inv }) (record { sfits = omega (arith, z.type_inv) }) ∙ z.ensures))
           (to_z-of_z w64 _ (wider A.bound S.ranges.bound.sfits))),
     )
 

@@ -1,6 +1,5 @@
 use native.Mathlib.Omega.{arith}
 use mathlib.Core.Path.{refl}
-use borrow.Author.Rules.{rules}
 use Rattle.logic.specs.Bound.{one_if}
 use Rattle.last_step.proofs.lanes.pushed.Goals as goal
 

@@ -1,14 +1,11 @@
 -- The invariant: the lanes from k up are made.
-use Prim.Native.Nat.{ℕ, ◌+◌, ◌*◌, ◌/◌, ◌%◌, ◌≤◌}
+use Prim.Native.Nat.{◌+◌, ◌*◌}
 use native.Mathlib.Omega.{arith}
 use mathlib.Core.Path.{◌≡◌, ap, ◌∙◌}
-use borrow.Author.Rules.{rules}
-use Rattle.last_step.proofs.LaneByLane.{Built, built_none, built_small, built_more, few_lanes, laned}
-use mathlib.Core.Bool.{Bool, not}
-use mathlib.Core.List.{List}
+use Rattle.last_step.proofs.LaneByLane.{built_none, built_small, built_more, few_lanes, laned}
+use mathlib.Core.Bool.{not}
 use lib.Dec.{eqb}
 use Rattle.blocks.specs.Bytes.{byte}
-use Rattle.prepared_model.specs.promises.Rows.{choices_in, step_in}
 use Rattle.last_step.proofs.lanes.told.Invariants.{holds}
 use Rattle.last_step.proofs.lanes.told.Goals as goal
 

@@ -5,7 +5,6 @@ use mathlib.Core.Path.{ap, ◌∙◌}
 use Rattle.prepared_model.specs.promises.Rows.{outcomes_in, step_in}
 use Rattle.blocks.proofs.Sums.{sum_same}
 use Rattle.prepared_model.proofs.BitSums.{lane_low, lane_shr}
-use borrow.Author.Rules.{rules}
 use Rattle.last_step.proofs.lanes.total.Goals as goal
 
 pub overflow_cast-y : goal.overflow_cast-y

@@ -1,8 +1,7 @@
 -- The invariant: a marked node has passed its mark on, or stands in the cone before place i.
-use Prim.Native.Nat.{◌-◌, ◌≤◌}
+use Prim.Native.Nat.{◌-◌}
 use native.Mathlib.Omega.{arith}
 use mathlib.Core.Path.{subst}
-use lib.ListN.{length}
 use Rattle.last_step.proofs.LateMarks.{Passing, root_node, cone_placed, passing_start, passing_more, passing_end}
 use Rattle.last_step.proofs.late.late.Goals as goal
 

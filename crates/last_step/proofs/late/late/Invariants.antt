@@ -1,8 +1,6 @@
-use Prim.Native.Nat.{◌-◌, ◌≤◌}
-use native.Mathlib.Omega.{arith}
-use mathlib.Core.Path.{subst}
+use Prim.Native.Nat.{◌≤◌}
 use lib.ListN.{length}
-use Rattle.last_step.proofs.LateMarks.{Passing, root_node, cone_placed, passing_start, passing_more, passing_end}
+use Rattle.last_step.proofs.LateMarks.{Passing}
 use Rattle.last_step.proofs.late.late.Given as goal
 
 abbrev pub invariant-loop-i : goal.invariant-loop-i

@@ -3,7 +3,6 @@ use native.Mathlib.Omega.{arith}
 use mathlib.Core.Path.{sym, subst, ◌∙◌}
 use Rattle.prepared_question.proofs.Marks.{grown_none}
 use Rattle.last_step.proofs.LateMarks.{LevelDone, level_marked}
-use borrow.Author.Rules.{rules}
 use Rattle.last_step.proofs.late.mark_level.Goals as goal
 
 pub returns-then-depth-d : goal.returns-then-depth-d

@@ -7,7 +7,6 @@ use mathlib.Core.Logic.{◌⊎◌, inl, inr, ⊎_elim}
 use lib.ListN.{set}
 use Rattle.prepared_question.proofs.Marks.{grown_none}
 use Rattle.last_step.proofs.LateMarks.{LevelDone, NodeDone, none_passed, left_in, left_passed, both_in, both_passed}
-use borrow.Author.Rules.{rules}
 use Rattle.last_step.proofs.late.pass_on.Goals as goal
 
 deeper : {d x : ℕ} → d ≡ x → (d ≡ 0 → ⊥) → x ≡ 0 → ⊥

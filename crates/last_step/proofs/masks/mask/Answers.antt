@@ -1,10 +1,8 @@
-use Prim.Native.Nat.{suc, ◌-◌, ◌≤◌}
+use Prim.Native.Nat.{suc}
 use native.Mathlib.Omega.{arith}
 use native.Mathlib.Numerals.{add-one}
-use mathlib.Core.Logic.{⊎_elim}
 use mathlib.Core.Path.{◌≡◌, refl, sym, ap, subst, ◌∙◌}
 use lib.ListN.{length, get_or, take, length-set}
-use borrow.Author.Rules.{rules}
 use Rattle.evaluation.proofs.LearnKnows.{cone_node}
 use Rattle.last_step.specs.promises.Masks.{Masked, Ended}
 use Rattle.last_step.proofs.LaneMeaning.{root_small, masked_none, masked_more, masked_skip, ended}

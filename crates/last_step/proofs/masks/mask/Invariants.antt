@@ -1,13 +1,7 @@
-use Prim.Native.Nat.{suc, ◌-◌, ◌≤◌}
-use native.Mathlib.Omega.{arith}
-use native.Mathlib.Numerals.{add-one}
-use mathlib.Core.Logic.{⊎_elim}
-use mathlib.Core.Path.{◌≡◌, refl, sym, ap, subst, ◌∙◌}
-use lib.ListN.{length, get_or, take, length-set}
-use borrow.Author.Rules.{rules}
-use Rattle.evaluation.proofs.LearnKnows.{cone_node}
-use Rattle.last_step.specs.promises.Masks.{Masked, Ended}
-use Rattle.last_step.proofs.LaneMeaning.{root_small, masked_none, masked_more, masked_skip, ended}
+use Prim.Native.Nat.{◌-◌, ◌≤◌}
+use mathlib.Core.Path.{◌≡◌}
+use lib.ListN.{length, take}
+use Rattle.last_step.specs.promises.Masks.{Masked}
 use Rattle.last_step.proofs.masks.mask.Given as goal
 
 abbrev pub invariant-loop-i : goal.invariant-loop-i

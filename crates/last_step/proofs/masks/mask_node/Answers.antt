@@ -19,7 +19,6 @@ use Rattle.evaluation.proofs.LearnKnows.{depth_is}
 use Rattle.last_step.specs.promises.Lanes.{Lanes, Laned}
 use Rattle.last_step.specs.promises.Masks.{Part, Worded}
 use Rattle.last_step.proofs.LaneMeaning.{state_here, left_small, right_small, state_word, deep_word, not_word, and_word, do_word, next_word, gain_word, no_word}
-use borrow.Author.Rules.{rules}
 use Rattle.last_step.proofs.masks.mask_node.Goals as goal
 
 deeper : {d x : ℕ} → d ≡ x → (d ≡ 0 → ⊥) → x ≡ 0 → ⊥

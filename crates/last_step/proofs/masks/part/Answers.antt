@@ -3,7 +3,6 @@ use mathlib.Core.Bool.{not}
 use lib.Dec.{eqb}
 use Rattle.logic.specs.Bound.{one_if}
 use Rattle.last_step.specs.promises.Lanes.{Lanes}
-use borrow.Author.Rules.{rules}
 use Rattle.last_step.proofs.masks.part.Goals as goal
 
 pub returns : goal.returns

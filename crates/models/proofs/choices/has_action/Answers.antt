@@ -1,5 +1,4 @@
 -- The invariant: the flag says whether one of the actions gone over is enabled. The measure is what is left of the count.
-use Prim.Native.Nat.{◌-◌, ◌≤◌}
 use native.Mathlib.Omega.{arith}
 use mathlib.Core.Path.{◌≡◌, refl, ap, ap₂, ◌∙◌}
 use Rattle.logic.specs.Lists.{some_below}

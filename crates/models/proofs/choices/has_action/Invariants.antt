@@ -1,10 +1,8 @@
 use Prim.Native.Nat.{◌-◌, ◌≤◌}
-use native.Mathlib.Omega.{arith}
-use mathlib.Core.Path.{◌≡◌, refl, ap, ap₂, ◌∙◌}
+use mathlib.Core.Path.{◌≡◌}
 use Rattle.logic.specs.Lists.{some_below}
 use Rattle.logic.specs.Model.{true_of}
-use Rattle.models.specs.Layout.{literals, pre_of, state_mask, action_count}
-use Rattle.logic.proofs.Tests.{some_more}
+use Rattle.models.specs.Layout.{pre_of, state_mask}
 use Rattle.models.proofs.choices.has_action.Given as goal
 
 abbrev pub invariant-loop-a : goal.invariant-loop-a

@@ -1,5 +1,4 @@
 -- The two parts are the definition; the cells of no action pass.
-use borrow.Author.Rules.{rules}
 use native.Mathlib.Omega.{arith}
 use mathlib.Core.Path.{ap₂}
 use mathlib.Core.Bool.{◌&&◌}

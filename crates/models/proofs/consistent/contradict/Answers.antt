@@ -3,7 +3,6 @@ use mathlib.Core.Path.{ap₂}
 use mathlib.Core.Bool.{not, ◌||◌}
 use lib.Bits.{bit_and}
 use lib.Dec.{eqb}
-use native.Mathlib.Omega.{arith}
 use Rattle.logic.specs.Model.{contradict}
 use Rattle.models.specs.Layout.{literals}
 use Rattle.models.proofs.consistent.contradict.Goals as goal

@@ -1,5 +1,4 @@
 -- The invariant: the flag is the test against every postcondition passed. The measure is what is left of those before.
-use Prim.Native.Nat.{◌-◌, ◌≤◌}
 use native.Mathlib.Omega.{arith}
 use mathlib.Core.Path.{◌≡◌, refl, ap, ◌∙◌}
 use Rattle.logic.specs.Lists.{every}

@@ -1,11 +1,8 @@
 use Prim.Native.Nat.{◌-◌, ◌≤◌}
-use native.Mathlib.Omega.{arith}
-use mathlib.Core.Path.{◌≡◌, refl, ap, ◌∙◌}
+use mathlib.Core.Path.{◌≡◌}
 use Rattle.logic.specs.Lists.{every}
-use mathlib.Core.Path.{ap₂}
 use Rattle.logic.specs.Model.{contradict}
-use Rattle.models.specs.Layout.{literals, post_of}
-use Rattle.logic.proofs.Tests.{every_more}
+use Rattle.models.specs.Layout.{post_of}
 use Rattle.models.proofs.consistent.post_contradicts.Given as goal
 
 abbrev pub invariant-loop-j : goal.invariant-loop-j

@@ -1,5 +1,4 @@
 -- The literals at the place of the postcondition, in the mask of the target.
-use borrow.Author.Rules.{rules}
 use mathlib.Core.Path.{ap, ap₂, ◌∙◌}
 use Rattle.logic.specs.Model.{true_of}
 use Rattle.models.specs.Layout.{literals, post_of, state_mask}

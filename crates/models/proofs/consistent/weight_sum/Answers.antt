@@ -1,5 +1,5 @@
 -- The invariant: the sum is that of the weights passed, each a byte.
-use Prim.Native.Nat.{◌*◌, ◌-◌, ◌≤◌, ◌+◌}
+use Prim.Native.Nat.{◌+◌}
 use native.Mathlib.Omega.{arith}
 use native.Mathlib.Numerals.{add-one}
 use mathlib.Core.Path.{◌≡◌, refl, ap, ap₂, ◌∙◌}

@@ -1,7 +1,5 @@
-use Prim.Native.Nat.{◌*◌, ◌-◌, ◌≤◌, ◌+◌}
-use native.Mathlib.Omega.{arith}
-use native.Mathlib.Numerals.{add-one}
-use mathlib.Core.Path.{◌≡◌, refl, ap, ap₂, ◌∙◌}
+use Prim.Native.Nat.{◌*◌, ◌-◌, ◌≤◌}
+use mathlib.Core.Path.{◌≡◌}
 use Rattle.blocks.specs.Block.{sum_below}
 use Rattle.models.specs.Layout.{outcome_of}
 use Rattle.models.proofs.consistent.weight_sum.Given as goal

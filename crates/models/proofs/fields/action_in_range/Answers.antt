@@ -1,5 +1,4 @@
 -- The three tests are the definition, at the count that was read.
-use borrow.Author.Rules.{rules}
 use mathlib.Core.Path.{ap, ap₂, ◌∙◌}
 use mathlib.Core.Bool.{◌&&◌}
 use Rattle.blocks.specs.Bytes.{within}

@@ -1,5 +1,4 @@
 -- A number shifted down by n bits is 0 where it is below 2 to the n.
-use native.Mathlib.Omega.{arith}
 use Rattle.models.proofs.EveryCell.{shift_zero}
 use Rattle.models.proofs.fields.below_bit.Goals as goal
 

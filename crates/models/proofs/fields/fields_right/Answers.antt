@@ -1,6 +1,5 @@
 -- The three parts are the definition; the cells of no action pass.
 -- What the loop over actions gave, in the definition's words.
-use borrow.Author.Rules.{rules}
 use native.Mathlib.Omega.{arith}
 use mathlib.Core.Path.{◌≡◌, refl, sym}
 use Rattle.logic.specs.Lists.{every}

@@ -1,5 +1,4 @@
 -- The three tests are the definition, of the masks that the reader gives.
-use native.Mathlib.Omega.{arith}
 use Rattle.models.specs.Grounds.{literals_in_range, mask_in_range}
 use Rattle.models.specs.Layout.{literals}
 use Rattle.models.proofs.fields.literals_in_range.Goals as goal

@@ -1,11 +1,8 @@
-use Prim.Native.Nat.{◌-◌, ◌≤◌, ◌^◌}
-use native.Mathlib.Omega.{arith}
-use mathlib.Core.Path.{◌≡◌, refl, ap, ap₂, ◌∙◌}
-use lib.Dec.{ltb}
+use Prim.Native.Nat.{◌-◌, ◌≤◌}
+use mathlib.Core.Path.{◌≡◌}
 use Rattle.logic.specs.Lists.{every}
-use Rattle.models.specs.Layout.{state_mask, state_count}
+use Rattle.models.specs.Layout.{state_mask}
 use Rattle.models.specs.Grounds.{mask_in_range}
-use Rattle.logic.proofs.Tests.{every_more}
 use Rattle.models.proofs.fields.masks_in_range.Given as goal
 
 abbrev pub invariant-loop-s : goal.invariant-loop-s

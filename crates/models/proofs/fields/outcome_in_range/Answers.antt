@@ -1,5 +1,4 @@
 -- The tests are the definition, of what the readers give.
-use native.Mathlib.Omega.{arith}
 use mathlib.Core.Path.{◌≡◌, ap, ap₂, ◌∙◌}
 use mathlib.Core.Bool.{◌&&◌}
 use lib.IntN.{pos, negsuc}

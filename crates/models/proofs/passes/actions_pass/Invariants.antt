@@ -1,10 +1,7 @@
 use Prim.Native.Nat.{◌-◌, ◌≤◌}
-use native.Mathlib.Omega.{arith}
-use mathlib.Core.Path.{◌≡◌, refl, ap, ◌∙◌}
+use mathlib.Core.Path.{◌≡◌}
 use Rattle.logic.specs.Lists.{every}
-use Rattle.models.specs.Layout.{action_count}
 use Rattle.models.specs.promises.Passes.{action_passes}
-use Rattle.logic.proofs.Tests.{every_more}
 use Rattle.models.proofs.passes.actions_pass.Given as goal
 
 abbrev pub invariant-loop-a : goal.invariant-loop-a

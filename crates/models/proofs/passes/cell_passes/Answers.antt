@@ -1,6 +1,5 @@
 -- One arm for each ground, by what its own test gives, at the count of used outcomes in the table; the grounds before it say that the cell is inside the bytes, and has few outcomes.
 -- The table holds the cell's count.
-use borrow.Author.Rules.{rules}
 use Prim.Native.Nat.{◌/◌, ◌%◌}
 use native.Mathlib.Omega.{arith}
 use mathlib.Core.Path.{◌≡◌, sym, refl, ap, ◌∙◌}

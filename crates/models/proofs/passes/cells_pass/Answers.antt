@@ -1,5 +1,5 @@
 -- The invariant: the flag is the test of every cell passed. The measure is what is left of their number.
-use Prim.Native.Nat.{◌-◌, ◌/◌, ◌%◌, ◌≤◌}
+use Prim.Native.Nat.{◌/◌, ◌%◌}
 use native.Mathlib.Omega.{arith}
 use mathlib.Core.Path.{◌≡◌, refl, ap, ◌∙◌}
 use Rattle.logic.specs.Lists.{every}

@@ -1,9 +1,7 @@
 use Prim.Native.Nat.{◌-◌, ◌/◌, ◌%◌, ◌≤◌}
-use native.Mathlib.Omega.{arith}
-use mathlib.Core.Path.{◌≡◌, refl, ap, ◌∙◌}
+use mathlib.Core.Path.{◌≡◌}
 use Rattle.logic.specs.Lists.{every}
 use Rattle.models.specs.promises.Passes.{cell_passes}
-use Rattle.logic.proofs.Tests.{every_more}
 use Rattle.models.proofs.passes.cells_pass.Given as goal
 
 abbrev pub invariant-loop-k : goal.invariant-loop-k

@@ -1,5 +1,4 @@
 -- One arm for each ground, by what its own test gives.
-use borrow.Author.Rules.{rules}
 use mathlib.Core.Path.{sym, refl, ap, ◌∙◌}
 use borrow.Author.Tests.{ne_eqb}
 use Rattle.models.specs.promises.Passes.{outcome_passes}

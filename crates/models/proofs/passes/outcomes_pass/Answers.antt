@@ -1,5 +1,4 @@
 -- The invariant: the flag is the test of every outcome passed. The measure is what is left of their number.
-use Prim.Native.Nat.{◌-◌, ◌≤◌}
 use native.Mathlib.Omega.{arith}
 use mathlib.Core.Path.{◌≡◌, refl, ap, ◌∙◌}
 use Rattle.logic.specs.Lists.{every}

@@ -1,5 +1,5 @@
 -- The invariant: the flag is the test of every row block passed. By ground 1 there is a head before them.
-use Prim.Native.Nat.{◌-◌, ◌≤◌}
+use Prim.Native.Nat.{◌-◌}
 use native.Mathlib.Omega.{arith}
 use mathlib.Core.Path.{◌≡◌, refl, ap, ◌∙◌}
 use Rattle.logic.specs.Lists.{every}

@@ -1,11 +1,7 @@
 use Prim.Native.Nat.{◌-◌, ◌≤◌}
-use native.Mathlib.Omega.{arith}
-use mathlib.Core.Path.{◌≡◌, refl, ap, ◌∙◌}
+use mathlib.Core.Path.{◌≡◌}
 use Rattle.logic.specs.Lists.{every}
-use Rattle.blocks.specs.Block.{block_count}
 use Rattle.models.specs.promises.Passes.{row_passes}
-use Rattle.logic.proofs.Tests.{every_more}
-use Rattle.blocks.proofs.RangeTests.{blocks_within}
 use Rattle.models.proofs.passes.rows_pass.Given as goal
 
 abbrev pub invariant-loop-k : goal.invariant-loop-k

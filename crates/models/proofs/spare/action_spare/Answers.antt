@@ -1,5 +1,4 @@
 -- The two ranges are the definition, at the count that was read.
-use borrow.Author.Rules.{rules}
 use Rattle.models.specs.Grounds.{action_spare}
 use Rattle.models.proofs.spare.action_spare.Goals as goal
 

@@ -1,5 +1,4 @@
 -- What follows the used outcomes is the definition's range.
-use native.Mathlib.Omega.{arith}
 use Rattle.models.specs.Grounds.{cell_spare}
 use Rattle.models.proofs.spare.cell_spare.Goals as goal
 

@@ -1,5 +1,4 @@
 -- The four parts are the definition; the sizes put each range inside the head.
-use borrow.Author.Rules.{rules}
 use native.Mathlib.Omega.{arith}
 use Rattle.models.specs.Grounds.{head_spare}
 use Rattle.models.specs.promises.Passes.{action_passes}

@@ -1,5 +1,4 @@
 -- The two ranges are the definition.
-use native.Mathlib.Omega.{arith}
 use Rattle.models.specs.Grounds.{row_spare}
 use Rattle.models.proofs.spare.row_spare.Goals as goal
 

@@ -1,18 +1,15 @@
 -- `extend_from` meets its contract: the steps left fall with each call of itself. A run is a choice and what stands below its outcomes; the loop's
 -- invariant is the run below the first o of them (`runs`).
-use Prim.Native.Nat.{ℕ, ◌+◌, ◌*◌, ◌-◌, ◌≤◌, ◌<◌}
+use Prim.Native.Nat.{◌+◌, ◌-◌}
 use native.Mathlib.Omega.{arith}
 use native.Mathlib.Nat.{min-le_right}
-use mathlib.Core.Path.{◌≡◌, refl, ◌∙◌}
-use lib.ListN.{length, drop, length-set}
-use borrow.Author.Rules.{rules}
+use mathlib.Core.Path.{refl, ◌∙◌}
+use lib.ListN.{length-set}
 use Rattle.prepared_model.specs.promises.Rows.{step_in, model_in}
 use Rattle.prepared_model.proofs.PlacesInRange.{read_range}
-use Rattle.logic.specs.promises.MostChoices.{most_choices}
-use Rattle.plan_choices.specs.promises.Extended.{by_place, Ran}
+use Rattle.plan_choices.specs.promises.Extended.{by_place}
 use Rattle.logic.proofs.MostChoices.{most_choices_more, most_choices_step}
-use Rattle.plan_choices.proofs.Runs.{runs, runs_none, runs_more, runs_all, extend_none, extend_choice, min_one, placed_less}
-use Rattle.plan_choices.proofs.extending.extend_from.Kinds.{ps}
+use Rattle.plan_choices.proofs.Runs.{runs_none, runs_more, runs_all, extend_none, extend_choice, min_one, placed_less}
 use Rattle.plan_choices.proofs.extending.+extend_from.Goals as goal
 
 pub returns-then-n-eq0 : goal.returns-then-n-eq0

@@ -1,16 +1,10 @@
-use Prim.Native.Nat.{ℕ, ◌+◌, ◌*◌, ◌-◌, ◌≤◌, ◌<◌}
-use native.Mathlib.Omega.{arith}
-use native.Mathlib.Nat.{min-le_right}
-use mathlib.Core.Path.{◌≡◌, refl, ◌∙◌}
-use lib.ListN.{length, drop, length-set}
-use borrow.Author.Rules.{rules}
+use Prim.Native.Nat.{◌*◌, ◌-◌, ◌≤◌}
+use mathlib.Core.Path.{◌≡◌}
+use lib.ListN.{length, drop}
 use Rattle.prepared_model.specs.promises.Rows.{step_in, model_in}
-use Rattle.prepared_model.proofs.PlacesInRange.{read_range}
 use Rattle.logic.specs.promises.MostChoices.{most_choices}
 use Rattle.plan_choices.specs.promises.Extended.{by_place, Ran}
-use Rattle.logic.proofs.MostChoices.{most_choices_more, most_choices_step}
-use Rattle.plan_choices.proofs.Runs.{runs, runs_none, runs_more, runs_all, extend_none, extend_choice, min_one, placed_less}
-use Rattle.plan_choices.proofs.extending.extend_from.Kinds.{ps}
+use Rattle.plan_choices.proofs.Runs.{runs}
 use Rattle.plan_choices.proofs.extending.+extend_from.Given as goal
 
 abbrev pub decreases-extend_from : goal.decreases-extend_from

@@ -4,7 +4,6 @@ use Prim.Native.Nat.{suc, ◌+◌, ◌*◌, ◌-◌, ◌<◌}
 use native.Mathlib.Omega.{arith}
 use mathlib.Core.Path.{◌≡◌, subst, ◌∙◌}
 use lib.ListN.{get_or}
-use borrow.Author.Rules.{rules}
 use Rattle.prepared_model.specs.promises.Rows.{choices_in}
 use Rattle.plan_choices.proofs.Runs.{choice_first, choice_read}
 use Rattle.plan_choices.proofs.extending.choice.Goals as goal

@@ -1,6 +1,5 @@
 -- `extend` meets its contract: it is `extend_from` at the beginning of both buffers.
 use native.Mathlib.Omega.{arith}
-use borrow.Author.Rules.{rules}
 use Rattle.logic.proofs.MostChoices.{most_choices_6}
 use Rattle.plan_choices.proofs.extending.extend.Goals as goal
 

@@ -1,16 +1,14 @@
 -- `nth_from` meets its contract: the steps left fall with each call of itself. The loop's invariant: with what is still to be written, the buffer is as
 -- it is to be (`Underway`).
-use Prim.Native.Nat.{ℕ, ◌+◌, ◌-◌, ◌≤◌, ◌<◌}
+use Prim.Native.Nat.{◌+◌, ◌-◌, ◌<◌}
 use native.Mathlib.Omega.{arith}
 use mathlib.Core.Path.{◌≡◌, sym, ◌∙◌}
 use lib.ListN.{length-set}
-use borrow.Author.Rules.{rules}
 use Rattle.prepared_model.specs.promises.Rows.{outcomes_in, model_in}
 use Rattle.prepared_model.proofs.PlacesInRange.{place_range, read_range}
 use Rattle.logic.proofs.MostChoices.{most_choices_step}
 use Rattle.plan_choices.proofs.Ways.{outcomes_left, ways_all}
-use Rattle.plan_choices.proofs.WrittenBelow.{Underway, below_start, below_turn, below_more, below_end, divides, quotient, fits, from_none, from_choice}
-use Rattle.plan_choices.proofs.ranking.nth_from.Kinds.{ps}
+use Rattle.plan_choices.proofs.WrittenBelow.{below_start, below_turn, below_more, below_end, divides, quotient, fits, from_none, from_choice}
 use Rattle.plan_choices.proofs.ranking.+nth_from.Goals as goal
 
 pub returns-then-n-eq0 : goal.returns-then-n-eq0

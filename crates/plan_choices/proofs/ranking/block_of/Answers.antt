@@ -1,11 +1,7 @@
 -- `block_of` meets its contract. The loop's invariant: plan number i stands at `rest` in the blocks of the choices from a on (`Rest`), so one of them
 -- holds it. The measure is what is left of the choices.
-use Prim.Native.Nat.{◌-◌, ◌≤◌}
 use native.Mathlib.Omega.{arith}
-use mathlib.Core.Path.{◌≡◌}
-use borrow.Author.Rules.{rules}
-use Rattle.prepared_model.specs.promises.Rows.{choices_in}
-use Rattle.plan_choices.proofs.Ways.{Rest, rest_start, rest_found, rest_passed, rest_none}
+use Rattle.plan_choices.proofs.Ways.{rest_start, rest_found, rest_passed, rest_none}
 use Rattle.plan_choices.proofs.ranking.block_of.Goals as goal
 
 pub choices-c-requires : goal.choices-c-requires

@@ -1,9 +1,7 @@
 use Prim.Native.Nat.{◌-◌, ◌≤◌}
-use native.Mathlib.Omega.{arith}
 use mathlib.Core.Path.{◌≡◌}
-use borrow.Author.Rules.{rules}
 use Rattle.prepared_model.specs.promises.Rows.{choices_in}
-use Rattle.plan_choices.proofs.Ways.{Rest, rest_start, rest_found, rest_passed, rest_none}
+use Rattle.plan_choices.proofs.Ways.{Rest}
 use Rattle.plan_choices.proofs.ranking.block_of.Given as goal
 
 abbrev pub invariant-loop-a : goal.invariant-loop-a

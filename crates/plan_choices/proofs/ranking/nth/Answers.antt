@@ -1,6 +1,5 @@
 -- `nth` meets its contract: it is `nth_from` at the beginning of the buffer, and the plan by division is that of the list.
 use native.Mathlib.Omega.{arith}
-use borrow.Author.Rules.{rules}
 use Rattle.prepared_model.specs.promises.Rows.{model_in}
 use Rattle.logic.proofs.MostChoices.{most_choices_6}
 use Rattle.plan_choices.proofs.WrittenBelow.{nth_listed}

@@ -1,13 +1,10 @@
 -- `ways` meets its contract. The loop's invariant: the product so far, times the ways below the outcomes that are left, is the ways of the choice; so
 -- each factor is at most 65,536 and nothing wraps. The measure is what is left of the outcomes.
-use Prim.Native.Nat.{◌+◌, ◌*◌, ◌-◌, ◌≤◌}
+use Prim.Native.Nat.{◌+◌, ◌*◌, ◌≤◌}
 use native.Mathlib.Nat.{one-mul, mul-le-mul}
 use native.Mathlib.Omega.{arith}
-use mathlib.Core.Path.{◌≡◌, ap, ◌∙◌}
-use borrow.Author.Rules.{rules}
-use Rattle.prepared_model.specs.promises.Rows.{choice_in, outcomes_in, model_in}
+use mathlib.Core.Path.{ap, ◌∙◌}
 use Rattle.prepared_model.proofs.PlacesInRange.{place_range, read_range}
-use Rattle.plan_choices.specs.promises.Numbered.{ways}
 use Rattle.plan_choices.proofs.Ways.{ways_left, ways_most, ways_all, count_here, ways_one_outcome_more, count_end}
 use Rattle.plan_choices.proofs.ranking.ways.Goals as goal
 

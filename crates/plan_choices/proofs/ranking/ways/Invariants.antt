@@ -1,12 +1,8 @@
-use Prim.Native.Nat.{◌+◌, ◌*◌, ◌-◌, ◌≤◌}
-use native.Mathlib.Nat.{one-mul, mul-le-mul}
-use native.Mathlib.Omega.{arith}
-use mathlib.Core.Path.{◌≡◌, ap, ◌∙◌}
-use borrow.Author.Rules.{rules}
+use Prim.Native.Nat.{◌*◌, ◌-◌, ◌≤◌}
+use mathlib.Core.Path.{◌≡◌}
 use Rattle.prepared_model.specs.promises.Rows.{choice_in, outcomes_in, model_in}
-use Rattle.prepared_model.proofs.PlacesInRange.{place_range, read_range}
 use Rattle.plan_choices.specs.promises.Numbered.{ways}
-use Rattle.plan_choices.proofs.Ways.{ways_left, ways_most, ways_all, count_here, ways_one_outcome_more, count_end}
+use Rattle.plan_choices.proofs.Ways.{ways_left}
 use Rattle.plan_choices.proofs.ranking.ways.Given as goal
 
 abbrev pub invariant-loop-o : goal.invariant-loop-o

@@ -1,12 +1,7 @@
 -- `weigh_from` meets its contract: the steps left fall with each call of itself. A sum is made of the sums below the outcomes of the choice;
 -- the loop's invariant is the sum below the first o of them (`runs`).
-use Prim.Native.Nat.{ℕ, ◌-◌, ◌≤◌, ◌<◌}
 use native.Mathlib.Omega.{arith}
-use lib.ListN.{take, drop}
-use borrow.Author.Rules.{rules}
-use Rattle.plan_choices.specs.promises.Weighed.{Ran}
-use Rattle.plan_choices.proofs.OutcomeSummed.{runs, state_here, leaf_readable, weigh_done, weigh_choice, runs_none, BeforeOutcome, within, offered, known_here, here_next, runs_fit, runs_more}
-use Rattle.plan_choices.proofs.weighing.weigh_from.Kinds.{ps}
+use Rattle.plan_choices.proofs.OutcomeSummed.{state_here, leaf_readable, weigh_done, weigh_choice, runs_none, BeforeOutcome, within, offered, known_here, here_next, runs_fit, runs_more}
 use Rattle.plan_choices.proofs.weighing.+weigh_from.Goals as goal
 
 pub worth-requires : goal.worth-requires

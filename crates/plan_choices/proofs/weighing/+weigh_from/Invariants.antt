@@ -1,10 +1,7 @@
-use Prim.Native.Nat.{ℕ, ◌-◌, ◌≤◌, ◌<◌}
-use native.Mathlib.Omega.{arith}
+use Prim.Native.Nat.{◌-◌, ◌≤◌}
 use lib.ListN.{take, drop}
-use borrow.Author.Rules.{rules}
 use Rattle.plan_choices.specs.promises.Weighed.{Ran}
-use Rattle.plan_choices.proofs.OutcomeSummed.{runs, state_here, leaf_readable, weigh_done, weigh_choice, runs_none, BeforeOutcome, within, offered, known_here, here_next, runs_fit, runs_more}
-use Rattle.plan_choices.proofs.weighing.weigh_from.Kinds.{ps}
+use Rattle.plan_choices.proofs.OutcomeSummed.{runs}
 use Rattle.plan_choices.proofs.weighing.+weigh_from.Given as goal
 
 abbrev pub decreases-weigh_from : goal.decreases-weigh_from

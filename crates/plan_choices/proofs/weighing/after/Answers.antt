@@ -1,7 +1,6 @@
 -- `after`: the choices after the first of those left are those left without it; at the end none are left.
 use native.Mathlib.Omega.{arith}
 use Rattle.plan_choices.proofs.OutcomeSummed.{after_choice, after_end}
-use borrow.Author.Rules.{rules}
 use Rattle.plan_choices.proofs.weighing.after.Goals as goal
 
 pub returns-then-at-choices : goal.returns-then-at-choices

@@ -3,7 +3,6 @@ use Prim.Native.Nat.{◌+◌, ◌*◌}
 use native.Mathlib.Omega.{arith}
 use mathlib.Core.Path.{◌≡◌, ap}
 use Rattle.prepared_model.specs.promises.Rows.{step_in}
-use borrow.Author.Rules.{rules}
 use Rattle.plan_choices.proofs.weighing.plus.Goals as goal
 
 pub overflow_mul-result : goal.overflow_mul-result

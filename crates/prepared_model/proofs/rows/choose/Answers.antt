@@ -1,7 +1,6 @@
-use Prim.Native.Nat.{◌-◌, ◌≤◌}
 use native.Mathlib.Omega.{arith}
 use mathlib.Core.Path.{◌≡◌, subst}
-use lib.ListN.{length, length-set}
+use lib.ListN.{length-set}
 use Rattle.models.specs.Layout.{action_count}
 use Rattle.prepared_model.specs.promises.Filled.{Listed}
 use Rattle.prepared_model.proofs.RowFilled.{actions_few, states_few, listed_none, listed_next, chosen}

@@ -1,10 +1,8 @@
 use Prim.Native.Nat.{◌-◌, ◌≤◌}
-use native.Mathlib.Omega.{arith}
-use mathlib.Core.Path.{◌≡◌, subst}
-use lib.ListN.{length, length-set}
+use mathlib.Core.Path.{◌≡◌}
+use lib.ListN.{length}
 use Rattle.models.specs.Layout.{action_count}
 use Rattle.prepared_model.specs.promises.Filled.{Listed}
-use Rattle.prepared_model.proofs.RowFilled.{actions_few, states_few, listed_none, listed_next, chosen}
 use Rattle.prepared_model.proofs.rows.choose.Given as goal
 
 abbrev pub invariant-loop-a : goal.invariant-loop-a

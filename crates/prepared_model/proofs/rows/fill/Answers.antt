@@ -2,7 +2,6 @@
 use Rattle.prepared_model.proofs.RowFilled.{states_few, ready, row_filled}
 use native.Mathlib.Omega.{arith}
 use mathlib.Core.Path.{◌∙◌}
-use borrow.Author.Rules.{rules}
 use Rattle.prepared_model.proofs.rows.fill.Goals as goal
 
 pub denominator-requires : goal.denominator-requires

@@ -2,7 +2,6 @@ use Prim.Native.Nat.{◌+◌}
 use native.Mathlib.Omega.{arith}
 use mathlib.Core.Path.{refl, ap₂}
 use lib.ListN.{set, length-set}
-use borrow.Author.Rules.{rules}
 use Rattle.prepared_model.proofs.rows.list.Goals as goal
 
 pub returns-then-c-eq0 : goal.returns-then-c-eq0

@@ -4,7 +4,6 @@ use Prim.Native.Nat.{ℕ}
 use mathlib.Core.Path.{◌≡◌, refl, ap, ap₂, ◌∙◌}
 use mathlib.Core.List.{List}
 use lib.ListN.{set, length-set}
-use borrow.Author.Rules.{rules}
 use Rattle.prepared_model.proofs.rows.or_silent.Goals as goal
 
 pub returns-then-n-ne0 : goal.returns-then-n-ne0

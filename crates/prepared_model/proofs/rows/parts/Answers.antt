@@ -1,7 +1,6 @@
 use Prim.Native.Nat.{◌+◌, ◌*◌}
 use mathlib.Core.Path.{ap, ap₂, ◌∙◌}
 use Rattle.prepared_model.proofs.BitSums.{lane_shr}
-use borrow.Author.Rules.{rules}
 use Rattle.prepared_model.proofs.rows.parts.Goals as goal
 
 pub returns : goal.returns

@@ -1,10 +1,10 @@
 use Rattle.models.specs.Layout.{cell_at}
-use Rattle.prepared_model.specs.promises.Filled.{Chosen, Spelled, source}
+use Rattle.prepared_model.specs.promises.Filled.{Spelled, source}
 use Rattle.prepared_model.proofs.RowFilled.{states_few, chosen_few, chosen_byte, spelled_none, put_length, put_count, put_kept, put_more}
-use Prim.Native.Nat.{◌+◌, ◌*◌, ◌-◌, ◌≤◌, ◌/◌, ◌%◌}
+use Prim.Native.Nat.{◌+◌, ◌*◌, ◌/◌, ◌%◌}
 use native.Mathlib.Omega.{arith}
 use mathlib.Core.Path.{◌≡◌, sym, ap, subst, ◌∙◌}
-use lib.ListN.{length, get_or}
+use lib.ListN.{get_or}
 use Rattle.prepared_model.proofs.rows.spell.Goals as goal
 
 pub bounds-row-16 : goal.bounds-row-16

@@ -1,9 +1,6 @@
-use Rattle.models.specs.Layout.{cell_at}
-use Rattle.prepared_model.specs.promises.Filled.{Chosen, Spelled, source}
-use Rattle.prepared_model.proofs.RowFilled.{states_few, chosen_few, chosen_byte, spelled_none, put_length, put_count, put_kept, put_more}
-use Prim.Native.Nat.{◌+◌, ◌*◌, ◌-◌, ◌≤◌, ◌/◌, ◌%◌}
-use native.Mathlib.Omega.{arith}
-use mathlib.Core.Path.{◌≡◌, sym, ap, subst, ◌∙◌}
+use Rattle.prepared_model.specs.promises.Filled.{Chosen, Spelled}
+use Prim.Native.Nat.{◌*◌, ◌-◌, ◌≤◌}
+use mathlib.Core.Path.{◌≡◌}
 use lib.ListN.{length, get_or}
 use Rattle.prepared_model.proofs.rows.spell.Given as goal
 

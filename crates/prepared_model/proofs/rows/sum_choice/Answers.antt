@@ -1,8 +1,8 @@
 use Rattle.prepared_model.proofs.RowFilled.{partly_more}
-use Prim.Native.Nat.{◌+◌, ◌*◌, ◌-◌, ◌≤◌, ◌<◌}
+use Prim.Native.Nat.{◌+◌, ◌*◌, ◌<◌}
 use native.Mathlib.Omega.{arith}
 use mathlib.Core.Path.{◌≡◌, refl, subst, ◌∙◌}
-use lib.ListN.{length, get_or, length-set}
+use lib.ListN.{get_or, length-set}
 use Rattle.prepared_model.specs.promises.Filled.{Partly}
 use Rattle.prepared_model.proofs.rows.sum_choice.Goals as goal
 

@@ -1,7 +1,7 @@
-use Prim.Native.Nat.{◌+◌, ◌*◌, ◌-◌, ◌≤◌, ◌<◌}
+use Prim.Native.Nat.{◌+◌, ◌*◌, ◌<◌}
 use native.Mathlib.Omega.{arith}
 use mathlib.Core.Path.{◌≡◌, refl, sym, ap, subst, ◌∙◌}
-use lib.ListN.{length, get_or}
+use lib.ListN.{get_or}
 use Rattle.prepared_model.specs.promises.Filled.{Summed}
 use Rattle.prepared_model.proofs.RowFilled.{summed_more}
 use Rattle.prepared_model.proofs.rows.sum_choices.Goals as goal

@@ -1,10 +1,9 @@
 -- The invariant: the flag tells whether the nodes passed are marked. That the marks of the nodes before the root decide ground 13 is `marks_tell`.
-use Prim.Native.Nat.{◌≤◌, ◌<◌, ◌-◌}
+use Prim.Native.Nat.{◌-◌}
 use native.Mathlib.Omega.{arith}
 use mathlib.Core.Path.{◌≡◌, refl, ap, ◌∙◌}
 use lib.Dec.{eqb}
 use lib.ListN.{get_or}
-use borrow.Author.Rules.{rules}
 use Rattle.logic.specs.Lists.{every}
 use Rattle.logic.proofs.Tests.{every_more}
 use Rattle.questions.specs.Layout.{node_count}

@@ -1,13 +1,8 @@
 use Prim.Native.Nat.{◌≤◌, ◌<◌, ◌-◌}
-use native.Mathlib.Omega.{arith}
-use mathlib.Core.Path.{◌≡◌, refl, ap, ◌∙◌}
+use mathlib.Core.Path.{◌≡◌}
 use lib.Dec.{eqb}
 use lib.ListN.{get_or}
-use borrow.Author.Rules.{rules}
 use Rattle.logic.specs.Lists.{every}
-use Rattle.logic.proofs.Tests.{every_more}
-use Rattle.questions.specs.Layout.{node_count}
-use Rattle.questions.proofs.AllReached.{marks_tell}
 use Rattle.questions.proofs.used.all_reached.Given as goal
 
 abbrev pub invariant-loop-j : goal.invariant-loop-j

@@ -1,9 +1,8 @@
 -- The invariant: the children of the nodes passed are marked.
-use Prim.Native.Nat.{suc, ◌≤◌, ◌-◌}
+use Prim.Native.Nat.{suc}
 use native.Mathlib.Numerals.{add-one}
 use native.Mathlib.Omega.{arith}
 use mathlib.Core.Path.{◌≡◌, sym, subst}
-use borrow.Author.Rules.{rules}
 use Rattle.questions.specs.Layout.{node_count}
 use Rattle.questions.specs.promises.Used.{MarksOf}
 use Rattle.questions.proofs.ChildrenMarked.{no_marks, more_marks}

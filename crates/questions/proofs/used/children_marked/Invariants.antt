@@ -1,11 +1,5 @@
-use Prim.Native.Nat.{suc, ◌≤◌, ◌-◌}
-use native.Mathlib.Numerals.{add-one}
-use native.Mathlib.Omega.{arith}
-use mathlib.Core.Path.{◌≡◌, sym, subst}
-use borrow.Author.Rules.{rules}
-use Rattle.questions.specs.Layout.{node_count}
+use Prim.Native.Nat.{◌≤◌, ◌-◌}
 use Rattle.questions.specs.promises.Used.{MarksOf}
-use Rattle.questions.proofs.ChildrenMarked.{no_marks, more_marks}
 use Rattle.questions.proofs.used.children_marked.Given as goal
 
 abbrev pub invariant-loop-i : goal.invariant-loop-i

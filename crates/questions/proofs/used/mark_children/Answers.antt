@@ -2,7 +2,6 @@
 use mathlib.Core.Path.{◌≡◌, sym, ap, ap₂, ◌∙◌}
 use mathlib.Core.Bool.{cond}
 use lib.ListN.{set}
-use borrow.Author.Rules.{rules}
 use Rattle.questions.specs.Layout.{node_of}
 use Rattle.questions.specs.Children.{children_by, children}
 use Rattle.questions.specs.promises.Used.{mark_each}

@@ -1,14 +1,11 @@
 -- A choice is read by the definition's first clause that fits it. The loop over the outcomes keeps that what is read from here on is what was to be read
 -- from the start. The steps left fall: 2n for a choice, 2k + 1 for the outcomes below one, with k one less.
-use Prim.Native.Nat.{◌+◌, ◌-◌, ◌≤◌, ℕ, ◌<◌}
+use Prim.Native.Nat.{◌<◌}
 use native.Mathlib.Omega.{arith}
 use mathlib.Core.Path.{◌≡◌, sym, refl, ◌∙◌}
-use lib.ListN.{length, drop, get_or}
-use borrow.Author.Rules.{rules}
+use lib.ListN.{length, get_or}
 use Rattle.logic.specs.Model.{outcomes}
-use Rattle.logic.specs.Choices.{read_each, read_plan}
 use Rattle.models.specs.Layout.{state_count, model_of}
-use Rattle.sheets.specs.promises.Ends.{end_of}
 use Rattle.sheets.proofs.PlanEnds.{target_inside, end_zero, end_missing, choice_refused, choice_taken, outcome_refused, outcome_read, outcomes_read}
 use Rattle.sheets.proofs.plans.+below_plan_end.Goals as goal
 

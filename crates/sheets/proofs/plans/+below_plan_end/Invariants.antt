@@ -1,13 +1,10 @@
-use Prim.Native.Nat.{◌+◌, ◌-◌, ◌≤◌, ℕ, ◌<◌}
-use native.Mathlib.Omega.{arith}
-use mathlib.Core.Path.{◌≡◌, sym, refl, ◌∙◌}
-use lib.ListN.{length, drop, get_or}
-use borrow.Author.Rules.{rules}
+use Prim.Native.Nat.{◌+◌, ◌-◌, ◌≤◌}
+use mathlib.Core.Path.{◌≡◌}
+use lib.ListN.{length, drop}
 use Rattle.logic.specs.Model.{outcomes}
 use Rattle.logic.specs.Choices.{read_each, read_plan}
-use Rattle.models.specs.Layout.{state_count, model_of}
+use Rattle.models.specs.Layout.{model_of}
 use Rattle.sheets.specs.promises.Ends.{end_of}
-use Rattle.sheets.proofs.PlanEnds.{target_inside, end_zero, end_missing, choice_refused, choice_taken, outcome_refused, outcome_read, outcomes_read}
 use Rattle.sheets.proofs.plans.+below_plan_end.Given as goal
 
 abbrev pub decreases-below : goal.decreases-below

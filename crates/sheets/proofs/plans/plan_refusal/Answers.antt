@@ -1,6 +1,5 @@
 -- The choices are a plan if its end is theirs; else ground 10, for what is left over or for what the reader found.
 use mathlib.Core.Path.{sym, ◌∙◌}
-use borrow.Author.Rules.{rules}
 use Rattle.models.specs.Layout.{model_of}
 use Rattle.sheets.proofs.PlanEnds.{plan_refused, plan_whole, plan_over}
 use Rattle.sheets.proofs.plans.plan_refusal.Goals as goal

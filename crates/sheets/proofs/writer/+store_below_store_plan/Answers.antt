@@ -1,6 +1,6 @@
 -- The choice for a history is stored at its place, and what is stored below it goes on from the next place. The loop has stored the choices
 -- below the outcomes before i. The steps left fall: 2n for a choice, 2k + 1 for the outcomes below one, with k one less.
-use Prim.Native.Nat.{◌+◌, ◌-◌, ◌≤◌, ℕ, ◌<◌}
+use Prim.Native.Nat.{◌-◌, ◌<◌}
 use native.Mathlib.Omega.{arith}
 use mathlib.Core.Path.{ap, ◌∙◌}
 use lib.ListN.{length}
@@ -9,7 +9,7 @@ use Rattle.models.specs.Layout.{state_count, model_of}
 use Rattle.sheets.specs.Layout.{blocks_for}
 use Rattle.sheets.proofs.PlanEnds.{target_inside}
 use Rattle.sheets.proofs.StoredChoices.{stored_length}
-use Rattle.sheets.proofs.StoredBelow.{no_step, choice_there, below_ahead, choice_stored, Walked, walked_none, outcome_ahead, walked_more, walked_all}
+use Rattle.sheets.proofs.StoredBelow.{no_step, choice_there, below_ahead, choice_stored, walked_none, outcome_ahead, walked_more, walked_all}
 use Rattle.sheets.proofs.writer.+store_below_store_plan.Goals as goal
 
 pub store_below-outcome_count-count-requires : goal.store_below-outcome_count-count-requires

@@ -1,13 +1,5 @@
-use Prim.Native.Nat.{◌+◌, ◌-◌, ◌≤◌, ℕ, ◌<◌}
-use native.Mathlib.Omega.{arith}
-use mathlib.Core.Path.{ap, ◌∙◌}
-use lib.ListN.{length}
-use Rattle.logic.specs.Model.{outcomes}
-use Rattle.models.specs.Layout.{state_count, model_of}
-use Rattle.sheets.specs.Layout.{blocks_for}
-use Rattle.sheets.proofs.PlanEnds.{target_inside}
-use Rattle.sheets.proofs.StoredChoices.{stored_length}
-use Rattle.sheets.proofs.StoredBelow.{no_step, choice_there, below_ahead, choice_stored, Walked, walked_none, outcome_ahead, walked_more, walked_all}
+use Prim.Native.Nat.{◌+◌, ◌-◌, ◌≤◌}
+use Rattle.sheets.proofs.StoredBelow.{Walked}
 use Rattle.sheets.proofs.writer.+store_below_store_plan.Given as goal
 
 abbrev pub decreases-store_below : goal.decreases-store_below

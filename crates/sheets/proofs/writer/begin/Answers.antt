@@ -1,7 +1,6 @@
 -- The fields go in one after the other, each behind what is written; all that follows is still zero.
 use mathlib.Core.Path.{◌≡◌, sym, ap, ◌∙◌}
 use lib.ListN.{length, replicate}
-use borrow.Author.Rules.{rules}
 use Rattle.sheets.proofs.BlockBegun.{begun_fields}
 use Rattle.sheets.proofs.writer.begin.Goals as goal
 

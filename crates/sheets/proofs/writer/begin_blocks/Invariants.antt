@@ -1,16 +1,9 @@
-use Prim.Native.Nat.{ℕ, ◌+◌, ◌-◌, ◌*◌, ◌/◌, ◌≤◌, ◌<◌}
-use native.Mathlib.Nat.{mul-div-le}
-use native.Mathlib.Omega.{arith}
-use mathlib.Core.List.{List, [], ◌++◌, flat_map}
-use mathlib.Core.Path.{◌≡◌, refl, ap, ◌∙◌}
-use lib.ListN.{length, drop, length-take, length-drop}
-use borrow.Author.Rules.{rules}
-use borrow.Rule.Slice.PartMut.{same_len_mid}
-use Rattle.logic.specs.Lists.{count_from}
-use Rattle.sheets.specs.Layout.{blocks_for}
-use Rattle.sheets.specs.promises.Writer.{unsealed, chunk_size, begun}
-use Rattle.sheets.proofs.PiecesInOrder.{pieces, pieces_length, piece_put}
-use Rattle.sheets.proofs.BlockBegun.{unsealed_length}
+use Prim.Native.Nat.{◌-◌, ◌*◌, ◌≤◌}
+use mathlib.Core.List.{[], ◌++◌}
+use mathlib.Core.Path.{◌≡◌}
+use lib.ListN.{length, drop}
+use Rattle.sheets.specs.promises.Writer.{unsealed, chunk_size}
+use Rattle.sheets.proofs.PiecesInOrder.{pieces}
 use Rattle.sheets.proofs.writer.begin_blocks.Given as goal
 
 abbrev pub invariant-loop-k : goal.invariant-loop-k

@@ -2,7 +2,6 @@
 use native.Mathlib.Omega.{arith}
 use mathlib.Core.Path.{◌≡◌, ap, ◌∙◌}
 use lib.ListN.{set, replicate, length-set}
-use borrow.Author.Rules.{rules}
 use Rattle.sheets.specs.promises.Writer.{started}
 use Rattle.sheets.proofs.writer.head.Goals as goal
 

@@ -1,16 +1,9 @@
-use Prim.Native.Nat.{ℕ, ◌+◌, ◌-◌, ◌*◌, ◌≤◌, ◌<◌}
-use native.Mathlib.Omega.{arith}
-use mathlib.Core.List.{List, ◌++◌, flat_map}
-use mathlib.Core.Path.{◌≡◌, refl, ap, ◌∙◌}
+use Prim.Native.Nat.{◌-◌, ◌*◌, ◌≤◌}
+use mathlib.Core.List.{◌++◌}
+use mathlib.Core.Path.{◌≡◌}
 use lib.ListN.{length, take, drop}
-use lib.Seq.{take-take}
-use borrow.Author.Rules.{rules}
-use borrow.Rule.Slice.PartMut.{same_len_mid}
-use Rattle.logic.specs.Lists.{count_from}
 use Rattle.blocks.specs.Block.{with_word_sum}
-use Rattle.sheets.specs.promises.Writer.{sealed}
-use Rattle.sheets.proofs.PiecesInOrder.{pieces, piece_put}
-use Rattle.sheets.proofs.BlockBegun.{sealed_length, block_lent}
+use Rattle.sheets.proofs.PiecesInOrder.{pieces}
 use Rattle.sheets.proofs.writer.seal_blocks.Given as goal
 
 abbrev pub invariant-loop-k : goal.invariant-loop-k

@@ -4,7 +4,6 @@ use native.Mathlib.Omega.{arith}
 use mathlib.Core.Path.{ap, ◌∙◌}
 use lib.ListN.{length-take, length-drop}
 use borrow.Rule.Slice.PartMut.{put_mid, set_mid_at}
-use borrow.Author.Rules.{rules}
 use Rattle.sheets.specs.promises.Writer.{place}
 use Rattle.sheets.proofs.writer.store_choice.Goals as goal
 

@@ -4,7 +4,6 @@ use native.Mathlib.Omega.{arith}
 use mathlib.Core.Path.{ap, ◌∙◌}
 use lib.ListN.{length-take, length-drop}
 use borrow.Rule.Slice.PartMut.{put_mid, set_mid_at}
-use borrow.Author.Rules.{rules}
 use Rattle.sheets.proofs.writer.store_in_block.Goals as goal
 
 pub returns : goal.returns

@@ -7,7 +7,6 @@ use mathlib.Core.List.{List, ◌++◌}
 use lib.ListN.{length, drop}
 use mir.Syntax.{w64}
 use mir.ValLaws.{to_z-of_z}
-use borrow.Author.Rules.{rules}
 use Rattle.blocks.specs.Bytes.{twos_complement}
 use Rattle.sheets.specs.Layout.{blocks_for, sheet_bytes}
 use Rattle.sheets.specs.promises.Writer.{stored, sealed}
@@ -38,8 +37,11 @@ returns c =
     c.begin_blocks.ensures (c.store_plan.ensures.bytes ∙ ap (λ r. stored cs 0 (r - 0) c.begin_blocks.new.buf) e) in
     let S = c in
     let stored-plan = c in
-    let e = c.blocks_for-blocks.ensures.value in record { effect = c.seal_blocks.ensures
+    let e = c.blocks_for-blocks.ensures.value in record {
+      effect = c.seal_blocks.ensures
           ∙ ap (λ r. sealed r stored-plan.store_plan.new.buf) e
           ∙ all_sealed S.args.n S.args.start bits S.args.choices.now beyond stored-plan.store_plan.new.buf made S.args.total
           (stored-plan.bits_of.ensures ∙ ap (twos_complement 63) (to_z-of_z w64 S.args.total S.ranges.total))
-          ∙ ap (λ r. sheet_bytes S.args.n S.args.start S.args.total S.args.choices.now ++ drop (512 * r) S.args.buf.now) (sym e); value = ap (λ r. 512 * r) e }
+          ∙ ap (λ r. sheet_bytes S.args.n S.args.start S.args.total S.args.choices.now ++ drop (512 * r) S.args.buf.now) (sym e);
+      value = ap (λ r. 512 * r) e;
+    }
