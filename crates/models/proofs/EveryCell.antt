@@ -156,7 +156,7 @@ sized b w z e =
     }
 
 -- What follows from the grounds before one, of the cells in the row blocks: they stand inside the bytes, those of the model's states among them.
-module _ {ground : ℕ} {b : Bytes} (e : Earlier ground b) where
+module _ {ground_no : ℕ} {b : Bytes} (e : Earlier ground_no b) where
   pub cell_inside : (k : ℕ) → k < 24 * (block_count b - 1) → (k < 264) × (cell_at (k / 8) (k % 8) + 16 ≤ length b)
   unfolding cell_at block_count
   cell_inside k h =

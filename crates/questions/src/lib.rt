@@ -378,16 +378,16 @@ fn node_shallow(b: &[u8], depths: &[u32; NODES], i: u8) -> bool
 // What ground 5, 6 or 9 asks of node i, for a model of so many actions and propositions.
 fn node_passes(
     b: &[u8],
-    ground: u32,
+    ground_no: u32,
     i: u8,
     actions: usize,
     props: usize,
     depths: &[u32; NODES],
 ) -> bool
     requires { (i < node_count b.now) × Nodes b.now depths.now }
-    ensures { result ≡ passes ground actions props b.now i }
+    ensures { result ≡ passes ground_no actions props b.now i }
 {
-    match ground {
+    match ground_no {
         5 => node_in_range(b, i, actions, props),
         6 => node_spare(b, i),
         _ => node_shallow(b, depths, i),
@@ -395,15 +395,15 @@ fn node_passes(
 }
 
 // Whether every node passes.
-fn nodes_pass(b: &[u8], ground: u32, actions: usize, props: usize, depths: &[u32; NODES]) -> bool
+fn nodes_pass(b: &[u8], ground_no: u32, actions: usize, props: usize, depths: &[u32; NODES]) -> bool
     requires { Nodes b.now depths.now }
-    ensures { result ≡ every (node_count b.now) (passes ground actions props b.now) }
+    ensures { result ≡ every (node_count b.now) (passes ground_no actions props b.now) }
 {
     let n = node_count(b);
     let mut right = true;
     let mut i: u8 = 0;
     while i < n {
-        right = right & node_passes(b, ground, i, actions, props, depths);
+        right = right & node_passes(b, ground_no, i, actions, props, depths);
         i += 1;
     }
     right

@@ -122,11 +122,11 @@ fn spare_right(b: &[u8], k: usize) -> bool
 }
 
 // What a ground from 3 to 6 asks of block k.
-fn block_passes(b: &[u8], ground: u32, k: usize, n: usize, start: usize) -> bool
-    requires { (3 ≤ ground) × (k < 3) × (512 * k + 512 ≤ length b.now) × (5 < ground → count_of b.now k ≤ 490) }
-    ensures { result ≡ passes ground n start b.now k }
+fn block_passes(b: &[u8], ground_no: u32, k: usize, n: usize, start: usize) -> bool
+    requires { (3 ≤ ground_no) × (k < 3) × (512 * k + 512 ≤ length b.now) × (5 < ground_no → count_of b.now k ≤ 490) }
+    ensures { result ≡ passes ground_no n start b.now k }
 {
-    match ground {
+    match ground_no {
         3 => blocks::headed(b, k, KIND_SHEET, k),
         4 => head_right(b, k, n, start),
         5 => count_right(b, k) & weight_right(b, k),
@@ -135,15 +135,15 @@ fn block_passes(b: &[u8], ground: u32, k: usize, n: usize, start: usize) -> bool
 }
 
 // Whether every block passes.
-fn all_pass(b: &[u8], ground: u32, n: usize, start: usize) -> bool
-    requires { Blocks ground b.now }
-    ensures { result ≡ every (block_count b.now) (passes ground n start b.now) }
+fn all_pass(b: &[u8], ground_no: u32, n: usize, start: usize) -> bool
+    requires { Blocks ground_no b.now }
+    ensures { result ≡ every (block_count b.now) (passes ground_no n start b.now) }
 {
     let count = b.len() / BLOCK;
     let mut right = true;
     let mut k: usize = 0;
     while k < count {
-        right = right & block_passes(b, ground, k, n, start);
+        right = right & block_passes(b, ground_no, k, n, start);
         k += 1;
     }
     right

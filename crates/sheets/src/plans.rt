@@ -51,7 +51,7 @@ fn below(m: &[u8], choices: &[u8], k: usize, s: usize, a: usize, count: usize, a
         let end = plan_end(m, choices, k, outcome_target(m, s, a, i), next);
         match end {
             End::At(p) => next = p,
-            End::Refused(ground) => return End::Refused(ground),
+            End::Refused(ground_no) => return End::Refused(ground_no),
         }
         i += 1;
     }
@@ -71,6 +71,6 @@ pub fn plan_refusal(m: &[u8], choices: &[u8], n: usize, s: usize) -> u32
             }
             10
         }
-        End::Refused(ground) => ground,
+        End::Refused(ground_no) => ground_no,
     }
 }

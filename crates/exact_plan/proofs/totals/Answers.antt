@@ -14,7 +14,6 @@ use Rattle.exact_plan.proofs.TotalsByFirstStep.{totals_length}
 use Rattle.exact_plan.proofs.ListsWritten.{state_small}
 use Rattle.exact_plan.proofs.LastStepLists.{marks_asked}
 use Rattle.exact_plan.proofs.FirstPlace.{begins, all_listed}
-use borrow.Author.Rules.{rules}
 use Rattle.exact_plan.proofs.totals.Goals as goal
 
 pub marks-late-requires : goal.marks-late-requires

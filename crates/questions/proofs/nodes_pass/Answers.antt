@@ -23,4 +23,4 @@ pub returns : goal.returns
 returns c = let S = c.args in
     let L = c.loop-i in
     let e : L.i ≡ node_count S.b.now = omega arith in
-    L.invariant.1 ∙ ap (λ k. every k (passes S.ground S.actions S.props S.b.now)) e
+    L.invariant.1 ∙ ap (λ k. every k (passes S.ground_no S.actions S.props S.b.now)) e

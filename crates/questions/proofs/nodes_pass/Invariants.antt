@@ -5,7 +5,7 @@ use Rattle.questions.specs.promises.Passes.{passes}
 use Rattle.questions.proofs.nodes_pass.Given as goal
 
 abbrev pub invariant-loop-i : goal.invariant-loop-i
-invariant-loop-i l = (l.i ≤ l.n) × (l.right ≡ every l.i (passes l.ground l.actions l.props l.b))
+invariant-loop-i l = (l.i ≤ l.n) × (l.right ≡ every l.i (passes l.ground_no l.actions l.props l.b))
 
 abbrev pub decreases-loop-i : goal.decreases-loop-i
 decreases-loop-i l = l.n - l.i

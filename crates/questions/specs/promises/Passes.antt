@@ -7,7 +7,7 @@ use Rattle.questions.specs.Grounds.{node_in_range, node_spare}
 use Rattle.questions.specs.promises.Tables.{table}
 
 -- What ground 5, 6 or 9 asks of node i, for a model with A actions and N propositions.
-unfoldable pub passes : (ground A N : ℕ) → Bytes → ℕ → Bool
+unfoldable pub passes : (ground_no A N : ℕ) → Bytes → ℕ → Bool
 passes g A N b i =
     cond (eqb g 5) (node_in_range A N i (node_of b i))
     (cond (eqb g 6) (node_spare b i) (shallow (get_or (formulas_of b) i never)))

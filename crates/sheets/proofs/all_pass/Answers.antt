@@ -25,10 +25,10 @@ block_passes-right-requires c = let S = c in
 pub loop-k-preserved : goal.loop-k-preserved
 loop-k-preserved c = let S = c in
     let L = c.loop-k in
-    (omega arith, every_more (passes S.args.ground S.args.n S.args.start S.args.b.now) L.k L.invariant.1 c.block_passes-right.ensures)
+    (omega arith, every_more (passes S.args.ground_no S.args.n S.args.start S.args.b.now) L.k L.invariant.1 c.block_passes-right.ensures)
 
 pub returns : goal.returns
 unfolding block_count
 returns c = let S = c in
     let e : c.loop-k.k ≡ length S.args.b.now / 512 = omega arith in
-    c.loop-k.invariant.1 ∙ ap (λ i. every i (passes S.args.ground S.args.n S.args.start S.args.b.now)) e
+    c.loop-k.invariant.1 ∙ ap (λ i. every i (passes S.args.ground_no S.args.n S.args.start S.args.b.now)) e

@@ -26,7 +26,7 @@ returns-in-5 c = let S = c in
 
 pub returns-in_default : goal.returns-in_default
 unfolding passes
-returns-in_default c = let g = c.args.ground in
+returns-in_default c = let g = c.args.ground_no in
     let n₃ : g ≡ 3 → ⊥ = λ e. omega arith in
     let n₄ : g ≡ 4 → ⊥ = λ e. omega arith in
     let n₅ : g ≡ 5 → ⊥ = λ e. omega arith in

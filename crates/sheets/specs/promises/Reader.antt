@@ -6,16 +6,16 @@ use Rattle.blocks.specs.Block.{block_count, whole_blocks, headed}
 use Rattle.sheets.specs.Grounds.{head_right, count_right, weight_right, spare_right}
 
 -- What a ground from 3 to 6 asks of block k.
-unfoldable pub passes : (ground n start : ℕ) → Bytes → ℕ → Bool
+unfoldable pub passes : (ground_no n start : ℕ) → Bytes → ℕ → Bool
 passes g n start b k =
     cond (eqb g 3) (headed b k 4 k)
     (cond (eqb g 4) (head_right n start b k) (cond (eqb g 5) (count_right b k && weight_right b k) (spare_right b k)))
 
 -- What a ground is tested on: the blocks' number is right and, past ground 5, so are their counts.
-pub record Blocks (ground : ℕ) (b : Bytes) : Type 0 where
-  pub from : 3 ≤ ground
+pub record Blocks (ground_no : ℕ) (b : Bytes) : Type 0 where
+  pub from : 3 ≤ ground_no
   pub whole : whole_blocks 1 3 b ≡ true
-  pub counted : 5 < ground → every (block_count b) (count_right b) ≡ true
+  pub counted : 5 < ground_no → every (block_count b) (count_right b) ≡ true
 
 -- The choices of a sheet stand at the front of out', r of them, and after them what out had.
 pub record Gathered (choices out out' : List ℕ) (r : ℕ) : Type 0 where

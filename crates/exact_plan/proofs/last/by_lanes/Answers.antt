@@ -5,7 +5,6 @@ use native.Mathlib.Omega.{arith}
 use mathlib.Core.Path.{◌≡◌, refl, sym, ap, ap₂, subst, ◌∙◌}
 use mathlib.Core.List.{◌++◌, flat_map, append-nil}
 use lib.ListN.{length, take}
-use borrow.Author.Rules.{rules}
 use Rattle.logic.specs.Lists.{count_from, tabulate}
 use Rattle.logic.specs.Limits.{plan_total}
 use Rattle.prepared_model.specs.promises.Rows.{choices_in, outcomes_in, model_in}

@@ -1,7 +1,6 @@
 -- `last::by_last_step`: the lanes have the values of the last step that decides.
 use Prim.Native.Nat.{◌-◌}
 use native.Mathlib.Omega.{arith}
-use borrow.Author.Rules.{rules}
 use Rattle.exact_plan.proofs.LastStepLists.{before_last, lanes_written}
 use Rattle.exact_plan.proofs.last.by_last_step.Goals as goal
 

@@ -1,21 +1,8 @@
-use Prim.Native.Nat.{ℕ, suc, ◌+◌, ◌*◌, ◌-◌, ◌<◌}
-use native.Mathlib.Omega.{arith}
-use mathlib.Core.List.{List}
-use mathlib.Core.Path.{◌≡◌, refl, sym, ap, subst, ◌∙◌}
-use lib.ListN.{length, take}
-use borrow.Author.Rules.{rules}
-use Rattle.logic.specs.Model.{Step, outcomes}
-use Rattle.logic.specs.Limits.{plan_total}
-use Rattle.prepared_model.specs.promises.Rows.{choices_in, choice_in, model_in}
-use Rattle.prepared_model.proofs.ReadByPlace.{some_outcome}
-use Rattle.prepared_model.proofs.PlacesInRange.{place_range}
-use Rattle.evaluation.specs.promises.Worth.{worth_on}
-use Rattle.exact_plan.specs.promises.Room.{Room}
-use Rattle.exact_plan.specs.promises.Totals.{combined, weighed}
-use Rattle.exact_plan.proofs.OutcomesJoined.{Place, placed, count_right, weighed_shifts, weighed_written, span_outcome, Spanned, ways, first_room, first_before, first_spanned, span_end, span_grows, span_wider, grown_joins, grown_written}
-use Rattle.exact_plan.proofs.ListsWritten.{within, state_small, reached, offered, below_here, below_written, decides, decided_room, decided_written, rebased}
-use Rattle.exact_plan.proofs.ChoiceByChoice.{choice_few, Listed, listed_none, choice_room, choice_here, choice_listed, listed_all}
-use Rattle.exact_plan.proofs.OneOutcomeJoined.{beside_inside, wider_less}
+use Prim.Native.Nat.{◌+◌, ◌*◌, ◌-◌, ◌<◌}
+use mathlib.Core.Path.{◌≡◌}
+use Rattle.prepared_model.specs.promises.Rows.{choices_in}
+use Rattle.exact_plan.proofs.OutcomesJoined.{Spanned}
+use Rattle.exact_plan.proofs.ChoiceByChoice.{Listed}
 use Rattle.exact_plan.proofs.lists.+below_combine_grown_list_weighed_below.Given as goal
 
 abbrev pub decreases-below : goal.decreases-below

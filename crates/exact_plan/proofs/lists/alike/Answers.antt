@@ -2,7 +2,6 @@
 use Prim.Native.Nat.{◌*◌, ◌^◌}
 use mathlib.Core.Path.{ap, ap₂, ◌∙◌}
 use Rattle.exact_plan.proofs.PreparedChoices.{worth_fits}
-use borrow.Author.Rules.{rules}
 use Rattle.exact_plan.proofs.lists.alike.Goals as goal
 
 pub worth-requires : goal.worth-requires

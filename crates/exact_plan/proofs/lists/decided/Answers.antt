@@ -2,7 +2,6 @@
 use mathlib.Core.Path.{ap₂, ◌∙◌}
 use lib.ListN.{replicate}
 use Rattle.blocks.specs.Splice.{splice}
-use borrow.Author.Rules.{rules}
 use Rattle.exact_plan.proofs.lists.decided.Goals as goal
 
 pub returns : goal.returns

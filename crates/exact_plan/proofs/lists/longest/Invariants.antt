@@ -1,11 +1,5 @@
-use Prim.Native.Nat.{◌+◌, ◌-◌, ◌*◌, ◌≤◌, ◌<◌}
-use native.Mathlib.Nat.{le_refl}
-use native.Mathlib.Omega.{arith}
-use mathlib.Core.Path.{◌≡◌, ap, subst, ◌∙◌}
-use mathlib.Core.Logic.{⊎_elim}
-use lib.ListN.{get_or}
+use Prim.Native.Nat.{◌-◌, ◌≤◌}
 use Rattle.exact_plan.specs.promises.Listing.{Longest}
-use Rattle.exact_plan.proofs.LongestOutcome.{size, longer, no_longer}
 use Rattle.exact_plan.proofs.lists.longest.Given as goal
 
 abbrev pub invariant-loop-o : goal.invariant-loop-o

@@ -1,5 +1,5 @@
 -- `lists::plans_below`: the product of the numbers of plans below the outcomes passed.
-use Prim.Native.Nat.{◌-◌, ◌<◌, ◌≤◌}
+use Prim.Native.Nat.{◌<◌}
 use native.Mathlib.Omega.{arith}
 use mathlib.Core.Path.{◌≡◌, refl, sym, ap, subst, ◌∙◌}
 use Rattle.logic.specs.Lists.{count_from}

@@ -1,10 +1,6 @@
-use Prim.Native.Nat.{◌-◌, ◌<◌, ◌≤◌}
-use native.Mathlib.Omega.{arith}
-use mathlib.Core.Path.{◌≡◌, refl, sym, ap, subst, ◌∙◌}
-use Rattle.logic.specs.Lists.{count_from}
-use Rattle.logic.specs.Limits.{multiply}
+use Prim.Native.Nat.{◌-◌, ◌≤◌}
+use mathlib.Core.Path.{◌≡◌}
 use Rattle.exact_plan.specs.promises.Search.{ways_below}
-use Rattle.exact_plan.proofs.PlansBelow.{way_inside, way_counted, next_way, next_fits, one_way}
 use Rattle.exact_plan.proofs.lists.plans_below.Given as goal
 
 abbrev pub invariant-loop-o : goal.invariant-loop-o

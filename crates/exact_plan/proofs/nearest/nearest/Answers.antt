@@ -4,7 +4,6 @@ use native.Mathlib.Omega.{arith}
 use lib.ListN.{length-replicate}
 use Rattle.exact_plan.proofs.ListsWritten.{state_small}
 use Rattle.exact_plan.proofs.FirstPlace.{counted}
-use borrow.Author.Rules.{rules}
 use Rattle.exact_plan.proofs.nearest.nearest.Goals as goal
 
 pub plans_counted-all-requires : goal.plans_counted-all-requires

@@ -1,10 +1,8 @@
 -- The nearest of the numbers before i.
-use Prim.Native.Nat.{◌-◌, ◌≤◌}
 use native.Mathlib.Omega.{arith}
 use mathlib.Core.Path.{◌≡◌, refl, sym, subst, ◌∙◌}
 use Rattle.exact_plan.specs.promises.Sides.{NearestIn}
 use Rattle.exact_plan.proofs.NearestPlace.{none_yet, won, lost}
-use borrow.Author.Rules.{rules}
 use Rattle.exact_plan.proofs.nearest.nearest_in.Goals as goal
 use Rattle.exact_plan.proofs.nearest.nearest_in.Goals.{then-wins, else-wins}
 

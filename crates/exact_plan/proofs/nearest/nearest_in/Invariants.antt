@@ -1,10 +1,5 @@
 use Prim.Native.Nat.{◌-◌, ◌≤◌}
-use native.Mathlib.Omega.{arith}
-use mathlib.Core.Path.{◌≡◌, refl, sym, subst, ◌∙◌}
-use mathlib.Core.Logic.{⊎_elim}
 use Rattle.exact_plan.specs.promises.Sides.{NearestIn}
-use Rattle.exact_plan.proofs.NearestPlace.{none_yet, won, lost}
-use borrow.Author.Rules.{rules}
 use Rattle.exact_plan.proofs.nearest.nearest_in.Given as goal
 
 abbrev pub invariant-loop-i : goal.invariant-loop-i

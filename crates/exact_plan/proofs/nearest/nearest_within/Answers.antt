@@ -1,7 +1,6 @@
 -- `nearest_within`: the list stands at the front of the buffer, and is searched once for each side.
 use mathlib.Core.Bool.{true, false}
 use Rattle.exact_plan.proofs.NearestPlace.{nearest_listed}
-use borrow.Author.Rules.{rules}
 use Rattle.exact_plan.proofs.nearest.nearest_within.Goals as goal
 
 pub totals-len-requires : goal.totals-len-requires

@@ -5,7 +5,6 @@ use lib.Dec.{eqb}
 use borrow.Author.Tests.{eq-eqb, ne_eqb, not-true, not-false}
 use Rattle.logic.specs.promises.Orders.{order}
 use Rattle.exact_plan.specs.promises.Sides.{on_side, wins}
-use borrow.Author.Rules.{rules}
 use Rattle.exact_plan.proofs.nearest.wins.Goals as goal
 
 pub returns-then-not-on_side : goal.returns-then-not-on_side

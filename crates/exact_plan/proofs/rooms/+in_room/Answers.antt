@@ -1,7 +1,5 @@
 -- `rooms::in_room`: the room falls with each call of itself, and a search is sent on only where the smaller room is enough.
-use Prim.Native.Nat.{ℕ, ◌<◌}
 use native.Mathlib.Omega.{arith}
-use borrow.Author.Rules.{rules}
 use Rattle.exact_plan.proofs.EnoughRoom.{housed_in_more}
 use Rattle.exact_plan.proofs.rooms.+in_room.Goals as goal
 

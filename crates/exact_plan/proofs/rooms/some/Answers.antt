@@ -3,7 +3,6 @@ use Prim.Native.Nat.{ℕ}
 use mathlib.Core.Path.{sym, subst}
 use lib.ListN.{length-replicate}
 use Rattle.exact_plan.specs.promises.Search.{Housed}
-use borrow.Author.Rules.{rules}
 use Rattle.exact_plan.proofs.rooms.some.Goals as goal
 
 pub first_within-requires : goal.first_within-requires

@@ -1,10 +1,9 @@
 -- `rooms::stored`: the most of what is stored below the choices passed.
-use Prim.Native.Nat.{ℕ, ◌+◌, ◌-◌, ◌<◌, ◌≤◌}
+use Prim.Native.Nat.{◌+◌, ◌-◌, ◌<◌}
 use native.Mathlib.Omega.{arith}
 use mathlib.Core.Path.{◌≡◌}
 use Rattle.prepared_model.specs.promises.Rows.{choices_in}
 use Rattle.prepared_model.proofs.PlacesInRange.{place_range}
-use borrow.Author.Rules.{rules}
 use Rattle.exact_plan.specs.promises.Search.{stored_at}
 use Rattle.exact_plan.proofs.PlansBelow.{all_counted, most_more}
 use Rattle.exact_plan.proofs.rooms.stored.Goals as goal

@@ -1,11 +1,7 @@
-use Prim.Native.Nat.{ℕ, ◌+◌, ◌-◌, ◌<◌, ◌≤◌}
-use native.Mathlib.Omega.{arith}
+use Prim.Native.Nat.{ℕ, ◌-◌, ◌<◌, ◌≤◌}
 use mathlib.Core.Path.{◌≡◌}
 use Rattle.prepared_model.specs.promises.Rows.{choices_in}
-use Rattle.prepared_model.proofs.PlacesInRange.{place_range}
-use borrow.Author.Rules.{rules}
 use Rattle.exact_plan.specs.promises.Search.{stored_at}
-use Rattle.exact_plan.proofs.PlansBelow.{all_counted, most_more}
 use Rattle.exact_plan.proofs.rooms.stored.Given as goal
 
 abbrev pub invariant-loop-i : goal.invariant-loop-i

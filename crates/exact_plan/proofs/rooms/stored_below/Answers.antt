@@ -2,7 +2,6 @@
 use Prim.Native.Nat.{◌+◌, ◌-◌, ◌<◌}
 use native.Mathlib.Omega.{arith}
 use mathlib.Core.Path.{◌≡◌, sym, ap₂, subst, ◌∙◌}
-use borrow.Author.Rules.{rules}
 use Rattle.exact_plan.specs.promises.Search.{stored_at}
 use Rattle.exact_plan.proofs.PlansBelow.{fewer_ways, way_inside, way_counted, last_inside, stored_is, stored_few}
 use Rattle.exact_plan.proofs.rooms.stored_below.Goals as goal

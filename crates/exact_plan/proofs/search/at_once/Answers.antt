@@ -4,7 +4,6 @@ use native.Mathlib.Nat.{le_refl}
 use Prim.Native.Nat.{◌*◌, ◌^◌, ◌+◌}
 use mathlib.Core.Path.{sym, subst, ◌∙◌}
 use lib.ListN.{get_or, replicate, length-replicate}
-use borrow.Author.Rules.{rules}
 use borrow.Author.Tests.{lt-ltb, le-ltb}
 use Rattle.models.specs.Layout.{denominator_of}
 use Rattle.evaluation.specs.promises.Worth.{worth_known}

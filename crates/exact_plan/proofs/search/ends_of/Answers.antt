@@ -1,9 +1,7 @@
 -- `search::ends_of`: the bounds of the numbers passed.
-use Prim.Native.Nat.{◌-◌, ◌≤◌}
 use native.Mathlib.Nat.{le_refl}
 use native.Mathlib.Omega.{arith}
 use mathlib.Core.Path.{◌≡◌, subst}
-use borrow.Author.Rules.{rules}
 use Rattle.exact_plan.proofs.SumsByRows.{Bounded, bounded_more, bounded_between}
 use Rattle.exact_plan.proofs.search.ends_of.Goals as goal
 

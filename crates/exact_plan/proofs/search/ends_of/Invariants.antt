@@ -1,9 +1,5 @@
 use Prim.Native.Nat.{◌-◌, ◌≤◌}
-use native.Mathlib.Nat.{le_refl}
-use native.Mathlib.Omega.{arith}
-use mathlib.Core.Path.{◌≡◌, subst}
-use borrow.Author.Rules.{rules}
-use Rattle.exact_plan.proofs.SumsByRows.{Bounded, bounded_more, bounded_between}
+use Rattle.exact_plan.proofs.SumsByRows.{Bounded}
 use Rattle.exact_plan.proofs.search.ends_of.Given as goal
 
 abbrev pub invariant-loop-i : goal.invariant-loop-i

@@ -1,9 +1,8 @@
 -- `search::find`: none of the numbers passed is x.
-use Prim.Native.Nat.{ℕ, ◌-◌, ◌≤◌, ◌<◌}
+use Prim.Native.Nat.{ℕ, ◌<◌}
 use native.Mathlib.Omega.{arith}
 use mathlib.Core.Path.{◌≡◌, subst}
 use lib.ListN.{get_or}
-use borrow.Author.Rules.{rules}
 use Rattle.exact_plan.proofs.FirstPlace.{absent_more, first_found, first_nowhere}
 use Rattle.exact_plan.proofs.search.find.Goals as goal
 

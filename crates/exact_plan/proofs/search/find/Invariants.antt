@@ -1,9 +1,6 @@
 use Prim.Native.Nat.{ℕ, ◌-◌, ◌≤◌, ◌<◌}
-use native.Mathlib.Omega.{arith}
-use mathlib.Core.Path.{◌≡◌, subst}
+use mathlib.Core.Path.{◌≡◌}
 use lib.ListN.{get_or}
-use borrow.Author.Rules.{rules}
-use Rattle.exact_plan.proofs.FirstPlace.{absent_more, first_found, first_nowhere}
 use Rattle.exact_plan.proofs.search.find.Given as goal
 
 abbrev pub invariant-loop-i : goal.invariant-loop-i

@@ -1,12 +1,11 @@
 -- `search::first_sum`: none of the rows passed has x.
-use Prim.Native.Nat.{ℕ, ◌+◌, ◌-◌, ◌*◌, ◌≤◌, ◌<◌}
+use Prim.Native.Nat.{ℕ, ◌+◌, ◌*◌, ◌≤◌, ◌<◌}
 use native.Mathlib.Omega.{arith}
 use native.Mathlib.Nat.{le_refl, suc-mul, mul-le-mul_right}
 use mathlib.Core.Path.{◌≡◌, sym, ap, ap₂, subst, ◌∙◌}
 use mathlib.Core.List.{List, map}
 use lib.ListN.{length, take, get_or}
 use lib.Seq.{take-length}
-use borrow.Author.Rules.{rules}
 use borrow.Author.Tests.{lt-ltb, le-ltb}
 use Rattle.exact_plan.specs.promises.Totals.{grid, part}
 use Rattle.exact_plan.specs.promises.Listing.{First}

@@ -1,17 +1,7 @@
-use Prim.Native.Nat.{ℕ, ◌+◌, ◌-◌, ◌*◌, ◌≤◌, ◌<◌}
-use native.Mathlib.Omega.{arith}
-use native.Mathlib.Nat.{le_refl, suc-mul, mul-le-mul_right}
-use mathlib.Core.Path.{◌≡◌, sym, ap, ap₂, subst, ◌∙◌}
-use mathlib.Core.List.{List, map}
-use lib.ListN.{length, take, get_or}
-use lib.Seq.{take-length}
-use borrow.Author.Rules.{rules}
-use borrow.Author.Tests.{lt-ltb, le-ltb}
+use Prim.Native.Nat.{◌+◌, ◌-◌, ◌*◌, ◌≤◌}
+use lib.ListN.{take}
 use Rattle.exact_plan.specs.promises.Totals.{grid, part}
 use Rattle.exact_plan.specs.promises.Listing.{First}
-use Rattle.exact_plan.proofs.Parts.{part_length, get_d_part, rest_part, rest_length}
-use Rattle.exact_plan.proofs.Grid.{length_grid}
-use Rattle.exact_plan.proofs.SumsByRows.{rows_none, row_found, row_passed}
 use Rattle.exact_plan.proofs.search.first_sum.Given as goal
 
 abbrev pub invariant-loop-i : goal.invariant-loop-i

@@ -3,7 +3,6 @@ use native.Mathlib.Omega.{arith}
 use mathlib.Core.Path.{◌≡◌, sym}
 use lib.ListN.{length, take}
 use lib.Seq.{length-take-le}
-use borrow.Author.Rules.{rules}
 use Rattle.exact_plan.proofs.SumsByRows.{row_nowhere, row_rest}
 use Rattle.exact_plan.proofs.search.first_with.Goals as goal
 

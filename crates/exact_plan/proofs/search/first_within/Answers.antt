@@ -16,7 +16,6 @@ use Rattle.exact_plan.proofs.PreparedChoices.{some_plan}
 use Rattle.exact_plan.proofs.LastStepLists.{marks_asked}
 use Rattle.exact_plan.proofs.ListsWritten.{state_small, decides, all_alike}
 use Rattle.exact_plan.proofs.FirstPlace.{begins, start_worth, counted}
-use borrow.Author.Rules.{rules}
 use Rattle.exact_plan.proofs.search.first_within.Goals as goal
 
 pub marks-late-requires : goal.marks-late-requires

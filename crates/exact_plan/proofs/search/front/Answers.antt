@@ -1,6 +1,5 @@
 -- `search::front`: no outcome makes the number 0 alone.
 use native.Mathlib.Omega.{arith}
-use borrow.Author.Rules.{rules}
 use Rattle.exact_plan.proofs.ChoicesSearched.{none_room, none_written}
 use Rattle.exact_plan.proofs.search.front.Goals as goal
 

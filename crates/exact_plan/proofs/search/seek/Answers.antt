@@ -5,7 +5,6 @@ use mathlib.Core.Path.{refl, sym, subst, ◌∙◌}
 use lib.ListN.{length}
 use Rattle.logic.specs.Limits.{plan_total}
 use Rattle.prepared_model.specs.promises.Rows.{step_in, model_in}
-use borrow.Author.Rules.{rules}
 use Rattle.exact_plan.specs.promises.Room.{Room}
 use Rattle.prepared_model.proofs.PlacesInRange.{place_range}
 use Rattle.exact_plan.proofs.OutcomesJoined.{Place, placed}

@@ -1,6 +1,5 @@
 -- `spread::join`: the list in its place varies slowest where the other comes on its right, and fastest where it comes on its left.
 use Rattle.exact_plan.proofs.JoinedInPlace.{join_right, join_left, right_joined, left_joined}
-use borrow.Author.Rules.{rules}
 use Rattle.exact_plan.proofs.spread.join.Goals as goal
 
 pub spread-requires : goal.spread-requires

@@ -1,5 +1,4 @@
 -- `spread::shift`: after i turns the buffer has the first i sums at `to`, and all else as at the start.
-use Prim.Native.Nat.{◌-◌, ◌≤◌}
 use native.Mathlib.Omega.{arith}
 use mathlib.Core.Path.{◌≡◌, sym, ap, ◌∙◌}
 use lib.ListN.{length}

@@ -1,10 +1,6 @@
 use Prim.Native.Nat.{◌-◌, ◌≤◌}
-use native.Mathlib.Omega.{arith}
-use mathlib.Core.Path.{◌≡◌, sym, ap, ◌∙◌}
-use lib.ListN.{length}
-use Rattle.blocks.proofs.Splice.{splice_none}
-use Rattle.exact_plan.specs.promises.Totals.{part}
-use Rattle.exact_plan.proofs.JoinedInPlace.{shifted, shift_whole, shift_one_more}
+use mathlib.Core.Path.{◌≡◌}
+use Rattle.exact_plan.proofs.JoinedInPlace.{shifted}
 use Rattle.exact_plan.proofs.spread.shift.Given as goal
 
 abbrev pub invariant-loop-i : goal.invariant-loop-i

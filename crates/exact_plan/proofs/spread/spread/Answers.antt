@@ -1,5 +1,4 @@
 -- `spread::spread`: with i of the slow numbers left, the sums of the others stand where they belong, and all before them as at the start.
-use Prim.Native.Nat.{◌≤◌}
 use native.Mathlib.Omega.{arith}
 use mathlib.Core.Path.{◌≡◌, ap, ◌∙◌}
 use lib.ListN.{length}

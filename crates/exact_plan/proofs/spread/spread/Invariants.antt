@@ -1,8 +1,6 @@
 use Prim.Native.Nat.{◌≤◌}
-use native.Mathlib.Omega.{arith}
-use mathlib.Core.Path.{◌≡◌, ap, ◌∙◌}
-use lib.ListN.{length}
-use Rattle.exact_plan.proofs.JoinedInPlace.{spreading, spread_start, spread_end, spread_whole, spread_one_row_more}
+use mathlib.Core.Path.{◌≡◌}
+use Rattle.exact_plan.proofs.JoinedInPlace.{spreading}
 use Rattle.exact_plan.proofs.spread.spread.Given as goal
 
 abbrev pub invariant-loop-i : goal.invariant-loop-i

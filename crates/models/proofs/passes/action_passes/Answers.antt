@@ -29,6 +29,6 @@ returns-in-6 c = let S = c.args in c.action_spare.ensures ∙ ap (λ g. action_p
 
 pub returns-in_default : goal.returns-in_default
 unfolding action_passes post_passes posts_contradict
-returns-in_default c = let g = c.args.ground in
+returns-in_default c = let g = c.args.ground_no in
     let r = c.in_default.in_default-own.rest in
     c.posts_pass.ensures ∙ sym (rw (ne_eqb g 5 r.0.1, ne_eqb g 6 r.1) refl)

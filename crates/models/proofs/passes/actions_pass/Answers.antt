@@ -20,10 +20,10 @@ action_passes-right-requires c = (c.requires, omega arith)
 pub loop-a-preserved : goal.loop-a-preserved
 loop-a-preserved c = let S = c.args in
     let L = c.loop-a in
-    (omega arith, every_more (action_passes S.ground S.b.now) L.a L.invariant.1 c.action_passes-right.ensures)
+    (omega arith, every_more (action_passes S.ground_no S.b.now) L.a L.invariant.1 c.action_passes-right.ensures)
 
 pub returns : goal.returns
 returns c = let S = c.args in
     let L = c.loop-a in
     let e : L.a ≡ action_count S.b.now = omega arith in
-    L.invariant.1 ∙ ap (λ m. every m (action_passes S.ground S.b.now)) e
+    L.invariant.1 ∙ ap (λ m. every m (action_passes S.ground_no S.b.now)) e

@@ -48,6 +48,6 @@ returns-in-6 c = let S = c.args in c.cell_spare.ensures ∙ ap (λ g. cell_passe
 
 pub returns-in_default : goal.returns-in_default
 unfolding cell_passes
-returns-in_default c = let g = c.args.ground in
+returns-in_default c = let g = c.args.ground_no in
     let r = c.in_default.in_default-own.rest in
     c.cell_consistent.ensures ∙ sym (rw (ne_eqb g 5 r.0.1, ne_eqb g 6 r.1) refl)

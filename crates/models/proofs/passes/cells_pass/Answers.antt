@@ -17,10 +17,10 @@ cell_passes-right-requires c = let S = c in (S.requires.0, S.requires.1, omega (
 pub loop-k-preserved : goal.loop-k-preserved
 loop-k-preserved c = let S = c.args in
     let L = c.loop-k in
-    (omega arith, every_more (λ k. cell_passes S.ground S.b.now (k / 8) (k % 8)) L.k L.invariant.1 c.cell_passes-right.ensures)
+    (omega arith, every_more (λ k. cell_passes S.ground_no S.b.now (k / 8) (k % 8)) L.k L.invariant.1 c.cell_passes-right.ensures)
 
 pub returns : goal.returns
 returns c = let S = c.args in
     let L = c.loop-k in
     let e : L.k ≡ S.cells = omega arith in
-    L.invariant.1 ∙ ap (λ m. every m (λ k. cell_passes S.ground S.b.now (k / 8) (k % 8))) e
+    L.invariant.1 ∙ ap (λ m. every m (λ k. cell_passes S.ground_no S.b.now (k / 8) (k % 8))) e

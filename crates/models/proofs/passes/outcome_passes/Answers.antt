@@ -10,4 +10,4 @@ returns-in-5 c = let S = c.args in c.outcome_in_range.ensures ∙ ap (λ g. outc
 
 pub returns-in_default : goal.returns-in_default
 unfolding outcome_passes
-returns-in_default c = let g = c.args.ground in c.target_true.ensures ∙ sym (rw (ne_eqb g 5 c.in_default.in_default-own.rest.1) refl)
+returns-in_default c = let g = c.args.ground_no in c.target_true.ensures ∙ sym (rw (ne_eqb g 5 c.in_default.in_default-own.rest.1) refl)

@@ -13,10 +13,10 @@ loop-i-init c = (omega arith, refl)
 pub loop-i-preserved : goal.loop-i-preserved
 loop-i-preserved c = let S = c.args in
     let L = c.loop-i in
-    (omega arith, every_more (outcome_passes S.ground S.b.now S.s S.a) L.i L.invariant.1 c.outcome_passes-right.ensures)
+    (omega arith, every_more (outcome_passes S.ground_no S.b.now S.s S.a) L.i L.invariant.1 c.outcome_passes-right.ensures)
 
 pub returns : goal.returns
 returns c = let S = c.args in
     let L = c.loop-i in
     let e : L.i ≡ S.n = omega arith in
-    L.invariant.1 ∙ ap (λ m. every m (outcome_passes S.ground S.b.now S.s S.a)) e
+    L.invariant.1 ∙ ap (λ m. every m (outcome_passes S.ground_no S.b.now S.s S.a)) e

@@ -14,4 +14,4 @@ returns-in-5 c = let S = c.args in
 
 pub returns-in_default : goal.returns-in_default
 unfolding post_passes
-returns-in_default c = let g = c.args.ground in c.post_contradicts.ensures ∙ sym (rw (ne_eqb g 5 c.in_default.in_default-own.rest.1) refl)
+returns-in_default c = let g = c.args.ground_no in c.post_contradicts.ensures ∙ sym (rw (ne_eqb g 5 c.in_default.in_default-own.rest.1) refl)

@@ -14,10 +14,10 @@ loop-i-init c = (omega arith, refl)
 pub loop-i-preserved : goal.loop-i-preserved
 loop-i-preserved c = let S = c.args in
     let L = c.loop-i in
-    (omega arith, every_more (post_passes S.ground S.b.now S.a) L.i L.invariant.1 c.post_passes-right.ensures)
+    (omega arith, every_more (post_passes S.ground_no S.b.now S.a) L.i L.invariant.1 c.post_passes-right.ensures)
 
 pub returns : goal.returns
 returns c = let S = c.args in
     let L = c.loop-i in
     let e : L.i ≡ post_count S.b.now S.a = omega arith in
-    L.invariant.1 ∙ ap (λ m. every m (post_passes S.ground S.b.now S.a)) e
+    L.invariant.1 ∙ ap (λ m. every m (post_passes S.ground_no S.b.now S.a)) e

@@ -33,4 +33,4 @@ returns-in-3 c = let S = c.args in c.headed.ensures ∙ ap (λ g. row_passes g S
 
 pub returns-in_default : goal.returns-in_default
 unfolding row_passes
-returns-in_default c = let g = c.args.ground in c.row_spare.ensures ∙ sym (rw (ne_eqb g 3 c.in_default.in_default-own.rest.1) refl)
+returns-in_default c = let g = c.args.ground_no in c.row_spare.ensures ∙ sym (rw (ne_eqb g 3 c.in_default.in_default-own.rest.1) refl)

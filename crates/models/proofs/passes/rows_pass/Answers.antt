@@ -23,11 +23,11 @@ row_passes-right-requires c = (c.requires, omega arith)
 pub loop-k-preserved : goal.loop-k-preserved
 loop-k-preserved c = let S = c.args in
     let L = c.loop-k in
-    (omega arith, every_more (row_passes S.ground S.b.now) L.k L.invariant.1 c.row_passes-right.ensures)
+    (omega arith, every_more (row_passes S.ground_no S.b.now) L.k L.invariant.1 c.row_passes-right.ensures)
 
 pub returns : goal.returns
 unfolding block_count
 returns c = let S = c.args in
     let L = c.loop-k in
     let e : L.k ≡ block_count S.b.now - 1 = omega arith in
-    L.invariant.1 ∙ ap (λ m. every m (row_passes S.ground S.b.now)) e
+    L.invariant.1 ∙ ap (λ m. every m (row_passes S.ground_no S.b.now)) e
