@@ -1,5 +1,5 @@
 -- An accepted model and question, prepared: the limits, the verdict and the reason of what is prepared are those of the input.
-use Prim.Native.Nat.{ℕ, ◌-◌}
+use Prim.Native.Nat.{ℕ}
 use mathlib.Core.Path.{◌≡◌, sym, ap, ap₂, subst, ◌∙◌}
 use mathlib.Core.List.{List}
 use Rattle.logic.specs.Checked.{Checked, ok, refused, ◌>>=◌, ◌>>◌}

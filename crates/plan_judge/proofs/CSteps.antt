@@ -9,10 +9,10 @@ use mathlib.Core.Option.{Option, none, some}
 use lib.Dec.{leb}
 use lib.IntN.{ℤ}
 use lib.ListN.{length, take, drop, replicate}
-use lib.Seq.{take-append_seam, length-take-le}
+use lib.Seq.{take-append_seam}
 use borrow.Author.Tests.{le-leb, lt-leb}
 use Rattle.logic.specs.Checked.{Checked, ok, refused, ◌>>=◌, ◌>>◌, guard}
-use Rattle.logic.specs.promises.Refusal.{refusal, held}
+use Rattle.logic.specs.promises.Refusal.{refusal}
 use Rattle.logic.specs.Model.{Model}
 use Rattle.logic.specs.Plan.{Plan}
 use Rattle.logic.specs.Formula.{Formula, sat}
@@ -26,7 +26,7 @@ use Rattle.models.specs.Layout.{model_of}
 use Rattle.models.specs.Grounds.{read_model}
 use Rattle.models.proofs.GroundsPassed.{passed_all, read_passed}
 use Rattle.models.proofs.ModelOfBytes.{states_held}
-use Rattle.questions.specs.Layout.{Question, start_of, node_count, node_of, question_of}
+use Rattle.questions.specs.Layout.{Question, start_of, question_of}
 use Rattle.questions.specs.Grounds.{read_question}
 use Rattle.questions.specs.promises.Formed.{sets_bound}
 use Rattle.questions.proofs.AcceptedFacts.{accepted}

@@ -8,7 +8,7 @@ use Rattle.logic.specs.Model.{no_action, true_of, mask, prop_in, enabled_actions
 use lib.IntN.{pos, negsuc}
 use Rattle.logic.specs.Quantity.{sum, less, equal, greater, related}
 use Rattle.logic.specs.Plan.{plans, choices, paths, weight}
-use Rattle.logic.specs.Bound.{total, meets, below, at, above, compared, lamp, one_if, gain_between}
+use Rattle.logic.specs.Bound.{total, meets, above, compared, lamp, one_if, gain_between}
 use Rattle.logic.specs.Formula.{Formula, never, prop, neg, next, plan, earns, sat}
 use Rattle.logic.specs.Verdict.{leads, is_equal, bound_of, goal, shown, leader, verdict}
 use Rattle.logic.specs.Reason.{foremost, standing, reason_for, reason}

@@ -1,19 +1,16 @@
 -- `pick` and `walk` meet their contracts, together: the steps left fall from the one to the other. `pick` keeps the best of the choices tried
 -- (`Tried`), `walk` the sum over the outcomes walked (`OutcomesWalked`) and what those left weigh.
 use native.Mathlib.Omega.{arith}
-use mathlib.Core.Path.{◌≡◌, ◌∙◌}
-use mathlib.Core.Logic.{⊎_elim}
-use borrow.Author.Rules.{rules}
+use mathlib.Core.Path.{◌∙◌}
 use lib.ListN.{take, length-set}
-use Rattle.models.specs.Layout.{denominator_of}
-use Rattle.prepared_model.specs.promises.Rows.{choices_in, outcomes_in, Offers}
+use Rattle.prepared_model.specs.promises.Rows.{choices_in, Offers}
 use Rattle.evaluation.specs.promises.Reached.{on_path}
 use Rattle.evaluation.specs.promises.Known.{Stepped}
-use Rattle.best_plan.proofs.OutcomesWalked.{Walking, walking_none}
-use Rattle.best_plan.proofs.HopelessLoses.{weighed, weighed_none}
-use Rattle.best_plan.proofs.PathOneStepOn.{state_here, place_here, few_here, picked_leaf, Kept, back_none, kept_none}
-use Rattle.best_plan.proofs.LoopsKeepBuffers.{hopeless_asked, hopeless_cannot_win, rest_after_outcome, step_asked, pick_room, last_room, pick_setting, last_setting, Below, below_last, sum_with_outcome_fits, one_outcome_more_walked, buffers_kept_below, all_outcomes_walked, ChoicesTried, no_choice_tried, walk_room, walk_setting, all_choices_tried, keep_asked, one_choice_more_tried, same}
-use Prim.Native.Nat.{ℕ, ◌+◌, ◌-◌, ◌≤◌, ◌<◌}
+use Rattle.best_plan.proofs.OutcomesWalked.{walking_none}
+use Rattle.best_plan.proofs.HopelessLoses.{weighed_none}
+use Rattle.best_plan.proofs.PathOneStepOn.{state_here, place_here, few_here, picked_leaf, back_none, kept_none}
+use Rattle.best_plan.proofs.LoopsKeepBuffers.{hopeless_asked, hopeless_cannot_win, rest_after_outcome, step_asked, pick_room, last_room, pick_setting, last_setting, Below, below_last, sum_with_outcome_fits, one_outcome_more_walked, buffers_kept_below, all_outcomes_walked, no_choice_tried, walk_room, walk_setting, all_choices_tried, keep_asked, one_choice_more_tried, same}
+use Prim.Native.Nat.{◌+◌, ◌<◌}
 use Rattle.best_plan.proofs.+pick_walk.Goals as goal
 use Rattle.best_plan.proofs.+pick_walk.Goals.{walk-then-k-eq1, walk-else-k-eq1}
 
@@ -170,10 +167,10 @@ walk-add_mul-sum-requires t c =
     let P = Below S.args.spot.least S.args.m.now S.args.q.now S.args.spot.start S.args.cone.now (S.args.spot.h + 1) T.result S.args.spot.k L.end T.new.trail T.new.gains T.new.v L.choices in
     elim c.if-k-eq1.branch [
       | walk-then-k-eq1 w ↦ same P w.trail-is w.gains-is w.v-is w.choices-is w.b-is
-        (below_last S.args.spot.k S.requires.setting L.invariant.3 L.invariant.2 here stepped
-        {choices'' = w.pick_last-b.new.choices} w.if-k-eq1.true w.pick_last-b.ensures w.pick_last-b.auto.choices)
+          (below_last S.args.spot.k S.requires.setting L.invariant.3 L.invariant.2 here stepped
+          {choices'' = w.pick_last-b.new.choices} w.if-k-eq1.true w.pick_last-b.ensures w.pick_last-b.auto.choices)
       | walk-else-k-eq1 w ↦ same P w.trail-is w.gains-is w.v-is w.choices-is w.b-is
-        (record { picked = w.pick-b.ensures.effect; kept = record { back = w.pick-b.ensures.frame; room = w.pick-b.auto.choices } })
+          (record { picked = w.pick-b.ensures.effect; kept = record { back = w.pick-b.ensures.frame; room = w.pick-b.auto.choices } })
     ] in
     let S = c in
     let L = c.loop-o in
@@ -208,10 +205,10 @@ walk-loop-o-preserved t c =
     let P = Below S.args.spot.least S.args.m.now S.args.q.now S.args.spot.start S.args.cone.now (S.args.spot.h + 1) T.result S.args.spot.k L.end T.new.trail T.new.gains T.new.v L.choices in
     elim c.if-k-eq1.branch [
       | walk-then-k-eq1 w ↦ same P w.trail-is w.gains-is w.v-is w.choices-is w.b-is
-        (below_last S.args.spot.k S.requires.setting L.invariant.3 L.invariant.2 here stepped
-        {choices'' = w.pick_last-b.new.choices} w.if-k-eq1.true w.pick_last-b.ensures w.pick_last-b.auto.choices)
+          (below_last S.args.spot.k S.requires.setting L.invariant.3 L.invariant.2 here stepped
+          {choices'' = w.pick_last-b.new.choices} w.if-k-eq1.true w.pick_last-b.ensures w.pick_last-b.auto.choices)
       | walk-else-k-eq1 w ↦ same P w.trail-is w.gains-is w.v-is w.choices-is w.b-is
-        (record { picked = w.pick-b.ensures.effect; kept = record { back = w.pick-b.ensures.frame; room = w.pick-b.auto.choices } })
+          (record { picked = w.pick-b.ensures.effect; kept = record { back = w.pick-b.ensures.frame; room = w.pick-b.auto.choices } })
     ] in
     let S = c in
     let L = c.loop-o in

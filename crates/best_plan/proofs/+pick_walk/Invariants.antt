@@ -1,17 +1,13 @@
-use native.Mathlib.Omega.{arith}
-use mathlib.Core.Path.{◌≡◌, ◌∙◌}
-use mathlib.Core.Logic.{⊎_elim}
-use borrow.Author.Rules.{rules}
-use lib.ListN.{take, length-set}
+use mathlib.Core.Path.{◌≡◌}
+use lib.ListN.{take}
 use Rattle.models.specs.Layout.{denominator_of}
-use Rattle.prepared_model.specs.promises.Rows.{choices_in, outcomes_in, Offers}
+use Rattle.prepared_model.specs.promises.Rows.{choices_in, outcomes_in}
 use Rattle.evaluation.specs.promises.Reached.{on_path}
-use Rattle.evaluation.specs.promises.Known.{Stepped}
-use Rattle.best_plan.proofs.OutcomesWalked.{Walking, walking_none}
-use Rattle.best_plan.proofs.HopelessLoses.{weighed, weighed_none}
-use Rattle.best_plan.proofs.PathOneStepOn.{state_here, place_here, few_here, picked_leaf, Kept, back_none, kept_none}
-use Rattle.best_plan.proofs.LoopsKeepBuffers.{hopeless_asked, hopeless_cannot_win, rest_after_outcome, step_asked, pick_room, last_room, pick_setting, last_setting, Below, below_last, sum_with_outcome_fits, one_outcome_more_walked, buffers_kept_below, all_outcomes_walked, ChoicesTried, no_choice_tried, walk_room, walk_setting, all_choices_tried, keep_asked, one_choice_more_tried, same}
-use Prim.Native.Nat.{ℕ, ◌+◌, ◌-◌, ◌≤◌, ◌<◌}
+use Rattle.best_plan.proofs.OutcomesWalked.{Walking}
+use Rattle.best_plan.proofs.HopelessLoses.{weighed}
+use Rattle.best_plan.proofs.PathOneStepOn.{Kept}
+use Rattle.best_plan.proofs.LoopsKeepBuffers.{ChoicesTried}
+use Prim.Native.Nat.{◌+◌, ◌-◌, ◌≤◌}
 use Rattle.best_plan.proofs.+pick_walk.Given as goal
 
 abbrev pub decreases-pick : goal.decreases-pick

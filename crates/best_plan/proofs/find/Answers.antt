@@ -4,7 +4,6 @@ use mathlib.Core.Path.{refl}
 use Rattle.evaluation.proofs.LearnKnows.{cone_node}
 use Rattle.logic.proofs.MostChoices.{most_choices_6}
 use Rattle.best_plan.proofs.LoopsKeepBuffers.{late_asked, setting_start, found}
-use borrow.Author.Rules.{rules}
 use Rattle.best_plan.proofs.find.Goals as goal
 
 pub late-marks-requires : goal.late-marks-requires

@@ -6,7 +6,6 @@ use mathlib.Core.Bool.{not, cond}
 use Rattle.models.specs.Layout.{denominator_of}
 use Rattle.best_plan.specs.promises.Greatest.{best_left}
 use Rattle.best_plan.specs.promises.Buffers.{wins}
-use borrow.Author.Rules.{rules}
 use Rattle.best_plan.proofs.hopeless.Goals as goal
 
 pub returns-then-least : goal.returns-then-least

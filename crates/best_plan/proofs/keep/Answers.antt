@@ -1,7 +1,6 @@
 -- `keep`: a candidate that wins is moved down, and one that does not is left.
 use mathlib.Core.Path.{refl, sym, ◌∙◌}
 use mathlib.Core.Bool.{false≢true}
-use borrow.Author.Rules.{rules}
 use Rattle.best_plan.proofs.keep.Goals as goal
 
 pub returns-then-wins : goal.returns-then-wins

@@ -1,12 +1,10 @@
 -- `last_choice`: the best of the choices tried so far (`LastStepBest`).
-use Prim.Native.Nat.{◌-◌, ◌≤◌, ◌<◌}
+use Prim.Native.Nat.{◌<◌}
 use native.Mathlib.Omega.{arith}
-use mathlib.Core.Path.{◌≡◌, sym, ◌∙◌}
-use mathlib.Core.Logic.{⊎_elim}
-use borrow.Author.Rules.{rules}
+use mathlib.Core.Path.{sym, ◌∙◌}
 use Rattle.prepared_model.specs.promises.Rows.{choices_in}
 use Rattle.prepared_model.proofs.ReadByPlace.{some_choice}
-use Rattle.best_plan.proofs.LastStepBest.{Ending, ending_first, ending_won, ending_lost, ending_all}
+use Rattle.best_plan.proofs.LastStepBest.{ending_first, ending_won, ending_lost, ending_all}
 use Rattle.best_plan.proofs.last_choice.Goals as goal
 use Rattle.best_plan.proofs.last_choice.Goals.{then-exceeds, else-exceeds}
 

@@ -1,11 +1,7 @@
-use Prim.Native.Nat.{◌-◌, ◌≤◌, ◌<◌}
-use native.Mathlib.Omega.{arith}
-use mathlib.Core.Path.{◌≡◌, sym, ◌∙◌}
-use mathlib.Core.Logic.{⊎_elim}
-use borrow.Author.Rules.{rules}
+use Prim.Native.Nat.{◌-◌, ◌≤◌}
+use mathlib.Core.Path.{◌≡◌}
 use Rattle.prepared_model.specs.promises.Rows.{choices_in}
-use Rattle.prepared_model.proofs.ReadByPlace.{some_choice}
-use Rattle.best_plan.proofs.LastStepBest.{Ending, ending_first, ending_won, ending_lost, ending_all}
+use Rattle.best_plan.proofs.LastStepBest.{Ending}
 use Rattle.best_plan.proofs.last_choice.Given as goal
 
 abbrev pub invariant-loop-i : goal.invariant-loop-i

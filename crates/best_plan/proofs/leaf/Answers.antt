@@ -1,6 +1,5 @@
 -- `leaf`: the value known of the cone's root.
 use mathlib.Core.Path.{refl, ap, ◌∙◌}
-use borrow.Author.Rules.{rules}
 use Rattle.evaluation.specs.promises.Learnt.{known}
 use Rattle.best_plan.proofs.leaf.Goals as goal
 

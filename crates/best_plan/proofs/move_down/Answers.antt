@@ -1,8 +1,7 @@
 -- `move_down`: the bytes go down in order, so that none is written over before it is moved.
-use Prim.Native.Nat.{◌-◌, ◌≤◌}
 use native.Mathlib.Omega.{arith}
 use mathlib.Core.Path.{◌≡◌}
-use Rattle.best_plan.proofs.ChoiceStack.{Moved, moved_none, moved_more}
+use Rattle.best_plan.proofs.ChoiceStack.{moved_none, moved_more}
 use Rattle.best_plan.proofs.move_down.Goals as goal
 
 pub loop-i-init : goal.loop-i-init

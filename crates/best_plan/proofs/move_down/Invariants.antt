@@ -1,7 +1,5 @@
 use Prim.Native.Nat.{◌-◌, ◌≤◌}
-use native.Mathlib.Omega.{arith}
-use mathlib.Core.Path.{◌≡◌}
-use Rattle.best_plan.proofs.ChoiceStack.{Moved, moved_none, moved_more}
+use Rattle.best_plan.proofs.ChoiceStack.{Moved}
 use Rattle.best_plan.proofs.move_down.Given as goal
 
 abbrev pub invariant-loop-i : goal.invariant-loop-i

@@ -2,7 +2,6 @@
 use native.Mathlib.Omega.{arith}
 use Rattle.logic.specs.promises.MostChoices.{most_choices}
 use Rattle.best_plan.proofs.PathOneStepOn.{state_here}
-use borrow.Author.Rules.{rules}
 use Rattle.best_plan.proofs.pick_last.Goals as goal
 
 pub mask-x-requires : goal.mask-x-requires

@@ -1,7 +1,6 @@
 -- `wins`: by whether there is a best so far.
 use mathlib.Core.Path.{sym, ap, ◌∙◌}
 use mathlib.Core.Bool.{not, ◌||◌}
-use borrow.Author.Rules.{rules}
 use Rattle.logic.specs.promises.Orders.{order}
 use Rattle.best_plan.specs.promises.Buffers.{wins}
 use Rattle.best_plan.proofs.wins.Goals as goal

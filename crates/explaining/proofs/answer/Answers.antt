@@ -7,7 +7,6 @@ use lib.Seq.{length-take-le}
 use Rattle.verdict_line.proofs.PutInTurn.{put_as}
 use Rattle.verdict_line.specs.Reasons.{whynot_says}
 use Rattle.verdict_line.proofs.TextByLength.{too_short, too_long, both_parts}
-use borrow.Author.Rules.{rules}
 use Rattle.explaining.proofs.answer.Goals as goal
 
 pub returns-then-n-lt-BLOCK : goal.returns-then-n-lt-BLOCK

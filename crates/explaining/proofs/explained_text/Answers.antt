@@ -10,7 +10,6 @@ use Rattle.explaining.specs.promises.Said.{explained_said, front_size, back_size
 use Rattle.reasons.specs.declared.Explanation.{Explanation}
 use mir.Syntax.{w64}
 use mir.ValLaws.{to_z-of_z}
-use borrow.Author.Rules.{rules}
 use Rattle.explaining.proofs.explained_text.Goals as goal
 
 few_as : {e : Explanation} {i j : ℕ} (x : Explanation) → Few e i j → e ≡ x → Few x i j

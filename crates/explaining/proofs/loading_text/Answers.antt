@@ -3,7 +3,6 @@ use mathlib.Core.Path.{sym, ◌∙◌}
 use Rattle.verdict_line.specs.Reasons.{whynot_says}
 use Rattle.verdict_line.proofs.PutInTurn.{put_as}
 use Rattle.explaining.proofs.PreparedInput.{load_refused, put_refused, past_both}
-use borrow.Author.Rules.{rules}
 use Rattle.explaining.proofs.loading_text.Goals as goal
 
 pub returns-then-k-ne0 : goal.returns-then-k-ne0

@@ -8,7 +8,6 @@ use lib.Seq.{length-take-le}
 use Rattle.explaining.specs.promises.Said.{side_said, side_size}
 use mir.Syntax.{w64}
 use mir.ValLaws.{to_z-of_z}
-use borrow.Author.Rules.{rules}
 use Rattle.explaining.proofs.put_side.Goals as goal
 
 pub put_nothing-requires : goal.put_nothing-requires

@@ -4,7 +4,6 @@ use Rattle.logic.specs.promises.Refusal.{refusal}
 use Rattle.blocks.specs.Bytes.{byte}
 use Rattle.questions.specs.Grounds.{read_question}
 use Rattle.explaining.proofs.PreparedInput.{question_by_head}
-use borrow.Author.Rules.{rules}
 use Rattle.explaining.proofs.question_ground.Goals as goal
 
 pub returns : goal.returns

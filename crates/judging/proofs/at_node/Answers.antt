@@ -12,7 +12,6 @@ use Rattle.judging.specs.promises.Decided.{Posed}
 use Rattle.judging.proofs.SearchDecides.{other_verdict}
 use Rattle.judging.proofs.SearchHanded.{posed_at, bounded_at}
 use Rattle.judging.proofs.VerdictShown.{announces_truth, announces_no, no_verdict, place_few, led_most}
-use borrow.Author.Rules.{rules}
 use Rattle.judging.proofs.at_node.Goals as goal
 
 pub decide-r-requires : goal.decide-r-requires

@@ -6,7 +6,6 @@ use Rattle.lamp.specs.promises.Codes.{optional_code}
 use Rattle.judging.specs.declared.Verdict.TheVariants.{No}
 use Rattle.judging.proofs.SearchHanded.{asked_equal, asked_other}
 use Rattle.judging.proofs.VerdictShown.{no_lamp_equal, no_lamp_other}
-use borrow.Author.Rules.{rules}
 use Rattle.judging.proofs.deny.Goals as goal
 
 pub overflow_cast-count : goal.overflow_cast-count

@@ -2,7 +2,6 @@ use Prim.Native.Nat.{ℕ, ◌-◌}
 use native.Mathlib.Omega.{arith}
 use mathlib.Core.Path.{ap}
 use Rattle.judging.proofs.VerdictShown.{asked_at, root_judged, root_announces}
-use borrow.Author.Rules.{rules}
 use Rattle.judging.proofs.judged.Goals as goal
 
 pub root_truth-truth-requires : goal.root_truth-truth-requires

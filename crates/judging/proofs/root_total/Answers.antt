@@ -13,7 +13,6 @@ use Rattle.judging.specs.promises.Announced.{root}
 use Rattle.judging.specs.promises.Worths.{Looks}
 use Rattle.judging.proofs.SearchHanded.{bounded_at, handed_ready, handed_looks, handed_from, handed_within}
 use Rattle.judging.proofs.VerdictShown.{root_sums}
-use borrow.Author.Rules.{rules}
 use Rattle.judging.proofs.root_total.Goals as goal
 
 pub worth_of-w-requires : goal.worth_of-w-requires
@@ -38,12 +37,15 @@ plan_weight-requires c =
     let P = S.requires.posed in
     let w = looks in
     let n = steps_at _ c.steps.ensures in
-    let l : List ℕ = take c.worth_of-w.result.count c.worth_of-w.new.nodes in record { ready = subst (λ (s : ℕ). Ready S.args.m.now S.args.q.now s S.args.truth.now l) (sym c.start.ensures) (handed_ready G P w); d_value = (
+    let l : List ℕ = take c.worth_of-w.result.count c.worth_of-w.new.nodes in record {
+      ready = subst (λ (s : ℕ). Ready S.args.m.now S.args.q.now s S.args.truth.now l) (sym c.start.ensures) (handed_ready G P w);
+      d_value = (
         handed_looks G P w,
         handed_from G P w,
         omega (arith, handed_within G P w, n),
         omega (arith, (compares S.args.m.now S.args.q.now (root S.args.q.now) (bounded_at G P)).few_steps, n),
-      ) }
+      );
+    }
 
 pub returns : goal.returns
 returns c =

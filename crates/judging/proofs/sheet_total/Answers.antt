@@ -12,7 +12,6 @@ use Rattle.judging.proofs.SearchHanded.{bounded_at}
 use Rattle.judging.proofs.VerdictShown.{asked_at, root_posed, spelled_most, weighs}
 use mir.Syntax.{w64}
 use mir.ValLaws.{to_z-of_z}
-use borrow.Author.Rules.{rules}
 use Rattle.judging.proofs.sheet_total.Goals as goal
 
 pub root_truth-truth-requires : goal.root_truth-truth-requires

@@ -17,7 +17,6 @@ use Rattle.judging.proofs.VerdictShown.{announces_plan, equal_few, equal_inside,
 use mir.Syntax.{w64}
 use mir.ValLaws.{to_z-of_z}
 use mir.Val.{to_z, of_z}
-use borrow.Author.Rules.{rules}
 use Rattle.judging.proofs.show.Goals as goal
 
 pub lowered-total-requires : goal.lowered-total-requires
@@ -37,13 +36,16 @@ nth-requires c =
     let e = asked_equal S.args.q.now S.args.j c.asks_equal.ensures c.if-asks_equal.true in
     let n = c.steps-n.ensures in
     let few = (equal_few P.0 P.1 S.args.s here P.2 e).0 in
-    let inside = equal_inside P.0 P.1 S.args.s here P.2 e P.3 in record { prepared = (P.0.given.prepared, all_counted P.0 S.args.j S.args.s P.1.node P.1.sets e here); s_bound = (
+    let inside = equal_inside P.0 P.1 S.args.s here P.2 e P.3 in record {
+      prepared = (P.0.given.prepared, all_counted P.0 S.args.j S.args.s P.1.node P.1.sets e here);
+      s_bound = (
         here,
         omega (arith, few_steps, n),
         subst (λ (i : ℕ). plan_total (model_in S.args.m.now) i S.args.s ≤ 65536) (sym n) few,
         subst (λ (i : ℕ). S.args.r.place < plan_total (model_in S.args.m.now) i S.args.s) (sym n) inside,
         S.requires.s_bound.1,
-      ) }
+      );
+    }
 
 pub overflow_cast-place : goal.overflow_cast-place
 overflow_cast-place c =

@@ -1,7 +1,6 @@
 -- What a judge is given: a question for a model, both prepared, with the table made for them.
-use Rattle.std.specs.Prelude.{ℕ, ◌≡◌, true, List}
+use Rattle.std.specs.Prelude.{ℕ, ◌≡◌, List}
 use Rattle.logic.specs.promises.Refusal.{refusal}
-use Rattle.logic.specs.Formula.{depth}
 use Rattle.logic.specs.Limits.{limits}
 use Rattle.blocks.specs.Bytes.{Bytes}
 use Rattle.models.specs.Layout.{state_count, action_count, prop_count}

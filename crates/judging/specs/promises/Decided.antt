@@ -7,7 +7,7 @@ use Rattle.logic.specs.Quantity.{naturals, Relation, equal}
 use Rattle.logic.specs.Bound.{Bound, total, one_if, gain_between}
 use Rattle.logic.specs.promises.Orders.{weights, order}
 use Rattle.logic.specs.Plan.{Plan, plans, choices}
-use Rattle.logic.specs.Formula.{Formula, sat, depth, relation}
+use Rattle.logic.specs.Formula.{Formula, sat, depth}
 use Rattle.logic.specs.promises.Total.{value_of}
 use Rattle.logic.specs.promises.Raised.{raised}
 use Rattle.logic.specs.promises.Recursion.{greatest, best_plan}

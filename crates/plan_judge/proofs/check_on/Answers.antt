@@ -17,7 +17,6 @@ use Rattle.prepared_question.proofs.ChildrenBefore.{ordered}
 use Rattle.plan_judge.specs.promises.State.{plan_on}
 use Rattle.plan_judge.proofs.StateGrounds.{root_node}
 use Rattle.plan_judge.proofs.CheckReturns.{on_sheet, check_limited, root_there, limits_there, sheet_asked, sheet_served, spelled_there, check_sheet, check_differs, check_met}
-use borrow.Author.Rules.{rules}
 use Rattle.plan_judge.proofs.check_on.Goals as goal
 
 -- The code compares the totals bit by bit, which is to compare the totals.

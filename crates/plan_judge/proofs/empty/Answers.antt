@@ -1,6 +1,5 @@
 -- The struct written is the definition's.
 use mathlib.Core.Path.{refl}
-use borrow.Author.Rules.{rules}
 use Rattle.plan_judge.specs.promises.Values.{nothing}
 use Rattle.plan_judge.proofs.empty.Goals as goal
 

@@ -3,7 +3,6 @@ use Prim.Native.Nat.{◌*◌}
 use native.Mathlib.Omega.{arith}
 use mathlib.Core.Path.{ap, ap₂, ◌∙◌}
 use lib.ListN.{take, length-take}
-use borrow.Author.Rules.{rules}
 use Rattle.logic.specs.promises.Refusal.{refusal}
 use Rattle.logic.specs.Choices.{read_plan}
 use Rattle.models.specs.Layout.{state_count, model_of}

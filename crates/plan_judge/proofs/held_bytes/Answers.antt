@@ -4,7 +4,6 @@ use lib.ListN.{length-take}
 use Rattle.logic.specs.promises.Refusal.{refusal}
 use Rattle.models.specs.Grounds.{read_model}
 use Rattle.plan_judge.proofs.LoadPutReturn.{said_cut, held_refused, held_whole}
-use borrow.Author.Rules.{rules}
 use Rattle.plan_judge.proofs.held_bytes.Goals as goal
 
 pub slice_bounds-model_refusal-end : goal.slice_bounds-model_refusal-end

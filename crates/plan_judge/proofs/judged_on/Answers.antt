@@ -11,7 +11,6 @@ use Rattle.judging.specs.promises.Announced.{verdict_code}
 use Rattle.judging.proofs.BothPrepared.{asked_prepared, limits_prepared, served}
 use Rattle.plan_judge.specs.promises.Values.{choices_code}
 use Rattle.plan_judge.proofs.JudgeReturns.{choices_told, ruling_refused, ruling_judged, same_root}
-use borrow.Author.Rules.{rules}
 use Rattle.plan_judge.proofs.judged_on.Goals as goal
 
 pub prepare_model-model-requires : goal.prepare_model-model-requires
@@ -55,10 +54,13 @@ judged-v-requires c =
     let limited : let A = c.args in
     c.limit_refusal-ground.result ≡ refusal (limits (model_of A.m.now) (question_of A.q.now).nodes) = let S = c in
     c.limit_refusal-ground.ensures ∙ limits_prepared S.args.m.now S.args.q.now c.prepare_model-model.ensures shared in
-    let S = c in record { served = (
+    let S = c in record {
+      served = (
         served S.args.m.now S.args.q.now c.prepare_model-model.ensures shared (sym limited ∙ c.if-ground-ne0.false),
         c.plan_totals-counts.ensures,
-      ); in_bounds = omega arith }
+      );
+      in_bounds = omega arith;
+    }
 
 pub returns : goal.returns
 returns c =

@@ -1,6 +1,5 @@
 use mathlib.Core.Path.{sym, ◌∙◌}
 use Rattle.plan_judge.proofs.LoadPutReturn.{padded_copy, load_refused, load_fits, load_done}
-use borrow.Author.Rules.{rules}
 use Rattle.plan_judge.proofs.load.Goals as goal
 
 pub returns-then-k-ne0 : goal.returns-then-k-ne0

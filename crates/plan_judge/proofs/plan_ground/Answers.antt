@@ -1,6 +1,5 @@
 -- A ground of the state stands; past it the question is accepted, and its root's operator decides.
 use mathlib.Core.Path.{sym, ◌∙◌}
-use borrow.Author.Rules.{rules}
 use Rattle.plan_judge.specs.View.{view}
 use Rattle.plan_judge.specs.promises.State.{held_both, held_goal}
 use Rattle.plan_judge.proofs.StateGrounds.{bind_refused, both, no_plan, a_plan}

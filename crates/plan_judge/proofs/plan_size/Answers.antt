@@ -1,6 +1,5 @@
 -- The reader stands behind the plan's choices, or there is no plan.
 use mathlib.Core.Path.{sym, ◌∙◌}
-use borrow.Author.Rules.{rules}
 use Rattle.models.specs.Layout.{model_of}
 use Rattle.plan_judge.proofs.SizeOfPlan.{size_at, size_none}
 use Rattle.plan_judge.proofs.plan_size.Goals as goal

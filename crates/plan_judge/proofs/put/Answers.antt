@@ -1,6 +1,5 @@
 use mathlib.Core.Path.{sym, ◌∙◌}
 use Rattle.plan_judge.proofs.LoadPutReturn.{padded_copy, put_unheld, put_refused, put_fits, put_done}
-use borrow.Author.Rules.{rules}
 use Rattle.plan_judge.proofs.put.Goals as goal
 
 pub returns-then-held_bytes-eq0 : goal.returns-then-held_bytes-eq0

@@ -2,7 +2,6 @@ use mathlib.Core.Path.{ap, ap₂, ◌∙◌}
 use Rattle.logic.specs.promises.Refusal.{refusal}
 use Rattle.blocks.specs.Bytes.{byte}
 use Rattle.questions.specs.Grounds.{read_question}
-use borrow.Author.Rules.{rules}
 use Rattle.plan_judge.proofs.question_ground.Goals as goal
 
 pub returns : goal.returns

@@ -2,7 +2,6 @@
 use Prim.Native.Nat.{◌*◌}
 use native.Mathlib.Omega.{arith}
 use mathlib.Core.Path.{ap}
-use borrow.Author.Rules.{rules}
 use Rattle.plan_judge.proofs.sheet_size.Goals as goal
 
 pub overflow_mul-result : goal.overflow_mul-result

@@ -1,7 +1,6 @@
 -- Where a ground of the state applies, no plan is shown.
 use mathlib.Core.Path.{◌∙◌}
 use Rattle.plan_judge.proofs.WriteReturns.{not_shown}
-use borrow.Author.Rules.{rules}
 use Rattle.plan_judge.proofs.shown_choices.Goals as goal
 
 pub returns-then-plan_ground-ne0 : goal.returns-then-plan_ground-ne0

@@ -1,7 +1,6 @@
 -- Where the desk was judged and its verdict shows a plan, the choices with which the desk's begin.
 use mathlib.Core.Path.{refl, sym, ap, ◌∙◌}
 use mathlib.Core.Bool.{true, false}
-use borrow.Author.Rules.{rules}
 use borrow.Author.Tests.{not-true, not-false}
 use Rattle.plan_judge.specs.View.{verdict_in}
 use Rattle.plan_judge.specs.promises.State.{shown_size}

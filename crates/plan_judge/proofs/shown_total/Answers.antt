@@ -2,7 +2,6 @@
 use mathlib.Core.Path.{sym, ap, ◌∙◌}
 use mir.Syntax.{w64}
 use mir.ValLaws.{to_z-of_z}
-use borrow.Author.Rules.{rules}
 use Rattle.plan_judge.specs.promises.State.{shown_total}
 use Rattle.plan_judge.proofs.shown_total.Goals as goal
 

@@ -1,6 +1,5 @@
 -- Each return by what the desk holds: no model, no question asked, none that is accepted, or both.
 use mathlib.Core.Path.{sym, ap, ◌∙◌}
-use borrow.Author.Rules.{rules}
 use borrow.Author.Tests.{not-true, not-false}
 use Rattle.logic.specs.promises.Refusal.{refusal}
 use Rattle.plan_judge.proofs.StateGrounds.{no_model, not_asked, not_accepted, both_here, both_held}

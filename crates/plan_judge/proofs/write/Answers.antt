@@ -91,13 +91,16 @@ write_sheet-requires c =
     let n = P.root_steps-n in
     let s = P.start-s in
     let e = cut in
-    let found = found_shown d S.args.buf.now asked E.shown_size-count.result E.shown_size-count.ensures E.if-count-eq0.false in record { m_value = (
+    let found = found_shown d S.args.buf.now asked E.shown_size-count.result E.shown_size-count.ensures E.if-count-eq0.false in record {
+      m_value = (
         ap (λ z. refusal (read_model z)) e ∙ r.passed,
         omega (arith, (accepted _ _ _ q r.asked).formed.starts, s.ensures, ap state_count e),
         choices_read (said_bytes d) q r d.choices l found
             ∙ ap₂ (λ n s. end_of (length l) (read_plan (model_of (said_bytes d)) n s l)) (sym n.ensures) (sym s.ensures)
             ∙ ap (λ z. end_of (length l) (read_plan (model_of z) n.result s.result l)) (sym e),
-      ); choices_len_bound = (omega (arith, small, whole), omega (arith, ap (λ k. 512 * blocks_for k) whole, P.sheet_size.ensures, P.if-buf-sheet_size.false)) }
+      );
+      choices_len_bound = (omega (arith, small, whole), omega (arith, ap (λ k. 512 * blocks_for k) whole, P.sheet_size.ensures, P.if-buf-sheet_size.false));
+    }
 
 pub returns : goal.returns
 returns c =

@@ -3,7 +3,6 @@
 use native.Mathlib.Omega.{arith}
 use mathlib.Core.Path.{◌≡◌, sym, ◌∙◌}
 use lib.ListN.{length, take, length-take}
-use borrow.Author.Rules.{rules}
 use Rattle.blocks.specs.Bytes.{Bytes}
 use Rattle.plan_judge.specs.declared.Desk.{Desk}
 use Rattle.plan_judge.proofs.WriteModelReturns.{write_model_none, cut_size, write_model_short, write_model_done}

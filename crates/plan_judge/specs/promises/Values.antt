@@ -10,12 +10,12 @@ use Rattle.questions.specs.Layout.{Question}
 use Rattle.protocol.specs.Calls.{Report}
 use Rattle.protocol.specs.promises.Chains.{do_put, do_judge, do_write, do_write_model, do_check}
 use Rattle.lamp.specs.declared.OptionalLamp.TheVariants.{Missing}
-use Rattle.lamp.specs.promises.Codes.{lamp_code, optional_code}
+use Rattle.lamp.specs.promises.Codes.{lamp_code}
 use Rattle.plan_judge.specs.declared.Desk.{Desk}
 use Rattle.plan_judge.specs.declared.Taken.TheVariants.{Done, Refused}
 use Rattle.plan_judge.specs.declared.Taking.{Taking}
 use Rattle.judging.specs.declared.Verdict.{Verdict}
-use Rattle.judging.specs.declared.Verdict.TheVariants.{No, Yes, YesPlan}
+use Rattle.judging.specs.declared.Verdict.TheVariants.{No}
 use Rattle.plan_judge.specs.declared.Judgement.{Judgement}
 use Rattle.plan_judge.specs.declared.Judgement.TheVariants.{Judged}
 use Rattle.plan_judge.specs.declared.Judging.{Judging}

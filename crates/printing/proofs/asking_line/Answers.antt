@@ -5,7 +5,6 @@ use Rattle.verdict_line.specs.promises.Chain.{line_of}
 use Rattle.printing.specs.promises.Printed.{Asked}
 use Rattle.printing.proofs.LineAfterCall.{put_refused, put_done, asking_is}
 use Rattle.verdict_line.proofs.PutInTurn.{put_as}
-use borrow.Author.Rules.{rules}
 use Rattle.printing.proofs.asking_line.Goals as goal
 
 pub judging_line-requires : goal.judging_line-requires

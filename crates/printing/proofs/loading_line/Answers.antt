@@ -5,7 +5,6 @@ use Rattle.verdict_line.specs.promises.Chain.{line_of}
 use Rattle.printing.specs.promises.Printed.{Loaded}
 use Rattle.printing.proofs.LineAfterCall.{load_refused, load_done, loading_is}
 use Rattle.verdict_line.proofs.PutInTurn.{put_as}
-use borrow.Author.Rules.{rules}
 use Rattle.printing.proofs.loading_line.Goals as goal
 
 pub asking_line-requires : goal.asking_line-requires

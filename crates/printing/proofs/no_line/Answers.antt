@@ -1,7 +1,5 @@
 -- By the root.
 use mathlib.Core.Path.{sym, ◌∙◌}
-use Rattle.verdict_line.specs.Line.{no_plans_line, plain_line}
-use borrow.Author.Rules.{rules}
 use Rattle.printing.proofs.no_line.Goals as goal
 
 pub returns-then-root_sets_bound : goal.returns-then-root_sets_bound

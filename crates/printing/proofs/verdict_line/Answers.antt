@@ -1,11 +1,9 @@
 -- The line of each case of the verdict.
 use mathlib.Core.Path.{sym, subst}
 use Prim.Native.Nat.{◌≤◌}
-use Rattle.verdict_line.specs.Line.{yes_plan_line}
 use Rattle.printing.specs.promises.Printed.{shown_line, shown_steps}
 use mir.Syntax.{w64}
 use mir.ValLaws.{to_z-of_z}
-use borrow.Author.Rules.{rules}
 use Rattle.printing.proofs.verdict_line.Goals as goal
 
 pub whole-requires : goal.whole-requires

@@ -1,7 +1,6 @@
 -- The power of the denominator in byte 5.
 use Prim.Native.Nat.{◌^◌}
 use mathlib.Core.Path.{ap, ◌∙◌}
-use borrow.Author.Rules.{rules}
 use Rattle.printing.proofs.whole.Goals as goal
 
 pub returns : goal.returns

@@ -7,7 +7,6 @@ use Rattle.judging.specs.promises.Decided.{Posed}
 use Rattle.judging.proofs.SearchHanded.{posed_at, asked_equal, asked_other}
 use Rattle.reasons.proofs.PlainRoots.{tells_plain}
 use borrow.Author.Tests.{eq-eqb, ne_eqb}
-use borrow.Author.Rules.{rules}
 use Rattle.reasons.proofs.at_node.Goals as goal
 
 pub by_list-requires : goal.by_list-requires

@@ -11,7 +11,6 @@ use Rattle.judging.proofs.SearchHanded.{bounded_at}
 use Rattle.judging.proofs.VerdictShown.{led_most}
 use Rattle.reasons.specs.promises.Told.{led_code}
 use Rattle.reasons.proofs.LedReason.{led_told}
-use borrow.Author.Rules.{rules}
 use Rattle.reasons.proofs.by_leader.Goals as goal
 
 pub decide-r-requires : goal.decide-r-requires

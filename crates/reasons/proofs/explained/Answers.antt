@@ -7,7 +7,6 @@ use Rattle.questions.specs.Layout.{start_of}
 use Rattle.prepared_question.specs.promises.Nodes.{formula}
 use Rattle.judging.proofs.VerdictShown.{asked_at, root_judged}
 use Rattle.reasons.specs.promises.Told.{TellsOf}
-use borrow.Author.Rules.{rules}
 use Rattle.reasons.proofs.explained.Goals as goal
 
 pub root_truth-truth-requires : goal.root_truth-truth-requires

@@ -7,7 +7,6 @@ use mir.Val.{to_z, of_z}
 use Rattle.bounds.proofs.ProductsFit.{most_small}
 use Rattle.bounds.specs.promises.Bounded.{lowered}
 use Rattle.reasons.specs.promises.Told.{led_code}
-use borrow.Author.Rules.{rules}
 use Rattle.reasons.proofs.of_leader.Goals as goal
 
 pub lowered-total-requires : goal.lowered-total-requires

@@ -1,5 +1,4 @@
 -- The texts of the code are those of the definition.
-use borrow.Author.Rules.{rules}
 use Rattle.verdict_line.specs.Text.{text}
 use Rattle.verdict_line.specs.Line.{plain_line}
 use Rattle.verdict_line.proofs.plain_line.Goals as goal

@@ -1,12 +1,11 @@
 -- The loop has written the choices before i; each takes a space and at most 3 digits, since it is a byte. The measure is what is left of them.
-use Prim.Native.Nat.{◌+◌, ◌*◌, ◌-◌, ◌≤◌, ◌<◌}
+use Prim.Native.Nat.{◌<◌}
 use native.Mathlib.Omega.{arith}
 use mathlib.Core.Path.{◌≡◌, refl, ◌∙◌}
 use mathlib.Core.List.{[], ◌∷◌, flat_map}
 use lib.ListN.{length, get_or}
-use borrow.Author.Rules.{rules}
 use Rattle.verdict_line.specs.Text.{text}
-use Rattle.verdict_line.proofs.PutInTurn.{put_none, number_room, ChoicesPut, choices_more, choices_all}
+use Rattle.verdict_line.proofs.PutInTurn.{put_none, number_room, choices_more, choices_all}
 use Rattle.verdict_line.proofs.put_choices.Goals as goal
 
 pub loop-i-init : goal.loop-i-init

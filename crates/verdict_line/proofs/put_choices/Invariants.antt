@@ -1,11 +1,7 @@
-use Prim.Native.Nat.{◌+◌, ◌*◌, ◌-◌, ◌≤◌, ◌<◌}
-use native.Mathlib.Omega.{arith}
-use mathlib.Core.Path.{◌≡◌, refl, ◌∙◌}
-use mathlib.Core.List.{[], ◌∷◌, flat_map}
-use lib.ListN.{length, get_or}
-use borrow.Author.Rules.{rules}
-use Rattle.verdict_line.specs.Text.{text}
-use Rattle.verdict_line.proofs.PutInTurn.{put_none, number_room, ChoicesPut, choices_more, choices_all}
+use Prim.Native.Nat.{◌+◌, ◌*◌, ◌-◌, ◌≤◌}
+use mathlib.Core.Path.{◌≡◌}
+use lib.ListN.{length}
+use Rattle.verdict_line.proofs.PutInTurn.{ChoicesPut}
 use Rattle.verdict_line.proofs.put_choices.Given as goal
 
 abbrev pub invariant-loop-i : goal.invariant-loop-i

@@ -1,7 +1,6 @@
 -- The text, and behind it the digits that `io::decimal` gives, of which there are at most 20.
 use Prim.Native.Nat.{◌^◌, ◌<◌}
 use native.Mathlib.Omega.{arith}
-use borrow.Author.Rules.{rules}
 use Rattle.verdict_line.proofs.Decimal.{few_places, few_digits}
 use Rattle.verdict_line.proofs.PutInTurn.{put_put, decimal_put, number_room}
 use Rattle.verdict_line.proofs.put_decimal.Goals as goal

@@ -1,6 +1,5 @@
 -- The word of each lamp.
 use native.Mathlib.Omega.{arith}
-use borrow.Author.Rules.{rules}
 use Rattle.lamp.specs.Said.{said_lamp}
 use Rattle.verdict_line.specs.Text.{text}
 use Rattle.verdict_line.specs.Line.{lamp_word}

@@ -1,6 +1,5 @@
 -- The lamp's word, or nothing.
 use native.Mathlib.Omega.{arith}
-use borrow.Author.Rules.{rules}
 use Rattle.lamp.specs.Said.{said_optional}
 use Rattle.verdict_line.specs.Line.{optional_word}
 use Rattle.verdict_line.proofs.PutInTurn.{put_none}

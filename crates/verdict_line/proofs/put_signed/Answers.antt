@@ -11,7 +11,6 @@ use lib.Signed.{mag, lt_z, non_neg}
 use mir.Syntax.{w64}
 use mir.Val.{to_z, of_z, Fits}
 use mir.ValLaws.{to_z-of_z}
-use borrow.Author.Rules.{rules}
 use Rattle.verdict_line.specs.Text.{text, decimal, signed_decimal, Put}
 use Rattle.verdict_line.proofs.PutInTurn.{put_put}
 use Rattle.verdict_line.proofs.put_signed.Goals as goal

@@ -1,5 +1,4 @@
 -- The text is copied to the front of the part that begins at the place.
-use borrow.Author.Rules.{rules}
 use Rattle.verdict_line.proofs.PutInTurn.{put_part}
 use Rattle.verdict_line.proofs.put_text.Goals as goal
 

@@ -1,6 +1,5 @@
 -- The text, the number and the line's end, one behind the other.
 use native.Mathlib.Omega.{arith}
-use borrow.Author.Rules.{rules}
 use Rattle.verdict_line.specs.Text.{text}
 use Rattle.verdict_line.specs.Line.{refused_line}
 use Rattle.verdict_line.proofs.PutInTurn.{put_put}

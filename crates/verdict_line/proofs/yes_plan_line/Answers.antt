@@ -4,7 +4,6 @@ use mathlib.Core.Path.{subst}
 use mathlib.Core.List.{◌++◌}
 use mir.Syntax.{w64}
 use mir.ValLaws.{to_z-of_z}
-use borrow.Author.Rules.{rules}
 use Rattle.verdict_line.specs.Text.{text, signed_decimal, Put}
 use Rattle.verdict_line.specs.Line.{yes_plan_line}
 use Rattle.verdict_line.proofs.PutInTurn.{put_put}

@@ -2,7 +2,6 @@
 use native.Mathlib.Omega.{arith}
 use mathlib.Core.Path.{refl}
 use Rattle.judging.proofs.BestTotals.{best_fits, place_in, recalled, remembers_more}
-use borrow.Author.Rules.{rules}
 use Rattle.judging.proofs.conditions.best_value.Goals as goal
 
 pub offset_bounds-memo-k : goal.offset_bounds-memo-k

@@ -1,7 +1,6 @@
 -- The invariant: the node reached means the same as c, and r is what is left of it.
 use borrow.Author.Tests.{not-true, ltb-true}
-use Rattle.judging.specs.promises.Conditions.{Peels}
-use Rattle.judging.proofs.PeeledMeaning.{Alike, alike_itself, alike_on, peels_on}
+use Rattle.judging.proofs.PeeledMeaning.{alike_itself, alike_on, peels_on}
 use Rattle.judging.proofs.conditions.peel.Goals as goal
 
 pub peel_one-r-requires : goal.peel_one-r-requires

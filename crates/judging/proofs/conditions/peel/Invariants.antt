@@ -1,6 +1,5 @@
-use borrow.Author.Tests.{not-true, ltb-true}
 use Rattle.judging.specs.promises.Conditions.{Peels}
-use Rattle.judging.proofs.PeeledMeaning.{Alike, alike_itself, alike_on, peels_on}
+use Rattle.judging.proofs.PeeledMeaning.{Alike}
 use Rattle.judging.proofs.conditions.peel.Given as goal
 
 abbrev pub invariant-loop-r : goal.invariant-loop-r

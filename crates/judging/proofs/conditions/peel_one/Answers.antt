@@ -1,7 +1,6 @@
 -- A state formula that c joins is read in the table.
 use mathlib.Core.Path.{sym, ◌∙◌}
 use Rattle.judging.proofs.PeeledMeaning.{peels_none, peels_left, peels_right}
-use borrow.Author.Rules.{rules}
 use Rattle.judging.proofs.conditions.peel_one.Goals as goal
 
 pub returns-then-operator-ne-AND : goal.returns-then-operator-ne-AND

@@ -6,7 +6,6 @@ use lib.Seq.{length-take-le}
 use Rattle.logic.specs.Formula.{depth}
 use Rattle.prepared_question.specs.promises.Nodes.{formula}
 use Rattle.judging.proofs.BestTotals.{looks, ready, finds}
-use borrow.Author.Rules.{rules}
 use Rattle.judging.proofs.conditions.searched.Goals as goal
 
 pub slice_bounds-find-end : goal.slice_bounds-find-end

@@ -11,7 +11,6 @@ use Rattle.questions.specs.Layout.{node_of}
 use Rattle.bounds.proofs.ProductsFit.{compares}
 use Rattle.judging.proofs.SearchDecides.{few_plans, all_counted, counted_plans}
 use Rattle.judging.proofs.SearchHanded.{bounded_at, handed_listing, handed_within, placed_never, placed_at}
-use borrow.Author.Rules.{rules}
 use Rattle.judging.proofs.plans.first.Goals as goal
 
 pub plans_counted-all-requires : goal.plans_counted-all-requires
@@ -53,11 +52,14 @@ first_equal-place-requires c =
     let P = S.requires.asked.1 in
     let w = c.worth_of-w.ensures in
     let n = c.steps-n.ensures in
-    let few = few_plans A S.args.j S.args.s P.node P.sets S.requires.j_value P.state in record { given = handed_listing A.given P w (all_counted A S.args.j S.args.s P.node P.sets S.requires.j_value P.state); d_le_n = (
+    let few = few_plans A S.args.j S.args.s P.node P.sets S.requires.j_value P.state in record {
+      given = handed_listing A.given P w (all_counted A S.args.j S.args.s P.node P.sets S.requires.j_value P.state);
+      d_le_n = (
         omega (arith, handed_within A.given P w, n),
         omega (arith, few_steps, n),
         subst (λ (i : ℕ). plan_total (model_in S.args.m.now) i S.args.s ≤ 65536) (sym n) few,
-      ) }
+      );
+    }
 
 pub returns : goal.returns
 returns c =

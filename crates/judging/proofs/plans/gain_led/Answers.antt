@@ -7,7 +7,6 @@ use Rattle.bounds.specs.promises.Bounded.{most_of}
 use Rattle.bounds.proofs.ProductsFit.{few, compares}
 use Rattle.best_gain.specs.promises.Tabled.{Tabled}
 use Rattle.judging.proofs.TableHanded.{window_of, table_small, table_led}
-use borrow.Author.Rules.{rules}
 use Rattle.judging.proofs.plans.gain_led.Goals as goal
 
 pub window-w-requires : goal.window-w-requires
@@ -32,8 +31,11 @@ meets-requires c =
     let tabled : (let S = c in
     Tabled c.asks_less.result S.args.m.now (window_of S.args.q.now S.args.j) c.best_gains-best.result c.best_gains-best.new.places) = let S = c in
     subst (λ w. Tabled c.asks_less.result S.args.m.now w c.best_gains-best.result c.best_gains-best.new.places) c.window-w.ensures.0 c.best_gains-best.ensures in
-    let S = c in record { bounded = S.requires.bounded.0; x_bound = subst (λ (n : ℕ). get_or c.best_gains-best.result (32 * n + S.args.s) 0 ≤ most_of S.args.m.now S.args.q.now S.args.j) (sym c.steps.ensures)
-      (table_small S.requires.bounded.0 S.requires.bounded.1 c.asks_less.result tabled S.args.s S.requires.bounded.2) }
+    let S = c in record {
+      bounded = S.requires.bounded.0;
+      x_bound = subst (λ (n : ℕ). get_or c.best_gains-best.result (32 * n + S.args.s) 0 ≤ most_of S.args.m.now S.args.q.now S.args.j) (sym c.steps.ensures)
+          (table_small S.requires.bounded.0 S.requires.bounded.1 c.asks_less.result tabled S.args.s S.requires.bounded.2);
+    }
 
 pub returns : goal.returns
 returns c =

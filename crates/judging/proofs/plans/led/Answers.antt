@@ -1,7 +1,6 @@
 -- What the search finds is the best plan of the condition's depth; over all steps its total is the best, and the plan goes on with first choices.
 use Rattle.judging.proofs.SearchHanded.{bounded_at, before, condition_depth, condition_stands, condition_few_steps, found_small, found_led, lengthened_most}
 use native.Mathlib.Omega.{arith}
-use borrow.Author.Rules.{rules}
 use Rattle.judging.proofs.plans.led.Goals as goal
 
 pub searched-r-requires : goal.searched-r-requires

@@ -4,7 +4,6 @@ use native.Mathlib.Nat.{lt_of_le_of_lt}
 use Rattle.bounds.proofs.ProductsFit.{small}
 use Rattle.judging.proofs.NodeBounds.{planned}
 use Rattle.judging.proofs.SearchHanded.{before, condition_depth, power_fits, lengthened}
-use borrow.Author.Rules.{rules}
 use Rattle.judging.proofs.plans.over_all_steps.Goals as goal
 
 pub depth-d-requires : goal.depth-d-requires

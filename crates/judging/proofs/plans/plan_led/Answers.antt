@@ -1,7 +1,6 @@
 -- What is left of the condition has its best total; where nothing is left that total is 0.
 use native.Mathlib.Omega.{arith}
 use Rattle.judging.proofs.SearchHanded.{bounded_at, lengthened_most, false_condition_truth, peeled_stands, peeled_few_steps, peeled_total_small, peeled_condition_truth}
-use borrow.Author.Rules.{rules}
 use Rattle.judging.proofs.plans.plan_led.Goals as goal
 
 pub meets-requires : goal.meets-requires
@@ -29,5 +28,8 @@ meets-requires-2 c = let P = c.requires.given in record { bounded = bounded_at P
 pub returns : goal.returns
 returns c = let S = c in
     let P = S.requires.given in
-    let b = c.best_value-x.ensures in record { value = peeled_condition_truth P.0 P.1 P.2 S.requires.fact.0 c.left.ensures c.peel-rest.ensures c.if-rest.false c.asks_less-least.ensures b.value
-          c.over_all_steps.ensures c.meets-2.ensures; frame = b.frame }
+    let b = c.best_value-x.ensures in record {
+      value = peeled_condition_truth P.0 P.1 P.2 S.requires.fact.0 c.left.ensures c.peel-rest.ensures c.if-rest.false c.asks_less-least.ensures b.value
+          c.over_all_steps.ensures c.meets-2.ensures;
+      frame = b.frame;
+    }

@@ -1,6 +1,5 @@
 -- A node is true where its search says so.
 use Rattle.judging.proofs.SearchHanded.{asked_equal, asked_other, placed_truth}
-use borrow.Author.Rules.{rules}
 use Rattle.judging.proofs.plans.plan_true.Goals as goal
 
 pub first-r-requires : goal.first-r-requires

@@ -1,11 +1,10 @@
 -- The invariant: the table is right at the needed places passed.
-use Prim.Native.Nat.{ℕ, ◌+◌, ◌*◌, ◌-◌, ◌/◌, ◌≤◌}
+use Prim.Native.Nat.{ℕ, ◌+◌, ◌*◌, ◌/◌}
 use native.Mathlib.Omega.{arith}
 use mathlib.Core.Path.{◌≡◌, sym, subst, ◌∙◌}
-use lib.ListN.{length, length-set}
+use lib.ListN.{length-set}
 use Rattle.judging.specs.promises.Truth.{Right}
 use Rattle.judging.specs.promises.Rows.{ByState}
-use Rattle.judging.specs.promises.Conditions.{Remembers}
 use Rattle.judging.proofs.TruthByOperator.{right_more}
 use Rattle.judging.proofs.truth.by_state.Goals as goal
 

@@ -1,11 +1,8 @@
-use Prim.Native.Nat.{ℕ, ◌+◌, ◌*◌, ◌-◌, ◌/◌, ◌≤◌}
-use native.Mathlib.Omega.{arith}
-use mathlib.Core.Path.{◌≡◌, sym, subst, ◌∙◌}
-use lib.ListN.{length, length-set}
+use Prim.Native.Nat.{◌+◌, ◌*◌, ◌-◌, ◌≤◌}
+use mathlib.Core.Path.{◌≡◌}
+use lib.ListN.{length}
 use Rattle.judging.specs.promises.Truth.{Right}
-use Rattle.judging.specs.promises.Rows.{ByState}
 use Rattle.judging.specs.promises.Conditions.{Remembers}
-use Rattle.judging.proofs.TruthByOperator.{right_more}
 use Rattle.judging.proofs.truth.by_state.Given as goal
 
 abbrev pub invariant-loop-k : goal.invariant-loop-k

@@ -1,5 +1,5 @@
 -- The invariant: the node's row is right in the states passed; the table of best gains decides each.
-use Prim.Native.Nat.{ℕ, ◌+◌, ◌*◌, ◌-◌, ◌≤◌, ◌<◌}
+use Prim.Native.Nat.{ℕ, ◌+◌, ◌*◌, ◌≤◌, ◌<◌}
 use native.Mathlib.Omega.{arith}
 use mathlib.Core.Path.{◌≡◌, refl, sym, ap, subst, ◌∙◌}
 use lib.ListN.{get_or, length}
@@ -58,8 +58,11 @@ meets-requires c =
     Tabled c.asks_less.result S.args.m.now (window_of S.args.q.now S.args.j) c.best_gains-best.result c.best_gains-best.new.places) = let S = c in
     subst (λ w. Tabled c.asks_less.result S.args.m.now w c.best_gains-best.result c.best_gains-best.new.places) c.window.ensures.0 c.best_gains-best.ensures in
     let inside : c.loop-s.s < state_count c.args.m.now = omega (arith, c.loop-s.invariant.0, c.loop-s-test.true) in
-    let S = c in record { bounded = bounded; x_bound = subst (λ (n : ℕ). get_or c.best_gains-best.result (32 * n + c.loop-s.s) 0 ≤ most_of S.args.m.now S.args.q.now S.args.j) (sym c.steps.ensures)
-      (table_small bounded S.requires.2.0 c.asks_less.result tabled c.loop-s.s inside) }
+    let S = c in record {
+      bounded = bounded;
+      x_bound = subst (λ (n : ℕ). get_or c.best_gains-best.result (32 * n + c.loop-s.s) 0 ≤ most_of S.args.m.now S.args.q.now S.args.j) (sym c.steps.ensures)
+          (table_small bounded S.requires.2.0 c.asks_less.result tabled c.loop-s.s inside);
+    }
 
 pub bit-requires : goal.bit-requires
 bit-requires c = tt

@@ -1,9 +1,8 @@
 -- One table for all states, or each state by itself.
 use mathlib.Core.Path.{sym, ◌∙◌}
-use borrow.Author.Tests.{not-true, not-false}
+use borrow.Author.Tests.{not-true}
 use Rattle.judging.proofs.SearchHanded.{asked_equal, asked_other}
 use Rattle.judging.proofs.TruthByOperator.{row_whole}
-use borrow.Author.Rules.{rules}
 use Rattle.judging.proofs.truth.node_truth.Goals as goal
 use Rattle.judging.proofs.truth.node_truth.Goals.{then-operator-eq-EARNS+else-not-asks_equal, else-operator-eq-EARNS}
 

@@ -9,7 +9,6 @@ use Rattle.logic.specs.Model.{prop_in}
 use Rattle.logic.specs.Bound.{one_if}
 use Rattle.prepared_model.specs.promises.Rows.{model_in}
 use Rattle.judging.proofs.TruthByOperator.{truth_prop, truth_not, truth_and, truth_none}
-use borrow.Author.Rules.{rules}
 use Rattle.judging.proofs.truth.plain_truth.Goals as goal
 
 pub holds-requires : goal.holds-requires

@@ -6,7 +6,6 @@ use Rattle.questions.specs.Layout.{node_of}
 use Rattle.questions.specs.promises.Formed.{sets_bound}
 use Rattle.questions.proofs.SetsBound.{sets_which}
 use Rattle.judging.proofs.SearchHanded.{posed_at}
-use borrow.Author.Rules.{rules}
 use Rattle.judging.proofs.truth.truth_at.Goals as goal
 
 pub plan_true-requires : goal.plan_true-requires

@@ -1,6 +1,5 @@
 -- All that a needed pair turns on is needed and stands before it.
 use native.Mathlib.Omega.{arith}
-use borrow.Author.Rules.{rules}
 use Rattle.judging.proofs.TruthByOperator.{supplied}
 use Rattle.judging.proofs.truth.truth_if.Goals as goal
 

@@ -1,10 +1,9 @@
 -- The invariant: the rows of the nodes passed are right where they are needed.
-use Prim.Native.Nat.{◌*◌, ◌-◌, ◌≤◌}
+use Prim.Native.Nat.{◌*◌, ◌-◌}
 use native.Mathlib.Omega.{arith}
 use mathlib.Core.Path.{◌≡◌, sym, subst}
 use Rattle.questions.specs.Layout.{node_count}
 use Rattle.judging.specs.promises.Truth.{Right}
-use Rattle.judging.specs.promises.Rows.{Rows}
 use Rattle.judging.proofs.TruthByOperator.{rows_none}
 use Rattle.judging.proofs.truth.truth_table.Goals as goal
 

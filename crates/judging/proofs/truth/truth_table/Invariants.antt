@@ -1,10 +1,7 @@
-use Prim.Native.Nat.{◌*◌, ◌-◌, ◌≤◌}
-use native.Mathlib.Omega.{arith}
-use mathlib.Core.Path.{◌≡◌, sym, subst}
+use Prim.Native.Nat.{◌-◌, ◌≤◌}
+use mathlib.Core.Path.{◌≡◌}
 use Rattle.questions.specs.Layout.{node_count}
-use Rattle.judging.specs.promises.Truth.{Right}
 use Rattle.judging.specs.promises.Rows.{Rows}
-use Rattle.judging.proofs.TruthByOperator.{rows_none}
 use Rattle.judging.proofs.truth.truth_table.Given as goal
 
 abbrev pub invariant-loop-j : goal.invariant-loop-j

@@ -2,7 +2,6 @@
 use native.Mathlib.Omega.{arith}
 use mathlib.Core.Path.{sym, ◌∙◌}
 use lib.ListN.{length}
-use borrow.Author.Rules.{rules}
 use Rattle.plan_judge.proofs.CSteps.{told_same, refusal_told, model_few, chain_model, question_few, chain_question, chain_passed}
 use Rattle.plan_judge.proofs.c_call.plan_judge.Goals as goal
 

@@ -1,6 +1,6 @@
 -- The sheet has room in the buffer, and is written there; or it has not.
 -- The count is that of the plan with which the choices begin, and not more than there are.
-use Prim.Native.Nat.{ℕ, ◌*◌, ◌-◌, ◌≤◌}
+use Prim.Native.Nat.{ℕ, ◌*◌, ◌≤◌}
 use native.Mathlib.Omega.{arith}
 use mathlib.Core.Path.{◌≡◌, sym, ap, ap₂, subst, ◌∙◌}
 use mathlib.Core.List.{◌++◌}
@@ -11,7 +11,7 @@ use mir.ValLaws.{to_z-of_z}
 use Rattle.logic.specs.Checked.{ok}
 use Rattle.logic.specs.Choices.{read_plan}
 use Rattle.models.specs.Layout.{model_of}
-use Rattle.questions.specs.Layout.{start_of, node_count, node_of, question_of}
+use Rattle.questions.specs.Layout.{question_of}
 use Rattle.questions.proofs.AcceptedFacts.{accepted}
 use Rattle.sheets.specs.promises.Ends.{end_of}
 use Rattle.sheets.specs.Layout.{blocks_for, sheet_bytes}
@@ -20,7 +20,6 @@ use Rattle.plan_judge.specs.promises.State.{plan_size, size_in}
 use Rattle.plan_judge.specs.promises.CChain.{told_sheet, Tells}
 use Rattle.plan_judge.proofs.WriteReturns.{size_choices, choices_read}
 use Rattle.plan_judge.proofs.CSteps.{plan_first, short_told, sheet_told_whole}
-use borrow.Author.Rules.{rules}
 use Rattle.plan_judge.proofs.c_call.told_plan.Goals as goal
 
 pub plan_size-count-requires : goal.plan_size-count-requires
@@ -91,11 +90,14 @@ write_sheet-requires c =
     let cs = S.args.choices.now in
     let found = (plan_first m q r cs S.requires.1).1 ∙ ap (λ (k : ℕ). ok (take k cs)) (sym counted) in
     let n = P.root_steps-n in
-    let s = P.start-s in record { m_value = (
+    let s = P.start-s in record {
+      m_value = (
         r.passed,
         omega (arith, (accepted _ _ _ q r.asked).formed.starts, s.ensures),
         choices_read m q r cs l found ∙ ap₂ (λ n s. end_of (length l) (read_plan (model_of m) n s l)) (sym n.ensures) (sym s.ensures),
-      ); choices_len_bound = (omega (arith, few, whole, S.requires.2), omega (arith, c.sheet_size.ensures, c.if-sheet-sheet_size.false, ap (λ k. 512 * blocks_for k) whole)) }
+      );
+      choices_len_bound = (omega (arith, few, whole, S.requires.2), omega (arith, c.sheet_size.ensures, c.if-sheet-sheet_size.false, ap (λ k. 512 * blocks_for k) whole));
+    }
 
 pub returns : goal.returns
 returns c =

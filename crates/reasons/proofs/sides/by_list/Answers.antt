@@ -15,7 +15,6 @@ use Rattle.judging.proofs.SearchHanded.{bounded_at}
 use Rattle.reasons.specs.promises.Told.{reason_code, front, back, at_bound, shown_code, Placed}
 use Rattle.reasons.proofs.LedReason.{tells_shown, tells_reason}
 use Rattle.reasons.proofs.NearestPlans.{both_placed, met_placed, met_verdict, missed_verdict, missed_reason}
-use borrow.Author.Rules.{rules}
 use Rattle.reasons.proofs.sides.by_list.Goals as goal
 
 pub plans_counted-all-requires : goal.plans_counted-all-requires

@@ -12,7 +12,6 @@ use Rattle.bounds.proofs.ProductsFit.{compares}
 use Rattle.judging.specs.promises.Decided.{raised_at}
 use Rattle.judging.proofs.SearchDecides.{few_plans, all_counted}
 use Rattle.judging.proofs.SearchHanded.{bounded_at, handed_listing, handed_within, handed_worth}
-use borrow.Author.Rules.{rules}
 use Rattle.reasons.proofs.sides.neighbours.Goals as goal
 
 pub worth_of-w-requires : goal.worth_of-w-requires
@@ -32,11 +31,14 @@ nearest-requires c =
     let P = S.requires.1 in
     let w = c.worth_of-w.ensures in
     let n = c.steps.ensures in
-    let few = few_plans A S.args.j S.args.s P.node P.sets S.requires.2 P.state in record { given = handed_listing A.given P w (all_counted A S.args.j S.args.s P.node P.sets S.requires.2 P.state); d_le_n = (
+    let few = few_plans A S.args.j S.args.s P.node P.sets S.requires.2 P.state in record {
+      given = handed_listing A.given P w (all_counted A S.args.j S.args.s P.node P.sets S.requires.2 P.state);
+      d_le_n = (
         omega (arith, handed_within A.given P w, n),
         omega (arith, few_steps, n),
         subst (λ (i : ℕ). plan_total (model_in S.args.m.now) i S.args.s ≤ 65536) (sym n) few,
-      ) }
+      );
+    }
 
 pub returns : goal.returns
 returns c = let S = c in

@@ -18,7 +18,6 @@ use borrow.Author.Tests.{eq-eqb, ne_eqb}
 use mir.Syntax.{w64}
 use mir.ValLaws.{to_z-of_z}
 use mir.Val.{to_z, of_z}
-use borrow.Author.Rules.{rules}
 use Rattle.reasons.proofs.sides.reached.Goals as goal
 
 pub returns-then-near-all : goal.returns-then-near-all
@@ -29,13 +28,16 @@ returns-then-near-all c = let S = c in
 pub nth-size-requires : goal.nth-size-requires
 nth-size-requires c = let S = c in
     let P = S.requires in
-    let n = c.steps.ensures in record { prepared = (P.0.given.prepared, all_counted P.0 S.args.j S.args.s P.1.node P.1.sets P.2 P.3); s_bound = (
+    let n = c.steps.ensures in record {
+      prepared = (P.0.given.prepared, all_counted P.0 S.args.j S.args.s P.1.node P.1.sets P.2 P.3);
+      s_bound = (
         P.3,
         omega (arith, (compares S.args.m.now S.args.q.now S.args.j P.1).few_steps, n),
         subst (λ (i : ℕ). plan_total (model_in S.args.m.now) i S.args.s ≤ 65536) (sym n) (few_plans P.0 S.args.j S.args.s P.1.node P.1.sets P.2 P.3),
         subst (λ (i : ℕ). S.args.near.place < plan_total (model_in S.args.m.now) i S.args.s) (sym n) (P.4.inside c.if-near-all.false),
         P.5,
-      ) }
+      );
+    }
 
 pub lowered-requires : goal.lowered-requires
 lowered-requires c = let S = c in

@@ -18,7 +18,6 @@ use Rattle.reasons.specs.promises.Told.{shown_code}
 use mir.Syntax.{w64}
 use mir.ValLaws.{to_z-of_z}
 use mir.Val.{to_z, of_z}
-use borrow.Author.Rules.{rules}
 use Rattle.reasons.proofs.sides.shown.Goals as goal
 
 pub nth-size-requires : goal.nth-size-requires
@@ -26,13 +25,16 @@ nth-size-requires c =
     let few : plan_total (model_in c.args.m.now) (node_of c.args.q.now c.args.j).n c.args.s ≤ 65536 = let P = c.requires in few_plans P.0 c.args.j c.args.s P.1.node P.1.sets P.2 P.3 in
     let S = c in
     let P = S.requires in
-    let n = c.steps.ensures in record { prepared = (P.0.given.prepared, all_counted P.0 S.args.j S.args.s P.1.node P.1.sets P.2 P.3); s_bound = (
+    let n = c.steps.ensures in record {
+      prepared = (P.0.given.prepared, all_counted P.0 S.args.j S.args.s P.1.node P.1.sets P.2 P.3);
+      s_bound = (
         P.3,
         omega (arith, (compares S.args.m.now S.args.q.now S.args.j P.1).few_steps, n),
         subst (λ (i : ℕ). plan_total (model_in S.args.m.now) i S.args.s ≤ 65536) (sym n) few,
         subst (λ (i : ℕ). S.args.near.place < plan_total (model_in S.args.m.now) i S.args.s) (sym n) P.4,
         P.6,
-      ) }
+      );
+    }
 
 pub lamp_of-lamp-requires : goal.lamp_of-lamp-requires
 lamp_of-lamp-requires c = let P = c.requires in record { bounded = P.1; x_bound = P.5 }

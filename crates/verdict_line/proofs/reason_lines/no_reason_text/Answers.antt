@@ -1,5 +1,4 @@
 -- One text.
-use borrow.Author.Rules.{rules}
 use Rattle.verdict_line.specs.Text.{text}
 use Rattle.verdict_line.specs.Reasons.{reason_text}
 use Rattle.verdict_line.proofs.reason_lines.no_reason_text.Goals as goal

@@ -1,6 +1,5 @@
 -- The word, and that there is none.
 use native.Mathlib.Omega.{arith}
-use borrow.Author.Rules.{rules}
 use Rattle.verdict_line.specs.Text.{text}
 use Rattle.verdict_line.specs.Reasons.{reached_line}
 use Rattle.verdict_line.proofs.PutInTurn.{put_put}
