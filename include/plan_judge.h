@@ -1,6 +1,6 @@
-/* The plan judge for C: one call, proved in Rattle (crates/plan_judge).
+/* The plan judge for C: one call, proved in Rattle (crates/plan_judge; crates/plan_judge_c makes the archive).
  *
- * Build:   rt staticlib plan_judge        writes target/staticlib/libplan_judge.a
+ * Build:   bash tests/archive             writes target/staticlib/libplan_judge.a
  * Link:    cc caller.c -Iinclude target/staticlib/libplan_judge.a
  */
 #ifndef PLAN_JUDGE_H
@@ -54,7 +54,7 @@ extern "C" {
  *
  * The three slices may have any length and any contents; a pointer may be null where its length is 0. `sheet` must not overlap the
  * others. Nothing is allocated, nothing is kept between calls, and calls on different buffers may run at the same time. The call uses
- * under 1 MiB of stack; measured (tests/stack): 70 KB for "less" and "greater", 80 KB for "equal" where plans are few, 600 KB at most.
+ * under 1 MiB of stack; measured (tests/stack): 92 KB for "less" and "greater", 104 KB for "equal" where plans are few, 620 KB at most.
  *
  * Gives PLAN_JUDGE_NO, PLAN_JUDGE_YES, or PLAN_JUDGE_REFUSED plus a number from the list above. */
 uint32_t plan_judge(const uint8_t *model, size_t model_len, const uint8_t *question, size_t question_len, uint8_t *sheet, size_t sheet_len);
