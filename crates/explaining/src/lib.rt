@@ -18,20 +18,20 @@ use limits::{limit_refusal, plan_totals};
 use plan_choices::CHOICES;
 use prepared_model::prepare_model;
 use prepared_question::prepare_question;
-use reasons::{Explanation, Side, explained};
+use reasons::{Explanation, Reached, explained};
 use verdict_line::reason_lines::{TEXT, no_reason_text, put_nothing, put_reached};
 use verdict_line::{MOST_INPUT, plain_line, refused_line, yes_plan_line};
 
 // Writes the line of what is reached on a side, with the first of these choices.
-fn put_side(out: &mut [u8], at: usize, word: &[u8], side: Side, choices: &[u8]) -> usize
+fn put_side(out: &mut [u8], at: usize, word: &[u8], side: Option<Reached>, choices: &[u8]) -> usize
     requires { (at + (length word.now + 5540) ≤ length out.old) × (side_size side ≤ 1365) × (side_size side ≤ length choices.now) }
     ensures effect { let out' = out.exit.now in let out = out.entry.now in let word = word.entry.now in let choices = choices.entry.now in
         Put (reached_line word (side_said side choices)) out out' at result }
     ensures range { result ≤ at + (length word.now + 5540) }
 {
     match side {
-        Side::Nothing => put_nothing(out, at, word),
-        Side::Something(x) => { put_reached(out, at, word, x.total, x.whole, &choices[..x.size]) }
+        None => put_nothing(out, at, word),
+        Some(x) => { put_reached(out, at, word, x.total, x.whole, &choices[..x.size]) }
     }
 }
 

@@ -32,7 +32,7 @@ use crate::worths::worth_of;
 use best_plan::STACK;
 use bounds::{lamp_of, lowered, meets};
 use evaluation::TRUTHS;
-use lamp::{Lamp, OptionalLamp};
+use lamp::Lamp;
 use limits::COUNTS;
 use plan_choices::extending::extend;
 use plan_choices::ranking::nth;
@@ -49,7 +49,7 @@ const BESTS: usize = 2560;
 #[derive(Clone, Copy)]
 pub struct Denial {
     pub count: u32,
-    pub lamp: OptionalLamp,
+    pub lamp: Option<Lamp>,
 }
 
 // The record of a shown plan: its total (W, or the expected gain times D to the n), how that compares with the bound, its steps, and its place in
@@ -79,7 +79,7 @@ fn plain(yes: bool) -> Verdict
     }
     Verdict::No(Denial {
         count: 0,
-        lamp: OptionalLamp::Missing,
+        lamp: None,
     })
 }
 
@@ -106,13 +106,13 @@ fn deny(m: &[u16; MODEL], q: &[u8; QUESTION], j: u8, r: Decision) -> Verdict
     if asks_equal(q, j) {
         return Verdict::No(Denial {
             count: count,
-            lamp: OptionalLamp::Missing,
+            lamp: None,
         });
     }
     let best = lamp_of(m, q, j, r.raised);
     Verdict::No(Denial {
         count: count,
-        lamp: OptionalLamp::Present(best),
+        lamp: Some(best),
     })
 }
 

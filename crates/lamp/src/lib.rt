@@ -6,29 +6,22 @@ ghost use Rattle.logic.specs.Quantity.{naturals};
 ghost use Rattle.logic.specs.Bound as bounds;
 ghost use Rattle.lamp.specs.promises.Codes.{lamp_code};
 
-#[derive(Clone, Copy)]
+use std::cmp::Ordering;
+
+#[derive(Clone, Copy, Debug, PartialEq, Eq)]
 pub enum Lamp {
     Below,
     At,
     Above,
 }
 
-// A lamp, or none.
-#[derive(Clone, Copy)]
-pub enum OptionalLamp {
-    Missing,
-    Present(Lamp),
-}
-
 // How a number compares with another.
 pub fn compared(a: u64, b: u64) -> Lamp
     ensures { result ≡ lamp_code (bounds.compared naturals a b) }
 {
-    if a < b {
-        return Lamp::Below;
+    match a.cmp(&b) {
+        Ordering::Less => Lamp::Below,
+        Ordering::Equal => Lamp::At,
+        Ordering::Greater => Lamp::Above,
     }
-    if a == b {
-        return Lamp::At;
-    }
-    Lamp::Above
 }

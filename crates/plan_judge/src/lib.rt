@@ -28,7 +28,7 @@ pub mod c_call;
 
 use blocks::BLOCK;
 pub use judging::{Denial, PlanRecord, Verdict};
-pub use lamp::{Lamp, OptionalLamp};
+pub use lamp::Lamp;
 use limits::{COUNTS, limit_refusal, plan_totals};
 use plan_choices::CHOICES;
 use prepared_model::{MODEL, prepare_model};
@@ -105,7 +105,7 @@ fn unjudged() -> Verdict
 {
     Verdict::No(Denial {
         count: 0,
-        lamp: OptionalLamp::Missing,
+        lamp: None,
     })
 }
 

@@ -11,12 +11,12 @@ ghost use Rattle.verdict_line.specs.promises.Chain.{line_of, answer_text};
 ghost use Rattle.printing.specs.promises.Printed.{plan_root, judging_line, asking_line, loading_line, shown_line, Shown, Loaded, Asked};
 
 use blocks::BLOCK;
-use lamp::OptionalLamp;
+use lamp::Lamp;
 use plan_judge::{Desk, Judgement, Taken, Verdict};
 use verdict_line::{LINE, MOST_INPUT};
 
 // The line of a no.
-fn no_line(out: &mut [u8], q: &[u8], count: u32, lamp: OptionalLamp) -> usize
+fn no_line(out: &mut [u8], q: &[u8], count: u32, lamp: Option<Lamp>) -> usize
     requires { (8192 ≤ length out.old) × (1 ≤ node_count q.now) }
     ensures { let out' = out.exit.now in let q = q.entry.now in let out = out.entry.now in
         Put (cond (plan_root q) (no_plans_line count (said_optional lamp)) (plain_line false)) out out' 0 result }

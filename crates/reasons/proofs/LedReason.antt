@@ -30,7 +30,7 @@ use Rattle.judging.proofs.SearchDecides.{shows, denies, same_relation, decides}
 use Rattle.judging.proofs.VerdictShown.{led_verdict, no_verdict}
 use Rattle.reasons.specs.declared.Explanation.{Explanation}
 use Rattle.reasons.specs.declared.Explanation.TheVariants.{Shown, Greatest, Least}
-use Rattle.reasons.specs.declared.Side.TheVariants.{Something}
+use Rattle.std.specs.Prelude.{Some}
 use Rattle.reasons.specs.promises.Told.{side_code, side_choices, reason_code, front, back, explained_code, front_by, back_by, Tells, TellsOf, led_code}
 
 -- The reason of a node by its bound.
@@ -113,14 +113,14 @@ module _ {m q : Bytes} {counts : List ℕ} (asked : Asked m q counts) {j : ℕ} 
       weighs = (x.led e).weighs
 
       denied : (least_first : Bool) → eqb (node_of q j).right 1 ≡ least_first → r.met ≡ false
-          → a ≡ cond least_first (Least (Something (record { total = lowered m q j r.raised; whole = denominator_of m ^ (node_of q j).n; size = length cs }))) (Greatest (Something (record { total = lowered m q j r.raised; whole = denominator_of m ^ (node_of q j).n; size = length cs })))
+          → a ≡ cond least_first (Least (Some (record { total = lowered m q j r.raised; whole = denominator_of m ^ (node_of q j).n; size = length cs }))) (Greatest (Some (record { total = lowered m q j r.raised; whole = denominator_of m ^ (node_of q j).n; size = length cs })))
           → TellsOf (model_in m) s (formula q j) a u u' z z
       denied true f t i =
           tells_reason (no_verdict asked b s h x t) (led_reason b s h e ∙ ap (λ k. best_reason k (some (found b s h e))) f)
-          (i ∙ ap (λ w. Least (Something (record { total = lowered m q j w; whole = denominator_of m ^ (node_of q j).n; size = length cs }))) weighs) g (sym (splice_none z 0))
+          (i ∙ ap (λ w. Least (Some (record { total = lowered m q j w; whole = denominator_of m ^ (node_of q j).n; size = length cs }))) weighs) g (sym (splice_none z 0))
       denied false f t i =
           tells_reason (no_verdict asked b s h x t) (led_reason b s h e ∙ ap (λ k. best_reason k (some (found b s h e))) f)
-          (i ∙ ap (λ w. Greatest (Something (record { total = lowered m q j w; whole = denominator_of m ^ (node_of q j).n; size = length cs }))) weighs) g (sym (splice_none z 0))
+          (i ∙ ap (λ w. Greatest (Some (record { total = lowered m q j w; whole = denominator_of m ^ (node_of q j).n; size = length cs }))) weighs) g (sym (splice_none z 0))
 
       by : (t : Bool) → r.met ≡ t → a ≡ led_code m q j t r.raised (length cs) → TellsOf (model_in m) s (formula q j) a u u' z z
       by true t i =

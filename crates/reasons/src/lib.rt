@@ -51,18 +51,11 @@ pub struct Reached {
     pub size: usize,
 }
 
-// What is reached on a side, if anything is.
-#[derive(Clone, Copy)]
-pub enum Side {
-    Nothing,
-    Something(Reached),
-}
-
-// What is reached on either side of the bound; the choices stand in the first lent buffer and in the second.
+// What is reached on either side of the bound, where something is; the choices stand in the first lent buffer and in the second.
 #[derive(Clone, Copy)]
 pub struct Between {
-    pub below: Side,
-    pub above: Side,
+    pub below: Option<Reached>,
+    pub above: Option<Reached>,
 }
 
 // A yes, with a shown plan or without, or the reason of a no.
@@ -71,8 +64,8 @@ pub enum Explanation {
     Yes,
     Shown(ShownPlan),
     NoReason,
-    Greatest(Side),
-    Least(Side),
+    Greatest(Option<Reached>),
+    Least(Option<Reached>),
     Nearest(Between),
 }
 
@@ -82,22 +75,18 @@ fn of_leader(m: &[u16; MODEL], q: &[u8; QUESTION], j: u8, r: Decision, size: usi
     ensures { result ≡ led_code m.now q.now j r.met r.raised size }
 {
     let total = lowered(m, q, j, r.raised);
-    let all = whole(m, q, j);
+    let whole = whole(m, q, j);
     if r.met {
         let lamp = lamp_of(m, q, j, r.raised);
         return Explanation::Shown(ShownPlan {
-            total: total,
-            whole: all,
-            lamp: lamp,
+            total,
+            whole,
+            lamp,
             count: 0,
-            size: size,
+            size,
         });
     }
-    let side = Side::Something(Reached {
-        total: total,
-        whole: all,
-        size: size,
-    });
+    let side = Some(Reached { total, whole, size });
     if asks_less(q, j) {
         return Explanation::Least(side);
     }

@@ -13,7 +13,7 @@ ghost use Rattle.judging.specs.promises.Decided.{plan_at, Posed};
 ghost use Rattle.logic.specs.Limits.{plan_total};
 ghost use Rattle.reasons.specs.promises.Told.{raised_totals, near_reached, side_code, side_choices, Placed, at_bound, shown_code, TellsOf};
 
-use crate::{Between, Explanation, Reached, ShownPlan, Side};
+use crate::{Between, Explanation, Reached, ShownPlan};
 use bounds::{Exact, exact_total, lamp_of, lowered, whole};
 use evaluation::TRUTHS;
 use exact_plan::Sought;
@@ -72,7 +72,7 @@ fn reached(
     s: u8,
     near: Near,
     all: usize,
-) -> Side
+) -> Option<Reached>
     requires { Asked m.now q.now counts.now × Bounded m.now q.now j × ((node_of q.now j).right ≡ 2) × (s < state_count m.now)
         × Placed m.now q.now j s all near × (1365 ≤ length choices.old) }
     ensures value { result ≡ side_code (near_reached m.now q.now j s all near) }
@@ -80,13 +80,13 @@ fn reached(
         choices' ≡ splice choices 0 (side_choices (near_reached m q j s all near)) }
 {
     if near.place == all {
-        return Side::Nothing;
+        return None;
     }
     let size = nth(m, counts, choices, s, steps(q, j), near.place as u64);
-    Side::Something(Reached {
+    Some(Reached {
         total: lowered(m, q, j, near.total),
         whole: whole(m, q, j),
-        size: size,
+        size,
     })
 }
 
@@ -112,9 +112,9 @@ fn shown(
     Explanation::Shown(ShownPlan {
         total: lowered(m, q, j, near.total),
         whole: whole(m, q, j),
-        lamp: lamp,
+        lamp,
         count: 1 + near.place as u32,
-        size: size,
+        size,
     })
 }
 
@@ -142,10 +142,7 @@ pub fn by_list(
     if at_bound(x, above, all) {
         return shown(m, q, counts, choices, j, s, above);
     }
-    let lower = reached(m, q, counts, choices, j, s, r.below, all);
-    let upper = reached(m, q, counts, further, j, s, above, all);
-    Explanation::Nearest(Between {
-        below: lower,
-        above: upper,
-    })
+    let below = reached(m, q, counts, choices, j, s, r.below, all);
+    let above = reached(m, q, counts, further, j, s, above, all);
+    Explanation::Nearest(Between { below, above })
 }

@@ -9,7 +9,7 @@ ghost use Rattle.verdict_line.specs.Line.{lamp_word, optional_word, refused_line
 
 pub mod reason_lines;
 
-use lamp::{Lamp, OptionalLamp};
+use lamp::Lamp;
 
 // The most bytes of a program's input: a model of 12 blocks, and a question.
 pub const MOST_INPUT: usize = 6656;
@@ -80,14 +80,14 @@ pub fn put_lamp(out: &mut [u8], at: usize, lamp: Lamp) -> usize
 }
 
 // The same, or nothing where there is no lamp.
-pub fn put_optional(out: &mut [u8], at: usize, lamp: OptionalLamp) -> usize
+pub fn put_optional(out: &mut [u8], at: usize, lamp: Option<Lamp>) -> usize
     requires { at + 6 ≤ length out.old }
     ensures effect { Put (optional_word (said_optional lamp)) out.old out.new at result }
     ensures range { result ≤ at + 6 }
 {
     match lamp {
-        OptionalLamp::Missing => at,
-        OptionalLamp::Present(l) => put_lamp(out, at, l),
+        None => at,
+        Some(l) => put_lamp(out, at, l),
     }
 }
 
@@ -112,7 +112,7 @@ pub fn plain_line(out: &mut [u8], yes: bool) -> usize
 }
 
 // The line of a no to a root that sets a bound on plans.
-pub fn no_plans_line(out: &mut [u8], count: u32, lamp: OptionalLamp) -> usize
+pub fn no_plans_line(out: &mut [u8], count: u32, lamp: Option<Lamp>) -> usize
     requires { 8192 ≤ length out.old }
     ensures { Put (no_plans_line count (said_optional lamp)) out.old out.new 0 result }
 {

@@ -1,23 +1,22 @@
 -- What is printed of what the code says of a question, with the choices in the two buffers beside it.
-use Rattle.std.specs.Prelude.{ℕ, ◌≤◌, true, List, ◌++◌, take}
+use Rattle.std.specs.Prelude.{ℕ, ◌≤◌, true, List, ◌++◌, take, Option as Optional, None, Some}
 use Rattle.std.proofs.Math.Option.{Option, none, some}
 use Rattle.logic.specs.Reason.{Reached, no_reason}
 use Rattle.lamp.specs.Said.{said_lamp}
 use Rattle.verdict_line.specs.Text.{text}
 use Rattle.verdict_line.specs.Line.{plain_line, yes_plan_line}
 use Rattle.verdict_line.specs.Reasons.{reached_line, reason_text}
-use Rattle.reasons.specs.declared.Side.{Side}
-use Rattle.reasons.specs.declared.Side.TheVariants.{Nothing, Something}
+use Rattle.reasons.specs.declared.Reached as code
 use Rattle.reasons.specs.declared.Explanation.{Explanation}
 use Rattle.reasons.specs.declared.Explanation.TheVariants.{Yes, Shown, NoReason, Greatest, Least, Nearest}
 
-unfoldable pub side_said : Side → List ℕ → Option Reached
-side_said Nothing cs = none
-side_said (Something x) cs = some (record { total = x.total; whole = x.whole; choices = take x.size cs })
+unfoldable pub side_said : Optional code.Reached → List ℕ → Option Reached
+side_said None cs = none
+side_said (Some x) cs = some (record { total = x.total; whole = x.whole; choices = take x.size cs })
 
-unfoldable pub side_size : Side → ℕ
-side_size Nothing = 0
-side_size (Something x) = x.size
+unfoldable pub side_size : Optional code.Reached → ℕ
+side_size None = 0
+side_size (Some x) = x.size
 
 unfoldable pub explained_said : Explanation → (choices further : List ℕ) → List ℕ
 explained_said Yes cs ds = plain_line true

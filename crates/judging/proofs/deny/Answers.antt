@@ -1,7 +1,7 @@
 -- A no to a node that sets a bound: for "equal" no lamp, else that of the best total.
 use native.Mathlib.Omega.{arith}
 use mathlib.Core.Path.{sym, ap, ◌∙◌}
-use Rattle.lamp.specs.declared.OptionalLamp.TheVariants.{Present}
+use Rattle.std.specs.Prelude.{Some}
 use Rattle.lamp.specs.promises.Codes.{optional_code}
 use Rattle.judging.specs.declared.Verdict.TheVariants.{No}
 use Rattle.judging.proofs.SearchHanded.{asked_equal, asked_other}
@@ -24,5 +24,5 @@ pub returns : goal.returns
 unfolding optional_code
 returns c = let S = c in
     let e = asked_other S.args.q.now S.args.j c.asks_equal.ensures c.if-asks_equal.false in
-    ap (λ l. No (record { count = S.args.r.place; lamp = Present l })) c.lamp_of-best.ensures
+    ap (λ l. No (record { count = S.args.r.place; lamp = Some l })) c.lamp_of-best.ensures
     ∙ ap (λ o. No (record { count = S.args.r.place; lamp = optional_code o })) (sym (no_lamp_other S.args.m.now S.args.q.now S.args.j S.args.r.raised e))

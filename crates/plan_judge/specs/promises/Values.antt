@@ -1,5 +1,5 @@
 -- What each call returns, for every desk value and every input, by the grounds and definitions of the calls.
-use Rattle.std.specs.Prelude.{ℕ, ◌-◌, ◌/◌, true, false, ◌++◌, length, drop, replicate}
+use Rattle.std.specs.Prelude.{ℕ, ◌-◌, ◌/◌, true, false, ◌++◌, length, drop, replicate, None}
 use Rattle.logic.specs.Checked.{Checked, ok, refused, ◌>>◌}
 use Rattle.logic.specs.Model.{Model}
 use Rattle.logic.specs.Limits.{limits}
@@ -9,7 +9,6 @@ use Rattle.models.specs.Grounds.{read_model}
 use Rattle.questions.specs.Layout.{Question}
 use Rattle.protocol.specs.Calls.{Report}
 use Rattle.protocol.specs.promises.Chains.{do_put, do_judge, do_write, do_write_model, do_check}
-use Rattle.lamp.specs.declared.OptionalLamp.TheVariants.{Missing}
 use Rattle.lamp.specs.promises.Codes.{lamp_code}
 use Rattle.plan_judge.specs.declared.Desk.{Desk}
 use Rattle.plan_judge.specs.declared.Taken.TheVariants.{Done, Refused}
@@ -33,7 +32,7 @@ padded n b = b ++ replicate (n - length b) 0
 
 -- What stands for a verdict on a desk that is not judged.
 abbrev pub unjudged : Verdict
-unjudged = No (record { count = 0; lamp = Missing })
+unjudged = No (record { count = 0; lamp = None })
 
 -- The empty desk.
 unfoldable pub nothing : Desk

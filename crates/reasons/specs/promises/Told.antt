@@ -1,5 +1,5 @@
 -- What is said of a question's root in its start state as the code has it: a yes, or the reason of a no; with the choices of the plans beside it.
-use Rattle.std.specs.Prelude.{ℕ, ◌+◌, ◌^◌, ◌≤◌, ◌<◌, ◌≡◌, Bool, not, cond, ◌&&◌, List, [], eqb, length}
+use Rattle.std.specs.Prelude.{ℕ, ◌+◌, ◌^◌, ◌≤◌, ◌<◌, ◌≡◌, Bool, not, cond, ◌&&◌, List, [], eqb, length, Option as Optional, None, Some}
 use Rattle.std.proofs.Math.Option.{Option, none, some}
 use Rattle.logic.specs.Model.{Model}
 use Rattle.logic.specs.Plan.{choices}
@@ -18,16 +18,15 @@ use Rattle.bounds.specs.declared.Exact.{Exact}
 use Rattle.exact_plan.specs.promises.Totals.{totals}
 use Rattle.exact_plan.specs.declared.nearest.Near.{Near}
 use Rattle.judging.specs.promises.Decided.{raised_at, plan_at}
-use Rattle.reasons.specs.declared.Side.{Side}
-use Rattle.reasons.specs.declared.Side.TheVariants.{Nothing, Something}
+use Rattle.reasons.specs.declared.Reached as code
 use Rattle.reasons.specs.declared.Explanation.{Explanation}
 use Rattle.reasons.specs.declared.Explanation.TheVariants.{Yes, Shown, NoReason, Greatest, Least, Nearest}
 
 -- ---- as the code has it
 
-unfoldable pub side_code : Option Reached → Side
-side_code none = Nothing
-side_code (some x) = Something (record { total = x.total; whole = x.whole; size = length x.choices })
+unfoldable pub side_code : Option Reached → Optional code.Reached
+side_code none = None
+side_code (some x) = Some (record { total = x.total; whole = x.whole; size = length x.choices })
 
 unfoldable pub side_choices : Option Reached → List ℕ
 side_choices none = []
@@ -85,7 +84,7 @@ TellsOf M s φ = Tells M.denominator (verdict M s φ) (reason M s φ)
 unfoldable pub led_code : (m q : Bytes) (j : ℕ) → Bool → (x size : ℕ) → Explanation
 led_code m q j met x size =
     let whole : ℕ = denominator_of m ^ (node_of q j).n in
-    let side : Side = Something (record { total = lowered m q j x; whole = whole; size = size }) in
+    let side : Optional code.Reached = Some (record { total = lowered m q j x; whole = whole; size = size }) in
     cond met
     (Shown (record { total = lowered m q j x; whole = whole; lamp = lamp_code (lamp_at m q j (lowered m q j x)); count = 0; size = size }))
     (cond (eqb (node_of q j).right 1) (Least side) (Greatest side))
