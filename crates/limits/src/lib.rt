@@ -3,6 +3,7 @@
 
 ghost use Rattle.std.specs.Prelude.{◌≡◌, ℕ, ◌+◌, ◌*◌, ◌<◌, ◌≤◌, min, true, false, leb, get_or};
 ghost use Rattle.logic.specs.Lists.{every};
+ghost use Rattle.refusals.specs.Number.{refusal_number};
 ghost use Rattle.logic.specs.promises.Refusal.{refusal};
 ghost use Rattle.logic.specs.Model.{outcomes};
 ghost use Rattle.logic.specs.Limits.{every_plan, limits};
@@ -19,6 +20,7 @@ use models::STATES;
 use prepared_model::MODEL;
 use prepared_question::{QUESTION, asks_equal, operator, steps};
 use questions::sets_bound;
+use refusals::Refusal;
 
 // The most plans of an "equal" that are served (ground 25).
 const MOST_PLANS: u64 = 65536;
@@ -269,16 +271,20 @@ pub fn plans_fit(m: &[u16; MODEL], q: &[u8; QUESTION], counts: &[u64; COUNTS]) -
 
 // The ground, 24 or 25, on which a prepared question is not judged on a prepared model; 0 where there is none. The plans are counted by the caller,
 // who judges with the same table.
-pub fn limit_refusal(m: &[u16; MODEL], q: &[u8; QUESTION], counts: &[u64; COUNTS]) -> u32
+pub fn accept_limits(
+    m: &[u16; MODEL],
+    q: &[u8; QUESTION],
+    counts: &[u64; COUNTS],
+) -> Result<(), Refusal>
     requires prepared { Prepared m.now × Nodes (state_count m.now) (action_count m.now) (prop_count m.now) q.now }
     requires counted { Counted m.now q.now counts.now }
-    ensures { result ≡ refusal (limits (model_in m.now) (question_of q.now).nodes) }
+    ensures { refusal_number result ≡ refusal (limits (model_in m.now) (question_of q.now).nodes) }
 {
     if !paths_fit(m, q) {
-        return 24;
+        return Err(Refusal::TooManyPaths);
     }
     if !plans_fit(m, q, counts) {
-        return 25;
+        return Err(Refusal::TooManyPlans);
     }
-    0
+    Ok(())
 }

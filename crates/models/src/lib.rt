@@ -4,6 +4,7 @@
 
 ghost use Rattle.std.specs.Prelude.{◌≡◌, ℕ, ◌+◌, ◌*◌, ◌/◌, ◌<◌, ◌≤◌, true};
 ghost use Rattle.logic.specs.Model.{true_of};
+ghost use Rattle.refusals.specs.Number.{refusal_number};
 ghost use Rattle.logic.specs.promises.Refusal.{refusal};
 ghost use Rattle.blocks.specs.Block.{whole_blocks};
 ghost use Rattle.models.specs.Layout.{state_count, action_count, prop_count, denominator_of, literals, state_mask, post_count, action_at, cell_at, outcome_of};
@@ -18,6 +19,7 @@ mod passes;
 mod spare;
 
 use blocks::{BLOCK, KIND_HEAD, headed, i16_at, sums_right, u32_at, whole_blocks, wide, within};
+use refusals::Refusal;
 
 // The most states, actions and propositions of a model, and the most postconditions of an action.
 pub const STATES: usize = 32;
@@ -271,30 +273,30 @@ fn sizes_right(b: &[u8]) -> bool
 }
 
 // The number of the first ground on which a model is refused; 0 where there is none.
-pub fn model_refusal(b: &[u8]) -> u32
-    ensures { result ≡ refusal (read_model b.now) }
+pub fn accept_model(b: &[u8]) -> Result<(), Refusal>
+    ensures { refusal_number result ≡ refusal (read_model b.now) }
 {
     if !whole_blocks(b, LEAST_BLOCKS, BLOCKS) {
-        return 1;
+        return Err(Refusal::BlockCount);
     }
     if !sums_right(b) {
-        return 2;
+        return Err(Refusal::WordSum);
     }
     if !kinds_right(b) {
-        return 3;
+        return Err(Refusal::Heading);
     }
     if !sizes_right(b) {
-        return 4;
+        return Err(Refusal::HeadFields);
     }
     let used = used_entries(b);
     if !fields::fields_right(b, &used) {
-        return 5;
+        return Err(Refusal::FieldRange);
     }
     if !spare::spare_zero(b, &used) {
-        return 6;
+        return Err(Refusal::SpareBytes);
     }
     if !consistent::consistent(b, &used) {
-        return 7;
+        return Err(Refusal::Inconsistent);
     }
-    0
+    Ok(())
 }

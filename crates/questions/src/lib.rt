@@ -3,6 +3,7 @@
 
 ghost use Rattle.std.specs.Prelude.{◌≡◌, true, ◌&&◌, ◌+◌, ◌-◌, ◌≤◌, ◌<◌, max, min, ltb, length, get_or, take};
 ghost use Rattle.logic.specs.Lists.{every};
+ghost use Rattle.refusals.specs.Number.{refusal_number};
 ghost use Rattle.logic.specs.promises.Refusal.{refusal};
 ghost use Rattle.logic.specs.Formula.{depth, shallow, never, formula_of};
 ghost use Rattle.blocks.specs.Bytes.{byte, zeros, within};
@@ -16,6 +17,7 @@ ghost use Rattle.questions.specs.promises.Passes.{passes, Nodes};
 pub mod used;
 
 use crate::used::all_reached;
+use refusals::Refusal;
 
 // The operators of nodes, by document 01's words.
 pub const FALSE: u8 = 1;
@@ -437,33 +439,33 @@ fn counts_right(b: &[u8], states: usize) -> bool
 }
 
 // The first ground on which the question's bytes are refused, for a model of so many states, actions and propositions; 0 for none.
-pub fn question_refusal(b: &[u8], states: usize, actions: usize, props: usize) -> u32
-    ensures { result ≡ refusal (read_question states actions props b.now) }
+pub fn accept_question(b: &[u8], states: usize, actions: usize, props: usize) -> Result<(), Refusal>
+    ensures { refusal_number result ≡ refusal (read_question states actions props b.now) }
 {
     if !blocks::whole_blocks(b, 1, 1) {
-        return 1;
+        return Err(Refusal::BlockCount);
     }
     if !blocks::sums_right(b) {
-        return 2;
+        return Err(Refusal::WordSum);
     }
     if !blocks::headed(b, 0, blocks::KIND_QUESTION, 0) {
-        return 3;
+        return Err(Refusal::Heading);
     }
     if !counts_right(b, states) {
-        return 4;
+        return Err(Refusal::HeadFields);
     }
     let depths = depth_table(b);
     if !nodes_pass(b, 5, actions, props, &depths) {
-        return 5;
+        return Err(Refusal::FieldRange);
     }
     if !spare_zero(b, actions, props, &depths) {
-        return 6;
+        return Err(Refusal::SpareBytes);
     }
     if !formed(b, actions, props, &depths) {
-        return 9;
+        return Err(Refusal::NotFormed);
     }
     if !all_reached(b) {
-        return 13;
+        return Err(Refusal::UnreachedNode);
     }
-    0
+    Ok(())
 }

@@ -3,6 +3,7 @@
 
 ghost use Rattle.std.specs.Prelude.{◌≡◌, ◌+◌, ◌*◌, ◌≤◌, ◌<◌, length};
 ghost use Rattle.logic.specs.Lists.{every};
+ghost use Rattle.refusals.specs.Number.{refusal_number};
 ghost use Rattle.logic.specs.promises.Refusal.{refusal};
 ghost use Rattle.blocks.specs.Block.{block_count};
 ghost use Rattle.sheets.specs.Layout.{weight_of, count_of, sheet_of};
@@ -11,6 +12,7 @@ ghost use Rattle.sheets.specs.Grounds.{head_right, count_right, weight_right, sp
 ghost use Rattle.sheets.specs.promises.Reader.{passes, Blocks, Gathered};
 
 use blocks::{BLOCK, KIND_SHEET, LAST_WORD};
+use refusals::Refusal;
 
 pub mod plans;
 pub mod writer;
@@ -150,28 +152,28 @@ fn all_pass(b: &[u8], ground_no: u32, n: usize, start: usize) -> bool
 }
 
 // The number of the first ground, 1 to 6, on which a sheet is refused for a question with n steps and this start; 0 where there is none.
-pub fn sheet_refusal(b: &[u8], n: usize, start: usize) -> u32
-    ensures { result ≡ refusal (read_sheet n start b.now) }
+pub fn accept_sheet(b: &[u8], n: usize, start: usize) -> Result<(), Refusal>
+    ensures { refusal_number result ≡ refusal (read_sheet n start b.now) }
 {
     if !blocks::whole_blocks(b, 1, BLOCKS) {
-        return 1;
+        return Err(Refusal::BlockCount);
     }
     if !blocks::sums_right(b) {
-        return 2;
+        return Err(Refusal::WordSum);
     }
     if !all_pass(b, 3, n, start) {
-        return 3;
+        return Err(Refusal::Heading);
     }
     if !all_pass(b, 4, n, start) {
-        return 4;
+        return Err(Refusal::HeadFields);
     }
     if !all_pass(b, 5, n, start) {
-        return 5;
+        return Err(Refusal::FieldRange);
     }
     if !all_pass(b, 6, n, start) {
-        return 6;
+        return Err(Refusal::SpareBytes);
     }
-    0
+    Ok(())
 }
 
 // The choices of all blocks, one after the other, at the front of `out`; gives their number.

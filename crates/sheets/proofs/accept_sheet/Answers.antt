@@ -8,7 +8,7 @@ use Rattle.blocks.specs.Block.{block_count, whole_blocks, sums_right}
 use Rattle.sheets.specs.promises.Reader.{passes}
 use Rattle.sheets.proofs.BlockTests.{refusal_by, counts_of}
 use Rattle.blocks.proofs.GroundByGround.{passed, failed}
-use Rattle.sheets.proofs.sheet_refusal.Goals as goal
+use Rattle.sheets.proofs.accept_sheet.Goals as goal
 
 pub returns-then-not-whole_blocks : goal.returns-then-not-whole_blocks
 returns-then-not-whole_blocks c = let S = c in sym (refusal_by S.args.n S.args.start S.args.b.now _ _ _ _ _ _ (failed c.whole_blocks.ensures c.if-not-whole_blocks.true-raw) refl refl refl refl refl)

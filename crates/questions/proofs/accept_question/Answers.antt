@@ -20,7 +20,7 @@ use Rattle.questions.proofs.TableNodeByNode.{one_block}
 use Rattle.questions.proofs.ChildrenMarked.{downward}
 use Rattle.questions.proofs.AcceptedFacts.{in_range_all}
 use Rattle.blocks.proofs.RangeTests.{at_least, at_most}
-use Rattle.questions.proofs.question_refusal.Goals as goal
+use Rattle.questions.proofs.accept_question.Goals as goal
 
 -- Past a test, the refusal is that of the grounds after it.
 

@@ -15,7 +15,7 @@ use Rattle.blocks.proofs.GroundByGround.{passed, goes_on, stops}
 use Rattle.models.specs.Layout.{model_of}
 use Rattle.models.specs.Grounds.{fields_right, model_grounds, read_model}
 use Rattle.models.specs.promises.Passes.{Earlier}
-use Rattle.models.proofs.model_refusal.Goals as goal
+use Rattle.models.proofs.accept_model.Goals as goal
 
 abbrev rest : Bytes → ℕ → Checked Model
 rest b k = decided (drop k (model_grounds b)) (model_of b)

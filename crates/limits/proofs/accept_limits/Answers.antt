@@ -4,7 +4,7 @@ use mathlib.Core.Bool.{true, false}
 use borrow.Author.Tests.{not-true, not-false}
 use Rattle.questions.specs.Layout.{question_of}
 use Rattle.limits.proofs.NodeByNode.{limits_paths, limits_plans}
-use Rattle.limits.proofs.limit_refusal.Goals as goal
+use Rattle.limits.proofs.accept_limits.Goals as goal
 
 pub returns-then-not-paths_fit : goal.returns-then-not-paths_fit
 unfolding question_of
