@@ -11,6 +11,9 @@ use lib.IntN.{ℤ}
 use lib.ListN.{length, take, drop, replicate}
 use lib.Seq.{take-append_seam}
 use borrow.Author.Tests.{le-leb, lt-leb}
+use Rattle.std.specs.Prelude.{Ok, Err}
+use Rattle.refusals.specs.declared.Refusal.{Refusal}
+use Rattle.refusals.specs.Number.{number, named}
 use Rattle.logic.specs.Checked.{Checked, ok, refused, ◌>>=◌, ◌>>◌, guard}
 use Rattle.logic.specs.promises.Refusal.{refusal}
 use Rattle.logic.specs.Model.{Model}
@@ -40,8 +43,6 @@ use Rattle.judging.specs.declared.Verdict.{Verdict}
 use Rattle.judging.specs.declared.Denial.{Denial}
 use Rattle.judging.specs.declared.Verdict.TheVariants.{No, Yes, YesPlan}
 use Rattle.judging.specs.promises.Announced.{verdict_code}
-use Rattle.plan_judge.specs.declared.Judgement.{Judgement}
-use Rattle.plan_judge.specs.declared.Judgement.TheVariants.{Judged}
 use Rattle.plan_judge.specs.declared.Ruling.{Ruling}
 use Rattle.plan_judge.specs.View.{choices_in, verdict_in, verdict_on}
 use Rattle.plan_judge.specs.promises.Values.{padded, choices_code, judge_on, ruling}
@@ -49,7 +50,7 @@ use Rattle.plan_judge.specs.promises.State.{PlanRoot, size_in}
 use Rattle.plan_judge.specs.promises.CChain.{Told, Begins, told_sheet, told_of, told_on, c_chain, Tells}
 use Rattle.plan_judge.proofs.DesksHoldHistory.{verdict_read}
 use Rattle.plan_judge.proofs.WriteReturns.{first_choices}
-use Rattle.plan_judge.proofs.NumbersListed.{few}
+use Rattle.plan_judge.proofs.NumbersListed.{named_back}
 use Rattle.plan_judge.proofs.StateGrounds.{root_node, other_goal, asked_goal, goal_is}
 
 -- The same is told of what is the same.
@@ -77,10 +78,6 @@ unfolding model_of
 question_by_head model q = ap₂ (λ S A. read_question S A (byte model 4) q) (states_held model) (length_tabulate _ (byte model 3))
 
 module _ (model question : Bytes) {k : ℕ} where
-  pub model_few : k ≡ refusal (read_model model) → (k ≡ 0 → ⊥) → k ≤ 25
-  unfolding by_chain
-  model_few e h = few empty (load model) k (ap (λ c. (answered [] c (λ m. says done)).answer) (refused_is (read_model model) e h))
-
   pub chain_model : (size : ℕ) → k ≡ refusal (read_model model) → (k ≡ 0 → ⊥) → c_chain model question size ≡ refused k
   unfolding c_chain
   chain_model size e h = refused_by (read_model model) e h (λ m. question_for m question >>= told_on size m)
@@ -88,10 +85,6 @@ module _ (model question : Bytes) {k : ℕ} where
   module _ (e : k ≡ refusal (read_question (byte model 2) (byte model 3) (byte model 4) question)) (h : k ≡ 0 → ⊥) where
     put_refused : question_for (model_of model) question ≡ refused k
     put_refused = refused_is (question_for (model_of model) question) (e ∙ sym (ap refusal (question_by_head model question))) h
-
-    pub question_few : k ≤ 25
-    unfolding by_chain do_put
-    question_few = few (with_model [] (model_of model)) (put question) k (ap (λ c. (answered [] c (λ q. says done)).answer) put_refused)
 
     pub chain_question : (size : ℕ) → refusal (read_model model) ≡ 0 → c_chain model question size ≡ refused k
     unfolding c_chain
@@ -169,27 +162,27 @@ module _ (m : Model) (q : Question) (r : Ruling) (i : r ≡ ruling (judge_on m q
   abbrev judged_so : logic.Verdict
   judged_so = verdict m q.start q.root
 
-  ground_is : (k : ℕ) → r.answer ≡ Judgement.Refused k → limits m q.nodes ≡ refused k
-  ground_is k a = by (limits m q.nodes) (ap (λ (x : Ruling). x.answer) (sym i) ∙ a)
-    where
-      by : (c : Checked (Unit {0})) → (ruling (c >> ok judged_so)).answer ≡ Judgement.Refused k → c ≡ refused k
-      by (ok u) z = let y : ◌≡◌ {A = ℕ} 0 1 = cc in absurd (omega arith)
-      by (refused j) z = let y : j ≡ k = cc in ap refused y
-
-  pub ground_few : (k : ℕ) → r.answer ≡ Judgement.Refused k → k ≤ 25
+  ground_is : (x : Refusal) → r.answer ≡ Err x → limits m q.nodes ≡ refused (number x)
   unfolding by_chain do_judge
-  ground_few k a = few (with_question [] m q) judge k (ap (λ c. (answered [] (c >> ok judged_so) (λ v. says (judged v))).answer) (ground_is k a))
+  ground_is x a = by (limits m q.nodes) refl (ap (λ (x : Ruling). x.answer) (sym i) ∙ a)
+    where
+      by : (c : Checked (Unit {0})) → limits m q.nodes ≡ c → (ruling (c >> ok judged_so)).answer ≡ Err x → limits m q.nodes ≡ refused (number x)
+      by (ok u) e z = let y : ◌≡◌ {A = ℕ} 0 1 = cc in absurd (omega arith)
+      by (refused j) e z =
+          let y : named j ≡ x = cc in
+          let l = named_back (with_question [] m q) judge j (ap (λ c. (answered [] (c >> ok judged_so) (λ v. says (judged v))).answer) e) in
+          e ∙ ap refused (sym l ∙ ap number y)
 
-  pub told_ground : (size k : ℕ) → r.answer ≡ Judgement.Refused k → told_on size m q ≡ refused k
+  pub told_ground : (size : ℕ) (x : Refusal) → r.answer ≡ Err x → told_on size m q ≡ refused (number x)
   unfolding told_on
-  told_ground size k a = ap (λ c. c >> told_of q.start size judged_so) (ground_is k a)
+  told_ground size x a = ap (λ c. c >> told_of q.start size judged_so) (ground_is x a)
 
   -- The verdict is said, with its choices beside it.
-  module _ (v : Verdict) (a : r.answer ≡ Judged v) where
+  module _ (v : Verdict) (a : r.answer ≡ Ok v) where
     said : (limits m q.nodes ≡ ok tt) × (v ≡ verdict_code judged_so) × (r.choices ≡ choices_code judged_so)
     said = by (limits m q.nodes) refl (ap (λ (x : Ruling). x.answer) (sym i) ∙ a) (ap (λ (x : Ruling). x.choices) i)
       where
-        by : (c : Checked (Unit {0})) → limits m q.nodes ≡ c → (ruling (c >> ok judged_so)).answer ≡ Judged v → r.choices ≡ (ruling (c >> ok judged_so)).choices
+        by : (c : Checked (Unit {0})) → limits m q.nodes ≡ c → (ruling (c >> ok judged_so)).answer ≡ Ok v → r.choices ≡ (ruling (c >> ok judged_so)).choices
             → (limits m q.nodes ≡ ok tt) × (v ≡ verdict_code judged_so) × (r.choices ≡ choices_code judged_so)
         by (ok u) j z y = (j, cc, y)
         by (refused k) j z y = let w : ◌≡◌ {A = ℕ} 0 1 = cc in absurd (omega arith)
@@ -287,7 +280,7 @@ module _ (model question : Bytes) (passed : refusal (read_model model) ≡ 0)
         >> ok (record { answer = true; sheet = sheet_bytes s (start_of question) p.total p.choices })) steps_are
 
   -- The sheet that is told of the choices beside a verdict with a plan.
-  pub shown_told : (r : Ruling) (i : r ≡ ruling (judge_on M Q)) (v : Verdict) (a : r.answer ≡ Judged v) {x : PlanRecord} → Shown M Q r i v a x
+  pub shown_told : (r : Ruling) (i : r ≡ ruling (judge_on M Q)) (v : Verdict) (a : r.answer ≡ Ok v) {x : PlanRecord} → Shown M Q r i v a x
       → {total : ℤ} (size : ℕ) → total ≡ x.total
       → told_sheet question size total (take (size_in (choices_in M Q r.choices)) r.choices) ≡ told_on size M Q
   unfolding size_in

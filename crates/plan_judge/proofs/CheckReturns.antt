@@ -7,6 +7,11 @@ use mathlib.Core.Bool.{Bool, true}
 use lib.IntN.{ℤ}
 use lib.ListN.{take, drop}
 use lib.Seq.{take-append_seam}
+use Rattle.std.specs.Prelude.{Ok, Err}
+use Rattle.refusals.specs.declared.Refusal.{Refusal}
+use Rattle.refusals.specs.declared.Refusal.TheVariants.{WrongTotal}
+use Rattle.refusals.specs.Number.{number, named}
+use Rattle.refusals.proofs.Named.{named_number, number_some}
 use Rattle.logic.specs.Checked.{Checked, ok, refused, ◌>>=◌, ◌>>◌, guard}
 use Rattle.logic.specs.promises.Refusal.{refusal}
 use Rattle.logic.specs.Model.{Model}
@@ -39,7 +44,6 @@ use Rattle.judging.specs.promises.Asked.{Served}
 use Rattle.judging.specs.promises.Announced.{Spelled, Weighs}
 use Rattle.judging.specs.declared.Weighed.{Weighed}
 use Rattle.plan_judge.specs.declared.Desk.{Desk}
-use Rattle.plan_judge.specs.declared.Checking.TheVariants.{Accepted, Refused}
 use Rattle.plan_judge.specs.View.{view}
 use Rattle.plan_judge.specs.promises.Values.{checking, checked_by}
 use Rattle.plan_judge.specs.promises.State.{held_goal, PlanRoot, plan_on}
@@ -84,9 +88,9 @@ module _ (M : Model) (n s : ℕ) (b : Bytes) where
 
 -- ---- each return
 
-refused_by : (c : Checked Report) (k : ℕ) → k ≡ refusal c → (k ≡ 0 → ⊥) → Refused k ≡ checking c
-refused_by (ok t) k i h = absurd (h i)
-refused_by (refused j) k i h = ap Refused i
+refused_by : (c : Checked Report) (x : Refusal) → number x ≡ refusal c → Err x ≡ checking c
+refused_by (ok t) x i = absurd (number_some x i)
+refused_by (refused j) x i = ap Err (sym (named_number x) ∙ ap named i)
 
 -- What check does with a goal.
 abbrev check_for : Bytes → Model → Question → Goal → Checked Report
@@ -96,9 +100,9 @@ check_for b m q g =
 
 -- The grounds of the state, and what is left past them.
 module _ (d : Desk) (b : Bytes) where
-  pub check_state : (k : ℕ) → k ≡ refusal (held_goal (view d)) → (k ≡ 0 → ⊥) → Refused k ≡ checked_by d b
+  pub check_state : (x : Refusal) → number x ≡ refusal (held_goal (view d)) → Err x ≡ checked_by d b
   unfolding do_check check_on checked_by
-  check_state k e h = refused_by (do_check (view d) b) k (goal_refused (view d) (check_for b) k e h) h
+  check_state x e = refused_by (do_check (view d) b) x (goal_refused (view d) (check_for b) (number x) e (number_some x))
 
   pub check_past : refusal (held_goal (view d)) ≡ 0 → checking (check_on (model_of (said_bytes d)) (question_of d.question) b) ≡ checked_by d b
   unfolding do_check check_on checked_by
@@ -126,11 +130,16 @@ module _ (m q : Bytes) (r : PlanRoot m q) (b : Bytes) where
   unfolding check_on
   check_is = ap (λ c. c >>= check_for b M (question_of q)) (goal_is m q r)
 
-  pub check_limited : (k : ℕ) → k ≡ refusal (limits M (question_of q).nodes) → (k ≡ 0 → ⊥) → Refused k ≡ checking (check_on M (question_of q) b)
-  check_limited k i h = refused_by (check_on M (question_of q) b) k (then_refused (limits M (question_of q).nodes) _ k i h ∙ sym (ap refusal check_is)) h
+  pub check_limited : (x : Refusal) → number x ≡ refusal (limits M (question_of q).nodes) → Err x ≡ checking (check_on M (question_of q) b)
+  check_limited x i = refused_by (check_on M (question_of q) b) x (then_refused (limits M (question_of q).nodes) _ (number x) i (number_some x) ∙ sym (ap refusal check_is))
 
   pub sheet_asked : {a : List ℕ} → Prepares m a → refusal (read_question (state_count a) (action_count a) (prop_count a) q) ≡ 0
   sheet_asked p = asked_prepared m q p r.asked
+
+  -- The question prepared is shared for the model prepared.
+  pub shared_there : {a q' : List ℕ} → Prepares m a → ((S A N : ℕ) → refusal (read_question S A N q) ≡ 0 → Shared S A N q q')
+      → Shared (state_count a) (action_count a) (prop_count a) q q'
+  shared_there p f = f _ _ _ (sheet_asked p)
 
   -- The model and the question prepared: the goal is the same.
   module _ {a q' : List ℕ} (p : Prepares m a) (h : Shared (state_count a) (action_count a) (prop_count a) q q') where
@@ -172,13 +181,13 @@ module _ (m q : Bytes) (r : PlanRoot m q) (b : Bytes) where
     unfolding question_of
     past_limits = check_is ∙ ap (λ c. c >> (read_sheet n s b >>= (λ x. plan_of M n s x.choices >>= decides x.weight))) (limits_passed M _ l)
 
-    pub check_sheet : (k : ℕ) → k ≡ refusal (plan_on M n s b) → (k ≡ 0 → ⊥) → Refused k ≡ checking (check_on M (question_of q) b)
+    pub check_sheet : (x : Refusal) → number x ≡ refusal (plan_on M n s b) → Err x ≡ checking (check_on M (question_of q) b)
     unfolding plan_on
-    check_sheet k i h = refused_by (check_on M (question_of q) b) k (by (read_sheet n s b) i ∙ sym (ap refusal past_limits)) h
+    check_sheet x i = refused_by (check_on M (question_of q) b) x (by (read_sheet n s b) i ∙ sym (ap refusal past_limits))
       where
-        by : (c : Checked Sheet) → k ≡ refusal (c >>= (λ x. plan_of M n s x.choices))
-            → k ≡ refusal (c >>= (λ x. plan_of M n s x.choices >>= decides x.weight))
-        by (ok x) z = bind_refused (plan_of M n s x.choices) _ k z h
+        by : (c : Checked Sheet) → number x ≡ refusal (c >>= (λ x. plan_of M n s x.choices))
+            → number x ≡ refusal (c >>= (λ x. plan_of M n s x.choices >>= decides x.weight))
+        by (ok y) z = bind_refused (plan_of M n s y.choices) _ (number x) z (number_some x)
         by (refused j) z = z
 
     -- The total of the plan on the sheet decides.
@@ -205,13 +214,12 @@ module _ (m q : Bytes) (r : PlanRoot m q) (b : Bytes) where
       abbrev passing : Bool → Checked Report
       passing t = guard 11 t >> ok (record { met = w.met; lamp = g.lamp o.plan })
 
-      pub check_differs : ((sheet_of b).weight ≡ w.total → ⊥) → Refused 11 ≡ checking (check_on M (question_of q) b)
+      pub check_differs : ((sheet_of b).weight ≡ w.total → ⊥) → Err WrongTotal ≡ checking (check_on M (question_of q) b)
       check_differs i =
-          refused_by (check_on M (question_of q) b) 11
+          refused_by (check_on M (question_of q) b) WrongTotal
           (sym (ap refusal (past_sheet ∙ ap passing (not_true (same (sheet_of b).weight w.total) (λ t. i (same_equal (sheet_of b).weight w.total t))))))
-          (λ z. omega arith)
 
-      pub check_met : (sheet_of b).weight ≡ w.total → Accepted (record { met = w.met; lamp = w.lamp }) ≡ checking (check_on M (question_of q) b)
+      pub check_met : (sheet_of b).weight ≡ w.total → Ok (record { met = w.met; lamp = w.lamp }) ≡ checking (check_on M (question_of q) b)
       check_met i =
-          ap (λ l. Accepted (record { met = w.met; lamp = l })) weighs.2
+          ap (λ l. Ok (record { met = w.met; lamp = l })) weighs.2
           ∙ sym (ap checking (past_sheet ∙ ap passing (ap (same (sheet_of b).weight) (sym i) ∙ same_self (sheet_of b).weight)))

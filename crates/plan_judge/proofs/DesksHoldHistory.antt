@@ -7,6 +7,7 @@ use mathlib.Core.List.{List, [], ◌∷◌, ◌++◌, append-nil, append_assoc, 
 use mathlib.Core.Option.{Option, none, some}
 use lib.ListN.{length, replicate}
 use lib.Seq.{take_at}
+use Rattle.refusals.specs.Number.{number, named}
 use Rattle.logic.specs.Checked.{Checked, ok, refused, ◌>>=◌, got}
 use Rattle.logic.specs.promises.Refusal.{held}
 use Rattle.logic.specs.Model.{Model}
@@ -30,12 +31,13 @@ use Rattle.blocks.specs.Block.{whole_blocks, block_count}
 use Rattle.models.specs.Grounds.{read_model}
 use Rattle.questions.specs.Layout.{Question}
 use Rattle.questions.specs.Grounds.{read_question}
-use Rattle.protocol.specs.Calls.{Call, load, put, judge, query, write, check, write_model, Held, Report, done, judged, accepted, says, wrote, yields}
+use Rattle.protocol.specs.Calls.{Call, load, put, judge, query, write, check, write_model, Held, Report, refuse, done, judged, accepted, says, wrote, yields}
 use Rattle.protocol.specs.promises.Chains.{do_put, do_judge, do_write, do_write_model, do_check, answered, by_chain}
 use Rattle.protocol.specs.History.{last_left, held_from, after}
 use Rattle.protocol.proofs.AfterEachCall.{settled, next, after_next}
 use Rattle.protocol.proofs.FirstGround.{yields_is}
 use Rattle.protocol.proofs.Demand3.{held_some, then_ok}
+use Rattle.plan_judge.proofs.NumbersListed.{named_back}
 use Rattle.plan_judge.specs.declared.Desk.{Desk}
 use Rattle.plan_judge.specs.View.{model_bytes, blocks_in, question_in, choices_in, verdict_in, verdict_on, view}
 use Rattle.plan_judge.specs.promises.Values.{padded, nothing, taking, holding, loaded_by, asking, put_by, choices_code, settling, judging, judged_by, writing, written_by, filling, filled_by, model_written_by, model_filled_by, checking, checked_by}
@@ -47,40 +49,41 @@ use Rattle.plan_judge.specs.promises.Session.{asked, step, desk_after, session}
 
 reply_load : (d : Desk) (b : Bytes) → (step d (load b)).reply ≡ by_chain (view d) (load b)
 unfolding step loaded_by by_chain said_taken
-reply_load d b = by (read_model b)
+reply_load d b = by (read_model b) refl
   where
-    by : (c : Checked Model) → says (said_taken (taking d c (holding b)).answer) ≡ answered [] c (λ m. says done)
-    by (ok m) = refl
-    by (refused k) = refl
+    by : (c : Checked Model) → read_model b ≡ c → says (said_taken (taking d c (holding b)).answer) ≡ answered [] c (λ m. says done)
+    by (ok m) i = refl
+    by (refused k) i = ap (λ n. says (refuse n)) (named_back (view d) (load b) k (ap (λ c. (answered [] c (λ m. says done)).answer) i))
 
 reply_put : (d : Desk) (b : Bytes) → (step d (put b)).reply ≡ by_chain (view d) (put b)
 unfolding step put_by by_chain said_taken
-reply_put d b = by (do_put (view d) b)
+reply_put d b = by (do_put (view d) b) refl
   where
-    by : (c : Checked Question) → says (said_taken (taking d c (asking d b)).answer) ≡ answered [] c (λ q. says done)
-    by (ok q) = refl
-    by (refused k) = refl
+    by : (c : Checked Question) → do_put (view d) b ≡ c → says (said_taken (taking d c (asking d b)).answer) ≡ answered [] c (λ q. says done)
+    by (ok q) i = refl
+    by (refused k) i = ap (λ n. says (refuse n)) (named_back (view d) (put b) k (ap (λ c. (answered [] c (λ q. says done)).answer) i))
 
-reply_filled : (a : Bytes) (c : Checked Bytes) → record { answer = said_written (writing c); buffer = filling a c } ≡ answered a c (wrote a)
+reply_filled : (a : Bytes) (c : Checked Bytes) → ((k : ℕ) → c ≡ refused k → number (named k) ≡ k)
+    → record { answer = said_written (writing c); buffer = filling a c } ≡ answered a c (wrote a)
 unfolding said_written
-reply_filled a (ok b) = refl
-reply_filled a (refused k) = refl
+reply_filled a (ok b) f = refl
+reply_filled a (refused k) f = ap (λ n. record { answer = refuse n; buffer = a }) (f k refl)
 
 reply_write : (d : Desk) (a : Bytes) → (step d (query (write a))).reply ≡ by_chain (view d) (query (write a))
 unfolding step asked written_by filled_by by_chain
-reply_write d a = reply_filled a (do_write (view d) (length a))
+reply_write d a = reply_filled a (do_write (view d) (length a)) (λ k e. named_back (view d) (query (write a)) k (ap (λ c. (answered a c (wrote a)).answer) e))
 
 reply_write_model : (d : Desk) (a : Bytes) → (step d (query (write_model a))).reply ≡ by_chain (view d) (query (write_model a))
 unfolding step asked model_written_by model_filled_by by_chain
-reply_write_model d a = reply_filled a (do_write_model (view d) (length a))
+reply_write_model d a = reply_filled a (do_write_model (view d) (length a)) (λ k e. named_back (view d) (query (write_model a)) k (ap (λ c. (answered a c (wrote a)).answer) e))
 
 reply_check : (d : Desk) (b : Bytes) → (step d (query (check b))).reply ≡ by_chain (view d) (query (check b))
 unfolding step asked checked_by by_chain said_checking
-reply_check d b = by (do_check (view d) b)
+reply_check d b = by (do_check (view d) b) refl
   where
-    by : (c : Checked Report) → says (said_checking (checking c)) ≡ answered [] c (λ r. says (accepted r))
-    by (ok r) = ap (λ l. says (accepted (record { met = r.met; lamp = l }))) (lamp_said r.lamp)
-    by (refused k) = refl
+    by : (c : Checked Report) → do_check (view d) b ≡ c → says (said_checking (checking c)) ≡ answered [] c (λ r. says (accepted r))
+    by (ok r) i = ap (λ l. says (accepted (record { met = r.met; lamp = l }))) (lamp_said r.lamp)
+    by (refused k) i = ap (λ n. says (refuse n)) (named_back (view d) (query (check b)) k (ap (λ c. (answered [] c (λ r. says (accepted r))).answer) i))
 
 -- ---- the verdict with its choices beside it
 
@@ -150,7 +153,7 @@ reply_judge d = by (do_judge (view d)) refl
     by : (c : Checked logic.Verdict) → do_judge (view d) ≡ c
         → says (said_judgement (view d) (judging d c).answer (judging d c).choices) ≡ answered [] c (λ v. says (judged v))
     by (ok v) e = ap (λ o. says (said_verdict o)) (verdict_back (view d) v e)
-    by (refused k) e = refl
+    by (refused k) e = ap (λ n. says (refuse n)) (named_back (view d) judge k (ap (λ c. (answered [] c (λ v. says (judged v))).answer) e))
 
 by_step : (d : Desk) (c : Call) → (step d c).reply ≡ by_chain (view d) c
 by_step d (load b) = reply_load d b

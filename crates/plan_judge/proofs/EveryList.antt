@@ -10,8 +10,9 @@ use Rattle.protocol.specs.Replies.{Session}
 use Rattle.plan_judge.specs.declared.Desk.{Desk}
 use Rattle.plan_judge.specs.declared.Taking.{Taking}
 use Rattle.plan_judge.specs.declared.Judging.{Judging}
-use Rattle.plan_judge.specs.declared.Written.{Written}
-use Rattle.plan_judge.specs.declared.Checking.{Checking}
+use Rattle.std.specs.Prelude.{ℕ, Result}
+use Rattle.refusals.specs.declared.Refusal.{Refusal}
+use Rattle.plan_judge.specs.declared.Report.{Report}
 use Rattle.plan_judge.specs.View.{view}
 use Rattle.plan_judge.specs.promises.Values.{nothing, loaded_by, put_by, judged_by, written_by, filled_by, model_written_by, model_filled_by, checked_by}
 use Rattle.plan_judge.specs.Said.{said_taken, said_judgement, said_written, said_checking}
@@ -25,14 +26,14 @@ use Rattle.plan_judge.proofs.Claims.Delivery.{There}
 -- ---- one call
 
 -- The reply to a call that writes.
-abbrev after_writing : Written → Bytes → Reply
+abbrev after_writing : Result ℕ Refusal → Bytes → Reply
 after_writing r left = record { answer = said_written r; buffer = left }
 
 -- The contracts ask nothing and give the values of `Session`'s step.
 asked_step : {d : Desk} {c : Query} {r : Reply} → Asked d c r → r ≡ asked d c
 unfolding asked
 asked_step (writes κ a b r p) = ap₂ after_writing (p tt).0 (p tt).1
-asked_step (checks κ b r p) = ap (λ (x : Checking). says (said_checking x)) (p tt)
+asked_step (checks κ b r p) = ap (λ (x : Result Report Refusal). says (said_checking x)) (p tt)
 asked_step (writes_model κ a b r p) = ap₂ after_writing (p tt).0 (p tt).1
 
 pub stepped : {d : Desk} {c : Call} {r : Reply} {e : Desk} → Answered d c r e → (r ≡ (step d c).reply) × (e ≡ (step d c).desk)

@@ -4,6 +4,10 @@ use native.Mathlib.Omega.{arith}
 use mathlib.Core.Path.{◌≡◌, refl, sym, ap, ap₂, ◌∙◌}
 use mathlib.Core.Bool.{true}
 use lib.ListN.{length, drop, replicate}
+use Rattle.std.specs.Prelude.{Ok, Err}
+use Rattle.refusals.specs.declared.Refusal.{Refusal}
+use Rattle.refusals.specs.Number.{number, named}
+use Rattle.refusals.proofs.Named.{named_number, number_some}
 use Rattle.logic.specs.Checked.{Checked, ok, refused, ◌>>◌}
 use Rattle.logic.specs.promises.Refusal.{refusal}
 use Rattle.logic.specs.Model.{Model}
@@ -21,8 +25,6 @@ use Rattle.judging.specs.promises.Announced.{root_verdict, verdict_code, shown_c
 use Rattle.protocol.specs.promises.Chains.{do_judge}
 use Rattle.plan_judge.specs.declared.Desk.{Desk}
 use Rattle.judging.specs.declared.Verdict.{Verdict}
-use Rattle.plan_judge.specs.declared.Judgement.{Judgement}
-use Rattle.plan_judge.specs.declared.Judgement.TheVariants.{Judged}
 use Rattle.plan_judge.specs.declared.Ruling.{Ruling}
 use Rattle.plan_judge.specs.declared.Judging.{Judging}
 use Rattle.plan_judge.specs.View.{view}
@@ -49,18 +51,22 @@ module _ (d : Desk) where
   abbrev pub announced : Bytes → Verdict → Judging
   announced cs v =
       record {
-        answer = Judged v;
+        answer = Ok v;
         choices = cs;
         desk = record { blocks = d.blocks; model = d.model; asked = d.asked; question = d.question; judged = true; verdict = v; choices = cs };
       }
 
-  pub judge_refused : (k : ℕ) → k ≡ refusal (do_judge (view d)) → (k ≡ 0 → ⊥) → judging d (refused k) ≡ judged_by d
+  -- A refusal is answered, and the desk stays.
+  abbrev pub away : Refusal → Judging
+  away x = record { answer = Err x; choices = replicate 1365 0; desk = d }
+
+  pub judge_refused : (x : Refusal) → number x ≡ refusal (do_judge (view d)) → away x ≡ judged_by d
   unfolding judged_by
-  judge_refused k e h = by (do_judge (view d)) e
+  judge_refused x e = by (do_judge (view d)) e
     where
-      by : (c : Checked logic.Verdict) → k ≡ refusal c → judging d (refused k) ≡ judging d c
-      by (ok v) i = absurd (h i)
-      by (refused j) i = ap (λ k. judging d (refused k)) i
+      by : (c : Checked logic.Verdict) → number x ≡ refusal c → away x ≡ judging d c
+      by (ok v) i = absurd (number_some x i)
+      by (refused j) i = ap away (sym (named_number x) ∙ ap named i)
 
   pub ground_state : (k : ℕ) → k ≡ refusal (held_both (view d)) → (k ≡ 0 → ⊥) → k ≡ refusal (do_judge (view d))
   unfolding do_judge
@@ -72,37 +78,37 @@ module _ (d : Desk) where
     unfolding judged_by do_judge
     judge_is = ap (judging d) (both_passed (view d) (model_of (said_bytes d)) (question_of d.question) (both_held d b) judge_on)
 
-    pub ruled_refused : (k : ℕ) → r.answer ≡ Judgement.Refused k → judging d (refused k) ≡ judged_by d
-    ruled_refused k a = by (judge_on (model_of (said_bytes d)) (question_of d.question)) (ap (λ (x : Ruling). x.answer) (sym i) ∙ a) ∙ sym judge_is
+    pub ruled_refused : (x : Refusal) → r.answer ≡ Err x → away x ≡ judged_by d
+    ruled_refused x a = by (judge_on (model_of (said_bytes d)) (question_of d.question)) (ap (λ (x : Ruling). x.answer) (sym i) ∙ a) ∙ sym judge_is
       where
-        by : (c : Checked logic.Verdict) → (ruling c).answer ≡ Judgement.Refused k → judging d (refused k) ≡ judging d c
+        by : (c : Checked logic.Verdict) → (ruling c).answer ≡ Err x → away x ≡ judging d c
         by (ok v) z = let y : ◌≡◌ {A = ℕ} 0 1 = cc in absurd (omega arith)
-        by (refused j) z = let y : k ≡ j = cc in ap (λ k. judging d (refused k)) y
+        by (refused j) z = let y : x ≡ named j = cc in ap away y
 
-    pub ruled_judged : (v : Verdict) → r.answer ≡ Judged v → announced r.choices v ≡ judged_by d
+    pub ruled_judged : (v : Verdict) → r.answer ≡ Ok v → announced r.choices v ≡ judged_by d
     unfolding settling
     ruled_judged v a =
         by (judge_on (model_of (said_bytes d)) (question_of d.question)) (ap (λ (x : Ruling). x.answer) (sym i) ∙ a) (ap (λ (x : Ruling). x.choices) i)
         ∙ sym judge_is
       where
-        by : (c : Checked logic.Verdict) → (ruling c).answer ≡ Judged v → r.choices ≡ (ruling c).choices → announced r.choices v ≡ judging d c
+        by : (c : Checked logic.Verdict) → (ruling c).answer ≡ Ok v → r.choices ≡ (ruling c).choices → announced r.choices v ≡ judging d c
         by (ok l) z y = let x : v ≡ verdict_code l = cc in ap₂ announced y x
         by (refused k) z y = let x : ◌≡◌ {A = ℕ} 0 1 = cc in absurd (omega arith)
 
 -- ---- judging bytes
 
 module _ (m : Model) (q : Question) where
-  pub ruling_refused : {k : ℕ} → k ≡ refusal (limits m q.nodes) → (k ≡ 0 → ⊥) → record { answer = Judgement.Refused k; choices = replicate 1365 0 } ≡ ruling (judge_on m q)
-  ruling_refused {k} e h = by (limits m q.nodes) e
+  pub ruling_refused : (x : Refusal) → number x ≡ refusal (limits m q.nodes) → record { answer = Err x; choices = replicate 1365 0 } ≡ ruling (judge_on m q)
+  ruling_refused x e = by (limits m q.nodes) e
     where
-      by : (c : Checked (Unit {0})) → k ≡ refusal c → record { answer = Judgement.Refused k; choices = replicate 1365 0 } ≡ ruling (c >> ok (logic.verdict m q.start q.root))
-      by (ok u) i = absurd (h i)
-      by (refused j) i = ap (λ k. record { answer = Judgement.Refused k; choices = replicate 1365 0 }) i
+      by : (c : Checked (Unit {0})) → number x ≡ refusal c → record { answer = Err x; choices = replicate 1365 0 } ≡ ruling (c >> ok (logic.verdict m q.start q.root))
+      by (ok u) i = absurd (number_some x i)
+      by (refused j) i = ap (λ x. record { answer = Err x; choices = replicate 1365 0 }) (sym (named_number x) ∙ ap named i)
 
   pub ruling_judged : refusal (limits m q.nodes) ≡ 0 → {v : Verdict} {cs : Bytes} → v ≡ verdict_code (logic.verdict m q.start q.root)
-      → cs ≡ choices_code (logic.verdict m q.start q.root) → record { answer = Judged v; choices = cs } ≡ ruling (judge_on m q)
+      → cs ≡ choices_code (logic.verdict m q.start q.root) → record { answer = Ok v; choices = cs } ≡ ruling (judge_on m q)
   ruling_judged e i j =
-      ap₂ (λ v cs. record { answer = Judged v; choices = cs }) i j
+      ap₂ (λ v cs. record { answer = Ok v; choices = cs }) i j
       ∙ sym (ap (λ c. ruling (c >> ok (logic.verdict m q.start q.root))) (limits_passed m q.nodes e))
 
 -- The root of what is prepared has the verdict of the bytes.

@@ -10,6 +10,11 @@ use lib.Dec.{eqb, leb}
 use lib.ListN.{length, take, drop, replicate, length-take}
 use lib.Seq.{take_all, get_or-take}
 use borrow.Author.Tests.{eq-eqb, ne_eqb, eqb-true, leb-true, leb-false}
+use Rattle.std.specs.Prelude.{Ok, Err}
+use Rattle.refusals.specs.declared.Refusal.{Refusal}
+use Rattle.refusals.specs.declared.Refusal.TheVariants.{NoModel}
+use Rattle.refusals.specs.Number.{number, named}
+use Rattle.refusals.proofs.Named.{named_number, number_some}
 use Rattle.logic.specs.Checked.{Checked, ok, refused, ◌>>=◌, got}
 use Rattle.logic.specs.promises.Refusal.{refusal, held}
 use Rattle.logic.specs.Model.{Model}
@@ -25,20 +30,19 @@ use Rattle.questions.proofs.AcceptedFacts.{accepted}
 use Rattle.protocol.specs.Calls.{question_for}
 use Rattle.protocol.specs.promises.Chains.{do_put}
 use Rattle.plan_judge.specs.declared.Desk.{Desk}
-use Rattle.plan_judge.specs.declared.Taken.TheVariants.{Done, Refused}
 use Rattle.judging.specs.declared.Verdict.{Verdict}
 use Rattle.plan_judge.specs.View.{model_bytes, view}
 use Rattle.plan_judge.specs.promises.State.{held_size}
-use Rattle.plan_judge.specs.promises.Values.{padded, unjudged, taking, holding, loaded_by, asking, put_by}
+use Rattle.plan_judge.specs.promises.Values.{padded, nothing, taking, holding, loaded_by, asking, put_by}
 use Rattle.plan_judge.proofs.DesksHoldHistory.{whole_length, model_length, question_length}
 
 -- ---- refusals and values
 
-taking_refused : {A : Type 0} (d e : Desk) (c : Checked A) (k : ℕ) → k ≡ refusal c → (k ≡ 0 → ⊥) → record { answer = Refused k; desk = d } ≡ taking d c e
-taking_refused d e (ok a) k i h = absurd (h i)
-taking_refused d e (refused j) k i h = ap (λ n. record { answer = Refused n; desk = d }) i
+taking_refused : {A : Type 0} (d e : Desk) (c : Checked A) (r : Refusal) → number r ≡ refusal c → record { answer = Err r; desk = d } ≡ taking d c e
+taking_refused d e (ok a) r i = absurd (number_some r i)
+taking_refused d e (refused j) r i = ap (λ x. record { answer = Err x; desk = d }) (sym (named_number r) ∙ ap named i)
 
-taking_done : {A : Type 0} (d e : Desk) (c : Checked A) {a : A} → c ≡ ok a → record { answer = Done; desk = e } ≡ taking d c e
+taking_done : {A : Type 0} (d e : Desk) (c : Checked A) {a : A} → c ≡ ok a → record { answer = Ok tt; desk = e } ≡ taking d c e
 taking_done d e c h = sym (ap (λ z. taking d z e) h)
 
 drop_zeros : (n m : ℕ) → drop n (replicate m 0) ≡ replicate {A = ℕ} (m - n) 0
@@ -54,19 +58,22 @@ padded_copy n b a e = e ∙ ap (λ z. b ++ z) (drop_zeros (length b) n)
 -- ---- load
 
 module _ (d : Desk) (b : Bytes) where
-  pub load_refused : (k : ℕ) → k ≡ refusal (read_model b) → (k ≡ 0 → ⊥) → record { answer = Refused k; desk = d } ≡ loaded_by d b
+  pub load_refused : (r : Refusal) → number r ≡ refusal (read_model b) → record { answer = Err r; desk = d } ≡ loaded_by d b
   unfolding loaded_by
-  load_refused k e h = taking_refused d (holding b) (read_model b) k e h
+  load_refused r e = taking_refused d (holding b) (read_model b) r e
 
   module _ (e : refusal (read_model b) ≡ 0) where
     model_read : read_model b ≡ ok (model_of b)
     model_read = read_passed b (passed_all b e)
 
-    pub load_done : (a : Bytes) → a ≡ padded 6144 b → (v : Verdict) → v ≡ unjudged
-        → record { answer = Done; desk = record { blocks = length b / 512; model = a; asked = false; question = replicate 512 0; judged = false; verdict = v; choices = replicate 1365 0 } } ≡ loaded_by d b
-    unfolding loaded_by holding
-    load_done a i v j =
-        ap₂ (λ m v. record { answer = Done; desk = record { blocks = length b / 512; model = m; asked = false; question = replicate 512 0; judged = false; verdict = v; choices = replicate 1365 0 } }) i j
+    -- The empty desk with this model.
+    abbrev pub with_model : Bytes → Desk → Desk
+    with_model a e = record { blocks = length b / 512; model = a; asked = e.asked; question = e.question; judged = e.judged; verdict = e.verdict; choices = e.choices }
+
+    pub load_done : (a : Bytes) → a ≡ padded 6144 b → (e : Desk) → e ≡ nothing → record { answer = Ok tt; desk = with_model a e } ≡ loaded_by d b
+    unfolding loaded_by holding nothing
+    load_done a i e j =
+        ap₂ (λ m e. record { answer = Ok tt; desk = with_model m e }) i j
         ∙ taking_done d (holding b) (read_model b) model_read
 
     pub load_fits : length b ≤ 6144
@@ -163,9 +170,9 @@ module _ (d : Desk) where
       unfolding do_put
       put_is = ap (λ o. held 20 o >>= (λ m. question_for m b)) model_some ∙ question_is
 
-      pub put_refused : (k : ℕ) → k ≡ refusal put_question → (k ≡ 0 → ⊥) → record { answer = Refused k; desk = d } ≡ put_by d b
+      pub put_refused : (r : Refusal) → number r ≡ refusal put_question → record { answer = Err r; desk = d } ≡ put_by d b
       unfolding put_by
-      put_refused k e i = taking_refused d (asking d b) (do_put (view d) b) k (e ∙ ap refusal (sym put_is)) i
+      put_refused r e = taking_refused d (asking d b) (do_put (view d) b) r (e ∙ ap refusal (sym put_is))
 
       module _ (e : refusal put_question ≡ 0) where
         question_read : put_question ≡ ok (question_of b)
@@ -174,13 +181,16 @@ module _ (d : Desk) where
         pub put_fits : length b ≤ 512
         put_fits = let l = question_length (byte d.model 2) (byte d.model 3) (byte d.model 4) b question_read in omega arith
 
-        pub put_done : (a : Bytes) → a ≡ padded 512 b → (v : Verdict) → v ≡ unjudged
-            → record { answer = Done; desk = record { blocks = d.blocks; model = d.model; asked = true; question = a; judged = false; verdict = v; choices = replicate 1365 0 } } ≡ put_by d b
-        unfolding put_by asking
-        put_done a i v j =
-            ap₂ (λ z v. record { answer = Done; desk = record { blocks = d.blocks; model = d.model; asked = true; question = z; judged = false; verdict = v; choices = replicate 1365 0 } }) i j
+        -- The desk's model with this question, and nothing else.
+        abbrev pub with_question : Bytes → Desk → Desk
+        with_question a e = record { blocks = d.blocks; model = d.model; asked = true; question = a; judged = e.judged; verdict = e.verdict; choices = e.choices }
+
+        pub put_done : (a : Bytes) → a ≡ padded 512 b → (e : Desk) → e ≡ nothing → record { answer = Ok tt; desk = with_question a e } ≡ put_by d b
+        unfolding put_by asking nothing
+        put_done a i e j =
+            ap₂ (λ z e. record { answer = Ok tt; desk = with_question z e }) i j
             ∙ taking_done d (asking d b) (do_put (view d) b) (put_is ∙ question_read)
 
-  pub put_unheld : (b : Bytes) → held_size d.model d.blocks ≡ 0 → record { answer = Refused 20; desk = d } ≡ put_by d b
+  pub put_unheld : (b : Bytes) → held_size d.model d.blocks ≡ 0 → record { answer = Err NoModel; desk = d } ≡ put_by d b
   unfolding put_by do_put
   put_unheld b e = sym (ap (λ o. taking d (held 20 o >>= (λ m. question_for m b)) (asking d b)) (model_none e))

@@ -7,12 +7,13 @@ use mathlib.Core.List.{◌++◌}
 use lib.Dec.{leb}
 use lib.ListN.{length, take, drop, length-take}
 use borrow.Author.Tests.{eq-eqb, le-leb, lt-leb}
+use Rattle.std.specs.Prelude.{Ok, Err}
+use Rattle.refusals.specs.declared.Refusal.TheVariants.{SmallBuffer, NoModel}
 use Rattle.logic.specs.Checked.{Checked, ok, ◌>>=◌, ◌>>◌, guard}
 use Rattle.logic.specs.promises.Refusal.{held}
 use Rattle.blocks.specs.Bytes.{Bytes}
 use Rattle.protocol.specs.promises.Chains.{do_write_model}
 use Rattle.plan_judge.specs.declared.Desk.{Desk}
-use Rattle.plan_judge.specs.declared.Written.TheVariants.{Bytes as Filled, Refused}
 use Rattle.plan_judge.specs.View.{model_bytes, blocks_in, view}
 use Rattle.plan_judge.specs.promises.State.{held_size}
 use Rattle.plan_judge.specs.promises.Values.{writing, filling, model_written_by, model_filled_by}
@@ -25,7 +26,7 @@ module _ (d : Desk) (a : Bytes) {c : Checked Bytes} (e : do_write_model (view d)
   replied = (sym (ap writing e), sym (ap (filling a) e))
 
 module _ (d : Desk) (a : Bytes) where
-  pub write_model_none : held_size d.model d.blocks ≡ 0 → (Refused 20 ≡ model_written_by d (length a)) × (a ≡ model_filled_by d a)
+  pub write_model_none : held_size d.model d.blocks ≡ 0 → (Err NoModel ≡ model_written_by d (length a)) × (a ≡ model_filled_by d a)
   unfolding do_write_model
   write_model_none e = replied d a (ap (λ o. held 20 o >>= (λ m. guard 12 (leb (length (view d).blocks) (length a)) >> ok (view d).blocks)) (model_none d e))
 
@@ -55,11 +56,11 @@ module _ (d : Desk) (a : Bytes) where
         ap₂ (λ o b. held 20 o >>= (λ m. guard 12 (leb (length b) (length a)) >> ok b)) (model_some d passed) blocks_are
         ∙ ap (λ k. guard 12 (leb k (length a)) >> ok (said_bytes d)) (sym held_are)
 
-    pub write_model_short : length a < n → (Refused 12 ≡ model_written_by d (length a)) × (a ≡ model_filled_by d a)
+    pub write_model_short : length a < n → (Err SmallBuffer ≡ model_written_by d (length a)) × (a ≡ model_filled_by d a)
     write_model_short l = replied d a (fitting ∙ ap (λ t. guard 12 t >> ok (said_bytes d)) (lt-leb n (length a) l))
 
     pub write_model_done : n ≤ length a → (left : Bytes) → left ≡ take n d.model ++ drop (length (take n d.model)) a
-        → (Filled n ≡ model_written_by d (length a)) × (left ≡ model_filled_by d a)
+        → (Ok n ≡ model_written_by d (length a)) × (left ≡ model_filled_by d a)
     write_model_done l left i =
         let r = replied d a (fitting ∙ ap (λ t. guard 12 t >> ok (said_bytes d)) (le-leb n (length a) l)) in
-        (ap Filled held_are ∙ r.0, i ∙ ap (λ b. b ++ drop (length b) a) cut_held ∙ r.1)
+        (ap Ok held_are ∙ r.0, i ∙ ap (λ b. b ++ drop (length b) a) cut_held ∙ r.1)

@@ -10,6 +10,11 @@ use lib.Dec.{leb}
 use lib.ListN.{length, take, drop, length-append}
 use lib.Seq.{take-append_seam, length-take-le}
 use borrow.Author.Tests.{le-leb, lt-leb}
+use Rattle.std.specs.Prelude.{Ok, Err}
+use Rattle.refusals.specs.declared.Refusal.{Refusal}
+use Rattle.refusals.specs.declared.Refusal.TheVariants.{SmallBuffer, NoPlanShown}
+use Rattle.refusals.specs.Number.{number, named}
+use Rattle.refusals.proofs.Named.{named_number, number_some}
 use Rattle.logic.specs.Checked.{Checked, ok, refused, ◌>>=◌, ◌>>◌, guard}
 use Rattle.logic.specs.promises.Refusal.{refusal, held}
 use Rattle.logic.specs.Model.{Model}
@@ -33,7 +38,6 @@ use Rattle.plan_judge.specs.declared.Desk.{Desk}
 use Rattle.judging.specs.declared.PlanRecord.{PlanRecord}
 use Rattle.judging.specs.declared.Verdict.{Verdict}
 use Rattle.judging.specs.declared.Verdict.TheVariants.{No, Yes, YesPlan}
-use Rattle.plan_judge.specs.declared.Written.TheVariants.{Bytes as Filled, Refused}
 use Rattle.plan_judge.specs.View.{choices_in, verdict_in, verdict_on, view}
 use Rattle.plan_judge.specs.promises.Values.{writing, written_by, filling, filled_by}
 use Rattle.plan_judge.specs.promises.State.{held_both, held_goal, PlanRoot, plan_size, size_in, shown_size, shown_total}
@@ -173,17 +177,17 @@ abbrev write_for : Option logic.Verdict → ℕ → Model → Question → Goal 
 write_for o size m q g = held 23 o >>= (λ v. sheet_shown v >>= sheet_for g.steps q.start size)
 
 module _ (d : Desk) (a : Bytes) where
-  refused_both : (k : ℕ) → k ≡ refusal (do_write (view d) (length a)) → (k ≡ 0 → ⊥) → (Refused k ≡ written_by d (length a)) × (a ≡ filled_by d a)
+  refused_both : (x : Refusal) → number x ≡ refusal (do_write (view d) (length a)) → (Err x ≡ written_by d (length a)) × (a ≡ filled_by d a)
   unfolding written_by filled_by
-  refused_both k e h = by (do_write (view d) (length a)) e
+  refused_both x e = by (do_write (view d) (length a)) e
     where
-      by : (c : Checked Bytes) → k ≡ refusal c → (Refused k ≡ writing c) × (a ≡ filling a c)
-      by (ok b) i = absurd (h i)
-      by (refused j) i = (ap Refused i, refl)
+      by : (c : Checked Bytes) → number x ≡ refusal c → (Err x ≡ writing c) × (a ≡ filling a c)
+      by (ok b) i = absurd (number_some x i)
+      by (refused j) i = (ap Err (sym (named_number x) ∙ ap named i), refl)
 
-  pub write_state : (k : ℕ) → k ≡ refusal (held_goal (view d)) → (k ≡ 0 → ⊥) → (Refused k ≡ written_by d (length a)) × (a ≡ filled_by d a)
+  pub write_state : (x : Refusal) → number x ≡ refusal (held_goal (view d)) → (Err x ≡ written_by d (length a)) × (a ≡ filled_by d a)
   unfolding do_write
-  write_state k e h = refused_both k (goal_refused (view d) (write_for (view d).verdict (length a)) k e h) h
+  write_state x e = refused_both x (goal_refused (view d) (write_for (view d).verdict (length a)) (number x) e (number_some x))
 
   module _ (e : refusal (held_goal (view d)) ≡ 0) where
     abbrev steps : ℕ
@@ -196,11 +200,10 @@ module _ (d : Desk) (a : Bytes) where
     unfolding do_write question_of
     write_is = goal_passed d e (write_for (view d).verdict (length a)) ∙ bind_assoc (held 23 (view d).verdict) sheet_shown (sheet_for steps start (length a))
 
-    pub write_none : (count : ℕ) → count ≡ shown_size (view d).verdict → count ≡ 0 → (Refused 23 ≡ written_by d (length a)) × (a ≡ filled_by d a)
+    pub write_none : (count : ℕ) → count ≡ shown_size (view d).verdict → count ≡ 0 → (Err NoPlanShown ≡ written_by d (length a)) × (a ≡ filled_by d a)
     write_none count i z =
-        refused_both 23
+        refused_both NoPlanShown
         (sym (ap refusal (write_is ∙ ap (λ c. c >>= sheet_for steps start (length a)) ((shown_by d e).none_shown (sym i ∙ z)))))
-        (λ y. omega arith)
 
     module _ (count : ℕ) (i : count ≡ shown_size (view d).verdict) (h : count ≡ 0 → ⊥) where
       abbrev shown : List ℕ
@@ -227,16 +230,15 @@ module _ (d : Desk) (a : Bytes) where
           ∙ ap (λ c. c >>= sheet_for steps start (length a)) ((shown_by d e).some_shown (λ z. h (i ∙ z)))
           ∙ ap (λ k. sheet_for steps start (length a) (record { weight = shown_total d.verdict; choices = take k d.choices })) (sym i)
 
-      pub write_short : length a < 512 * blocks_for count → (Refused 12 ≡ written_by d (length a)) × (a ≡ filled_by d a)
+      pub write_short : length a < 512 * blocks_for count → (Err SmallBuffer ≡ written_by d (length a)) × (a ≡ filled_by d a)
       write_short l =
-          refused_both 12
+          refused_both SmallBuffer
           (sym (ap refusal (write_by ∙ ap (λ t. guard 12 t >> ok sheet) (lt-leb (length sheet) (length a) (omega (arith, sheet_size))))))
-          (λ y. omega arith)
 
       pub write_done : 512 * blocks_for count ≤ length a → (r : ℕ) → r ≡ 512 * blocks_for (length shown) → (a' : Bytes) → a' ≡ sheet ++ drop r a
-          → (Filled r ≡ written_by d (length a)) × (a' ≡ filled_by d a)
+          → (Ok r ≡ written_by d (length a)) × (a' ≡ filled_by d a)
       unfolding written_by filled_by
       write_done l r j a' k =
           let y : r ≡ length sheet = j ∙ sym (sheet_length steps start (shown_total d.verdict) shown) in
           let w : do_write (view d) (length a) ≡ ok sheet = write_by ∙ ap (λ t. guard 12 t >> ok sheet) (le-leb (length sheet) (length a) (omega (arith, sheet_size))) in
-          (ap Filled y ∙ sym (ap writing w), k ∙ ap (λ x. sheet ++ drop x a) y ∙ sym (ap (filling a) w))
+          (ap Ok y ∙ sym (ap writing w), k ∙ ap (λ x. sheet ++ drop x a) y ∙ sym (ap (filling a) w))

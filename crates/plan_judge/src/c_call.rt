@@ -8,10 +8,10 @@ ghost use Rattle.questions.specs.Layout.{question_of};
 ghost use Rattle.questions.specs.Grounds.{read_question};
 ghost use Rattle.plan_judge.specs.View.{choices_in};
 ghost use Rattle.plan_judge.specs.promises.State.{PlanRoot, size_in};
-ghost use Rattle.plan_judge.specs.promises.CChain.{c_chain, told_on, Begins, told_sheet, Tells};
+ghost use Rattle.plan_judge.specs.promises.CChain.{c_chain, told_on, Begins, told_sheet, Tells, c_code};
 
-use crate::{Judgement, Verdict, judged_on, plan_size, question_ground, sheet_size};
-use models::model_refusal;
+use crate::{Refusal, Ruling, Verdict, accept_question, judged_on, plan_size, sheet_size};
+use models::accept_model;
 use sheets::writer::write_sheet;
 
 // Gives 0 for no, 1 for yes, or 100 plus the refusal. The sheet buffer changes only by the write.
@@ -20,52 +20,59 @@ pub fn plan_judge(model: &[u8], question: &[u8], sheet: &mut [u8]) -> u32
         let sheet = sheet.entry.now in
         Tells (c_chain model question (length sheet)) sheet sheet' result }
 {
-    let k = model_refusal(model);
-    if k != 0 {
-        return 100 + k;
+    match judge_and_write(model, question, sheet) {
+        Ok(yes) => u32::from(yes),
+        Err(r) => 100 + r.number(),
     }
-    let g = question_ground(question, model);
-    if g != 0 {
-        return 100 + g;
-    }
+}
+
+// Whether the answer is yes, or the refusal.
+fn judge_and_write(model: &[u8], question: &[u8], sheet: &mut [u8]) -> Result<bool, Refusal>
+    ensures { let sheet' = sheet.exit.now in let model = model.entry.now in let question = question.entry.now in
+        let sheet = sheet.entry.now in
+        Tells (c_chain model question (length sheet)) sheet sheet' (c_code result) }
+{
+    accept_model(model)?;
+    accept_question(question, model)?;
     told(model, question, sheet)
 }
 
 // The same where both are accepted.
-fn told(model: &[u8], question: &[u8], sheet: &mut [u8]) -> u32
+fn told(model: &[u8], question: &[u8], sheet: &mut [u8]) -> Result<bool, Refusal>
     requires { (refusal (read_model model.now) ≡ 0)
         × (refusal (read_question (state_count model.now) (action_count model.now) (prop_count model.now) question.now) ≡ 0) }
     ensures { let sheet' = sheet.exit.now in let model = model.entry.now in let question = question.entry.now in
         let sheet = sheet.entry.now in
-        Tells (told_on (length sheet) (model_of model) (question_of question)) sheet sheet' result }
+        Tells (told_on (length sheet) (model_of model) (question_of question)) sheet sheet' (c_code result) }
 {
-    let r = judged_on(model, question);
-    let a = r.answer;
-    let choices = r.choices;
-    match a {
-        Judgement::Refused(k) => 100 + k,
-        Judgement::Judged(v) => match v {
-            Verdict::No(_) => 0,
-            Verdict::Yes => 1,
-            Verdict::YesPlan(p) => told_plan(model, question, sheet, p.total, &choices),
-        },
+    let Ruling { answer, choices } = judged_on(model, question);
+    match answer? {
+        Verdict::No(_) => Ok(false),
+        Verdict::Yes => Ok(true),
+        Verdict::YesPlan(p) => told_plan(model, question, sheet, p.total, &choices),
     }
 }
 
-// Writes the sheet of the plan with which the choices begin, and gives 1; or ground 12, where the buffer has no room for it.
-fn told_plan(model: &[u8], question: &[u8], sheet: &mut [u8], total: i64, choices: &[u8]) -> u32
+// Writes the sheet of the plan with which the choices begin; or ground 12, where the buffer has no room for it.
+fn told_plan(
+    model: &[u8],
+    question: &[u8],
+    sheet: &mut [u8],
+    total: i64,
+    choices: &[u8],
+) -> Result<bool, Refusal>
     requires { PlanRoot model.now question.now × Begins model.now question.now choices.now × (length choices.now ≤ 1365) }
     ensures { let sheet' = sheet.exit.now in let model = model.entry.now in let question = question.entry.now in
         let sheet = sheet.entry.now in let choices = choices.entry.now in
         let n = size_in (choices_in (model_of model) (question_of question) choices) in
-        Tells (told_sheet question (length sheet) total (take n choices)) sheet sheet' result }
+        Tells (told_sheet question (length sheet) total (take n choices)) sheet sheet' (c_code result) }
 {
     let n = questions::root_steps(question);
     let s = questions::start(question);
     let count = plan_size(model, choices, n as usize, s as usize);
     if sheet.len() < sheet_size(count) {
-        return 112;
+        return Err(Refusal::SmallBuffer);
     }
     write_sheet(sheet, model, n, s, total, &choices[..count]);
-    1
+    Ok(true)
 }

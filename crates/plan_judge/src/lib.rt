@@ -2,8 +2,8 @@
 // its caller; a refusal leaves the desk, and each lent buffer, as found.
 #![tactic(auto)]
 
-ghost use Rattle.std.specs.Prelude.{◌≡◌, true, ◌*◌, ◌-◌, ◌≤◌, ◌<◌, min, length, take};
-ghost use Rattle.logic.specs.Checked.{refused};
+ghost use Rattle.std.specs.Prelude.{◌≡◌, true, ◌*◌, ◌-◌, ◌≤◌, ◌<◌, min, length, take, replicate};
+ghost use Rattle.refusals.specs.Number.{refusal_number};
 ghost use Rattle.logic.specs.promises.Refusal.{refusal};
 ghost use Rattle.logic.specs.Choices.{read_plan};
 ghost use Rattle.blocks.specs.Bytes.{byte};
@@ -29,10 +29,11 @@ pub mod c_call;
 use blocks::BLOCK;
 pub use judging::{Denial, PlanRecord, Verdict};
 pub use lamp::Lamp;
-use limits::{COUNTS, limit_refusal, plan_totals};
+use limits::{COUNTS, accept_limits, plan_totals};
 use plan_choices::CHOICES;
 use prepared_model::{MODEL, prepare_model};
 use prepared_question::{QUESTION, prepare_question};
+pub use refusals::Refusal;
 use sheets::GATHERED;
 
 // The bytes of the longest model.
@@ -51,38 +52,19 @@ pub struct Desk {
     pub choices: [u8; CHOICES],
 }
 
-// The answer of load and put.
-#[derive(Clone, Copy)]
-pub enum Taken {
-    Done,
-    Refused(u32),
-}
-
+// The answer of load and put, and the desk after it.
 #[derive(Clone, Copy)]
 pub struct Taking {
-    pub answer: Taken,
+    pub answer: Result<(), Refusal>,
     pub desk: Desk,
 }
 
-// The answer of judge; the choices of a shown plan stand beside it.
-#[derive(Clone, Copy)]
-pub enum Judgement {
-    Judged(Verdict),
-    Refused(u32),
-}
-
+// The answer of judge, and the desk after it; the choices of a shown plan stand beside the answer.
 #[derive(Clone, Copy)]
 pub struct Judging {
-    pub answer: Judgement,
+    pub answer: Result<Verdict, Refusal>,
     pub choices: [u8; CHOICES],
     pub desk: Desk,
-}
-
-// The answer of write and write_model: the number of bytes written.
-#[derive(Clone, Copy)]
-pub enum Written {
-    Bytes(usize),
-    Refused(u32),
 }
 
 // What check reports of a sheet that it accepts: whether the sheet's total meets the bound, and its lamp.
@@ -90,13 +72,6 @@ pub enum Written {
 pub struct Report {
     pub met: bool,
     pub lamp: Lamp,
-}
-
-// The answer of check.
-#[derive(Clone, Copy)]
-pub enum Checking {
-    Accepted(Report),
-    Refused(u32),
 }
 
 // What stands for a verdict where a desk is not judged.
@@ -124,31 +99,31 @@ pub fn empty() -> Desk
     }
 }
 
+// The answer where a model or a question is refused: the desk stays.
+fn turned_down(d: Desk, r: Refusal) -> Taking
+    ensures { result ≡ record { answer = Err r; desk = d } }
+{
+    Taking {
+        answer: Err(r),
+        desk: d,
+    }
+}
+
 // Loads a model, which clears the question and the verdict; or refuses it by grounds 1 to 7.
 pub fn load(d: Desk, b: &[u8]) -> Taking
     ensures { result ≡ loaded_by d b.now }
 {
-    let k = models::model_refusal(b);
-    if k != 0 {
-        return Taking {
-            answer: Taken::Refused(k),
-            desk: d,
-        };
+    if let Err(r) = models::accept_model(b) {
+        return turned_down(d, r);
     }
     let mut m = [0u8; MODEL_BYTES];
     blocks::buffers::copy(&mut m, b);
-    let q = [0u8; BLOCK];
-    let c = [0u8; CHOICES];
     Taking {
-        answer: Taken::Done,
+        answer: Ok(()),
         desk: Desk {
             blocks: b.len() / BLOCK,
             model: m,
-            asked: false,
-            question: q,
-            judged: false,
-            verdict: unjudged(),
-            choices: c,
+            ..empty()
         },
     }
 }
@@ -168,21 +143,21 @@ fn held_bytes(model: &[u8], blocks: usize) -> usize
     ensures { result ≡ held_size model.now blocks }
 {
     let n = blocks_end(model.len(), blocks);
-    if models::model_refusal(&model[..n]) != 0 {
+    if models::accept_model(&model[..n]).is_err() {
         return 0;
     }
     n
 }
 
-// The ground on which a question is refused for the model in these bytes: 1 to 6, 9 and 13; 0 where there is none.
-fn question_ground(b: &[u8], model: &[u8]) -> u32
+// Whether a question is accepted for the model in these bytes; else its ground, 1 to 6, 9 or 13.
+fn accept_question(b: &[u8], model: &[u8]) -> Result<(), Refusal>
     ensures { let model = model.entry.now in let b = b.entry.now in
-        result ≡ refusal (read_question (byte model 2) (byte model 3) (byte model 4) b) }
+        refusal_number result ≡ refusal (read_question (byte model 2) (byte model 3) (byte model 4) b) }
 {
     let states = models::state_count(model);
     let actions = models::action_count(model);
     let props = models::prop_count(model);
-    questions::question_refusal(b, states, actions, props)
+    questions::accept_question(b, states, actions, props)
 }
 
 // Puts a question, which clears the verdict; or refuses it by grounds 20, then 1 to 6, 9 and 13.
@@ -190,61 +165,48 @@ pub fn put(d: Desk, b: &[u8]) -> Taking
     ensures { result ≡ put_by d b.now }
 {
     if held_bytes(&d.model, d.blocks) == 0 {
-        return Taking {
-            answer: Taken::Refused(20),
-            desk: d,
-        };
+        return turned_down(d, Refusal::NoModel);
     }
-    let k = question_ground(b, &d.model);
-    if k != 0 {
-        return Taking {
-            answer: Taken::Refused(k),
-            desk: d,
-        };
+    if let Err(r) = accept_question(b, &d.model) {
+        return turned_down(d, r);
     }
-    let m = d.model;
     let mut q = [0u8; BLOCK];
     blocks::buffers::copy(&mut q, b);
-    let c = [0u8; CHOICES];
     Taking {
-        answer: Taken::Done,
+        answer: Ok(()),
         desk: Desk {
             blocks: d.blocks,
-            model: m,
+            model: d.model,
             asked: true,
             question: q,
-            judged: false,
-            verdict: unjudged(),
-            choices: c,
+            ..empty()
         },
     }
 }
 
-// The ground of the desk on which judge is refused: no model, no question; 0 where both are held.
-fn state_ground(d: Desk) -> u32
-    ensures { result ≡ refusal (held_both (view d)) }
+// Whether the desk holds a model and a question for it; else the ground on which judge is refused.
+fn question_held(d: Desk) -> Result<(), Refusal>
+    ensures { refusal_number result ≡ refusal (held_both (view d)) }
 {
     if held_bytes(&d.model, d.blocks) == 0 {
-        return 20;
+        return Err(Refusal::NoModel);
     }
     if !d.asked {
-        return 21;
+        return Err(Refusal::NoQuestion);
     }
-    let q = d.question;
-    if question_ground(&q, &d.model) != 0 {
-        return 21;
+    if accept_question(&d.question, &d.model).is_err() {
+        return Err(Refusal::NoQuestion);
     }
-    0
+    Ok(())
 }
 
 // The answer where judging is refused: the desk stays.
-fn turned_away(d: Desk, k: u32) -> Judging
-    ensures { result ≡ judging d (refused k) }
+fn turned_away(d: Desk, r: Refusal) -> Judging
+    ensures { result ≡ record { answer = Err r; choices = replicate 1365 0; desk = d } }
 {
-    let choices = [0u8; CHOICES];
     Judging {
-        answer: Judgement::Refused(k),
-        choices: choices,
+        answer: Err(r),
+        choices: [0u8; CHOICES],
         desk: d,
     }
 }
@@ -252,7 +214,7 @@ fn turned_away(d: Desk, k: u32) -> Judging
 // What judging came to: the answer, and the choices of a shown plan beside it.
 #[derive(Clone, Copy)]
 pub struct Ruling {
-    pub answer: Judgement,
+    pub answer: Result<Verdict, Refusal>,
     pub choices: [u8; CHOICES],
 }
 
@@ -266,64 +228,46 @@ fn judged_on(m: &[u8], q: &[u8]) -> Ruling
     let query = prepare_question(q);
     let counts = plan_totals(&model, &query);
     let mut choices = [0u8; CHOICES];
-    let ground = limit_refusal(&model, &query, &counts);
-    if ground != 0 {
-        return Ruling {
-            answer: Judgement::Refused(ground),
-            choices: choices,
-        };
-    }
-    let v = judging::judged(&model, &query, &counts, &mut choices);
-    Ruling {
-        answer: Judgement::Judged(v),
-        choices: choices,
-    }
+    let answer = match accept_limits(&model, &query, &counts) {
+        Ok(()) => Ok(judging::judged(&model, &query, &counts, &mut choices)),
+        Err(r) => Err(r),
+    };
+    Ruling { answer, choices }
 }
 
 // Judges the question that is held and sets the verdict; or refuses by grounds 20, 21, 24, 25.
 pub fn judge(d: Desk) -> Judging
     ensures { result ≡ judged_by d }
 {
-    let k = state_ground(d);
-    if k != 0 {
-        return turned_away(d, k);
+    if let Err(r) = question_held(d) {
+        return turned_away(d, r);
     }
-    let m = d.model;
-    let q = d.question;
     let n = blocks_end(MODEL_BYTES, d.blocks);
-    let r = judged_on(&m[..n], &q);
-    let a = r.answer;
-    let choices = r.choices;
-    match a {
-        Judgement::Refused(k) => turned_away(d, k),
-        Judgement::Judged(v) => Judging {
-            answer: Judgement::Judged(v),
-            choices: choices,
+    let Ruling { answer, choices } = judged_on(&d.model[..n], &d.question);
+    match answer {
+        Err(r) => turned_away(d, r),
+        Ok(v) => Judging {
+            answer: Ok(v),
+            choices,
             desk: Desk {
-                blocks: d.blocks,
-                model: m,
-                asked: d.asked,
-                question: q,
                 judged: true,
                 verdict: v,
-                choices: choices,
+                choices,
+                ..d
             },
         },
     }
 }
 
-// The ground of the desk on which write and check are refused: no model, no question, a root that sets no bound on plans; else 0.
-fn plan_ground(d: Desk) -> u32
-    ensures { result ≡ refusal (held_goal (view d)) }
+// Whether the desk holds a question whose root sets a bound on plans; else the ground on which write and check are refused.
+fn plan_asked(d: Desk) -> Result<(), Refusal>
+    ensures { refusal_number result ≡ refusal (held_goal (view d)) }
 {
-    let k = state_ground(d);
-    if k != 0 {
-        return k;
+    question_held(d)?;
+    if !questions::root_sets_bound(&d.question) {
+        return Err(Refusal::NoBoundOnPlans);
     }
-    if questions::root_sets_bound(&d.question) {
-        return 0;
-    }
-    22
+    Ok(())
 }
 
 // How many choices the n-step plan has with which these choices begin; 0 where they begin with none.
@@ -361,11 +305,8 @@ fn shown_size(d: Desk) -> usize
     if !d.judged {
         return 0;
     }
-    let v = d.verdict;
-    let q = d.question;
-    let cs = d.choices;
-    match v {
-        Verdict::YesPlan(_) => first_size(&d.model, d.blocks, &q, &cs),
+    match d.verdict {
+        Verdict::YesPlan(_) => first_size(&d.model, d.blocks, &d.question, &d.choices),
         Verdict::Yes => 0,
         Verdict::No(_) => 0,
     }
@@ -375,7 +316,7 @@ fn shown_size(d: Desk) -> usize
 pub fn shown_choices(d: Desk) -> usize
     ensures { result ≡ shown_size (view d).verdict }
 {
-    if plan_ground(d) != 0 {
+    if plan_asked(d).is_err() {
         return 0;
     }
     shown_size(d)
@@ -401,62 +342,53 @@ fn sheet_size(count: usize) -> usize
 }
 
 // Writes the shown plan's sheet into the first blocks of a lent buffer; or refuses by grounds 20 to 23, then 12, and leaves the buffer.
-pub fn write(d: Desk, buf: &mut [u8]) -> Written
+pub fn write(d: Desk, buf: &mut [u8]) -> Result<usize, Refusal>
     ensures value { result ≡ written_by d (length buf.old) }
     ensures frame { buf.new ≡ filled_by d buf.old }
 {
-    let k = plan_ground(d);
-    if k != 0 {
-        return Written::Refused(k);
-    }
+    plan_asked(d)?;
     let count = shown_size(d);
     if count == 0 {
-        return Written::Refused(23);
+        return Err(Refusal::NoPlanShown);
     }
     if buf.len() < sheet_size(count) {
-        return Written::Refused(12);
+        return Err(Refusal::SmallBuffer);
     }
     let n = questions::root_steps(&d.question);
     let s = questions::start(&d.question);
     let w = shown_total(d.verdict);
-    let m = d.model;
-    let cs = d.choices;
-    let end = blocks_end(MODEL_BYTES, d.blocks);
-    Written::Bytes(sheets::writer::write_sheet(buf, &m[..end], n, s, w, &cs[..count]))
+    let model = &d.model[..blocks_end(MODEL_BYTES, d.blocks)];
+    Ok(sheets::writer::write_sheet(buf, model, n, s, w, &d.choices[..count]))
 }
 
 // Writes the blocks of the held model into the first bytes of a lent buffer; or refuses by ground 20, then 12, and leaves the buffer.
-pub fn write_model(d: Desk, buf: &mut [u8]) -> Written
+pub fn write_model(d: Desk, buf: &mut [u8]) -> Result<usize, Refusal>
     ensures value { result ≡ model_written_by d (length buf.old) }
     ensures frame { buf.new ≡ model_filled_by d buf.old }
 {
     let n = held_bytes(&d.model, d.blocks);
     if n == 0 {
-        return Written::Refused(20);
+        return Err(Refusal::NoModel);
     }
-    if n <= buf.len() {
-        let m = d.model;
-        blocks::buffers::copy(buf, &m[..n]);
-        return Written::Bytes(n);
+    if buf.len() < n {
+        return Err(Refusal::SmallBuffer);
     }
-    Written::Refused(12)
+    blocks::buffers::copy(buf, &d.model[..n]);
+    Ok(n)
 }
 
-// The first ground, 1 to 6 or 10, on which a sheet is refused for a question that asks for a plan; 0 where it has one.
-fn sheet_ground(m: &[u8], q: &[u8], b: &[u8]) -> u32
+// Whether a sheet has a plan for a question that asks for one; else its ground, 1 to 6 or 10.
+fn accept_sheet(m: &[u8], q: &[u8], b: &[u8]) -> Result<(), Refusal>
     requires { PlanRoot m.now q.now }
     ensures { let m = m.entry.now in let q = q.entry.now in let b = b.entry.now in
-        result ≡ refusal (plan_on (model_of m) (node_of q (node_count q - 1)).n (start_of q) b) }
+        refusal_number result ≡ refusal (plan_on (model_of m) (node_of q (node_count q - 1)).n (start_of q) b) }
 {
     let n = questions::root_steps(q) as usize;
     let s = questions::start(q) as usize;
-    let k = sheets::sheet_refusal(b, n, s);
-    if k != 0 {
-        return k;
-    }
+    sheets::accept_sheet(b, n, s)?;
     let mut choices = [0u8; GATHERED];
     let count = sheets::gather(b, &mut choices);
-    sheets::plans::plan_refusal(m, &choices[..count], n, s)
+    sheets::plans::accept_plan(m, &choices[..count], n, s)
 }
 
 // The total of the plan on a sheet, whether it meets the bound of the question's root, and its lamp.
@@ -476,43 +408,31 @@ fn sheet_weighed(
 }
 
 // Checks a sheet for a question that asks for a plan: grounds 24 and 25, those of the sheet, then 11.
-fn check_on(m: &[u8], q: &[u8], b: &[u8]) -> Checking
+fn check_on(m: &[u8], q: &[u8], b: &[u8]) -> Result<Report, Refusal>
     requires { PlanRoot m.now q.now }
     ensures { result ≡ checking (check_on (model_of m.now) (question_of q.now) b.now) }
 {
     let model = prepare_model(m);
     let query = prepare_question(q);
     let counts = plan_totals(&model, &query);
-    let l = limit_refusal(&model, &query, &counts);
-    if l != 0 {
-        return Checking::Refused(l);
-    }
-    let k = sheet_ground(m, q, b);
-    if k != 0 {
-        return Checking::Refused(k);
-    }
+    accept_limits(&model, &query, &counts)?;
+    accept_sheet(m, q, b)?;
     let w = sheet_weighed(&model, &query, &counts, b);
     if sheets::total_at(b) != w.total {
-        return Checking::Refused(11);
+        return Err(Refusal::WrongTotal);
     }
-    let lamp = w.lamp;
-    Checking::Accepted(Report {
+    Ok(Report {
         met: w.met,
-        lamp: lamp,
+        lamp: w.lamp,
     })
 }
 
 // Checks a sheet for the question that is held, and reports whether its total meets the bound, and its lamp; or refuses it by grounds 20, 21, 22, 24,
 // 25, then 1 to 6, 10, 11.
-pub fn check(d: Desk, b: &[u8]) -> Checking
+pub fn check(d: Desk, b: &[u8]) -> Result<Report, Refusal>
     ensures { result ≡ checked_by d b.now }
 {
-    let k = plan_ground(d);
-    if k != 0 {
-        return Checking::Refused(k);
-    }
-    let m = d.model;
-    let q = d.question;
+    plan_asked(d)?;
     let n = blocks_end(MODEL_BYTES, d.blocks);
-    check_on(&m[..n], &q, b)
+    check_on(&d.model[..n], &d.question, b)
 }

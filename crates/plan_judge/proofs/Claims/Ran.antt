@@ -14,8 +14,9 @@ use Rattle.protocol.specs.Replies.{Session}
 use Rattle.plan_judge.specs.declared.Desk.{Desk}
 use Rattle.plan_judge.specs.declared.Taking.{Taking}
 use Rattle.plan_judge.specs.declared.Judging.{Judging}
-use Rattle.plan_judge.specs.declared.Written.{Written}
-use Rattle.plan_judge.specs.declared.Checking.{Checking}
+use Rattle.std.specs.Prelude.{ℕ, Result}
+use Rattle.refusals.specs.declared.Refusal.{Refusal}
+use Rattle.plan_judge.specs.declared.Report.{Report}
 use Rattle.plan_judge.specs.View.{view}
 use Rattle.plan_judge.specs.Said.{said_taken, said_judgement, said_written, said_checking}
 use Rattle.protocol.specs.Replies.{replies_to}
@@ -36,13 +37,13 @@ Buffer = MutBor Bytes
 
 -- A query c on the desk d is answered r, as the contract of its function says. It gives no desk back.
 pub data Asked (d : Desk) : Query → Reply → Type 0 where
-  writes : (κ : Lfts 1) (found left : Buffer) (r : Written)
+  writes : (κ : Lfts 1) (found left : Buffer) (r : Result ℕ Refusal)
       → (write-reads.Pre κ (d, (found, tt)) → write-reads.Post κ (d, (found, tt)) r (d, (left, tt)))
       → Asked d (write found.now) (record { answer = said_written r; buffer = left.now })
-  checks : (κ : Lfts 1) (b : Slice) (r : Checking)
+  checks : (κ : Lfts 1) (b : Slice) (r : Result Report Refusal)
       → (check-reads.Pre κ (d, (b, tt)) → check-reads.Post κ (d, (b, tt)) r (d, (b, tt)))
       → Asked d (check b.now) (says (said_checking r))
-  writes_model : (κ : Lfts 1) (found left : Buffer) (r : Written)
+  writes_model : (κ : Lfts 1) (found left : Buffer) (r : Result ℕ Refusal)
       → (write-model-reads.Pre κ (d, (found, tt)) → write-model-reads.Post κ (d, (found, tt)) r (d, (left, tt)))
       → Asked d (write_model found.now) (record { answer = said_written r; buffer = left.now })
 

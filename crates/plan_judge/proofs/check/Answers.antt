@@ -4,7 +4,7 @@ use Prim.Native.Nat.{◌≤◌}
 use mathlib.Core.Path.{◌≡◌, sym, ap, subst, ◌∙◌}
 use lib.ListN.{length, take}
 use lib.Seq.{length-take-le}
-use Rattle.logic.specs.promises.Refusal.{refusal}
+use Rattle.std.proofs.lemmas.Result.{err_from_is_err_and}
 use Rattle.models.specs.Layout.{model_of}
 use Rattle.questions.specs.Layout.{question_of}
 use Rattle.plan_judge.specs.View.{view}
@@ -17,32 +17,21 @@ use Rattle.plan_judge.proofs.CheckReturns.{check_state, check_past}
 use borrow.Author.Rules.{rules}
 use Rattle.plan_judge.proofs.check.Goals as goal
 
-pub returns-then-k-ne0 : goal.returns-then-k-ne0
-returns-then-k-ne0 c = check_state c.args.d c.args.b.now c.plan_ground-k.result c.plan_ground-k.ensures c.if-k-ne0.true
-
-pub slice_bounds-m-end : goal.slice_bounds-m-end
-slice_bounds-m-end c =
-    let inside : c.blocks_end-n.result ≤ length c.args.d.model = cut_inside c.args.d (search rules) c.blocks_end-n.result c.blocks_end-n.ensures in
-    inside
-
-pub slice_bounds-check_on-end : goal.slice_bounds-check_on-end
-slice_bounds-check_on-end c =
-    let inside : c.blocks_end-n.result ≤ length c.args.d.model = cut_inside c.args.d (search rules) c.blocks_end-n.result c.blocks_end-n.ensures in
-    sym (length-take-le c.blocks_end-n.result c.args.d.model inside)
+pub returns-in_err-plan_asked : goal.returns-in_err-plan_asked
+returns-in_err-plan_asked c =
+    let p = err_from_is_err_and c.from_residual.result c.from_residual.ensures.1 in
+    rw (p.1, p.2) (check_state c.args.d c.args.b.now c.in_err-plan_asked.field-0.0 c.in_err-plan_asked.ensures)
 
 pub check_on-requires : goal.check_on-requires
 check_on-requires c =
-    let cut : take c.blocks_end-n.result c.args.d.model ≡ said_bytes c.args.d = cut_said c.args.d (search rules) c.blocks_end-n.result c.blocks_end-n.ensures in
-    let past : refusal (held_goal (view c.args.d)) ≡ 0 = sym c.plan_ground-k.ensures ∙ c.if-k-ne0.false in
     let d = c.args.d in
-    subst (λ z. PlanRoot z d.question) (sym cut) (plan_asked d past)
+    let cut : take c.blocks_end-n.result d.model ≡ said_bytes d = cut_said d (search rules) c.blocks_end-n.result c.blocks_end-n.ensures in
+    subst (λ z. PlanRoot z d.question) (sym cut) (plan_asked d (sym c.in_ok-plan_asked.ensures))
 
 pub returns : goal.returns
 returns c =
-    let cut : take c.blocks_end-n.result c.args.d.model ≡ said_bytes c.args.d = cut_said c.args.d (search rules) c.blocks_end-n.result c.blocks_end-n.ensures in
-    let past : refusal (held_goal (view c.args.d)) ≡ 0 = sym c.plan_ground-k.ensures ∙ c.if-k-ne0.false in
     let d = c.args.d in
-    let b = c.args.b.now in
+    let cut : take c.blocks_end-n.result d.model ≡ said_bytes d = cut_said d (search rules) c.blocks_end-n.result c.blocks_end-n.ensures in
     c.check_on.ensures
-    ∙ ap (λ z. checking (check_on (model_of z) (question_of d.question) b)) cut
-    ∙ check_past d b past
+    ∙ ap (λ z. checking (check_on (model_of z) (question_of d.question) c.args.b.now)) cut
+    ∙ check_past d c.args.b.now (sym c.in_ok-plan_asked.ensures)

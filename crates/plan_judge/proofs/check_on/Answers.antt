@@ -6,6 +6,7 @@ use lib.Signed.{mag}
 use mir.Syntax.{w64}
 use mir.Val.{to_z, of_z}
 use mir.ValLaws.{to_z-of_z}
+use Rattle.std.proofs.lemmas.Result.{err_from_is_err_and}
 use Rattle.logic.specs.promises.Refusal.{refusal}
 use Rattle.logic.specs.Limits.{limits}
 use Rattle.models.specs.Layout.{state_count, action_count, prop_count, model_of}
@@ -16,7 +17,7 @@ use Rattle.prepared_question.specs.promises.Shared.{Shared}
 use Rattle.prepared_question.proofs.ChildrenBefore.{ordered}
 use Rattle.plan_judge.specs.promises.State.{plan_on}
 use Rattle.plan_judge.proofs.StateGrounds.{root_node}
-use Rattle.plan_judge.proofs.CheckReturns.{on_sheet, check_limited, root_there, limits_there, sheet_asked, sheet_served, spelled_there, check_sheet, check_differs, check_met}
+use Rattle.plan_judge.proofs.CheckReturns.{on_sheet, check_limited, root_there, limits_there, shared_there, sheet_served, spelled_there, check_sheet, check_differs, check_met}
 use Rattle.plan_judge.proofs.check_on.Goals as goal
 
 -- The code compares the totals bit by bit, which is to compare the totals.
@@ -28,87 +29,58 @@ prepare_question-query-requires c = ordered _ _ _ _ c.requires.asked
 
 pub plan_totals-counts-requires : goal.plan_totals-counts-requires
 plan_totals-counts-requires c =
-    let shared : let S = c in
-    let a = c.prepare_model-model.result in
-    Shared (state_count a) (action_count a) (prop_count a) S.args.q.now c.prepare_question-query.result = let S = c in c.prepare_question-query.ensures _ _ _ (sheet_asked S.args.m.now S.args.q.now S.requires S.args.b.now c.prepare_model-model.ensures) in
+    let shared = shared_there c.args.m.now c.args.q.now c.requires c.args.b.now c.prepare_model-model.ensures c.prepare_question-query.ensures in
     (c.prepare_model-model.ensures.prepared, shared.nodes)
 
-pub limit_refusal-l-requires : goal.limit_refusal-l-requires
-limit_refusal-l-requires c =
-    let shared : let S = c in
-    let a = c.prepare_model-model.result in
-    Shared (state_count a) (action_count a) (prop_count a) S.args.q.now c.prepare_question-query.result = let S = c in c.prepare_question-query.ensures _ _ _ (sheet_asked S.args.m.now S.args.q.now S.requires S.args.b.now c.prepare_model-model.ensures) in
+pub accept_limits-requires : goal.accept_limits-requires
+accept_limits-requires c =
+    let shared = shared_there c.args.m.now c.args.q.now c.requires c.args.b.now c.prepare_model-model.ensures c.prepare_question-query.ensures in
     record { prepared = (c.prepare_model-model.ensures.prepared, shared.nodes); counted = c.plan_totals-counts.ensures }
 
-pub returns-then-l-ne0 : goal.returns-then-l-ne0
-returns-then-l-ne0 c =
-    let shared : let S = c in
-    let a = c.prepare_model-model.result in
-    Shared (state_count a) (action_count a) (prop_count a) S.args.q.now c.prepare_question-query.result = let S = c in c.prepare_question-query.ensures _ _ _ (sheet_asked S.args.m.now S.args.q.now S.requires S.args.b.now c.prepare_model-model.ensures) in
-    let limited : let S = c in
-    refusal (limits (model_in c.prepare_model-model.result) (question_of c.prepare_question-query.result).nodes) ≡ refusal (limits (model_of S.args.m.now) (question_of S.args.q.now).nodes) = let S = c in limits_there S.args.m.now S.args.q.now S.requires S.args.b.now c.prepare_model-model.ensures shared in
-    let S = c in
-    let l = c.limit_refusal-l in
-    check_limited S.args.m.now S.args.q.now S.requires S.args.b.now l.result (l.ensures ∙ limited) c.if-l-ne0.true
+pub returns-in_err-accept_limits : goal.returns-in_err-accept_limits
+returns-in_err-accept_limits c =
+    let p = err_from_is_err_and c.from_residual.result c.from_residual.ensures.1 in
+    let shared = shared_there c.args.m.now c.args.q.now c.requires c.args.b.now c.prepare_model-model.ensures c.prepare_question-query.ensures in
+    rw (p.1, p.2)
+    (check_limited c.args.m.now c.args.q.now c.requires c.args.b.now c.in_err-accept_limits.field-0.0
+    (c.in_err-accept_limits.ensures ∙ limits_there c.args.m.now c.args.q.now c.requires c.args.b.now c.prepare_model-model.ensures shared))
 
-pub returns-then-k-ne0 : goal.returns-then-k-ne0
-returns-then-k-ne0 c =
-    let shared : let S = c in
-    let a = c.prepare_model-model.result in
-    Shared (state_count a) (action_count a) (prop_count a) S.args.q.now c.prepare_question-query.result = let S = c in c.prepare_question-query.ensures _ _ _ (sheet_asked S.args.m.now S.args.q.now S.requires S.args.b.now c.prepare_model-model.ensures) in
-    let limited : let S = c in
-    refusal (limits (model_in c.prepare_model-model.result) (question_of c.prepare_question-query.result).nodes) ≡ refusal (limits (model_of S.args.m.now) (question_of S.args.q.now).nodes) = let S = c in limits_there S.args.m.now S.args.q.now S.requires S.args.b.now c.prepare_model-model.ensures shared in
-    let within : let S = c in refusal (limits (model_of S.args.m.now) (question_of S.args.q.now).nodes) ≡ 0 = sym limited ∙ sym c.limit_refusal-l.ensures ∙ c.if-l-ne0.false in
-    let S = c in
-    check_sheet S.args.m.now S.args.q.now S.requires S.args.b.now within c.sheet_ground-k.result c.sheet_ground-k.ensures c.if-k-ne0.true
+pub returns-in_err-accept_sheet : goal.returns-in_err-accept_sheet
+returns-in_err-accept_sheet c =
+    let p = err_from_is_err_and c.from_residual-in_err-accept_sheet.result c.from_residual-in_err-accept_sheet.ensures.1 in
+    let shared = shared_there c.args.m.now c.args.q.now c.requires c.args.b.now c.prepare_model-model.ensures c.prepare_question-query.ensures in
+    let within = sym (limits_there c.args.m.now c.args.q.now c.requires c.args.b.now c.prepare_model-model.ensures shared) ∙ sym c.in_ok-accept_limits.ensures in
+    rw (p.1, p.2) (check_sheet c.args.m.now c.args.q.now c.requires c.args.b.now within c.in_err-accept_sheet.field-0.0 c.in_err-accept_sheet.ensures)
 
 pub sheet_weighed-w-requires : goal.sheet_weighed-w-requires
 sheet_weighed-w-requires c =
-    let shared : let S = c in
-    let a = c.prepare_model-model.result in
-    Shared (state_count a) (action_count a) (prop_count a) S.args.q.now c.prepare_question-query.result = let S = c in c.prepare_question-query.ensures _ _ _ (sheet_asked S.args.m.now S.args.q.now S.requires S.args.b.now c.prepare_model-model.ensures) in
-    let limited : let S = c in
-    refusal (limits (model_in c.prepare_model-model.result) (question_of c.prepare_question-query.result).nodes) ≡ refusal (limits (model_of S.args.m.now) (question_of S.args.q.now).nodes) = let S = c in limits_there S.args.m.now S.args.q.now S.requires S.args.b.now c.prepare_model-model.ensures shared in
-    let within : let S = c in refusal (limits (model_of S.args.m.now) (question_of S.args.q.now).nodes) ≡ 0 = sym limited ∙ sym c.limit_refusal-l.ensures ∙ c.if-l-ne0.false in
-    let planned : let S = c in
-    refusal (plan_on (model_of S.args.m.now) (root_node S.args.q.now).n (start_of S.args.q.now) S.args.b.now) ≡ 0 = sym c.sheet_ground-k.ensures ∙ c.if-k-ne0.false in
-    let S = c in
-    let N = c in
-    let m = S.args.m.now in
-    let q = S.args.q.now in
-    let b = S.args.b.now in
-    let p = N.prepare_model-model.ensures in
-    let o = on_sheet (model_of m) (root_node q).n (start_of q) b planned in
-    (sheet_served m q S.requires b p shared within, c.plan_totals-counts.ensures, root_there m q S.requires b p shared, o.blocks, spelled_there m q S.requires b p shared (sheet_of b).choices o.plan o.read)
+    let m = c.args.m.now in
+    let q = c.args.q.now in
+    let b = c.args.b.now in
+    let p = c.prepare_model-model.ensures in
+    let shared = shared_there m q c.requires b p c.prepare_question-query.ensures in
+    let within = sym (limits_there m q c.requires b p shared) ∙ sym c.in_ok-accept_limits.ensures in
+    let o = on_sheet (model_of m) (root_node q).n (start_of q) b (sym c.in_ok-accept_sheet.ensures) in
+    (sheet_served m q c.requires b p shared within, c.plan_totals-counts.ensures, root_there m q c.requires b p shared, o.blocks, spelled_there m q c.requires b p shared (sheet_of b).choices o.plan o.read)
 
 pub returns-then-total_at-w : goal.returns-then-total_at-w
 returns-then-total_at-w c =
-    let shared : let S = c in
-    let a = c.prepare_model-model.result in
-    Shared (state_count a) (action_count a) (prop_count a) S.args.q.now c.prepare_question-query.result = let S = c in c.prepare_question-query.ensures _ _ _ (sheet_asked S.args.m.now S.args.q.now S.requires S.args.b.now c.prepare_model-model.ensures) in
-    let limited : let S = c in
-    refusal (limits (model_in c.prepare_model-model.result) (question_of c.prepare_question-query.result).nodes) ≡ refusal (limits (model_of S.args.m.now) (question_of S.args.q.now).nodes) = let S = c in limits_there S.args.m.now S.args.q.now S.requires S.args.b.now c.prepare_model-model.ensures shared in
-    let within : let S = c in refusal (limits (model_of S.args.m.now) (question_of S.args.q.now).nodes) ≡ 0 = sym limited ∙ sym c.limit_refusal-l.ensures ∙ c.if-l-ne0.false in
-    let planned : let S = c in
-    refusal (plan_on (model_of S.args.m.now) (root_node S.args.q.now).n (start_of S.args.q.now) S.args.b.now) ≡ 0 = sym c.sheet_ground-k.ensures ∙ c.if-k-ne0.false in
-    let S = c in
-    let N = c in
-    let w = c.sheet_weighed-w in
-    check_differs S.args.m.now S.args.q.now S.requires S.args.b.now within planned w.result N.prepare_model-model.ensures shared w.ensures
+    let m = c.args.m.now in
+    let q = c.args.q.now in
+    let b = c.args.b.now in
+    let p = c.prepare_model-model.ensures in
+    let shared = shared_there m q c.requires b p c.prepare_question-query.ensures in
+    let within = sym (limits_there m q c.requires b p shared) ∙ sym c.in_ok-accept_limits.ensures in
+    check_differs m q c.requires b within (sym c.in_ok-accept_sheet.ensures) c.sheet_weighed-w.result p shared c.sheet_weighed-w.ensures
     (λ z. c.if-total_at-w.true (ap (of_z w64) (c.total_at.ensures ∙ z)))
 
 pub returns : goal.returns
 returns c =
-    let shared : let S = c in
-    let a = c.prepare_model-model.result in
-    Shared (state_count a) (action_count a) (prop_count a) S.args.q.now c.prepare_question-query.result = let S = c in c.prepare_question-query.ensures _ _ _ (sheet_asked S.args.m.now S.args.q.now S.requires S.args.b.now c.prepare_model-model.ensures) in
-    let limited : let S = c in
-    refusal (limits (model_in c.prepare_model-model.result) (question_of c.prepare_question-query.result).nodes) ≡ refusal (limits (model_of S.args.m.now) (question_of S.args.q.now).nodes) = let S = c in limits_there S.args.m.now S.args.q.now S.requires S.args.b.now c.prepare_model-model.ensures shared in
-    let within : let S = c in refusal (limits (model_of S.args.m.now) (question_of S.args.q.now).nodes) ≡ 0 = sym limited ∙ sym c.limit_refusal-l.ensures ∙ c.if-l-ne0.false in
-    let planned : let S = c in
-    refusal (plan_on (model_of S.args.m.now) (root_node S.args.q.now).n (start_of S.args.q.now) S.args.b.now) ≡ 0 = sym c.sheet_ground-k.ensures ∙ c.if-k-ne0.false in
-    let S = c in
-    let N = c in
-    let w = c.sheet_weighed-w in
-    check_met S.args.m.now S.args.q.now S.requires S.args.b.now within planned w.result N.prepare_model-model.ensures shared w.ensures
-    (sym c.total_at.ensures ∙ same_bits _ w.result.total c.total_at.type_inv c.struct_told-1.given.0.1 c.if-total_at-w.false)
+    let m = c.args.m.now in
+    let q = c.args.q.now in
+    let b = c.args.b.now in
+    let p = c.prepare_model-model.ensures in
+    let shared = shared_there m q c.requires b p c.prepare_question-query.ensures in
+    let within = sym (limits_there m q c.requires b p shared) ∙ sym c.in_ok-accept_limits.ensures in
+    check_met m q c.requires b within (sym c.in_ok-accept_sheet.ensures) c.sheet_weighed-w.result p shared c.sheet_weighed-w.ensures
+    (sym c.total_at.ensures ∙ same_bits _ c.sheet_weighed-w.result.total c.total_at.type_inv c.struct_told-1.given.0.1 c.if-total_at-w.false)

@@ -9,6 +9,7 @@ use lib.Seq.{length-take-le}
 use mir.Syntax.{w64}
 use mir.ValLaws.{to_z-of_z}
 use borrow.Author.Rules.{rules}
+use Rattle.std.proofs.lemmas.Result.{err_from_is_err_and}
 use Rattle.logic.specs.promises.Refusal.{refusal}
 use Rattle.logic.specs.Choices.{read_plan}
 use Rattle.models.specs.Layout.{state_count, model_of}
@@ -27,17 +28,19 @@ use Rattle.plan_judge.proofs.write.Goals as goal
 clauses_value_frame : {A B : Type 0} → A × B → record { value : A; frame : B }
 clauses_value_frame p = record { value = p.0; frame = p.1 }
 
-pub returns-then-k-ne0 : goal.returns-then-k-ne0
-returns-then-k-ne0 c = clauses_value_frame (write_state c.args.d c.args.buf.now c.plan_ground-k.result c.plan_ground-k.ensures c.if-k-ne0.true)
+pub returns-in_err-plan_asked : goal.returns-in_err-plan_asked
+returns-in_err-plan_asked c =
+    let p = err_from_is_err_and c.from_residual.result c.from_residual.ensures.1 in
+    rw (p.1, p.2) (clauses_value_frame (write_state c.args.d c.args.buf.now c.in_err-plan_asked.field-0.0 c.in_err-plan_asked.ensures))
 
 pub returns-then-count-eq0 : goal.returns-then-count-eq0
 returns-then-count-eq0 c =
-    let asked : refusal (held_goal (view c.args.d)) ≡ 0 = sym c.plan_ground-k.ensures ∙ c.if-k-ne0.false in
+    let asked : refusal (held_goal (view c.args.d)) ≡ 0 = sym c.in_ok-plan_asked.ensures in
     clauses_value_frame (write_none c.args.d c.args.buf.now asked c.shown_size-count.result c.shown_size-count.ensures c.if-count-eq0.true)
 
 pub sheet_size-requires : goal.sheet_size-requires
 sheet_size-requires c =
-    let asked : refusal (held_goal (view c.args.d)) ≡ 0 = sym c.plan_ground-k.ensures ∙ c.if-k-ne0.false in
+    let asked : refusal (held_goal (view c.args.d)) ≡ 0 = sym c.in_ok-plan_asked.ensures in
     let few : c.shown_size-count.result ≤ length c.args.d.choices = count_few c.args.d c.args.buf.now asked c.shown_size-count.result c.shown_size-count.ensures c.if-count-eq0.false in
     let small : c.shown_size-count.result ≤ 1365 = let l = few in
     let k : length c.args.d.choices ≡ 1365 = search rules in
@@ -46,41 +49,25 @@ sheet_size-requires c =
 
 pub returns-then-buf-sheet_size : goal.returns-then-buf-sheet_size
 returns-then-buf-sheet_size c =
-    let asked : refusal (held_goal (view c.args.d)) ≡ 0 = sym c.plan_ground-k.ensures ∙ c.if-k-ne0.false in
+    let asked : refusal (held_goal (view c.args.d)) ≡ 0 = sym c.in_ok-plan_asked.ensures in
     let E = c in clauses_value_frame (write_short E.args.d E.args.buf.now asked E.shown_size-count.result E.shown_size-count.ensures E.if-count-eq0.false (omega (arith, c.sheet_size.ensures)))
 
-pub slice_bounds-m-end : goal.slice_bounds-m-end
-slice_bounds-m-end c =
-    let inside : c.blocks_end-end.result ≤ length c.args.d.model = cut_inside c.args.d (search rules) c.blocks_end-end.result c.blocks_end-end.ensures in
-    inside
-
-pub slice_bounds-write_sheet-end : goal.slice_bounds-write_sheet-end
-slice_bounds-write_sheet-end c =
-    let inside : c.blocks_end-end.result ≤ length c.args.d.model = cut_inside c.args.d (search rules) c.blocks_end-end.result c.blocks_end-end.ensures in
-    let P = c in sym (length-take-le P.blocks_end-end.result c.args.d.model inside)
-
-pub slice_bounds-cs-end : goal.slice_bounds-cs-end
-slice_bounds-cs-end c =
-    let asked : refusal (held_goal (view c.args.d)) ≡ 0 = sym c.plan_ground-k.ensures ∙ c.if-k-ne0.false in
+pub shared_ref_as_front-write_sheet : goal.shared_ref_as_front-write_sheet
+shared_ref_as_front-write_sheet c =
+    let asked : refusal (held_goal (view c.args.d)) ≡ 0 = sym c.in_ok-plan_asked.ensures in
     let few : c.shown_size-count.result ≤ length c.args.d.choices = count_few c.args.d c.args.buf.now asked c.shown_size-count.result c.shown_size-count.ensures c.if-count-eq0.false in
-    few
-
-pub slice_bounds-write_sheet-end-2 : goal.slice_bounds-write_sheet-end-2
-slice_bounds-write_sheet-end-2 c =
-    let asked : refusal (held_goal (view c.args.d)) ≡ 0 = sym c.plan_ground-k.ensures ∙ c.if-k-ne0.false in
-    let few : c.shown_size-count.result ≤ length c.args.d.choices = count_few c.args.d c.args.buf.now asked c.shown_size-count.result c.shown_size-count.ensures c.if-count-eq0.false in
-    let whole : length (take c.shown_size-count.result c.args.d.choices) ≡ c.shown_size-count.result = length-take-le c.shown_size-count.result c.args.d.choices few in
-    sym whole
+    let k : length c.args.d.choices ≡ 1365 = search rules in
+    omega arith
 
 pub write_sheet-requires : goal.write_sheet-requires
 write_sheet-requires c =
-    let asked : refusal (held_goal (view c.args.d)) ≡ 0 = sym c.plan_ground-k.ensures ∙ c.if-k-ne0.false in
+    let asked : refusal (held_goal (view c.args.d)) ≡ 0 = sym c.in_ok-plan_asked.ensures in
     let few : c.shown_size-count.result ≤ length c.args.d.choices = count_few c.args.d c.args.buf.now asked c.shown_size-count.result c.shown_size-count.ensures c.if-count-eq0.false in
     let small : c.shown_size-count.result ≤ 1365 = let l = few in
     let k : length c.args.d.choices ≡ 1365 = search rules in
     omega arith in
     let whole : length (take c.shown_size-count.result c.args.d.choices) ≡ c.shown_size-count.result = length-take-le c.shown_size-count.result c.args.d.choices few in
-    let cut : take c.blocks_end-end.result c.args.d.model ≡ said_bytes c.args.d = cut_said c.args.d (search rules) c.blocks_end-end.result c.blocks_end-end.ensures in
+    let cut : take c.blocks_end.result c.args.d.model ≡ said_bytes c.args.d = cut_said c.args.d (search rules) c.blocks_end.result c.blocks_end.ensures in
     let P = c in
     let E = c in
     let S = c in
@@ -104,7 +91,7 @@ write_sheet-requires c =
 
 pub returns : goal.returns
 returns c =
-    let asked : refusal (held_goal (view c.args.d)) ≡ 0 = sym c.plan_ground-k.ensures ∙ c.if-k-ne0.false in
+    let asked : refusal (held_goal (view c.args.d)) ≡ 0 = sym c.in_ok-plan_asked.ensures in
     let P = c in
     let E = c in
     let S = c in

@@ -1,6 +1,7 @@
 -- Each return by its ground, or by the bytes copied.
 -- Past ground 20: the desk, the buffer as it was lent, and that the bytes which are cut are so many.
 use native.Mathlib.Omega.{arith}
+use borrow.Author.Rules.{rules}
 use mathlib.Core.Path.{◌≡◌, sym, ◌∙◌}
 use lib.ListN.{length, take, length-take}
 use Rattle.blocks.specs.Bytes.{Bytes}
@@ -14,37 +15,21 @@ clauses_value_frame p = record { value = p.0; frame = p.1 }
 pub returns-then-n-eq0 : goal.returns-then-n-eq0
 returns-then-n-eq0 c = let S = c in clauses_value_frame (write_model_none S.args.d S.args.buf.now (sym c.held_bytes-n.ensures ∙ c.if-n-eq0.true))
 
-pub slice_bounds-m-end : goal.slice_bounds-m-end
-slice_bounds-m-end c =
-    let desk : Desk = c.args.d in
-    let lent : Bytes = c.args.buf.now in
-    let cut : c.held_bytes-n.result ≡ length (take c.held_bytes-n.result desk.model) = cut_size desk lent c.held_bytes-n.result c.held_bytes-n.ensures c.if-n-eq0.false in
-    let E = c in
-    omega (arith, cut, length-take E.held_bytes-n.result desk.model)
+pub shared_ref_as_front-copy : goal.shared_ref_as_front-copy
+shared_ref_as_front-copy c =
+    let cut = cut_size c.args.d c.args.buf.now c.held_bytes-n.result c.held_bytes-n.ensures c.if-n-eq0.false in
+    let k : length c.args.d.model ≡ 6144 = search rules in
+    omega (arith, cut, length-take c.held_bytes-n.result c.args.d.model)
 
-pub slice_bounds-copy-end : goal.slice_bounds-copy-end
-slice_bounds-copy-end c =
-    let desk : Desk = c.args.d in
-    let lent : Bytes = c.args.buf.now in
-    let cut : c.held_bytes-n.result ≡ length (take c.held_bytes-n.result desk.model) = cut_size desk lent c.held_bytes-n.result c.held_bytes-n.ensures c.if-n-eq0.false in
-    cut
+pub returns-then-buf-n : goal.returns-then-buf-n
+returns-then-buf-n c = clauses_value_frame (write_model_short c.args.d c.args.buf.now c.held_bytes-n.result c.held_bytes-n.ensures c.if-n-eq0.false c.if-buf-n.true)
 
 pub copy-requires : goal.copy-requires
 copy-requires c =
-    let desk : Desk = c.args.d in
-    let lent : Bytes = c.args.buf.now in
-    let cut : c.held_bytes-n.result ≡ length (take c.held_bytes-n.result desk.model) = cut_size desk lent c.held_bytes-n.result c.held_bytes-n.ensures c.if-n-eq0.false in
-    omega (arith, cut, c.if-n-buf.true)
-
-pub returns-then-n-buf : goal.returns-then-n-buf
-returns-then-n-buf c =
-    let desk : Desk = c.args.d in
-    let lent : Bytes = c.args.buf.now in
-    let T = c in
-    clauses_value_frame (write_model_done desk lent c.held_bytes-n.result c.held_bytes-n.ensures c.if-n-eq0.false (omega (arith, T.if-n-buf.true)) c.copy.new.dst c.copy.ensures)
+    let cut = cut_size c.args.d c.args.buf.now c.held_bytes-n.result c.held_bytes-n.ensures c.if-n-eq0.false in
+    omega (arith, cut, c.if-buf-n.false)
 
 pub returns : goal.returns
 returns c =
-    let desk : Desk = c.args.d in
-    let lent : Bytes = c.args.buf.now in
-    let E = c in clauses_value_frame (write_model_short desk lent E.held_bytes-n.result E.held_bytes-n.ensures E.if-n-eq0.false (omega (arith, c.if-n-buf.false)))
+    clauses_value_frame
+    (write_model_done c.args.d c.args.buf.now c.held_bytes-n.result c.held_bytes-n.ensures c.if-n-eq0.false c.if-buf-n.false c.copy.new.dst c.copy.ensures)

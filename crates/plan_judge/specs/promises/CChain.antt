@@ -1,5 +1,7 @@
 -- The C call as a chain of refusals: what its contract cites. That it is the list load, put, judge, write is proved (`CList`).
-use Rattle.std.specs.Prelude.{ℕ, ◌+◌, ◌-◌, ◌≡◌, Bool, true, false, cond, List, [], ◌++◌, leb, ℤ, length, drop}
+use Rattle.std.specs.Prelude.{ℕ, ◌+◌, ◌-◌, ◌≡◌, Bool, true, false, cond, List, [], ◌++◌, leb, ℤ, length, drop, Result, Ok, Err}
+use Rattle.refusals.specs.declared.Refusal.{Refusal}
+use Rattle.refusals.specs.Number.{number}
 use Rattle.logic.specs.Checked.{Checked, ok, refused, ◌>>=◌, ◌>>◌, guard}
 use Rattle.logic.specs.Model.{Model}
 use Rattle.logic.specs.Limits.{limits}
@@ -53,6 +55,11 @@ c_chain model question size = do
 abbrev pub c_number : Checked Told → ℕ
 c_number (ok t) = cond t.answer 1 0
 c_number (refused k) = 100 + k
+
+-- The same of what the code found: yes or no, or a refusal.
+abbrev pub c_code : Result Bool Refusal → ℕ
+c_code (Ok t) = cond t 1 0
+c_code (Err r) = 100 + number r
 
 -- The buffer afterwards: the sheet in its first bytes, and every other byte as found.
 abbrev pub c_buffer : Bytes → Checked Told → Bytes

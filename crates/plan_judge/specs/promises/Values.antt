@@ -1,5 +1,5 @@
 -- What each call returns, for every desk value and every input, by the grounds and definitions of the calls.
-use Rattle.std.specs.Prelude.{ℕ, ◌-◌, ◌/◌, true, false, ◌++◌, length, drop, replicate, None}
+use Rattle.std.specs.Prelude.{ℕ, ◌-◌, ◌/◌, true, false, ◌++◌, length, drop, replicate, None, Result, Ok, Err}
 use Rattle.logic.specs.Checked.{Checked, ok, refused, ◌>>◌}
 use Rattle.logic.specs.Model.{Model}
 use Rattle.logic.specs.Limits.{limits}
@@ -11,18 +11,14 @@ use Rattle.protocol.specs.Calls.{Report}
 use Rattle.protocol.specs.promises.Chains.{do_put, do_judge, do_write, do_write_model, do_check}
 use Rattle.lamp.specs.promises.Codes.{lamp_code}
 use Rattle.plan_judge.specs.declared.Desk.{Desk}
-use Rattle.plan_judge.specs.declared.Taken.TheVariants.{Done, Refused}
+use Rattle.refusals.specs.declared.Refusal.{Refusal}
+use Rattle.refusals.specs.Number.{named}
 use Rattle.plan_judge.specs.declared.Taking.{Taking}
 use Rattle.judging.specs.declared.Verdict.{Verdict}
 use Rattle.judging.specs.declared.Verdict.TheVariants.{No}
-use Rattle.plan_judge.specs.declared.Judgement.{Judgement}
-use Rattle.plan_judge.specs.declared.Judgement.TheVariants.{Judged}
 use Rattle.plan_judge.specs.declared.Judging.{Judging}
 use Rattle.plan_judge.specs.declared.Ruling.{Ruling}
-use Rattle.plan_judge.specs.declared.Written.{Written}
-use Rattle.plan_judge.specs.declared.Written.TheVariants.{Bytes as Filled}
-use Rattle.plan_judge.specs.declared.Checking.{Checking}
-use Rattle.plan_judge.specs.declared.Checking.TheVariants.{Accepted}
+use Rattle.plan_judge.specs.declared.Report as code
 use Rattle.judging.specs.promises.Announced.{verdict_code}
 use Rattle.plan_judge.specs.View.{view}
 
@@ -41,8 +37,8 @@ nothing =
 
 -- The desk changes only where the call is not refused.
 abbrev pub taking : {A : Type 0} → Desk → Checked A → Desk → Taking
-taking d (ok a) e = record { answer = Done; desk = e }
-taking d (refused k) e = record { answer = Refused k; desk = d }
+taking d (ok a) e = record { answer = Ok tt; desk = e }
+taking d (refused k) e = record { answer = Err (named k); desk = d }
 
 -- A desk with this model and nothing else.
 unfoldable pub holding : Bytes → Desk
@@ -79,23 +75,23 @@ judge_on m q = limits m q.nodes >> ok (logic.verdict m q.start q.root)
 
 -- What judging comes to.
 abbrev pub ruling : Checked logic.Verdict → Ruling
-ruling (ok v) = record { answer = Judged (verdict_code v); choices = choices_code v }
-ruling (refused k) = record { answer = Judgement.Refused k; choices = replicate 1365 0 }
+ruling (ok v) = record { answer = Ok (verdict_code v); choices = choices_code v }
+ruling (refused k) = record { answer = Err (named k); choices = replicate 1365 0 }
 
 abbrev pub judging : Desk → Checked logic.Verdict → Judging
-judging d (ok v) = record { answer = Judged (verdict_code v); choices = choices_code v; desk = settling d v }
-judging d (refused k) = record { answer = Judgement.Refused k; choices = replicate 1365 0; desk = d }
+judging d (ok v) = record { answer = Ok (verdict_code v); choices = choices_code v; desk = settling d v }
+judging d (refused k) = record { answer = Err (named k); choices = replicate 1365 0; desk = d }
 
 unfoldable pub judged_by : Desk → Judging
 judged_by d = judging d (do_judge (view d))
 
 -- ---- write, write_model and check, which leave the desk
 
-abbrev pub writing : Checked Bytes → Written
-writing (ok b) = Filled (length b)
-writing (refused k) = Written.Refused k
+abbrev pub writing : Checked Bytes → Result ℕ Refusal
+writing (ok b) = Ok (length b)
+writing (refused k) = Err (named k)
 
-unfoldable pub written_by : Desk → ℕ → Written
+unfoldable pub written_by : Desk → ℕ → Result ℕ Refusal
 written_by d size = writing (do_write (view d) size)
 
 -- The lent buffer afterwards.
@@ -106,15 +102,15 @@ filling a (refused k) = a
 unfoldable pub filled_by : Desk → Bytes → Bytes
 filled_by d a = filling a (do_write (view d) (length a))
 
-unfoldable pub model_written_by : Desk → ℕ → Written
+unfoldable pub model_written_by : Desk → ℕ → Result ℕ Refusal
 model_written_by d size = writing (do_write_model (view d) size)
 
 unfoldable pub model_filled_by : Desk → Bytes → Bytes
 model_filled_by d a = filling a (do_write_model (view d) (length a))
 
-abbrev pub checking : Checked Report → Checking
-checking (ok r) = Accepted (record { met = r.met; lamp = lamp_code r.lamp })
-checking (refused k) = Checking.Refused k
+abbrev pub checking : Checked Report → Result code.Report Refusal
+checking (ok r) = Ok (record { met = r.met; lamp = lamp_code r.lamp })
+checking (refused k) = Err (named k)
 
-unfoldable pub checked_by : Desk → Bytes → Checking
+unfoldable pub checked_by : Desk → Bytes → Result code.Report Refusal
 checked_by d b = checking (do_check (view d) b)

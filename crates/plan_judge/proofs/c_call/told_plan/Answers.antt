@@ -52,7 +52,7 @@ returns-then-sheet-sheet_size c =
     omega (arith, counted, (plan_first S.args.model.now S.args.question.now S.requires.0 S.args.choices.now S.requires.1).0) in
     let whole : length (take c.plan_size-count.result c.args.choices.now) ≡ c.plan_size-count.result = length-take-le c.plan_size-count.result c.args.choices.now few in
     let P = c in
-    let S = P.before.before.before.before.before.before.before in
+    let S = P in
     let cs = S.args.choices.now in
     subst (λ (k : ℕ). Tells (told_sheet S.args.question.now (length S.args.sheet.now) S.args.total (take k cs)) S.args.sheet.now S.args.sheet.now 112) counted
     (short_told S.args.question.now S.args.total (take P.plan_size-count.result cs) S.args.sheet.now (omega (arith, c.sheet_size.ensures, ap (λ k. 512 * blocks_for k) whole)))
@@ -82,7 +82,7 @@ write_sheet-requires c =
     omega (arith, counted, (plan_first S.args.model.now S.args.question.now S.requires.0 S.args.choices.now S.requires.1).0) in
     let whole : length (take c.plan_size-count.result c.args.choices.now) ≡ c.plan_size-count.result = length-take-le c.plan_size-count.result c.args.choices.now few in
     let P = c in
-    let S = P.before.before.before.before.before.before.before in
+    let S = P in
     let m = S.args.model.now in
     let q = S.args.question.now in
     let r = S.requires.0 in
@@ -111,7 +111,7 @@ returns c =
     omega (arith, counted, (plan_first S.args.model.now S.args.question.now S.requires.0 S.args.choices.now S.requires.1).0) in
     let whole : length (take c.plan_size-count.result c.args.choices.now) ≡ c.plan_size-count.result = length-take-le c.plan_size-count.result c.args.choices.now few in
     let P = c in
-    let S = P.before.before.before.before.before.before.before in
+    let S = P in
     let q = S.args.question.now in
     let cs = S.args.choices.now in
     let l = take P.plan_size-count.result cs in
