@@ -4,6 +4,7 @@
 
 ghost use Rattle.std.specs.Prelude.{◌≡◌, ℕ, ◌+◌, ◌*◌, ◌/◌, ◌<◌, ◌≤◌, true};
 ghost use Rattle.logic.specs.Model.{true_of};
+ghost use Rattle.refusals.specs.Number.{refusal_number};
 ghost use Rattle.logic.specs.promises.Refusal.{refusal};
 ghost use Rattle.blocks.specs.Block.{whole_blocks};
 ghost use Rattle.models.specs.Layout.{state_count, action_count, prop_count, denominator_of, literals, state_mask, post_count, action_at, cell_at, outcome_of};
@@ -14,10 +15,13 @@ ghost use Rattle.models.specs.promises.Used.{Used};
 pub mod choices;
 mod consistent;
 mod fields;
-mod passes;
 mod spare;
 
-use blocks::{BLOCK, KIND_HEAD, headed, i16_at, sums_right, u32_at, whole_blocks, wide, within};
+use blocks::{
+    BLOCK, KIND_HEAD, KIND_ROW, all_pass, headed, i16_at, sums_right, u32_at, whole_blocks, wide,
+    within,
+};
+use refusals::Refusal;
 
 // The most states, actions and propositions of a model, and the most postconditions of an action.
 pub const STATES: usize = 32;
@@ -216,35 +220,20 @@ pub fn reward(b: &[u8], s: usize, a: usize, i: usize) -> i16
     i16_at(b, outcome_at(s, a, i) + REWARD_AT)
 }
 
-// A byte of the table below, as a number to count with.
-fn widened(x: u8) -> usize
-    ensures value { result ≡ x }
-    ensures range { result < 256 }
-{
-    x as usize
-}
-
 // Where the cells of the model's states end among all cells.
 fn cells_end(b: &[u8]) -> usize
     ensures { (result ≤ 264) × ((k : ℕ) → k < 264 → result ≤ k → state_count b.now ≤ k / 8) }
 {
-    let states = state_count(b);
-    if states < CELLS / ACTIONS {
-        return ACTIONS * states;
-    }
-    CELLS
+    CELLS.min(ACTIONS * state_count(b))
 }
 
 // The number of used outcomes of every cell, 8 to a state: none in the cells of no state.
 fn used_entries(b: &[u8]) -> [u8; CELLS]
     ensures { Used b.now result }
 {
-    let end = cells_end(b);
-    let mut used = [0u8; CELLS];
-    let mut k: usize = 0;
-    while k < end {
+    let mut used = [0; CELLS];
+    for k in 0..cells_end(b) {
         used[k] = entries(b, k / ACTIONS, k % ACTIONS) as u8;
-        k += 1;
     }
     used
 }
@@ -254,7 +243,8 @@ fn kinds_right(b: &[u8]) -> bool
     requires { whole_blocks 2 12 b.now ≡ true }
     ensures { result ≡ kinds_right b.now }
 {
-    headed(b, 0, KIND_HEAD, 0) & passes::rows_pass(b, 3)
+    headed(b, 0, KIND_HEAD, 0)
+        & all_pass(b.len() / BLOCK - 1, |k| headed(b, k + 1, KIND_ROW, k + 1))
 }
 
 // Ground 4.
@@ -270,31 +260,32 @@ fn sizes_right(b: &[u8]) -> bool
         & rows
 }
 
-// The number of the first ground on which a model is refused; 0 where there is none.
-pub fn model_refusal(b: &[u8]) -> u32
-    ensures { result ≡ refusal (read_model b.now) }
+// A model is refused on the first ground that it does not pass.
+#[tactic(auto, unfolding(crate::specs::Grounds::read_model))]
+pub fn accept_model(b: &[u8]) -> Result<(), Refusal>
+    ensures { refusal_number result ≡ refusal (read_model b.now) }
 {
     if !whole_blocks(b, LEAST_BLOCKS, BLOCKS) {
-        return 1;
+        return Err(Refusal::BlockCount);
     }
     if !sums_right(b) {
-        return 2;
+        return Err(Refusal::WordSum);
     }
     if !kinds_right(b) {
-        return 3;
+        return Err(Refusal::Heading);
     }
     if !sizes_right(b) {
-        return 4;
+        return Err(Refusal::HeadFields);
     }
     let used = used_entries(b);
     if !fields::fields_right(b, &used) {
-        return 5;
+        return Err(Refusal::FieldRange);
     }
     if !spare::spare_zero(b, &used) {
-        return 6;
+        return Err(Refusal::SpareBytes);
     }
     if !consistent::consistent(b, &used) {
-        return 7;
+        return Err(Refusal::Inconsistent);
     }
-    0
+    Ok(())
 }
