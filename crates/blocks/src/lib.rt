@@ -137,7 +137,8 @@ pub fn bits_of(z: i64) -> u64
     z.cast_unsigned()
 }
 
-// Whether each of the numbers 0, 1, .., n - 1 passes. All are asked, also after one that fails, so that no answer needs a branch.
+// Whether each of the numbers 0, 1, .., n - 1 passes. All are asked, also after one that fails, so that no answer needs a branch. A closure
+// that is handed in takes what it reads by `move`: where it borrowed instead, a model's cells took a quarter longer.
 pub fn all_pass<F: Fn(usize) -> bool>(n: usize, passes: F) -> bool
     requires { (k : ℕ) → k < n → F.pre passes k }
     ensures { (test : ℕ → Bool) → ((k : ℕ) (r : Bool) → k < n → F.post passes k r → r ≡ test k) → result ≡ every n test }

@@ -30,7 +30,7 @@ fn post_contradicts(b: &[u8], a: usize, i: usize) -> bool
     requires { (a < 256) × (i < 256) }
     ensures { result ≡ every i (λ j. model.contradict (post_of b.now a j) (post_of b.now a i)) }
 {
-    all_pass(i, |j| contradict(b, post_at(a, j), post_at(a, i)))
+    all_pass(i, move |j| contradict(b, post_at(a, j), post_at(a, i)))
 }
 
 // Whether an action's postconditions contradict in pairs.
@@ -38,7 +38,7 @@ fn posts_contradict(b: &[u8], a: usize) -> bool
     requires { a < 256 }
     ensures { result ≡ posts_contradict b.now a }
 {
-    all_pass(post_count(b, a), |i| post_contradicts(b, a, i))
+    all_pass(post_count(b, a), move |i| post_contradicts(b, a, i))
 }
 
 // Whether the target of outcome i of a cell makes its postcondition true.
@@ -67,7 +67,7 @@ fn cell_consistent(b: &[u8], s: usize, a: usize, n: usize) -> bool
     requires { (s < 256) × (a < 256) × (n < 256) × (n ≡ entries b.now s a) }
     ensures { result ≡ cell_consistent b.now s a }
 {
-    all_pass(n, |i| target_true(b, s, a, i))
+    all_pass(n, move |i| target_true(b, s, a, i))
         & ((n == 0) | (weight_sum(b, s, a, n) == denominator(b)))
 }
 
@@ -75,8 +75,8 @@ pub fn consistent(b: &[u8], used: &[u8; CELLS]) -> bool
     requires { Earlier b.now × Used b.now used.now }
     ensures { result ≡ grounds.consistent b.now }
 {
-    all_pass(action_count(b), |a| posts_contradict(b, a))
-        & all_pass(ACTIONS * state_count(b), |k| {
+    all_pass(action_count(b), move |a| posts_contradict(b, a))
+        & all_pass(ACTIONS * state_count(b), move |k| {
             cell_consistent(b, k / ACTIONS, k % ACTIONS, usize::from(used[k]))
         })
 }

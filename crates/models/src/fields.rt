@@ -42,7 +42,7 @@ fn masks_in_range(b: &[u8]) -> bool
         result ≡ every (state_count b) (λ s. mask_in_range b (state_mask b s)) }
 {
     let n = prop_count(b);
-    all_pass(state_count(b), |s| below_bit(state_mask(b, s), n))
+    all_pass(state_count(b), move |s| below_bit(state_mask(b, s), n))
 }
 
 fn action_in_range(b: &[u8], a: usize) -> bool
@@ -52,7 +52,7 @@ fn action_in_range(b: &[u8], a: usize) -> bool
     let n = post_count(b, a);
     literals_in_range(b, action_at(a))
         & within(1, POSTS, n)
-        & all_pass(n, |i| literals_in_range(b, post_at(a, i)))
+        & all_pass(n, move |i| literals_in_range(b, post_at(a, i)))
 }
 
 fn outcome_in_range(b: &[u8], s: usize, a: usize, i: usize) -> bool
@@ -71,7 +71,7 @@ fn cell_in_range(b: &[u8], s: usize, a: usize, n: usize) -> bool
     requires { (s < 256) × (a < 256) × (n < 256) × (n ≡ entries b.now s a) }
     ensures { result ≡ cell_in_range b.now s a }
 {
-    all_pass(n, |i| outcome_in_range(b, s, a, i))
+    all_pass(n, move |i| outcome_in_range(b, s, a, i))
 }
 
 // The cells are looked at last, once the counts of postconditions are known to be small.
@@ -82,10 +82,10 @@ pub fn fields_right(b: &[u8], used: &[u8; CELLS]) -> bool
     if !masks_in_range(b) {
         return false;
     }
-    if !all_pass(action_count(b), |a| action_in_range(b, a)) {
+    if !all_pass(action_count(b), move |a| action_in_range(b, a)) {
         return false;
     }
-    all_pass(ACTIONS * state_count(b), |k| {
+    all_pass(ACTIONS * state_count(b), move |k| {
         cell_in_range(b, k / ACTIONS, k % ACTIONS, usize::from(used[k]))
     })
 }

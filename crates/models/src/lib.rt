@@ -244,7 +244,10 @@ fn kinds_right(b: &[u8]) -> bool
     ensures { result ≡ kinds_right b.now }
 {
     headed(b, 0, KIND_HEAD, 0)
-        & all_pass(b.len() / BLOCK - 1, |k| headed(b, k + 1, KIND_ROW, k + 1))
+        & all_pass(
+            b.len() / BLOCK - 1,
+            move |k| headed(b, k + 1, KIND_ROW, k + 1),
+        )
 }
 
 // Ground 4.

@@ -53,7 +53,7 @@ fn head_spare(b: &[u8]) -> bool
     let end = action_at(actions);
     zeros(b, HEAD_SPARE_AT, HEAD_SPARE_SIZE)
         & zeros(b, MASKS_AT + masks, MASKS_SIZE - masks)
-        & all_pass(actions, |a| action_spare(b, a))
+        & all_pass(actions, move |a| action_spare(b, a))
         & zeros(b, end, LAST_WORD - end)
 }
 
@@ -80,8 +80,8 @@ pub fn spare_zero(b: &[u8], used: &[u8; CELLS]) -> bool
 {
     let rows = b.len() / BLOCK - 1;
     head_spare(b)
-        & all_pass(rows, |k| row_spare(b, k + 1))
-        & all_pass(ROW_CELLS * rows, |k| {
+        & all_pass(rows, move |k| row_spare(b, k + 1))
+        & all_pass(ROW_CELLS * rows, move |k| {
             cell_spare(b, k / ACTIONS, k % ACTIONS, usize::from(used[k]))
         })
 }
