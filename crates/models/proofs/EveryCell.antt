@@ -22,7 +22,7 @@ use Rattle.blocks.specs.Block.{block_count, whole_blocks}
 use Rattle.models.specs.Layout.{state_count, action_count, prop_count, denominator_of, state_mask, pre_of, post_count, cell_at, entries}
 use Rattle.models.specs.Grounds.{sizes_right, mask_in_range, literals_in_range, action_in_range, fields_right, cell_in_range, cell_consistent}
 use Rattle.models.specs.promises.Used.{Sized}
-use Rattle.models.specs.promises.Passes.{Earlier}
+use Rattle.models.specs.promises.Earlier.{Earlier}
 use Rattle.blocks.proofs.RangeTests.{blocks_within, at_least, at_most}
 
 -- A mask shifted down by n bits is 0 where it has no bit from n up.
@@ -156,7 +156,7 @@ sized b w z e =
     }
 
 -- What follows from the grounds before one, of the cells in the row blocks: they stand inside the bytes, those of the model's states among them.
-module _ {ground_no : ℕ} {b : Bytes} (e : Earlier ground_no b) where
+module _ {b : Bytes} (e : Earlier b) where
   pub cell_inside : (k : ℕ) → k < 24 * (block_count b - 1) → (k < 264) × (cell_at (k / 8) (k % 8) + 16 ≤ length b)
   unfolding cell_at block_count
   cell_inside k h =

@@ -1,4 +1,4 @@
 -- What the layers above and below promise each other; nobody has to believe it.
 pub mod Readable
 pub mod Used
-pub mod Passes
+pub mod Earlier

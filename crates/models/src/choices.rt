@@ -15,14 +15,7 @@ fn has_action(b: &[u8], s: usize) -> bool
         result ≡ some_below (action_count b) (λ a. true_of (pre_of b a) (state_mask b s)) }
 {
     let v = state_mask(b, s);
-    let actions = action_count(b);
-    let mut found = false;
-    let mut a: usize = 0;
-    while a < actions {
-        found = found | holds(b, action_at(a), v);
-        a += 1;
-    }
-    found
+    (0..action_count(b)).any(|a| holds(b, action_at(a), v))
 }
 
 // How many outcomes the choice a has in the state s: none where it is no choice.

@@ -15,10 +15,12 @@ ghost use Rattle.models.specs.promises.Used.{Used};
 pub mod choices;
 mod consistent;
 mod fields;
-mod passes;
 mod spare;
 
-use blocks::{BLOCK, KIND_HEAD, headed, i16_at, sums_right, u32_at, whole_blocks, wide, within};
+use blocks::{
+    BLOCK, KIND_HEAD, KIND_ROW, all_pass, headed, i16_at, sums_right, u32_at, whole_blocks, wide,
+    within,
+};
 use refusals::Refusal;
 
 // The most states, actions and propositions of a model, and the most postconditions of an action.
@@ -218,35 +220,20 @@ pub fn reward(b: &[u8], s: usize, a: usize, i: usize) -> i16
     i16_at(b, outcome_at(s, a, i) + REWARD_AT)
 }
 
-// A byte of the table below, as a number to count with.
-fn widened(x: u8) -> usize
-    ensures value { result ≡ x }
-    ensures range { result < 256 }
-{
-    x as usize
-}
-
 // Where the cells of the model's states end among all cells.
 fn cells_end(b: &[u8]) -> usize
     ensures { (result ≤ 264) × ((k : ℕ) → k < 264 → result ≤ k → state_count b.now ≤ k / 8) }
 {
-    let states = state_count(b);
-    if states < CELLS / ACTIONS {
-        return ACTIONS * states;
-    }
-    CELLS
+    CELLS.min(ACTIONS * state_count(b))
 }
 
 // The number of used outcomes of every cell, 8 to a state: none in the cells of no state.
 fn used_entries(b: &[u8]) -> [u8; CELLS]
     ensures { Used b.now result }
 {
-    let end = cells_end(b);
-    let mut used = [0u8; CELLS];
-    let mut k: usize = 0;
-    while k < end {
+    let mut used = [0; CELLS];
+    for k in 0..cells_end(b) {
         used[k] = entries(b, k / ACTIONS, k % ACTIONS) as u8;
-        k += 1;
     }
     used
 }
@@ -256,7 +243,11 @@ fn kinds_right(b: &[u8]) -> bool
     requires { whole_blocks 2 12 b.now ≡ true }
     ensures { result ≡ kinds_right b.now }
 {
-    headed(b, 0, KIND_HEAD, 0) & passes::rows_pass(b, 3)
+    headed(b, 0, KIND_HEAD, 0)
+        & all_pass(
+            b.len() / BLOCK - 1,
+            move |k| headed(b, k + 1, KIND_ROW, k + 1),
+        )
 }
 
 // Ground 4.
@@ -272,7 +263,8 @@ fn sizes_right(b: &[u8]) -> bool
         & rows
 }
 
-// The number of the first ground on which a model is refused; 0 where there is none.
+// A model is refused on the first ground that it does not pass.
+#[tactic(auto, unfolding(crate::specs::Grounds::read_model))]
 pub fn accept_model(b: &[u8]) -> Result<(), Refusal>
     ensures { refusal_number result ≡ refusal (read_model b.now) }
 {

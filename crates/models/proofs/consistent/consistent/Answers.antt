@@ -1,18 +1,20 @@
 -- The two parts are the definition; the cells of no action pass.
-use native.Mathlib.Omega.{arith}
-use mathlib.Core.Path.{ap₂}
-use mathlib.Core.Bool.{◌&&◌}
-use Rattle.models.specs.Grounds.{cell_consistent, consistent}
-use Rattle.models.specs.promises.Passes.{action_passes, cell_passes}
-use Rattle.models.proofs.EveryCell.{cells_inside, cells_all, consistent_past}
+use Rattle.std.proofs.Common.{◌/◌, ◌%◌, arith, rules, ap₂, ◌&&◌}
+use Rattle.models.specs.Grounds.{posts_contradict, cell_consistent, consistent}
+use Rattle.models.proofs.EveryCell.{cell_inside, cells_inside, cells_all, consistent_past}
 use Rattle.models.proofs.consistent.consistent.Goals as goal
 
-pub cells_pass-requires : goal.cells_pass-requires
-cells_pass-requires c = let S = c in (S.requires.0, S.requires.1, omega (arith, cells_inside S.requires.0))
+pub all_pass-requires-2 : goal.all_pass-requires-2
+all_pass-requires-2 c = λ k h.
+    let inside = cell_inside c.requires.0 k (omega (arith, cells_inside c.requires.0)) in
+    let counted = c.requires.1.count k inside.0 in
+    search rules
 
 pub returns : goal.returns
-unfolding consistent action_passes cell_passes
-returns c = let S = c in
-    let b = S.args.b.now in
+unfolding consistent
+returns c =
+    let b = c.args.b.now in
     let n = c.state_count in
-    ap₂ ◌&&◌ c.actions_pass.ensures (cells_all S.requires.0 (cell_consistent b) (consistent_past b) n.result n.ensures.value c.cells_pass.ensures)
+    let actions = c.all_pass.ensures (posts_contradict b) (λ k r h p. search rules) in
+    let cells = c.all_pass-2.ensures (λ k. cell_consistent b (k / 8) (k % 8)) (λ k r h p. search rules) in
+    ap₂ ◌&&◌ (rw c.action_count.ensures.value at actions) (cells_all c.requires.0 (cell_consistent b) (consistent_past b) n.result n.ensures.value cells)

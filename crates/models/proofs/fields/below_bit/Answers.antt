@@ -3,4 +3,4 @@ use Rattle.models.proofs.EveryCell.{shift_zero}
 use Rattle.models.proofs.fields.below_bit.Goals as goal
 
 pub returns : goal.returns
-returns c = shift_zero c.args.v c.args.n
+returns c = rw c.from.ensures (shift_zero c.args.v c.args.n)

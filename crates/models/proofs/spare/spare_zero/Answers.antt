@@ -1,28 +1,34 @@
 -- The three parts are the definition; the cells of the row blocks are a grid.
-use Prim.Native.Nat.{◌*◌, ◌-◌, ◌/◌, ◌%◌}
-use native.Mathlib.Omega.{arith}
-use mathlib.Core.Path.{◌≡◌, ap, ap₂, ◌∙◌}
-use mathlib.Core.Bool.{◌&&◌}
-use lib.ListN.{length}
+use Rattle.std.proofs.Common.{◌≡◌, ◌+◌, ◌-◌, ◌*◌, ◌/◌, ◌%◌, length, arith, rules, ap, ap₂, ◌∙◌, ◌&&◌}
 use Rattle.logic.specs.Lists.{every}
 use Rattle.blocks.specs.Block.{block_count}
-use Rattle.models.specs.Grounds.{rows_spare, cell_spare, cells_spare}
-use Rattle.models.specs.promises.Passes.{row_passes, cell_passes}
-use Rattle.models.proofs.EveryCell.{grid}
 use Rattle.blocks.proofs.RangeTests.{blocks_within}
+use Rattle.models.specs.Grounds.{row_spare, rows_spare, cell_spare, cells_spare}
+use Rattle.models.proofs.EveryCell.{cell_inside, entries_small, sized, grid}
 use Rattle.models.proofs.spare.spare_zero.Goals as goal
 
-pub overflow_sub-cells : goal.overflow_sub-cells
-overflow_sub-cells c = let S = c in omega (arith, blocks_within S.args.b.now 2 12 S.requires.0.whole)
+pub overflow_sub-rows : goal.overflow_sub-rows
+overflow_sub-rows c = omega (arith, blocks_within c.args.b.now 2 12 c.requires.0.whole)
 
-pub cells_pass-requires : goal.cells_pass-requires
+pub all_pass-requires : goal.all_pass-requires
+all_pass-requires c = λ k h. let few = blocks_within c.args.b.now 2 12 c.requires.0.whole in search rules
+
+pub all_pass-requires-2 : goal.all_pass-requires-2
 unfolding block_count
-cells_pass-requires c = let S = c in (S.requires.0, S.requires.1, omega arith)
+all_pass-requires-2 c = λ k h.
+    let b = c.args.b.now in
+    let inside = cell_inside c.requires.0 k h in
+    let counted = c.requires.2.count k inside.0 in
+    let small = entries_small b (sized b c.requires.0.whole c.requires.0.sizes c.requires.1) (k / 8) (k % 8) in
+    search rules
 
 pub returns : goal.returns
-unfolding rows_spare cells_spare row_passes cell_passes block_count
-returns c = let b = c.args.b.now in
+unfolding rows_spare cells_spare block_count
+returns c =
+    let b = c.args.b.now in
     let n = length b / 512 - 1 in
     let e : 24 * n ≡ 8 * (3 * n) = omega arith in
-    ap₂ ◌&&◌ (ap₂ ◌&&◌ c.head_spare.ensures c.rows_pass.ensures)
-    (c.cells_pass.ensures ∙ ap (λ m. every m (λ k. cell_spare b (k / 8) (k % 8))) e ∙ grid (cell_spare b) (3 * n) 8 (omega arith) (λ s a h l. absurd (omega arith)))
+    let rows = c.all_pass.ensures (λ k. row_spare b (k + 1)) (λ k r h p. search rules) in
+    let cells = c.all_pass-2.ensures (λ k. cell_spare b (k / 8) (k % 8)) (λ k r h p. search rules) in
+    ap₂ ◌&&◌ (ap₂ ◌&&◌ c.head_spare.ensures rows)
+    (cells ∙ ap (λ m. every m (λ k. cell_spare b (k / 8) (k % 8))) e ∙ grid (cell_spare b) (3 * n) 8 (omega arith) (λ s a h l. absurd (omega arith)))
