@@ -1,12 +1,12 @@
 -- Numbers in bytes: the bytes of a number, lowest first, read back as the number.
-use Prim.Native.Nat.{ℕ, zero, suc, ◌+◌, ◌*◌, ◌-◌, ◌/◌, ◌%◌, ◌^◌, ◌<◌}
-use native.Mathlib.Numerals.{add-one}
+use Prim.Native.Nat.{ℕ, zero, suc, ◌+◌, ◌*◌, ◌-◌, ◌/◌, ◌%◌, ◌^◌, ◌≤◌, ◌<◌}
 use native.Mathlib.Nat.{mod-eq_of_lt}
 use native.Mathlib.Omega.{arith}
 use mathlib.Core.Path.{◌≡◌, refl, sym, ap, ap₂, ◌∙◌}
-use mathlib.Core.List.{List, ◌∷◌, ◌++◌}
-use lib.ListN.{length, drop, get_or}
-use lib.Seq.{drop-cons, get_or-drop}
+use mathlib.Core.List.{List, [], ◌∷◌, ◌++◌, append_assoc, append-nil}
+use lib.ListN.{length, take, drop, get_or, set}
+use lib.Seq.{get_or-drop, take_all}
+use Rattle.std.proofs.lemmas.List.{take_more_set}
 use Rattle.blocks.specs.Bytes.{AllBytes, u16, u32, u64, little_endian}
 
 pub length_bytes : (k x : ℕ) → length (little_endian k x) ≡ k
@@ -14,14 +14,21 @@ unfolding little_endian
 length_bytes zero x = refl
 length_bytes (suc k) x = ap suc (length_bytes k (x / 256))
 
--- The next byte of a number, where i of k are passed and `rest` is what is left of it.
-pub next_byte : (k i rest : ℕ) (l : List ℕ) → i < k → length l ≡ k → drop i l ≡ little_endian (k - i) rest
-    → (get_or l i 0 ≡ rest % 256) × (drop (i + 1) l ≡ little_endian (k - (i + 1)) (rest / 256))
+-- What a loop over the places of a number's bytes has written, and after it the bytes of `rest`, what is left of the number: the next byte
+-- that it writes is the lowest of these.
+pub one_byte_more : (l : List ℕ) (i n rest : ℕ) → i < n → i < length l
+    → take (i + 1) (set l i (rest % 256)) ++ little_endian (n - (i + 1)) (rest / 256) ≡ take i l ++ little_endian (n - i) rest
 unfolding little_endian
-next_byte k i rest l h n e =
-    let j : k - i ≡ suc (k - (i + 1)) = omega arith in
-    let g : get_or l i 0 ∷ drop (suc i) l ≡ rest % 256 ∷ little_endian (k - (i + 1)) (rest / 256) = sym (drop-cons l i 0 (omega arith)) ∙ e ∙ ap (λ z. little_endian z rest) j in
-    (cc, ap (λ z. drop z l) (add-one i) ∙ cc)
+one_byte_more l i n rest below inside =
+    let left : n - i ≡ suc (n - (i + 1)) = omega arith in
+    rw (take_more_set, left) (append_assoc (take i l) (rest % 256 ∷ []) (little_endian (n - (i + 1)) (rest / 256)))
+
+-- At the end no byte of `rest` is left.
+pub all_bytes : (l : List ℕ) (i n rest : ℕ) → length l ≤ i → n ≤ i → l ≡ take i l ++ little_endian (n - i) rest
+unfolding little_endian
+all_bytes l i n rest all none =
+    let left : n - i ≡ 0 = omega arith in
+    rw (left, append-nil) (sym (take_all i l all))
 
 -- Words of the same bytes are the same.
 pub same_16 : (b l : List ℕ) (i j : ℕ) → get_or b i 0 ≡ get_or l j 0 → get_or b (i + 1) 0 ≡ get_or l (j + 1) 0 → u16 b i ≡ u16 l j

@@ -1,31 +1,12 @@
 -- Lists that are written part by part: a part lent from the middle is put back between what stands before it and what stands after it.
-use Prim.Native.Nat.{ℕ, zero, suc, ◌+◌, ◌-◌, ◌≤◌, ◌<◌}
+use Prim.Native.Nat.{ℕ, zero, suc, ◌+◌, ◌-◌, ◌≤◌}
 use native.Mathlib.Nat.{sub-zero, suc-sub-suc}
-use native.Mathlib.Numerals.{add-one}
 use native.Mathlib.Omega.{arith}
 use mathlib.Core.Path.{◌≡◌, refl, sym, ap, ap₂, ◌∙◌}
 use mathlib.Core.List.{List, [], ◌++◌, append_assoc, append-nil}
-use lib.ListN.{length, take, drop, set, get_or, replicate, length-append, length-drop, drop_of_length-le}
-use lib.Seq.{paste, paste-suc, take-length, take_all, take_at, drop_at, drop-drop, drop-length}
+use lib.ListN.{length, take, drop, replicate, length-append, length-drop, drop_of_length-le}
+use lib.Seq.{take_all, take_at, drop_at, drop-drop}
 use borrow.Rule.Slice.PartMut.{mid_of, put_mid}
-
--- The list s goes into d from the front: one element more, and all.
-pub copy_more : (d s a : List ℕ) (i : ℕ) → i < length d → i < length s → a ≡ paste d 0 s i → set a i (get_or s i 0) ≡ paste d 0 s (i + 1)
-copy_more d s a i hd hs e =
-    let z : 0 + i ≡ i = omega arith in
-    ap (λ x. set x i (get_or s i 0)) e
-    ∙ ap (λ k. set (paste d 0 s i) k (get_or s i 0)) (sym z)
-    ∙ paste-suc d 0 s i 0 (omega arith) hs
-    ∙ ap (λ k. paste d 0 s k) (sym (add-one i))
-
-pub copy_end : (d s a : List ℕ) (i : ℕ) → i ≡ length s → a ≡ paste d 0 s i → a ≡ s ++ drop (length s) d
-copy_end d s a i e g =
-    let z : 0 + length s ≡ length s = omega arith in
-    g ∙ ap (λ k. paste d 0 s k) e ∙ ap₂ (λ x y. x ++ y) (take-length s) (ap (λ k. drop k d) z)
-
--- All of d has been made v.
-pub fill_end : (d a : List ℕ) (i v : ℕ) → i ≡ length d → a ≡ replicate i v ++ drop i d → a ≡ replicate (length d) v
-fill_end d a i v e g = g ∙ ap (λ k. replicate k v ++ drop k d) e ∙ ap (λ x. replicate (length d) v ++ x) (drop-length d) ∙ append-nil (replicate (length d) v)
 
 pub drop-replicate : (k n v : ℕ) → k ≤ n → drop k (replicate n v) ≡ replicate (n - k) v
 drop-replicate zero n v h = rw sub-zero refl

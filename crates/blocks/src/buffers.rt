@@ -16,22 +16,14 @@ pub fn copy(dst: &mut [u8], src: &[u8])
     requires { length src.now ≤ length dst.old }
     ensures { dst.new ≡ src.now ++ drop (length src.now) dst.old }
 {
-    let mut i: usize = 0;
-    while i < src.len() {
-        dst[i] = src[i];
-        i += 1;
-    }
+    dst[..src.len()].copy_from_slice(src);
 }
 
 // All bytes become zero.
 pub fn clear(dst: &mut [u8])
     ensures { dst.new ≡ replicate (length dst.old) 0 }
 {
-    let mut i: usize = 0;
-    while i < dst.len() {
-        dst[i] = 0;
-        i += 1;
-    }
+    dst.fill(0);
 }
 
 // The first bytes of dst become the lowest bytes of x.
@@ -40,10 +32,8 @@ pub fn put_number(dst: &mut [u8], bytes: usize, x: u64)
     ensures { dst.new ≡ little_endian bytes x ++ drop bytes dst.old }
 {
     let mut rest = x;
-    let mut i: usize = 0;
-    while i < bytes {
-        dst[i] = (rest % 256) as u8;
-        rest = rest / 256;
-        i += 1;
+    for place in dst[..bytes].iter_mut() {
+        *place = (rest % 256) as u8;
+        rest /= 256;
     }
 }

@@ -1,8 +1,9 @@
 // Bytes, numbers in bytes, and blocks of 512 bytes: what every reader and writer stands on.
 #![tactic(auto)]
 
-ghost use Rattle.std.specs.Prelude.{◌≡◌, ◌+◌, ◌*◌, ◌≤◌, ◌<◌, ◌%◌, true, pos, negsuc, length, take};
+ghost use Rattle.std.specs.Prelude.{◌≡◌, ℕ, ◌+◌, ◌*◌, ◌≤◌, ◌<◌, ◌%◌, Bool, true, pos, negsuc, length, take};
 ghost use Rattle.std.specs.Int.Signed.{lt_z};
+ghost use Rattle.logic.specs.Lists.{every};
 ghost use Rattle.blocks.specs.Bytes.{u16, u32, u64, signed, i16, i32, i64, twos_complement};
 ghost use Rattle.blocks.specs.Bytes as spec;
 ghost use Rattle.blocks.specs.Block.{whole_blocks, word_sum, sums_right, with_word_sum};
@@ -37,10 +38,7 @@ const WORD_VALUES: u32 = 65536;
 pub fn byte(b: &[u8], i: usize) -> u8
     ensures { result ≡ spec.byte b.now i }
 {
-    if i < b.len() {
-        return b[i];
-    }
-    0
+    b.get(i).copied().unwrap_or(0)
 }
 
 // The same, as a number to count with.
@@ -48,7 +46,7 @@ pub fn wide(b: &[u8], i: usize) -> usize
     ensures value { result ≡ spec.byte b.now i }
     ensures range { result < 256 }
 {
-    byte(b, i) as usize
+    usize::from(byte(b, i))
 }
 
 // The 16-bit number at i, inside the slice.
@@ -57,9 +55,7 @@ fn pair(b: &[u8], i: usize) -> u32
     ensures value { result ≡ u16 b.now i }
     ensures range { result < 65536 }
 {
-    let low = b[i] as u32;
-    let high = b[i + 1] as u32;
-    low + 256 * high
+    u32::from(u16::from_le_bytes([b[i], b[i + 1]]))
 }
 
 // The 16-bit number at i. Inside the slice, here and below, one comparison serves all its bytes.
@@ -71,7 +67,7 @@ pub fn u16_at(b: &[u8], i: usize) -> u32
     if i + 1 < b.len() {
         return pair(b, i);
     }
-    byte(b, i) as u32 + 256 * byte(b, i + 1) as u32
+    u32::from(u16::from_le_bytes([byte(b, i), byte(b, i + 1)]))
 }
 
 // The 32-bit number at i.
@@ -90,7 +86,7 @@ pub fn u64_at(b: &[u8], i: usize) -> u64
     requires { i < 65536 }
     ensures { result ≡ u64 b.now i }
 {
-    u32_at(b, i) as u64 + 4294967296 * u32_at(b, i + 4) as u64
+    u64::from(u32_at(b, i)) + 4294967296 * u64::from(u32_at(b, i + 4))
 }
 
 // The signed number of 16 bits in two's complement.
@@ -98,10 +94,7 @@ pub fn signed16(x: u32) -> i16
     requires { x < 65536 }
     ensures { result ≡ signed 15 x }
 {
-    if x < 32768 {
-        return x as i16;
-    }
-    (x as i32 - 65536) as i16
+    (x as u16).cast_signed()
 }
 
 // The signed 16-bit number at i.
@@ -117,11 +110,7 @@ pub fn i32_at(b: &[u8], i: usize) -> i32
     requires { i < 65536 }
     ensures { result ≡ i32 b.now i }
 {
-    let x = u32_at(b, i);
-    if x < 2147483648 {
-        return x as i32;
-    }
-    -1 - (4294967295 - x) as i32
+    u32_at(b, i).cast_signed()
 }
 
 // The signed 64-bit number at i.
@@ -129,11 +118,7 @@ pub fn i64_at(b: &[u8], i: usize) -> i64
     requires { i < 65536 }
     ensures { result ≡ i64 b.now i }
 {
-    let x = u64_at(b, i);
-    if x < 9223372036854775808 {
-        return x as i64;
-    }
-    -1 - (18446744073709551615 - x) as i64
+    u64_at(b, i).cast_signed()
 }
 
 // How far a number below 0 is below -1.
@@ -142,31 +127,34 @@ pub fn below_minus_one(z: i64) -> u64
     ensures value { z ≡ negsuc result }
     ensures range { result < 9223372036854775808 }
 {
-    (-1 - z) as u64
+    (!z).cast_unsigned()
 }
 
 // The 64 bits of a signed number, as a number: its two's complement.
 pub fn bits_of(z: i64) -> u64
     ensures { result ≡ twos_complement 63 z }
 {
-    if z < 0 {
-        return 18446744073709551615 - below_minus_one(z);
-    }
-    z as u64
+    z.cast_unsigned()
 }
 
-// Whether the n bytes from a place on are zero. They are summed, so that no byte needs a branch.
+// Whether each of the numbers 0, 1, .., n - 1 passes. All are asked, also after one that fails, so that no answer needs a branch.
+pub fn all_pass<F: Fn(usize) -> bool>(n: usize, passes: F) -> bool
+    requires { (k : ℕ) → k < n → F.pre passes k }
+    ensures { (test : ℕ → Bool) → ((k : ℕ) (r : Bool) → k < n → F.post passes k r → r ≡ test k) → result ≡ every n test }
+{
+    let mut right = true;
+    for k in 0..n {
+        right &= passes(k);
+    }
+    right
+}
+
+// Whether the n bytes from a place on are zero. Their bits are joined, so that no byte needs a branch.
 pub fn zeros(b: &[u8], from: usize, n: usize) -> bool
     requires { (from + n ≤ length b.now) × (n < 65536) }
     ensures { result ≡ spec.zeros b.now from n }
 {
-    let mut sum: u32 = 0;
-    let mut i: usize = 0;
-    while i < n {
-        sum += b[from + i] as u32;
-        i += 1;
-    }
-    sum == 0
+    b[from..from + n].iter().fold(0, |bits, x| bits | x) == 0
 }
 
 // Whether a number is from `least` to `most`.
@@ -184,10 +172,8 @@ fn word_sum(b: &[u8], k: usize) -> u32
 {
     let at = BLOCK * k;
     let mut sum: u32 = 0;
-    let mut j: usize = 0;
-    while j < WORDS {
+    for j in 0..WORDS {
         sum += pair(b, at + 2 * j);
-        j += 1;
     }
     sum % WORD_VALUES
 }
@@ -196,15 +182,7 @@ fn word_sum(b: &[u8], k: usize) -> u32
 pub fn sums_right(b: &[u8]) -> bool
     ensures { result ≡ sums_right b.now }
 {
-    let n = b.len() / BLOCK;
-    let mut k: usize = 0;
-    while k < n {
-        if word_sum(b, k) != 0 {
-            return false;
-        }
-        k += 1;
-    }
-    true
+    (0..b.len() / BLOCK).all(|k| word_sum(b, k) == 0)
 }
 
 // Seals a block: its last word, whatever it was, becomes the one with which all words sum to 0 modulo 65,536. Two bytes hold a number
@@ -216,7 +194,7 @@ pub fn seal(block: &mut [u8])
     let sum = word_sum(block, 0);
     let last = pair(block, LAST_WORD);
     let word = WORD_VALUES + last - sum;
-    put_number(&mut block[LAST_WORD..], 2, word as u64);
+    put_number(&mut block[LAST_WORD..], 2, u64::from(word));
 }
 
 // Ground 1: whether there are from `least` to `most` whole blocks.

@@ -1,5 +1,5 @@
+use Rattle.std.proofs.Common.{rules}
 use Rattle.blocks.specs.Bytes.{u32}
-use borrow.Author.Rules.{rules}
 use Rattle.blocks.proofs.u32_at.Goals as goal
 
 pub returns-then-i-b : goal.returns-then-i-b

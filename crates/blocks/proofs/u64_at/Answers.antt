@@ -1,5 +1,5 @@
+use Rattle.std.proofs.Common.{rules}
 use Rattle.blocks.specs.Bytes.{u64}
-use borrow.Author.Rules.{rules}
 use Rattle.blocks.proofs.u64_at.Goals as goal
 
 pub returns : goal.returns

@@ -1,12 +1,7 @@
-use Prim.Native.Nat.{◌-◌, ◌≤◌}
-use mathlib.Core.Path.{◌≡◌}
-use lib.ListN.{length, drop}
-use lib.Seq.{paste}
+-- The bytes written, and after them the lowest bytes of what is left of the number, are the number's bytes.
+use Rattle.std.proofs.Common.{◌≡◌, ◌++◌, ◌-◌, take}
 use Rattle.blocks.specs.Bytes.{little_endian}
 use Rattle.blocks.proofs.buffers.put_number.Given as goal
 
-abbrev pub invariant-loop-i : goal.invariant-loop-i
-invariant-loop-i l = (l.i ≤ l.bytes) × (length l.dst ≡ length l.initial.dst) × (l.dst ≡ paste l.initial.dst 0 (little_endian l.bytes l.x) l.i) × (drop l.i (little_endian l.bytes l.x) ≡ little_endian (l.bytes - l.i) l.rest)
-
-abbrev pub decreases-loop-i : goal.decreases-loop-i
-decreases-loop-i l = l.bytes - l.i
+abbrev pub invariant-loop-place : goal.invariant-loop-place
+invariant-loop-place l = take l.place-index l.place-items ++ little_endian (l.bytes - l.place-index) l.rest ≡ little_endian l.bytes l.x
