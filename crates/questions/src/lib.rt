@@ -3,6 +3,7 @@
 
 ghost use Rattle.std.specs.Prelude.{◌≡◌, true, ◌&&◌, ◌+◌, ◌-◌, ◌≤◌, ◌<◌, min, ltb, length, get_or, take};
 ghost use Rattle.logic.specs.Lists.{every};
+ghost use Rattle.refusals.specs.Number.{refusal_number};
 ghost use Rattle.logic.specs.promises.Refusal.{refusal};
 ghost use Rattle.logic.specs.Formula.{depth, shallow, never, formula_of};
 ghost use Rattle.blocks.specs.Bytes.{byte, zeros, within};
@@ -16,6 +17,7 @@ ghost use Rattle.questions.specs.promises.Passes.{Nodes, InRangeOfSome};
 pub mod used;
 
 use crate::used::all_reached;
+use refusals::Refusal;
 
 // The operators of nodes, by document 01's words.
 pub const FALSE: u8 = 1;
@@ -403,34 +405,35 @@ fn counts_right(b: &[u8], states: usize) -> bool
     (usize::from(start(b)) < states) & blocks::within(1, NODES, usize::from(node_count(b)))
 }
 
-// The first ground on which the question's bytes are refused, for a model of so many states, actions and propositions; 0 for none.
-pub fn question_refusal(b: &[u8], states: usize, actions: usize, props: usize) -> u32
-    ensures { result ≡ refusal (read_question states actions props b.now) }
+// Accepts a question's bytes for a model of so many states, actions and propositions, or gives the first ground on which they are refused.
+#[tactic(auto, unfolding(crate::specs::Grounds::read_question))]
+pub fn accept_question(b: &[u8], states: usize, actions: usize, props: usize) -> Result<(), Refusal>
+    ensures { refusal_number result ≡ refusal (read_question states actions props b.now) }
 {
     if !blocks::whole_blocks(b, 1, 1) {
-        return 1;
+        return Err(Refusal::BlockCount);
     }
     if !blocks::sums_right(b) {
-        return 2;
+        return Err(Refusal::WordSum);
     }
     if !blocks::headed(b, 0, blocks::KIND_QUESTION, 0) {
-        return 3;
+        return Err(Refusal::Heading);
     }
     if !counts_right(b, states) {
-        return 4;
+        return Err(Refusal::HeadFields);
     }
     if !nodes_in_range(b, actions, props) {
-        return 5;
+        return Err(Refusal::FieldRange);
     }
     if !spare_zero(b) {
-        return 6;
+        return Err(Refusal::SpareBytes);
     }
     let depths = depth_table(b);
     if !formed(b, &depths) {
-        return 9;
+        return Err(Refusal::NotFormed);
     }
     if !all_reached(b) {
-        return 13;
+        return Err(Refusal::UnreachedNode);
     }
-    0
+    Ok(())
 }

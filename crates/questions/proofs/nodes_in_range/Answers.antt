@@ -1,12 +1,9 @@
-use Rattle.std.proofs.Common.{rules, ℕ, Bool, ◌∙◌, ap}
+use Rattle.std.proofs.Common.{rules}
 use borrow.Author.Tests.{tests}
-use Rattle.logic.specs.Lists.{every}
 use Rattle.questions.specs.Layout.{node_of}
 use Rattle.questions.specs.Grounds.{node_in_range}
 use Rattle.questions.proofs.EveryInRange.{every_from_all}
 use Rattle.questions.proofs.nodes_in_range.Goals as goal
 
 pub returns : goal.returns
-returns c =
-    let test : ℕ → Bool = λ i. node_in_range c.args.actions c.args.props i (node_of c.args.b.now i) in
-    every_from_all test _ _ _ _ c.all.ensures.ran (λ x b q k. search (rules, tests)) ∙ ap (λ n. every n test) c.node_count.ensures
+returns c = every_from_all (λ i. node_in_range c.args.actions c.args.props i (node_of c.args.b.now i)) c.all.ensures.ran c.node_count.ensures (λ x b q k. search (rules, tests))
