@@ -1,7 +1,7 @@
 // Reading questions: the grounds of refusal 1 to 6, 9 and 13, and the fields of a node. A node's number is a byte, so the readers are total.
-#![tactic(auto)]
+#![tactic(auto, unfolding(crate::specs::Layout::node_of, crate::specs::Grounds::compares, crate::specs::Grounds::gain_bound, crate::specs::Grounds::plan_in_range, crate::specs::Grounds::span, crate::specs::Grounds::expected_bound, crate::specs::Grounds::earns_in_range, crate::specs::promises::Formed::sets_bound))]
 
-ghost use Rattle.std.specs.Prelude.{◌≡◌, true, ◌&&◌, ◌+◌, ◌-◌, ◌≤◌, ◌<◌, max, min, ltb, length, get_or, take};
+ghost use Rattle.std.specs.Prelude.{◌≡◌, true, ◌&&◌, ◌+◌, ◌-◌, ◌≤◌, ◌<◌, min, ltb, length, get_or, take};
 ghost use Rattle.logic.specs.Lists.{every};
 ghost use Rattle.refusals.specs.Number.{refusal_number};
 ghost use Rattle.logic.specs.promises.Refusal.{refusal};
@@ -12,7 +12,7 @@ ghost use Rattle.questions.specs.Grounds.{gain_bound, plan_bound, plan_in_range,
 ghost use Rattle.questions.specs.Grounds as spec;
 ghost use Rattle.questions.specs.promises.Formed.{sets_bound};
 ghost use Rattle.questions.specs.promises.Tables.{formulas_before, table};
-ghost use Rattle.questions.specs.promises.Passes.{passes, Nodes};
+ghost use Rattle.questions.specs.promises.Passes.{Nodes, InRangeOfSome};
 
 pub mod used;
 
@@ -115,7 +115,7 @@ fn node_at(i: u8) -> usize
     ensures value { result ≡ node_at i }
     ensures range { result < 3080 }
 {
-    NODES_AT + NODE_SIZE * i as usize
+    NODES_AT + NODE_SIZE * usize::from(i)
 }
 
 pub fn operator(b: &[u8], i: u8) -> u8
@@ -209,7 +209,7 @@ fn relation_in_range(relation: u8) -> bool
 fn compares(b: &[u8], i: u8) -> bool
     ensures { result ≡ spec.compares (node_of b.now i) }
 {
-    blocks::within(1, MOST_STEPS, steps(b, i) as usize) & relation_in_range(right(b, i))
+    blocks::within(1, MOST_STEPS, usize::from(steps(b, i))) & relation_in_range(right(b, i))
 }
 
 fn gain_bound(p: i32, q: u32) -> bool
@@ -261,10 +261,10 @@ fn node_in_range(b: &[u8], i: u8, actions: usize, props: usize) -> bool
     let op = operator(b, i);
     match op {
         FALSE => true,
-        PROP => (left(b, i) as usize) < props,
+        PROP => usize::from(left(b, i)) < props,
         NOT | NEXT => left(b, i) < i,
         AND => (left(b, i) < i) & (right(b, i) < i),
-        DO => (left(b, i) as usize) < actions,
+        DO => usize::from(left(b, i)) < actions,
         GAIN => compares(b, i) & gain_bound(p(b, i), q(b, i)),
         PLAN => plan_in_range(b, i),
         EARNS => earns_in_range(b, i),
@@ -298,24 +298,11 @@ fn node_spare(b: &[u8], i: u8) -> bool
     }
 }
 
-fn larger(x: u32, y: u32) -> u32
-    ensures { result ≡ max x y }
-{
-    if x < y {
-        return y;
-    }
-    x
-}
-
 // How many nodes a table holds: the node count, at most 40.
 fn nodes_held(b: &[u8]) -> u8
     ensures { result ≡ min (node_count b.now) 40 }
 {
-    let n = node_count(b);
-    if n < NODES as u8 {
-        return n;
-    }
-    NODES as u8
+    node_count(b).min(NODES as u8)
 }
 
 // The depth of a child of node i, from the table; 0 for a node that is not before i.
@@ -324,8 +311,7 @@ fn child_depth(depths: &[u32; NODES], i: u8, child: u8) -> u32
     ensures { result ≡ get_or (take i depths.now) child 0 }
 {
     if child < i {
-        let at = child as usize;
-        return depths[at];
+        return depths[usize::from(child)];
     }
     0
 }
@@ -338,13 +324,10 @@ fn node_depth(b: &[u8], depths: &[u32; NODES], i: u8) -> u32
     let op = operator(b, i);
     match op {
         NOT => child_depth(depths, i, left(b, i)),
-        AND => larger(
-            child_depth(depths, i, left(b, i)),
-            child_depth(depths, i, right(b, i)),
-        ),
+        AND => child_depth(depths, i, left(b, i)).max(child_depth(depths, i, right(b, i))),
         DO => 1,
         NEXT => child_depth(depths, i, left(b, i)) + 1,
-        GAIN => steps(b, i) as u32,
+        GAIN => u32::from(steps(b, i)),
         _ => 0,
     }
 }
@@ -353,14 +336,9 @@ fn node_depth(b: &[u8], depths: &[u32; NODES], i: u8) -> u32
 pub fn depth_table(b: &[u8]) -> [u32; NODES]
     ensures { result ≡ table depth (formulas_of b.now) }
 {
-    let n = nodes_held(b);
-    let mut depths = [0u32; NODES];
-    let mut i: u8 = 0;
-    while i < n {
-        let d = node_depth(b, &depths, i);
-        let at = i as usize;
-        depths[at] = d;
-        i += 1;
+    let mut depths = [0; NODES];
+    for i in 0..nodes_held(b) {
+        depths[usize::from(i)] = node_depth(b, &depths, i);
     }
     depths
 }
@@ -372,73 +350,63 @@ fn node_shallow(b: &[u8], depths: &[u32; NODES], i: u8) -> bool
 {
     let op = operator(b, i);
     match op {
-        PLAN => child_depth(depths, i, left(b, i)) <= steps(b, i) as u32,
+        PLAN => child_depth(depths, i, left(b, i)) <= u32::from(steps(b, i)),
         _ => true,
     }
 }
 
-// What ground 5, 6 or 9 asks of node i, for a model of so many actions and propositions.
-fn node_passes(
-    b: &[u8],
-    ground_no: u32,
-    i: u8,
-    actions: usize,
-    props: usize,
-    depths: &[u32; NODES],
-) -> bool
-    requires { (i < node_count b.now) × Nodes b.now depths.now }
-    ensures { result ≡ passes ground_no actions props b.now i }
+// Ground 5.
+fn nodes_in_range(b: &[u8], actions: usize, props: usize) -> bool
+    ensures { result ≡ every (node_count b.now) (λ i. node_in_range actions props i (node_of b.now i)) }
 {
-    match ground_no {
-        5 => node_in_range(b, i, actions, props),
-        6 => node_spare(b, i),
-        _ => node_shallow(b, depths, i),
-    }
+    (0..node_count(b)).all(|i| node_in_range(b, i, actions, props))
 }
 
-// Whether every node passes.
-fn nodes_pass(b: &[u8], ground_no: u32, actions: usize, props: usize, depths: &[u32; NODES]) -> bool
-    requires { Nodes b.now depths.now }
-    ensures { result ≡ every (node_count b.now) (passes ground_no actions props b.now) }
+// Ground 6 of the nodes.
+fn nodes_spare(b: &[u8]) -> bool
+    requires { (length b.now ≡ 512) × (node_count b.now ≤ 40) }
+    ensures { result ≡ every (node_count b.now) (node_spare b.now) }
 {
-    let n = node_count(b);
-    let mut right = true;
-    let mut i: u8 = 0;
-    while i < n {
-        right = right & node_passes(b, ground_no, i, actions, props, depths);
-        i += 1;
-    }
-    right
+    (0..node_count(b)).all(|i| node_spare(b, i))
 }
 
 // Ground 6: of the nodes, and of the bytes before and after them.
-fn spare_zero(b: &[u8], actions: usize, props: usize, depths: &[u32; NODES]) -> bool
-    requires { Nodes b.now depths.now }
+fn spare_zero(b: &[u8]) -> bool
+    requires { (length b.now ≡ 512) × (node_count b.now ≤ 40) }
     ensures { result ≡ spare_zero b.now }
 {
     let end = node_at(node_count(b));
     blocks::zeros(b, SPARE_AT, SPARE_SIZE)
-        & nodes_pass(b, 6, actions, props, depths)
+        & nodes_spare(b)
         & blocks::zeros(b, end, blocks::LAST_WORD - end)
 }
 
+// Ground 9 of the nodes.
+fn nodes_shallow(b: &[u8], depths: &[u32; NODES]) -> bool
+    requires { Nodes b.now depths.now }
+    ensures { result ≡ every (node_count b.now) (λ i. shallow (get_or (formulas_of b.now) i never)) }
+{
+    (0..node_count(b)).all(|i| node_shallow(b, depths, i))
+}
+
 // Ground 9. By ground 5 "gain" has a step, so that the path formulas are those of some depth.
-fn formed(b: &[u8], actions: usize, props: usize, depths: &[u32; NODES]) -> bool
-    requires { Nodes b.now depths.now × (every (node_count b.now) (passes 5 actions props b.now) ≡ true) }
+fn formed(b: &[u8], depths: &[u32; NODES]) -> bool
+    requires { Nodes b.now depths.now × InRangeOfSome b.now }
     ensures { result ≡ spec.formed (question_of b.now) }
 {
-    let root = node_count(b) as usize - 1;
-    (depths[root] == 0) & nodes_pass(b, 9, actions, props, depths)
+    let root = usize::from(node_count(b)) - 1;
+    (depths[root] == 0) & nodes_shallow(b, depths)
 }
 
 // Ground 4.
 fn counts_right(b: &[u8], states: usize) -> bool
     ensures { result ≡ (ltb (start_of b.now) states && within 1 40 (node_count b.now)) }
 {
-    ((start(b) as usize) < states) & blocks::within(1, NODES, node_count(b) as usize)
+    (usize::from(start(b)) < states) & blocks::within(1, NODES, usize::from(node_count(b)))
 }
 
-// The first ground on which the question's bytes are refused, for a model of so many states, actions and propositions; 0 for none.
+// Accepts a question's bytes for a model of so many states, actions and propositions, or gives the first ground on which they are refused.
+#[tactic(auto, unfolding(crate::specs::Grounds::read_question))]
 pub fn accept_question(b: &[u8], states: usize, actions: usize, props: usize) -> Result<(), Refusal>
     ensures { refusal_number result ≡ refusal (read_question states actions props b.now) }
 {
@@ -454,14 +422,14 @@ pub fn accept_question(b: &[u8], states: usize, actions: usize, props: usize) ->
     if !counts_right(b, states) {
         return Err(Refusal::HeadFields);
     }
-    let depths = depth_table(b);
-    if !nodes_pass(b, 5, actions, props, &depths) {
+    if !nodes_in_range(b, actions, props) {
         return Err(Refusal::FieldRange);
     }
-    if !spare_zero(b, actions, props, &depths) {
+    if !spare_zero(b) {
         return Err(Refusal::SpareBytes);
     }
-    if !formed(b, actions, props, &depths) {
+    let depths = depth_table(b);
+    if !formed(b, &depths) {
         return Err(Refusal::NotFormed);
     }
     if !all_reached(b) {

@@ -32,12 +32,9 @@ fn mark_children(b: &[u8], marks: &mut [u8; NODES], i: u8)
 fn children_marked(b: &[u8]) -> [u8; NODES]
     ensures { Marks b.now result }
 {
-    let n = node_count(b);
-    let mut marks = [0u8; NODES];
-    let mut i: u8 = 0;
-    while i < n {
+    let mut marks = [0; NODES];
+    for i in 0..node_count(b) {
         mark_children(b, &mut marks, i);
-        i += 1;
     }
     marks
 }
@@ -49,13 +46,5 @@ pub fn all_reached(b: &[u8]) -> bool
     ensures { result ≡ spec.all_reached b.now }
 {
     let marks = children_marked(b);
-    let last = root(b);
-    let mut all = true;
-    let mut j: u8 = 0;
-    while j < last {
-        let at = j as usize;
-        all = all & (marks[at] == 1);
-        j += 1;
-    }
-    all
+    (0..root(b)).all(|j| marks[usize::from(j)] == 1)
 }

@@ -19,7 +19,7 @@ use Rattle.blocks.specs.Bytes.{within}
 use Rattle.blocks.specs.Block.{block_count, whole_blocks, sums_right, headed}
 use Rattle.sheets.specs.Layout.{count_of, choices_of, sheet_of}
 use Rattle.sheets.specs.Grounds.{head_right, count_right, weight_right, spare_right, read_sheet}
-use Rattle.sheets.specs.promises.Reader.{passes, Blocks}
+use Rattle.sheets.specs.promises.Reader.{Blocks}
 use Rattle.blocks.proofs.PartPutBack.{put_front}
 use Rattle.sheets.proofs.PiecesInOrder.{pieces, pieces_more}
 use Rattle.blocks.proofs.RangeTests.{blocks_within, at_least, at_most}
@@ -52,20 +52,7 @@ count_says b k e = by (ltb (k + 1) (block_count b)) refl e
           few = at_most 1 490 (count_of b k) h;
         }
 
--- The refusal by what the six tests say; those after the first that fails may say anything.
-module _ (n start : ℕ) (b : List ℕ) where
-  pub refusal_by : (t₁ t₂ t₃ t₄ t₅ t₆ : Bool) → whole_blocks 1 3 b ≡ t₁ → sums_right b ≡ t₂ → every (block_count b) (passes 3 n start b) ≡ t₃ → every (block_count b) (passes 4 n start b) ≡ t₄
-      → every (block_count b) (passes 5 n start b) ≡ t₅ → every (block_count b) (passes 6 n start b) ≡ t₆
-      → refusal (read_sheet n start b) ≡ cond t₁ (cond t₂ (cond t₃ (cond t₄ (cond t₅ (cond t₆ 0 6) 5) 4) 3) 2) 1
-  unfolding read_sheet passes
-  refusal_by false t₂ t₃ t₄ t₅ t₆ e₁ e₂ e₃ e₄ e₅ e₆ = rw e₁ refl
-  refusal_by true false t₃ t₄ t₅ t₆ e₁ e₂ e₃ e₄ e₅ e₆ = rw (e₁, e₂) refl
-  refusal_by true true false t₄ t₅ t₆ e₁ e₂ e₃ e₄ e₅ e₆ = rw (e₁, e₂, e₃) refl
-  refusal_by true true true false t₅ t₆ e₁ e₂ e₃ e₄ e₅ e₆ = rw (e₁, e₂, e₃, e₄) refl
-  refusal_by true true true true false t₆ e₁ e₂ e₃ e₄ e₅ e₆ = rw (e₁, e₂, e₃, e₄, e₅) refl
-  refusal_by true true true true true false e₁ e₂ e₃ e₄ e₅ e₆ = rw (e₁, e₂, e₃, e₄, e₅, e₆) refl
-  refusal_by true true true true true true e₁ e₂ e₃ e₄ e₅ e₆ = rw (e₁, e₂, e₃, e₄, e₅, e₆) refl
-
+module _ (b : List ℕ) where
   -- What passes ground 5 has its counts right.
   pub counts_of : every (block_count b) (λ k. count_right b k && weight_right b k) ≡ true → every (block_count b) (count_right b) ≡ true
   counts_of e =
@@ -83,7 +70,7 @@ module _ (n start : ℕ) (b : List ℕ) (e : refusal (read_sheet n start b) ≡ 
       let t₄ = guard_passed 3 (every (block_count b) (head_right n start b)) _ t₃.1 in
       let t₅ = guard_passed 4 (every (block_count b) (λ k. count_right b k && weight_right b k)) _ t₄.1 in
       let t₆ = guard_passed 5 (every (block_count b) (spare_right b)) _ t₅.1 in (
-        record { from = omega arith; whole = t₁.0; counted = λ l. counts_of n start b t₅.0 },
+        record { from = omega arith; whole = t₁.0; counted = λ l. counts_of b t₅.0 },
         rw (t₁.0, t₂.0, t₃.0, t₄.0, t₅.0, t₆.0) refl,
       )
 

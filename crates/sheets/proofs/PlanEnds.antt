@@ -24,8 +24,10 @@ use Rattle.models.specs.Layout.{state_count, model_of}
 use Rattle.models.specs.Grounds.{read_model}
 use Rattle.models.proofs.GroundsPassed.{passed_all}
 use Rattle.models.proofs.ModelOfBytes.{states_held, accepted}
-use Rattle.sheets.specs.declared.plans.End.{End}
-use Rattle.sheets.specs.declared.plans.End.TheVariants.{At, Refused}
+use Rattle.std.specs.Prelude.{Result, Ok, Err}
+use Rattle.refusals.specs.declared.Refusal.{Refusal}
+use Rattle.refusals.specs.declared.Refusal.TheVariants.{NotThePlan}
+use Rattle.refusals.specs.Number.{number, refusal_number}
 use Rattle.sheets.specs.promises.Ends.{end_of}
 
 -- ---- the model
@@ -70,14 +72,14 @@ module _ {A : Type 0} (l : ℕ) where
   end_bind (ok x) g = refl
   end_bind (refused k) g = refl
 
-  end_refused : {B : Type 0} (c : Checked (A × List ℕ)) (g : A × List ℕ → Checked (B × List ℕ)) (j : ℕ) → end_of l c ≡ Refused j → end_of l (c >>= g) ≡ Refused j
+  end_refused : {B : Type 0} (c : Checked (A × List ℕ)) (g : A × List ℕ → Checked (B × List ℕ)) (r : Refusal) → end_of l c ≡ Err r → end_of l (c >>= g) ≡ Err r
   unfolding end_of
-  end_refused (ok x) g j e = let z : ◌≡◌ {A = ℕ} 0 1 = cc in absurd (omega arith)
-  end_refused (refused k) g j e = e
+  end_refused (ok x) g r e = let z : ◌≡◌ {A = ℕ} 0 1 = cc in absurd (omega arith)
+  end_refused (refused k) g r e = e
 
 -- What is left after p of cs, if the reader read from `next` on and stands at p.
 left_at : {A : Type 0} (c : Checked (A × List ℕ)) (cs : List ℕ) (next p : ℕ) → next ≤ length cs → ((y : A × List ℕ) → c ≡ ok y → (l : List ℕ) × (drop next cs ≡ l ++ y.1))
-    → end_of (length cs) c ≡ At p → (y : A × List ℕ) × (c ≡ ok y) × (y.1 ≡ drop p cs) × (p ≤ length cs)
+    → end_of (length cs) c ≡ Ok p → (y : A × List ℕ) × (c ≡ ok y) × (y.1 ≡ drop p cs) × (p ≤ length cs)
 unfolding end_of
 left_at (ok y) cs next p h f e =
     let w = f y refl in
@@ -91,9 +93,9 @@ left_at (ok y) cs next p h f e =
 left_at (refused k) cs next p h f e = let z : ◌≡◌ {A = ℕ} 0 1 = cc in absurd (omega arith)
 
 -- At the end all is left that was there.
-pub end_here : {A : Type 0} (x : A) (cs : List ℕ) (at : ℕ) → at ≤ length cs → end_of (length cs) (ok (x, drop at cs)) ≡ At at
+pub end_here : {A : Type 0} (x : A) (cs : List ℕ) (at : ℕ) → at ≤ length cs → end_of (length cs) (ok (x, drop at cs)) ≡ Ok at
 unfolding end_of
-end_here x cs at h = let z : length cs - length (drop at cs) ≡ at = omega (arith, length-drop at cs) in ap At z
+end_here x cs at h = let z : length cs - length (drop at cs) ≡ at = omega (arith, length-drop at cs) in ap Ok z
 
 module _ (M : Model) (cs : List ℕ) where
   plan_left : (n s : ℕ) (ds : List ℕ) (y : Plan n × List ℕ) → read_plan M n s ds ≡ ok y → (l : List ℕ) × (ds ≡ l ++ y.1)
@@ -101,18 +103,18 @@ module _ (M : Model) (cs : List ℕ) where
 
   -- ---- a choice
 
-  pub end_zero : (n s at : ℕ) → n ≡ 0 → at ≤ length cs → At at ≡ end_of (length cs) (read_plan M n s (drop at cs))
+  pub end_zero : (n s at : ℕ) → n ≡ 0 → at ≤ length cs → Ok at ≡ end_of (length cs) (read_plan M n s (drop at cs))
   unfolding read_plan
   end_zero zero s at z h = sym (end_here tt cs at h)
   end_zero (suc n) s at z h = absurd (omega arith)
 
-  pub end_missing : (n s at : ℕ) → (n ≡ 0 → ⊥) → at ≡ length cs → Refused 10 ≡ end_of (length cs) (read_plan M n s (drop at cs))
+  pub end_missing : (n s at : ℕ) → (n ≡ 0 → ⊥) → at ≡ length cs → Err NotThePlan ≡ end_of (length cs) (read_plan M n s (drop at cs))
   unfolding read_plan end_of
   end_missing zero s at z h = absurd (z refl)
   end_missing (suc n) s at z h = sym (ap (λ l. end_of (length cs) (read_plan M (suc n) s l)) (drop_of_length-le cs {i = at} (omega arith)))
 
   module _ (s at : ℕ) (h : at < length cs) where
-    pub end_disabled : (n : ℕ) → (n ≡ 0 → ⊥) → any (eqb (get_or cs at 0)) (enabled M s) ≡ false → Refused 10 ≡ end_of (length cs) (read_plan M n s (drop at cs))
+    pub end_disabled : (n : ℕ) → (n ≡ 0 → ⊥) → any (eqb (get_or cs at 0)) (enabled M s) ≡ false → Err NotThePlan ≡ end_of (length cs) (read_plan M n s (drop at cs))
     unfolding read_plan end_of
     end_disabled zero z e = absurd (z refl)
     end_disabled (suc n) z e = sym (rw (drop-cons cs at 0 h, e) refl)
@@ -133,12 +135,12 @@ module _ (M : Model) (cs : List ℕ) where
 
   -- ---- the outcomes
 
-  pub walk_refused : (k : ℕ) (o : Step) (os : List Step) (at j : ℕ) → end_of (length cs) (read_plan M k o.target (drop at cs)) ≡ Refused j
-      → end_of (length cs) (read_each (λ o. read_plan M k o.target) (o ∷ os) (drop at cs)) ≡ Refused j
+  pub walk_refused : (k : ℕ) (o : Step) (os : List Step) (at : ℕ) (r : Refusal) → end_of (length cs) (read_plan M k o.target (drop at cs)) ≡ Err r
+      → end_of (length cs) (read_each (λ o. read_plan M k o.target) (o ∷ os) (drop at cs)) ≡ Err r
   unfolding read_each
-  walk_refused k o os at j e = end_refused (length cs) (read_plan M k o.target (drop at cs)) _ j e
+  walk_refused k o os at r e = end_refused (length cs) (read_plan M k o.target (drop at cs)) _ r e
 
-  pub walk_on : (k : ℕ) (o : Step) (os : List Step) (at p : ℕ) → at ≤ length cs → end_of (length cs) (read_plan M k o.target (drop at cs)) ≡ At p
+  pub walk_on : (k : ℕ) (o : Step) (os : List Step) (at p : ℕ) → at ≤ length cs → end_of (length cs) (read_plan M k o.target (drop at cs)) ≡ Ok p
       → (p ≤ length cs) × (end_of (length cs) (read_each (λ o. read_plan M k o.target) (o ∷ os) (drop at cs)) ≡ end_of (length cs) (read_each (λ o. read_plan M k o.target) os (drop p cs)))
   unfolding read_each
   walk_on k o os at p h e =
@@ -156,7 +158,7 @@ module _ (b : Bytes) (e : refusal (read_model b) ≡ 0) where
     abbrev count : ℕ
     count = length (outcomes (model_of b) s (get_or cs at 0))
 
-    pub choice_refused : count ≡ 0 → Refused 10 ≡ end_of (length cs) (read_plan (model_of b) n s (drop at cs))
+    pub choice_refused : count ≡ 0 → Err NotThePlan ≡ end_of (length cs) (read_plan (model_of b) n s (drop at cs))
     choice_refused q = end_disabled (model_of b) cs s at l n z (enabled_test b e s h (get_or cs at 0) ∙ ap (ltb 0) q)
 
     pub choice_taken : (count ≡ 0 → ⊥)
@@ -170,7 +172,7 @@ module _ (b : Bytes) (e : refusal (read_model b) ≡ 0) where
 
 module _ (b : Bytes) (cs : List ℕ) (s a k : ℕ) where
   -- What is read below the outcomes from i on, from a place on.
-  abbrev from : ℕ → ℕ → End
+  abbrev from : ℕ → ℕ → Result ℕ Refusal
   from i at = end_of (length cs) (read_each (λ o. read_plan (model_of b) k o.target) (drop i (outcomes (model_of b) s a)) (drop at cs))
 
   outcome_at : (i : ℕ) → i < length (outcomes (model_of b) s a)
@@ -180,35 +182,66 @@ module _ (b : Bytes) (cs : List ℕ) (s a k : ℕ) where
       drop-cons os i (past b s) l ∙ ap (λ j. get_or os i (past b s) ∷ drop j os) (sym (add-one i))
 
   module _ (i at t : ℕ) (l : i < length (outcomes (model_of b) s a)) (q : t ≡ (get_or (outcomes (model_of b) s a) i (past b s)).target) where
-    pub outcome_refused : (j : ℕ) → Refused j ≡ end_of (length cs) (read_plan (model_of b) k t (drop at cs)) → from i at ≡ Refused j
-    outcome_refused j r =
+    pub outcome_refused : (r : Refusal) → Err r ≡ end_of (length cs) (read_plan (model_of b) k t (drop at cs)) → from i at ≡ Err r
+    outcome_refused r f =
         let o = get_or (outcomes (model_of b) s a) i (past b s) in
         ap (λ os. end_of (length cs) (read_each (λ o. read_plan (model_of b) k o.target) os (drop at cs))) (outcome_at i l)
-        ∙ walk_refused (model_of b) cs k o (drop (i + 1) (outcomes (model_of b) s a)) at j (ap (λ u. end_of (length cs) (read_plan (model_of b) k u (drop at cs))) (sym q) ∙ sym r)
+        ∙ walk_refused (model_of b) cs k o (drop (i + 1) (outcomes (model_of b) s a)) at r (ap (λ u. end_of (length cs) (read_plan (model_of b) k u (drop at cs))) (sym q) ∙ sym f)
 
-    pub outcome_read : (p : ℕ) → at ≤ length cs → At p ≡ end_of (length cs) (read_plan (model_of b) k t (drop at cs)) → (p ≤ length cs) × (from i at ≡ from (i + 1) p)
+    pub outcome_read : (p : ℕ) → at ≤ length cs → Ok p ≡ end_of (length cs) (read_plan (model_of b) k t (drop at cs)) → (p ≤ length cs) × (from i at ≡ from (i + 1) p)
     outcome_read p m r =
         let o = get_or (outcomes (model_of b) s a) i (past b s) in
         let w = walk_on (model_of b) cs k o (drop (i + 1) (outcomes (model_of b) s a)) at p m (ap (λ u. end_of (length cs) (read_plan (model_of b) k u (drop at cs))) (sym q) ∙ sym r) in
         (w.0, ap (λ os. end_of (length cs) (read_each (λ o. read_plan (model_of b) k o.target) os (drop at cs))) (outcome_at i l) ∙ w.1)
 
-  pub outcomes_read : (i at : ℕ) → length (outcomes (model_of b) s a) ≤ i → at ≤ length cs → At at ≡ from i at
+  pub outcomes_read : (i at : ℕ) → length (outcomes (model_of b) s a) ≤ i → at ≤ length cs → Ok at ≡ from i at
   unfolding read_each
   outcomes_read i at l m =
       let os = outcomes (model_of b) s a in
       sym (ap (λ os. end_of (length cs) (read_each (λ o. read_plan (model_of b) k o.target) os (drop at cs))) (drop_of_length-le os {i = i} l) ∙ end_here [] cs at m)
 
+-- ---- the refusal
+
+-- What refuses by ground 10 alone.
+By10 : {A : Type 0} → Checked A → Type 0
+By10 (ok x) = Unit {0}
+By10 (refused k) = k ≡ 10
+
+module _ {A : Type 0} where
+  guard_by_10 : (t : Bool) (c : Checked A) → By10 c → By10 (guard 10 t >> c)
+  unfolding By10
+  guard_by_10 true c h = h
+  guard_by_10 false c h = refl
+
+  then_by_10 : {B : Type 0} (c : Checked A) (g : A → Checked B) → By10 c → ((x : A) → By10 (g x)) → By10 (c >>= g)
+  unfolding By10
+  then_by_10 (ok x) g h f = f x
+  then_by_10 (refused k) g h f = h
+
+each_by_10 : {A B : Type 0} (f : A → List ℕ → Checked (B × List ℕ)) → ((x : A) (cs : List ℕ) → By10 (f x cs)) → (xs : List A) (cs : List ℕ) → By10 (read_each f xs cs)
+unfolding By10 read_each
+each_by_10 f h [] cs = tt
+each_by_10 f h (x ∷ xs) cs = then_by_10 (f x cs) _ (h x cs) (λ y. then_by_10 (read_each f xs y.1) _ (each_by_10 f h xs y.1) (λ ys. tt))
+
+plan_by_10 : (M : Model) (n s : ℕ) (cs : List ℕ) → By10 (read_plan M n s cs)
+unfolding By10 read_plan
+plan_by_10 M zero s cs = tt
+plan_by_10 M (suc n) s [] = refl
+plan_by_10 M (suc n) s (a ∷ cs) =
+    guard_by_10 (any (eqb a) (enabled M s)) _
+    (then_by_10 (read_each (λ o. read_plan M n o.target) (outcomes M s a) cs) _ (each_by_10 _ (λ o cs. plan_by_10 M n o.target cs) (outcomes M s a) cs) (λ qs. tt))
+
 -- All choices are the plan's, or some are left over, or there is no plan.
 module _ (M : Model) (cs : List ℕ) (n s : ℕ) where
-  pub plan_refused : (j : ℕ) → Refused j ≡ end_of (length cs) (read_plan M n s cs) → j ≡ refusal (plan_of M n s cs)
-  unfolding plan_of end_of
-  plan_refused j e = by (read_plan M n s cs) e
+  pub plan_refused : (r : Refusal) → Err r ≡ end_of (length cs) (read_plan M n s cs) → number r ≡ refusal (plan_of M n s cs)
+  unfolding plan_of end_of By10
+  plan_refused r e = by (read_plan M n s cs) e (plan_by_10 M n s cs)
     where
-      by : (c : Checked (Plan n × List ℕ)) → Refused j ≡ end_of (length cs) c → j ≡ refusal (c >>= (λ x. guard 10 (is_empty x.1) >> ok x.0))
-      by (ok x) q = let z : ◌≡◌ {A = ℕ} 0 1 = cc in absurd (omega arith)
-      by (refused k) q = cc
+      by : (c : Checked (Plan n × List ℕ)) → Err r ≡ end_of (length cs) c → By10 c → number r ≡ refusal (c >>= (λ x. guard 10 (is_empty x.1) >> ok x.0))
+      by (ok x) q h = let z : ◌≡◌ {A = ℕ} 0 1 = cc in absurd (omega arith)
+      by (refused k) q h = ap refusal_number q ∙ sym h
 
-  module _ (p : ℕ) (e : At p ≡ end_of (length cs) (read_plan M n s cs)) where
+  module _ (p : ℕ) (e : Ok p ≡ end_of (length cs) (read_plan M n s cs)) where
     left : (y : Plan n × List ℕ) × (read_plan M n s cs ≡ ok y) × (y.1 ≡ drop p cs) × (p ≤ length cs)
     left = left_at (read_plan M n s cs) cs 0 p (omega arith) (plan_left M cs n s cs) (sym e)
 

@@ -16,14 +16,14 @@ use Rattle.logic.specs.Choices.{read_each, read_plan}
 use Rattle.blocks.specs.Bytes.{Bytes}
 use Rattle.models.specs.Layout.{state_count, model_of}
 use Rattle.models.specs.Grounds.{read_model}
-use Rattle.sheets.specs.declared.plans.End.{End}
-use Rattle.sheets.specs.declared.plans.End.TheVariants.{At, Refused}
+use Rattle.std.specs.Prelude.{Result, Ok, Err}
+use Rattle.refusals.specs.declared.Refusal.{Refusal}
 use Rattle.sheets.specs.promises.Ends.{end_of}
 use Rattle.sheets.specs.promises.Writer.{place, stored, Ahead, Stored}
 use Rattle.sheets.proofs.PlanEnds.{past, end_zero, end_missing, choice_refused, choice_taken, outcome_refused, outcome_read, outcomes_read}
 use Rattle.sheets.proofs.StoredChoices.{stored_length, stored_none, stored_one, stored_on}
 
-apart : {x : End} {p j : ℕ} → At p ≡ x → Refused j ≡ x → ⊥
+apart : {x : Result ℕ Refusal} {p : ℕ} {r : Refusal} → Ok p ≡ x → Err r ≡ x → ⊥
 apart e f = let z : ◌≡◌ {A = ℕ} 0 1 = cc in omega arith
 
 module _ (b : Bytes) (e : refusal (read_model b) ≡ 0) (cs : List ℕ) where
@@ -91,9 +91,9 @@ module _ (b : Bytes) (cs : List ℕ) (s a k : ℕ) where
     pub outcome_ahead : Ahead next cs q buf'
     outcome_ahead = by (end_of (length cs) next) refl
       where
-        by : (x : End) → end_of (length cs) next ≡ x → Ahead next cs q buf'
-        by (At r) f = record { end = r; ends = sym f; inside = w.ahead.inside; few = w.ahead.few; room = w.ahead.room }
-        by (Refused j) f = absurd (apart w.ahead.ends (sym (outcome_refused b cs s a k i q t l o j (sym f))))
+        by : (x : Result ℕ Refusal) → end_of (length cs) next ≡ x → Ahead next cs q buf'
+        by (Ok r) f = record { end = r; ends = sym f; inside = w.ahead.inside; few = w.ahead.few; room = w.ahead.room }
+        by (Err r) f = absurd (apart w.ahead.ends (sym (outcome_refused b cs s a k i q t l o r (sym f))))
 
     pub walked_more : (r : ℕ) (buf'' : Bytes) → Stored next cs q r buf' buf'' → Walked b cs s a k (i + 1) p r buf buf''
     walked_more r buf'' x =

@@ -1,16 +1,17 @@
 // Sheets: reading, writing, and the plan that the choices spell. A sheet is document 01's word for a certificate.
-#![tactic(auto)]
+#![tactic(auto, unfolding(crate::specs::Layout::weight_of, crate::specs::Layout::count_of, crate::specs::Layout::blocks_for, crate::specs::Grounds::head_right, crate::specs::Grounds::weight_right, crate::specs::Grounds::spare_right))]
 
-ghost use Rattle.std.specs.Prelude.{◌≡◌, ◌+◌, ◌*◌, ◌≤◌, ◌<◌, length};
+ghost use Rattle.std.specs.Prelude.{◌≡◌, ℕ, ◌&&◌, ◌+◌, ◌*◌, ◌/◌, ◌≤◌, ◌<◌, length};
 ghost use Rattle.logic.specs.Lists.{every};
 ghost use Rattle.refusals.specs.Number.{refusal_number};
 ghost use Rattle.logic.specs.promises.Refusal.{refusal};
-ghost use Rattle.blocks.specs.Block.{block_count};
+ghost use Rattle.blocks.specs.Block.{block_count, headed};
 ghost use Rattle.sheets.specs.Layout.{weight_of, count_of, sheet_of};
 ghost use Rattle.sheets.specs.Layout as layout;
 ghost use Rattle.sheets.specs.Grounds.{head_right, count_right, weight_right, spare_right, read_sheet};
-ghost use Rattle.sheets.specs.promises.Reader.{passes, Blocks, Gathered};
+ghost use Rattle.sheets.specs.promises.Reader.{Blocks, Gathered};
 
+use blocks::buffers::copy;
 use blocks::{BLOCK, KIND_SHEET, LAST_WORD};
 use refusals::Refusal;
 
@@ -123,35 +124,40 @@ fn spare_right(b: &[u8], k: usize) -> bool
         & blocks::zeros(b, at + CHOICES_AT + c, CHOICES_SIZE - c)
 }
 
-// What a ground from 3 to 6 asks of block k.
-fn block_passes(b: &[u8], ground_no: u32, k: usize, n: usize, start: usize) -> bool
-    requires { (3 ≤ ground_no) × (k < 3) × (512 * k + 512 ≤ length b.now) × (5 < ground_no → count_of b.now k ≤ 490) }
-    ensures { result ≡ passes ground_no n start b.now k }
+// Ground 3.
+fn headings_right(b: &[u8]) -> bool
+    requires { length b.now / 512 ≤ 3 }
+    ensures { result ≡ every (block_count b.now) (λ k. headed b.now k 4 k) }
 {
-    match ground_no {
-        3 => blocks::headed(b, k, KIND_SHEET, k),
-        4 => head_right(b, k, n, start),
-        5 => count_right(b, k) & weight_right(b, k),
-        _ => spare_right(b, k),
-    }
+    (0..b.len() / BLOCK).all(|k| blocks::headed(b, k, KIND_SHEET, k))
 }
 
-// Whether every block passes.
-fn all_pass(b: &[u8], ground_no: u32, n: usize, start: usize) -> bool
-    requires { Blocks ground_no b.now }
-    ensures { result ≡ every (block_count b.now) (passes ground_no n start b.now) }
+// Ground 4.
+fn heads_right(b: &[u8], n: usize, start: usize) -> bool
+    requires { length b.now / 512 ≤ 3 }
+    ensures { result ≡ every (block_count b.now) (head_right n start b.now) }
 {
-    let count = b.len() / BLOCK;
-    let mut right = true;
-    let mut k: usize = 0;
-    while k < count {
-        right = right & block_passes(b, ground_no, k, n, start);
-        k += 1;
-    }
-    right
+    (0..b.len() / BLOCK).all(|k| head_right(b, k, n, start))
 }
 
-// The number of the first ground, 1 to 6, on which a sheet is refused for a question with n steps and this start; 0 where there is none.
+// Ground 5.
+fn fields_right(b: &[u8]) -> bool
+    requires { length b.now / 512 ≤ 3 }
+    ensures { result ≡ every (block_count b.now) (λ k. count_right b.now k && weight_right b.now k) }
+{
+    (0..b.len() / BLOCK).all(|k| count_right(b, k) & weight_right(b, k))
+}
+
+// Ground 6.
+fn spares_right(b: &[u8]) -> bool
+    requires { (length b.now / 512 ≤ 3) × ((k : ℕ) → k < length b.now / 512 → count_of b.now k ≤ 490) }
+    ensures { result ≡ every (block_count b.now) (spare_right b.now) }
+{
+    (0..b.len() / BLOCK).all(|k| spare_right(b, k))
+}
+
+// Accepts a sheet's bytes for a question with n steps and this start, or gives the first ground, 1 to 6, on which they are refused.
+#[tactic(auto, unfolding(crate::specs::Grounds::read_sheet))]
 pub fn accept_sheet(b: &[u8], n: usize, start: usize) -> Result<(), Refusal>
     ensures { refusal_number result ≡ refusal (read_sheet n start b.now) }
 {
@@ -161,16 +167,16 @@ pub fn accept_sheet(b: &[u8], n: usize, start: usize) -> Result<(), Refusal>
     if !blocks::sums_right(b) {
         return Err(Refusal::WordSum);
     }
-    if !all_pass(b, 3, n, start) {
+    if !headings_right(b) {
         return Err(Refusal::Heading);
     }
-    if !all_pass(b, 4, n, start) {
+    if !heads_right(b, n, start) {
         return Err(Refusal::HeadFields);
     }
-    if !all_pass(b, 5, n, start) {
+    if !fields_right(b) {
         return Err(Refusal::FieldRange);
     }
-    if !all_pass(b, 6, n, start) {
+    if !spares_right(b) {
         return Err(Refusal::SpareBytes);
     }
     Ok(())
@@ -181,16 +187,12 @@ pub fn gather(b: &[u8], out: &mut [u8]) -> usize
     requires { Blocks 6 b.now × (1470 ≤ length out.old) }
     ensures { Gathered (sheet_of b.now).choices out.old out.new result }
 {
-    let count = b.len() / BLOCK;
-    let mut at: usize = 0;
-    let mut k: usize = 0;
-    while k < count {
+    let mut at = 0;
+    for k in 0..b.len() / BLOCK {
         let from = BLOCK * k + CHOICES_AT;
         let c = count_at(b, k);
-        let to = from + c;
-        blocks::buffers::copy(&mut out[at..], &b[from..to]);
+        copy(&mut out[at..], &b[from..from + c]);
         at += c;
-        k += 1;
     }
     at
 }

@@ -47,11 +47,7 @@ fn chunk_size(count: usize, k: usize) -> u64
     requires { (k < 3) × (490 * k ≤ count) }
     ensures { result ≡ chunk_size count k }
 {
-    let left = count - IN_BLOCK * k;
-    if left < IN_BLOCK {
-        return left as u64;
-    }
-    490
+    IN_BLOCK.min(count - IN_BLOCK * k) as u64
 }
 
 // Begins the blocks of a sheet with so many choices, at the front of buf.
@@ -59,14 +55,17 @@ fn begin_blocks(buf: &mut [u8], n: u8, start: u8, weight: u64, count: usize)
     requires { (count ≤ 1365) × (512 * blocks_for count ≤ length buf.old) }
     ensures { buf.new ≡ begun n start weight count ++ drop (512 * blocks_for count) buf.old }
 {
-    let blocks = blocks_for(count);
-    let mut k: usize = 0;
-    while k < blocks {
-        let a = BLOCK * k;
-        let e = a + BLOCK;
+    for k in 0..blocks_for(count) {
+        let from = BLOCK * k;
         let here = chunk_size(count, k);
-        begin(&mut buf[a..e], k as u8, n, start, weight, here);
-        k += 1;
+        begin(
+            &mut buf[from..from + BLOCK],
+            k as u8,
+            n,
+            start,
+            weight,
+            here,
+        );
     }
 }
 
@@ -84,8 +83,7 @@ fn store_choice(buf: &mut [u8], p: usize, a: u8)
     ensures { buf.new ≡ set buf.old (place p) a }
 {
     let from = BLOCK * (p / IN_BLOCK);
-    let to = from + BLOCK;
-    store_in_block(&mut buf[from..to], p % IN_BLOCK, a);
+    store_in_block(&mut buf[from..from + BLOCK], p % IN_BLOCK, a);
 }
 
 // Stores the choices of the n-step plan from the state s that begins with choice p; gives where they end.
@@ -101,7 +99,7 @@ fn store_plan(buf: &mut [u8], m: &[u8], choices: &[u8], n: usize, s: usize, p: u
     }
     let a = choices[p];
     store_choice(buf, p, a);
-    store_below(buf, m, choices, n - 1, s, a as usize, p + 1)
+    store_below(buf, m, choices, n - 1, s, usize::from(a), p + 1)
 }
 
 // Stores the choices of a plan of k steps below each outcome of the choice a.
@@ -123,11 +121,9 @@ fn store_below(
 {
     let count = outcome_count(m, s, a);
     let mut next = p;
-    let mut i: usize = 0;
-    while i < count {
+    for i in 0..count {
         let t = outcome_target(m, s, a, i);
         next = store_plan(buf, m, choices, k, t, next);
-        i += 1;
     }
     next
 }
@@ -137,12 +133,9 @@ fn seal_blocks(buf: &mut [u8], blocks: usize)
     requires { (blocks ≤ 3) × (512 * blocks ≤ length buf.old) }
     ensures { buf.new ≡ sealed blocks buf.old }
 {
-    let mut k: usize = 0;
-    while k < blocks {
+    for k in 0..blocks {
         let from = BLOCK * k;
-        let to = from + BLOCK;
-        seal(&mut buf[from..to]);
-        k += 1;
+        seal(&mut buf[from..from + BLOCK]);
     }
 }
 
@@ -157,7 +150,7 @@ pub fn write_sheet(buf: &mut [u8], m: &[u8], n: u8, start: u8, total: i64, choic
 {
     let count = choices.len();
     begin_blocks(buf, n, start, bits_of(total), count);
-    store_plan(buf, m, choices, n as usize, start as usize, 0);
+    store_plan(buf, m, choices, usize::from(n), usize::from(start), 0);
     let blocks = blocks_for(count);
     seal_blocks(buf, blocks);
     BLOCK * blocks

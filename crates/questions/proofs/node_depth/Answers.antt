@@ -45,7 +45,7 @@ returns-in-4 c = let S = c in
     let i = S.args.i in
     let v = child b i S.requires c.child_depth-in-4.ensures c.left-in-4.ensures in
     let w = child b i S.requires c.child_depth-in-4-2.ensures c.right.ensures in
-    by_row b i c.operator-op.ensures c.in-4.is (row_4 (formulas_before b i) (node_of b i)) (c.larger.ensures ∙ ap₂ max v w)
+    by_row b i c.operator-op.ensures c.in-4.is (row_4 (formulas_before b i) (node_of b i)) (c.max.ensures ∙ ap₂ max v w)
 
 pub returns-in-5 : goal.returns-in-5
 unfolding depth
@@ -66,7 +66,7 @@ unfolding depth
 returns-in-7 c = let S = c in
     let b = S.args.b.now in
     let i = S.args.i in
-    by_row b i c.operator-op.ensures c.in-7.is (row_7 (formulas_before b i) (node_of b i)) c.steps.ensures
+    by_row b i c.operator-op.ensures c.in-7.is (row_7 (formulas_before b i) (node_of b i)) (c.from.ensures ∙ c.steps.ensures)
 
 pub returns-in_default : goal.returns-in_default
 unfolding depth

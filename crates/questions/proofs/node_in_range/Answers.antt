@@ -17,7 +17,7 @@ returns-in-1 c = rw (sym c.operator-op.ensures ∙ c.in-1.is) refl
 
 pub returns-in-2 : goal.returns-in-2
 unfolding node_in_range
-returns-in-2 c = rw (sym c.operator-op.ensures ∙ c.in-2.is) (ap (λ k. ltb k c.args.props) c.left.ensures)
+returns-in-2 c = rw (sym c.operator-op.ensures ∙ c.in-2.is) (ap (λ k. ltb k c.args.props) (c.from.ensures ∙ c.left.ensures))
 
 pub returns-in-3 : goal.returns-in-3
 unfolding node_in_range
@@ -34,7 +34,7 @@ returns-in-4 c = let i = c.args.i in
 
 pub returns-in-5 : goal.returns-in-5
 unfolding node_in_range
-returns-in-5 c = rw (sym c.operator-op.ensures ∙ c.in-5.is) (ap (λ k. ltb k c.args.actions) c.left-in-5.ensures)
+returns-in-5 c = rw (sym c.operator-op.ensures ∙ c.in-5.is) (ap (λ k. ltb k c.args.actions) (c.from-in-5.ensures ∙ c.left-in-5.ensures))
 
 pub returns-in-7 : goal.returns-in-7
 unfolding node_in_range node_of compares

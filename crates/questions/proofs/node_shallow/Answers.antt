@@ -19,7 +19,7 @@ returns-in-8 c = let S = c in
     let fs = formulas_before b i in
     let o : x.operator ≡ 8 = sym c.operator-op.ensures ∙ c.in-8.is in
     let v : c.child_depth.result ≡ depth (get_or fs x.left never) = c.child_depth.ensures ∙ child_value depth b i (node_count b) (omega arith) (omega arith) (S.requires.2 ∙ ap (table depth) (sym (all_before b))) c.left.ensures in
-    ap₂ leb v c.steps.ensures ∙ sym (ap shallow (formula_here b i S.requires.0 ∙ row_8 fs x o))
+    ap₂ leb v (c.from.ensures ∙ c.steps.ensures) ∙ sym (ap shallow (formula_here b i S.requires.0 ∙ row_8 fs x o))
 
 pub returns-in_default : goal.returns-in_default
 returns-in_default c = let S = c in

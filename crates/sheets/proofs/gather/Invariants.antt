@@ -1,4 +1,4 @@
-use Prim.Native.Nat.{◌-◌, ◌*◌, ◌≤◌}
+use Prim.Native.Nat.{◌*◌, ◌≤◌}
 use mathlib.Core.Path.{◌≡◌}
 use mathlib.Core.List.{◌++◌}
 use lib.ListN.{length, drop}
@@ -7,7 +7,8 @@ use Rattle.sheets.proofs.PiecesInOrder.{pieces}
 use Rattle.sheets.proofs.gather.Given as goal
 
 abbrev pub invariant-loop-k : goal.invariant-loop-k
-invariant-loop-k l = (l.k ≤ l.count) × (length l.out ≡ length l.initial.out) × (l.at ≤ 490 * l.k) × (l.at ≡ length (pieces (choices_of l.b) l.k)) × (l.out ≡ pieces (choices_of l.b) l.k ++ drop l.at l.initial.out)
-
-abbrev pub decreases-loop-k : goal.decreases-loop-k
-decreases-loop-k l = l.count - l.k
+invariant-loop-k l = record {
+  few : l.at ≤ 490 * l.k;
+  long : l.at ≡ length (pieces (choices_of l.b) l.k);
+  front : l.out ≡ pieces (choices_of l.b) l.k ++ drop l.at l.initial.out;
+}

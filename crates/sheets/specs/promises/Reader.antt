@@ -1,15 +1,9 @@
 -- How the reader goes over the blocks: every block is tested on one ground before the next ground is looked at.
-use Rattle.std.specs.Prelude.{ℕ, ◌<◌, ◌≤◌, Bool, true, cond, ◌&&◌, ◌≡◌, List, ◌++◌, eqb, length, drop}
+use Rattle.std.specs.Prelude.{ℕ, ◌<◌, ◌≤◌, true, ◌≡◌, List, ◌++◌, length, drop}
 use Rattle.logic.specs.Lists.{every}
 use Rattle.blocks.specs.Bytes.{Bytes}
-use Rattle.blocks.specs.Block.{block_count, whole_blocks, headed}
-use Rattle.sheets.specs.Grounds.{head_right, count_right, weight_right, spare_right}
-
--- What a ground from 3 to 6 asks of block k.
-unfoldable pub passes : (ground_no n start : ℕ) → Bytes → ℕ → Bool
-passes g n start b k =
-    cond (eqb g 3) (headed b k 4 k)
-    (cond (eqb g 4) (head_right n start b k) (cond (eqb g 5) (count_right b k && weight_right b k) (spare_right b k)))
+use Rattle.blocks.specs.Block.{block_count, whole_blocks}
+use Rattle.sheets.specs.Grounds.{count_right}
 
 -- What a ground is tested on: the blocks' number is right and, past ground 5, so are their counts.
 pub record Blocks (ground_no : ℕ) (b : Bytes) : Type 0 where

@@ -1,11 +1,10 @@
 -- A sheet in the making: its blocks are begun, its choices are stored one by one, and its blocks are sealed.
-use Rattle.std.specs.Prelude.{ℕ, zero, suc, ◌+◌, ◌*◌, ◌-◌, ◌/◌, ◌%◌, ◌≤◌, min, ◌≡◌, length, take, drop, set, get_or, replicate}
+use Rattle.std.specs.Prelude.{ℕ, zero, suc, ◌+◌, ◌*◌, ◌-◌, ◌/◌, ◌%◌, ◌≤◌, min, ◌≡◌, length, take, drop, set, get_or, replicate, Ok}
 use mathlib.Core.List.{List, [], ◌∷◌, ◌++◌, flat_map}
 use Rattle.logic.specs.Lists.{count_from}
 use Rattle.logic.specs.Checked.{Checked}
 use Rattle.blocks.specs.Bytes.{Bytes, little_endian}
 use Rattle.blocks.specs.Block.{with_word_sum}
-use Rattle.sheets.specs.declared.plans.End.TheVariants.{At}
 use Rattle.sheets.specs.Layout.{blocks_for}
 use Rattle.sheets.specs.promises.Ends.{end_of}
 
@@ -46,13 +45,13 @@ stored cs p (suc j) b = set (stored cs p j b) (place (p + j)) (get_or cs (p + j)
 -- What is read from choice p on is no refusal, and the blocks of all choices are in the buffer.
 pub record Ahead {A : Type 0} (read : Checked (A × List ℕ)) (cs : List ℕ) (p : ℕ) (buf : Bytes) : Type 0 where
   pub end : ℕ
-  pub ends : At end ≡ end_of (length cs) read
+  pub ends : Ok end ≡ end_of (length cs) read
   pub inside : p ≤ length cs
   pub few : length cs ≤ 1365
   pub room : 512 * blocks_for (length cs) ≤ length buf
 
 -- What is read from choice p on ends at r, and is stored.
 pub record Stored {A : Type 0} (read : Checked (A × List ℕ)) (cs : List ℕ) (p r : ℕ) (buf buf' : Bytes) : Type 0 where
-  pub ends : At r ≡ end_of (length cs) read
+  pub ends : Ok r ≡ end_of (length cs) read
   pub onward : p ≤ r
   pub bytes : buf' ≡ stored cs p (r - p) buf

@@ -2,43 +2,39 @@
 -- from the start. The steps left fall: 2n for a choice, 2k + 1 for the outcomes below one, with k one less.
 use Prim.Native.Nat.{◌<◌}
 use native.Mathlib.Omega.{arith}
-use mathlib.Core.Path.{◌≡◌, sym, refl, ◌∙◌}
+use mathlib.Core.Path.{◌≡◌, sym, ◌∙◌}
 use lib.ListN.{length, get_or}
 use Rattle.logic.specs.Model.{outcomes}
 use Rattle.models.specs.Layout.{state_count, model_of}
 use Rattle.sheets.proofs.PlanEnds.{target_inside, end_zero, end_missing, choice_refused, choice_taken, outcome_refused, outcome_read, outcomes_read}
+use Rattle.std.proofs.lemmas.Result.{err_from_is_err_and}
 use Rattle.sheets.proofs.plans.+below_plan_end.Goals as goal
 
-pub below-loop-i-init : goal.below-loop-i-init
-below-loop-i-init t c = (omega arith, c.requires.4, refl)
-
-pub below-outcome_target-requires : goal.below-outcome_target-requires
-below-outcome_target-requires t c = let S = c in (S.requires.0, S.requires.1, S.requires.2, omega (arith, S.requires.3))
-
-pub below-plan_end-end-requires : goal.below-plan_end-end-requires
-below-plan_end-end-requires t c = let S = c in
+pub below-plan_end-requires : goal.below-plan_end-requires
+below-plan_end-requires t c = let S = c in
     let L = c.loop-i in
     let l : L.i < length (outcomes (model_of S.args.m.now) S.args.s S.args.a) = omega (arith, S.requires.3) in
     let t : c.outcome_target.result < state_count S.args.m.now = omega (arith, c.outcome_target.ensures, target_inside S.args.m.now S.requires.0 S.args.s S.requires.1 S.args.a L.i l) in
-    (omega arith, (S.requires.0, t, L.invariant.1))
+    (omega arith, (S.requires.0, t, L.invariant.0))
 
-pub below-returns-in-Refused : goal.below-returns-in-Refused
-below-returns-in-Refused t c = let S = c in
+pub below-returns-in_err-next : goal.below-returns-in_err-next
+below-returns-in_err-next t c = let S = c in
     let L = c.loop-i in
     let l : L.i < length (outcomes (model_of S.args.m.now) S.args.s S.args.a) = omega (arith, S.requires.3) in
-    sym (sym L.invariant.2 ∙ outcome_refused S.args.m.now S.args.choices.now S.args.s S.args.a S.args.k L.i L.next c.outcome_target.result l c.outcome_target.ensures _ (sym c.in-Refused.is ∙ c.plan_end-end.ensures))
+    let p = err_from_is_err_and c.from_residual.result c.from_residual.ensures.1 in
+    rw (p.1, p.2) (sym (sym L.invariant.1 ∙ outcome_refused S.args.m.now S.args.choices.now S.args.s S.args.a S.args.k L.i L.next c.outcome_target.result l c.outcome_target.ensures _ c.in_err-next.ensures))
 
 pub below-loop-i-preserved : goal.below-loop-i-preserved
 below-loop-i-preserved t c = let S = c in
     let L = c.loop-i in
     let l : L.i < length (outcomes (model_of S.args.m.now) S.args.s S.args.a) = omega (arith, S.requires.3) in
-    let w = outcome_read S.args.m.now S.args.choices.now S.args.s S.args.a S.args.k L.i L.next c.outcome_target.result l c.outcome_target.ensures _ L.invariant.1 (sym c.in-At.is ∙ c.plan_end-end.ensures) in
-    (omega arith, w.0, sym w.1 ∙ L.invariant.2)
+    let w = outcome_read S.args.m.now S.args.choices.now S.args.s S.args.a S.args.k L.i L.next c.outcome_target.result l c.outcome_target.ensures _ L.invariant.0 c.in_ok-next.ensures in
+    (w.0, sym w.1 ∙ L.invariant.1)
 
 pub below-returns : goal.below-returns
 below-returns t c = let S = c in
     let L = c.loop-i in
-    outcomes_read S.args.m.now S.args.choices.now S.args.s S.args.a S.args.k L.i L.next (omega (arith, S.requires.3)) L.invariant.1 ∙ L.invariant.2
+    outcomes_read S.args.m.now S.args.choices.now S.args.s S.args.a S.args.k L.i L.next (omega (arith, S.requires.3)) L.invariant.0 ∙ L.invariant.1
 
 pub plan_end-returns-then-n-eq0 : goal.plan_end-returns-then-n-eq0
 plan_end-returns-then-n-eq0 t c = let S = c in
@@ -48,24 +44,14 @@ pub plan_end-returns-then-at-choices : goal.plan_end-returns-then-at-choices
 plan_end-returns-then-at-choices t c = let S = c in
     end_missing (model_of S.args.m.now) S.args.choices.now S.args.n S.args.s S.args.at c.if-n-eq0.false c.if-at-choices.true
 
-pub plan_end-bounds-choices-at : goal.plan_end-bounds-choices-at
-plan_end-bounds-choices-at t c = omega (arith, c.requires.2)
-
-pub plan_end-overflow_cast-a : goal.plan_end-overflow_cast-a
-plan_end-overflow_cast-a t c = omega (arith, c.shared_slice_known-3-1.given c.args.at)
-
-pub plan_end-outcome_count-count-requires : goal.plan_end-outcome_count-count-requires
-plan_end-outcome_count-count-requires t c = let S = c in (S.requires.0, S.requires.1, omega (arith, c.shared_slice_known-3-1.given S.args.at))
-
 pub plan_end-returns-then-count-eq0 : goal.plan_end-returns-then-count-eq0
 plan_end-returns-then-count-eq0 t c = let S = c in
-    choice_refused S.args.m.now S.requires.0 S.args.choices.now S.args.s S.args.at S.requires.1 (omega (arith, S.requires.2)) S.args.n c.if-n-eq0.false (sym c.outcome_count-count.ensures ∙ c.if-count-eq0.true)
-
-pub plan_end-below-requires : goal.plan_end-below-requires
-plan_end-below-requires t c = let S = c in
-    (omega arith, (S.requires.0, S.requires.1, omega (arith, c.shared_slice_known-3-1.given S.args.at), c.outcome_count-count.ensures, omega (arith, S.requires.2)))
+    let count = rw c.from-a.ensures at c.outcome_count-count.ensures in
+    choice_refused S.args.m.now S.requires.0 S.args.choices.now S.args.s S.args.at S.requires.1 (omega (arith, S.requires.2)) S.args.n c.if-n-eq0.false (sym count ∙ c.if-count-eq0.true)
 
 pub plan_end-returns : goal.plan_end-returns
 plan_end-returns t c = let S = c in
-    let q : length (outcomes (model_of S.args.m.now) S.args.s (get_or S.args.choices.now S.args.at 0)) ≡ 0 → ⊥ = λ z. c.if-count-eq0.false (c.outcome_count-count.ensures ∙ z) in
-    c.below.ensures ∙ choice_taken S.args.m.now S.requires.0 S.args.choices.now S.args.s S.args.at S.requires.1 (omega (arith, S.requires.2)) S.args.n c.if-n-eq0.false q
+    let count = rw c.from-a.ensures at c.outcome_count-count.ensures in
+    let below = rw c.from-a.ensures at c.below.ensures in
+    let q : length (outcomes (model_of S.args.m.now) S.args.s (get_or S.args.choices.now S.args.at 0)) ≡ 0 → ⊥ = λ z. c.if-count-eq0.false (count ∙ z) in
+    below ∙ choice_taken S.args.m.now S.requires.0 S.args.choices.now S.args.s S.args.at S.requires.1 (omega (arith, S.requires.2)) S.args.n c.if-n-eq0.false q

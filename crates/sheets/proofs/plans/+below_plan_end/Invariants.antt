@@ -1,4 +1,4 @@
-use Prim.Native.Nat.{◌+◌, ◌-◌, ◌≤◌}
+use Prim.Native.Nat.{◌+◌, ◌≤◌}
 use mathlib.Core.Path.{◌≡◌}
 use lib.ListN.{length, drop}
 use Rattle.logic.specs.Model.{outcomes}
@@ -14,9 +14,6 @@ abbrev pub decreases-plan_end : goal.decreases-plan_end
 decreases-plan_end l = l.n + l.n
 
 abbrev pub invariant-below-loop-i : goal.invariant-below-loop-i
-invariant-below-loop-i l = (l.i ≤ l.count) × (l.next ≤ length l.choices)
+invariant-below-loop-i l = (l.next ≤ length l.choices)
     × (end_of (length l.choices) (read_each (λ o. read_plan (model_of l.m) l.k o.target) (drop l.i (outcomes (model_of l.m) l.s l.a)) (drop l.next l.choices))
     ≡ end_of (length l.choices) (read_each (λ o. read_plan (model_of l.m) l.k o.target) (outcomes (model_of l.m) l.s l.a) (drop l.at l.choices)))
-
-abbrev pub decreases-below-loop-i : goal.decreases-below-loop-i
-decreases-below-loop-i l = l.count - l.i

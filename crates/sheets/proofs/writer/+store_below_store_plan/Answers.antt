@@ -1,50 +1,36 @@
 -- The choice for a history is stored at its place, and what is stored below it goes on from the next place. The loop has stored the choices
 -- below the outcomes before i. The steps left fall: 2n for a choice, 2k + 1 for the outcomes below one, with k one less.
-use Prim.Native.Nat.{◌-◌, ◌<◌}
+use Prim.Native.Nat.{◌<◌}
 use native.Mathlib.Omega.{arith}
-use mathlib.Core.Path.{ap, ◌∙◌}
 use lib.ListN.{length}
 use Rattle.logic.specs.Model.{outcomes}
 use Rattle.models.specs.Layout.{state_count, model_of}
 use Rattle.sheets.specs.Layout.{blocks_for}
 use Rattle.sheets.proofs.PlanEnds.{target_inside}
-use Rattle.sheets.proofs.StoredChoices.{stored_length}
 use Rattle.sheets.proofs.StoredBelow.{no_step, choice_there, below_ahead, choice_stored, walked_none, outcome_ahead, walked_more, walked_all}
 use Rattle.sheets.proofs.writer.+store_below_store_plan.Goals as goal
 
-pub store_below-outcome_count-count-requires : goal.store_below-outcome_count-count-requires
-store_below-outcome_count-count-requires t c = let S = c in S.requires.m_value
-
 pub store_below-loop-i-init : goal.store_below-loop-i-init
 store_below-loop-i-init t c = let S = c in
-    (omega arith, walked_none S.args.m.now S.args.choices.now S.args.s S.args.a S.args.k S.args.p S.args.buf.now S.requires.ahead)
-
-pub store_below-outcome_target-t-requires : goal.store_below-outcome_target-t-requires
-store_below-outcome_target-t-requires t c = let S = c in
-    (S.requires.m_value.0, S.requires.m_value.1, S.requires.m_value.2, omega (arith, c.outcome_count-count.ensures))
+    walked_none S.args.m.now S.args.choices.now S.args.s S.args.a S.args.k S.args.p S.args.buf.now S.requires.ahead
 
 pub store_below-store_plan-next-requires : goal.store_below-store_plan-next-requires
 store_below-store_plan-next-requires t c = let S = c in
     let L = c.loop-i in
     let l : L.i < length (outcomes (model_of S.args.m.now) S.args.s S.args.a) = omega (arith, c.outcome_count-count.ensures) in
     let t : c.outcome_target-t.result < state_count S.args.m.now = omega (arith, c.outcome_target-t.ensures, target_inside S.args.m.now S.requires.m_value.0 S.args.s S.requires.m_value.1 S.args.a L.i l) in
-    (omega arith, ((S.requires.m_value.0, t), outcome_ahead S.args.m.now S.args.choices.now S.args.s S.args.a S.args.k L.i S.args.p L.next c.outcome_target-t.result S.args.buf.now L.buf L.invariant.1 l c.outcome_target-t.ensures))
+    (omega arith, ((S.requires.m_value.0, t), outcome_ahead S.args.m.now S.args.choices.now S.args.s S.args.a S.args.k L.i S.args.p L.next c.outcome_target-t.result S.args.buf.now L.buf L.invariant l c.outcome_target-t.ensures))
 
 pub store_below-loop-i-preserved : goal.store_below-loop-i-preserved
 store_below-loop-i-preserved t c = let S = c in
     let L = c.loop-i in
     let l : L.i < length (outcomes (model_of S.args.m.now) S.args.s S.args.a) = omega (arith, c.outcome_count-count.ensures) in
-    (omega arith, walked_more S.args.m.now S.args.choices.now S.args.s S.args.a S.args.k L.i S.args.p L.next c.outcome_target-t.result S.args.buf.now L.buf L.invariant.1 l c.outcome_target-t.ensures c.store_plan-next.result c.store_plan-next.new.buf c.store_plan-next.ensures)
-
-pub store_below-shape_of-buf : goal.store_below-shape_of-buf
-store_below-shape_of-buf t c = let S = c in
-    let L = c.loop-i in
-    ap length L.invariant.1.bytes ∙ stored_length S.args.choices.now S.args.p (L.next - S.args.p) S.args.buf.now
+    walked_more S.args.m.now S.args.choices.now S.args.s S.args.a S.args.k L.i S.args.p L.next c.outcome_target-t.result S.args.buf.now L.buf L.invariant l c.outcome_target-t.ensures c.store_plan-next.result c.store_plan-next.new.buf c.store_plan-next.ensures
 
 pub store_below-returns : goal.store_below-returns
 store_below-returns t c = let S = c in
     let L = c.loop-i in
-    walked_all S.args.m.now S.args.choices.now S.args.s S.args.a S.args.k L.i S.args.p L.next S.args.buf.now L.buf L.invariant.1 (omega (arith, c.outcome_count-count.ensures))
+    walked_all S.args.m.now S.args.choices.now S.args.s S.args.a S.args.k L.i S.args.p L.next S.args.buf.now L.buf L.invariant (omega (arith, c.outcome_count-count.ensures))
 
 pub store_plan-returns-then-n-eq0 : goal.store_plan-returns-then-n-eq0
 store_plan-returns-then-n-eq0 t c = let S = c in
@@ -59,23 +45,13 @@ store_plan-store_choice-requires t c = let S = c in
     let l = choice_there S.args.m.now S.requires.m_value.0 S.args.choices.now S.args.n S.args.s S.args.p S.args.buf.now S.requires.m_value.1 c.if-n-eq0.false S.requires.ahead in
     (omega (arith, S.requires.ahead.few), omega (arith, S.requires.ahead.room))
 
-pub store_plan-overflow_sub-n : goal.store_plan-overflow_sub-n
-store_plan-overflow_sub-n t c = omega (arith, c.if-n-eq0.false)
-
-pub store_plan-overflow_cast-a : goal.store_plan-overflow_cast-a
-store_plan-overflow_cast-a t c = omega (arith, c.shared_slice_known-3-1.given c.args.p)
-
-pub store_plan-overflow_add-p : goal.store_plan-overflow_add-p
-store_plan-overflow_add-p t c = let S = c in
-    omega (arith, choice_there S.args.m.now S.requires.m_value.0 S.args.choices.now S.args.n S.args.s S.args.p S.args.buf.now S.requires.m_value.1 c.if-n-eq0.false S.requires.ahead, S.requires.ahead.few)
-
 pub store_plan-store_below-requires : goal.store_plan-store_below-requires
 store_plan-store_below-requires t c = let S = c in
-    (omega (arith, c.if-n-eq0.false), ((S.requires.m_value.0, S.requires.m_value.1, omega (arith, c.shared_slice_known-3-1.given S.args.p)), below_ahead S.args.m.now S.requires.m_value.0 S.args.choices.now S.args.n S.args.s S.args.p S.args.buf.now S.requires.m_value.1 c.if-n-eq0.false S.requires.ahead c.store_choice.new.buf c.store_choice.auto.buf))
-
-pub store_plan-shape_of-buf : goal.store_plan-shape_of-buf
-store_plan-shape_of-buf t c = c.store_below.auto.buf ∙ c.store_choice.auto.buf
+    rw c.from.ensures (
+      omega (arith, c.if-n-eq0.false),
+      ((S.requires.m_value.0, S.requires.m_value.1, omega arith), below_ahead S.args.m.now S.requires.m_value.0 S.args.choices.now S.args.n S.args.s S.args.p S.args.buf.now S.requires.m_value.1 c.if-n-eq0.false S.requires.ahead c.store_choice.new.buf c.store_choice.auto.buf),
+    )
 
 pub store_plan-returns : goal.store_plan-returns
 store_plan-returns t c = let S = c in
-    choice_stored S.args.m.now S.requires.m_value.0 S.args.choices.now S.args.n S.args.s S.args.p S.args.buf.now S.requires.m_value.1 c.if-n-eq0.false S.requires.ahead c.store_below.result c.store_choice.new.buf c.store_below.new.buf c.store_choice.ensures c.store_below.ensures
+    choice_stored S.args.m.now S.requires.m_value.0 S.args.choices.now S.args.n S.args.s S.args.p S.args.buf.now S.requires.m_value.1 c.if-n-eq0.false S.requires.ahead c.store_below.result c.store_choice.new.buf c.store_below.new.buf c.store_choice.ensures (rw c.from.ensures at c.store_below.ensures)

@@ -1,15 +1,8 @@
 -- The four stores compute.
-use native.Mathlib.Omega.{arith}
 use mathlib.Core.Path.{◌≡◌, ap, ◌∙◌}
-use lib.ListN.{set, replicate, length-set}
+use lib.ListN.{set, replicate}
 use Rattle.sheets.specs.promises.Writer.{started}
 use Rattle.sheets.proofs.writer.head.Goals as goal
-
-pub bounds-dst-1 : goal.bounds-dst-1
-bounds-dst-1 c = simp length-set (omega arith)
-
-pub bounds-dst-2 : goal.bounds-dst-2
-bounds-dst-2 c = simp length-set (omega arith)
 
 pub returns : goal.returns
 unfolding started

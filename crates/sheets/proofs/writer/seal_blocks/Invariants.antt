@@ -1,13 +1,10 @@
-use Prim.Native.Nat.{◌-◌, ◌*◌, ◌≤◌}
+use Prim.Native.Nat.{◌*◌}
 use mathlib.Core.List.{◌++◌}
 use mathlib.Core.Path.{◌≡◌}
-use lib.ListN.{length, take, drop}
+use lib.ListN.{take, drop}
 use Rattle.blocks.specs.Block.{with_word_sum}
 use Rattle.sheets.proofs.PiecesInOrder.{pieces}
 use Rattle.sheets.proofs.writer.seal_blocks.Given as goal
 
 abbrev pub invariant-loop-k : goal.invariant-loop-k
-invariant-loop-k l = (l.k ≤ l.blocks) × (length l.buf ≡ length l.initial.buf) × (l.buf ≡ pieces (λ i. with_word_sum (take 510 (drop (512 * i) l.initial.buf))) l.k ++ drop (512 * l.k) l.initial.buf)
-
-abbrev pub decreases-loop-k : goal.decreases-loop-k
-decreases-loop-k l = l.blocks - l.k
+invariant-loop-k l = (l.buf ≡ pieces (λ i. with_word_sum (take 510 (drop (512 * i) l.initial.buf))) l.k ++ drop (512 * l.k) l.initial.buf)

@@ -15,15 +15,7 @@ use Rattle.sheets.proofs.StoredChoices.{full, all_stored, all_sealed}
 use Rattle.sheets.proofs.writer.write_sheet.Goals as goal
 
 pub store_plan-requires : goal.store_plan-requires
-store_plan-requires c = let S = c in record { m_value = (S.requires.m_value.0, S.requires.m_value.1); ahead = record { end = _; ends = S.requires.m_value.2; inside = omega arith; few = S.requires.choices_len_bound.0; room = omega (arith, S.requires.choices_len_bound.1, c.begin_blocks.auto.buf) } }
-
-pub blocks_for-blocks-requires : goal.blocks_for-blocks-requires
-blocks_for-blocks-requires c = c.requires.choices_len_bound.0
-
-pub seal_blocks-requires : goal.seal_blocks-requires
-seal_blocks-requires c = let S = c in
-    let e = c.blocks_for-blocks.ensures.value in
-    (c.blocks_for-blocks.ensures.range, omega (arith, e, S.requires.choices_len_bound.1, c.store_plan.auto.buf, c.begin_blocks.auto.buf))
+store_plan-requires c = let S = c in rw (c.from.ensures, c.from-2.ensures) record { m_value = (S.requires.m_value.0, S.requires.m_value.1); ahead = record { end = _; ends = S.requires.m_value.2; inside = omega arith; few = S.requires.choices_len_bound.0; room = omega (arith, S.requires.choices_len_bound.1, c.begin_blocks.auto.buf) } }
 
 pub returns : goal.returns
 returns c =

@@ -1,0 +1,10 @@
+use Rattle.std.proofs.Common.{rules, refl, ◌&&◌}
+use borrow.Author.Tests.{tests}
+use Rattle.blocks.specs.Block.{block_count}
+use Rattle.sheets.specs.Grounds.{count_right, weight_right}
+use Rattle.sheets.proofs.EveryInRange.{every_from_all}
+use Rattle.sheets.proofs.fields_right.Goals as goal
+
+pub returns : goal.returns
+unfolding block_count
+returns c = every_from_all (λ k. count_right c.args.b.now k && weight_right c.args.b.now k) c.all.ensures.ran refl (λ x b q k. search (rules, tests))
