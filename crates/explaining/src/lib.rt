@@ -3,6 +3,7 @@
 #![tactic(auto)]
 
 ghost use Rattle.std.specs.Prelude.{◌≡◌, ◌+◌, ◌≤◌, length};
+ghost use Rattle.refusals.specs.Number.{refusal_number};
 ghost use Rattle.logic.specs.promises.Refusal.{refusal};
 ghost use Rattle.models.specs.Layout.{model_of};
 ghost use Rattle.models.specs.Grounds.{read_model};
@@ -14,11 +15,12 @@ ghost use Rattle.verdict_line.specs.promises.Chain.{judging_text, loading_text, 
 ghost use Rattle.explaining.specs.promises.Said.{side_said, side_size, explained_said, Few};
 
 use blocks::BLOCK;
-use limits::{limit_refusal, plan_totals};
+use limits::{accept_limits, plan_totals};
 use plan_choices::CHOICES;
 use prepared_model::prepare_model;
 use prepared_question::prepare_question;
-use reasons::{Explanation, Reached, explained};
+use reasons::{Between, Explanation, Reached, explained};
+use refusals::Refusal;
 use verdict_line::reason_lines::{TEXT, no_reason_text, put_nothing, put_reached};
 use verdict_line::{MOST_INPUT, plain_line, refused_line, yes_plan_line};
 
@@ -45,17 +47,14 @@ fn explained_text(out: &mut [u8], e: Explanation, choices: &[u8], further: &[u8]
     match e {
         Explanation::Yes => plain_line(out, true),
         Explanation::Shown(x) => {
-            let lamp = x.lamp;
-            yes_plan_line(out, x.total, x.whole, lamp, x.count, &choices[..x.size])
+            yes_plan_line(out, x.total, x.whole, x.lamp, x.count, &choices[..x.size])
         }
         Explanation::NoReason => no_reason_text(out),
         Explanation::Greatest(x) => put_side(out, 0, b"greatest", x, choices),
         Explanation::Least(x) => put_side(out, 0, b"least", x, choices),
-        Explanation::Nearest(x) => {
-            let lower = x.below;
-            let upper = x.above;
-            let next = put_side(out, 0, b"below", lower, choices);
-            put_side(out, next, b"above", upper, further)
+        Explanation::Nearest(Between { below, above }) => {
+            let next = put_side(out, 0, b"below", below, choices);
+            put_side(out, next, b"above", above, further)
         }
     }
 }
@@ -70,9 +69,8 @@ fn judging_text(out: &mut [u8], model: &[u8], q: &[u8]) -> usize
     let m = prepare_model(model);
     let p = prepare_question(q);
     let counts = plan_totals(&m, &p);
-    let k = limit_refusal(&m, &p, &counts);
-    if k != 0 {
-        return refused_line(out, k);
+    if let Err(r) = accept_limits(&m, &p, &counts) {
+        return refused_line(out, r.number());
     }
     let mut choices = [0u8; CHOICES];
     let mut further = [0u8; CHOICES];
@@ -80,14 +78,14 @@ fn judging_text(out: &mut [u8], model: &[u8], q: &[u8]) -> usize
     explained_text(out, e, &choices, &further)
 }
 
-// The ground on which a question is refused for an accepted model; 0 where there is none.
-fn question_ground(model: &[u8], q: &[u8]) -> u32
-    ensures { result ≡ refusal (question_for (model_of model.now) q.now) }
+// Whether a question is accepted for an accepted model; else its ground.
+fn accept_question(model: &[u8], q: &[u8]) -> Result<(), Refusal>
+    ensures { refusal_number result ≡ refusal (question_for (model_of model.now) q.now) }
 {
     let states = models::state_count(model);
     let actions = models::action_count(model);
     let props = models::prop_count(model);
-    questions::question_refusal(q, states, actions, props)
+    questions::accept_question(q, states, actions, props)
 }
 
 // The text of a model and a question.
@@ -96,13 +94,11 @@ fn loading_text(out: &mut [u8], model: &[u8], q: &[u8]) -> usize
     ensures { let out' = out.exit.now in let model = model.entry.now in let q = q.entry.now in let out = out.entry.now in
         Put (line_of (loading_text whynot_says model q)) out out' 0 result }
 {
-    let k = models::model_refusal(model);
-    if k != 0 {
-        return refused_line(out, k);
+    if let Err(r) = models::accept_model(model) {
+        return refused_line(out, r.number());
     }
-    let g = question_ground(model, q);
-    if g != 0 {
-        return refused_line(out, g);
+    if let Err(r) = accept_question(model, q) {
+        return refused_line(out, r.number());
     }
     judging_text(out, model, q)
 }

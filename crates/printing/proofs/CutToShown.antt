@@ -15,7 +15,7 @@ use Rattle.questions.proofs.AcceptedFacts.{accepted}
 use Rattle.verdict_line.specs.promises.Chain.{line_of}
 use Rattle.plan_judge.specs.declared.Desk.{Desk}
 use Rattle.judging.specs.declared.Verdict.{Verdict}
-use Rattle.plan_judge.specs.declared.Judgement.TheVariants.{Judged}
+use Rattle.std.specs.Prelude.{Ok}
 use Rattle.plan_judge.specs.declared.Judging.{Judging}
 use Rattle.plan_judge.specs.View.{view}
 use Rattle.plan_judge.specs.promises.Values.{judged_by}
@@ -59,7 +59,7 @@ module _ (d : Desk) (m q : Bytes) (l : Asked d m q) (r : Judging) (i : r ≡ jud
     told_printable w = record { inside = omega (arith, count_few w); shown = told_shown w; line = told_line }
 
 -- As many choices as the plan has that is held as shown.
-pub printable : (d : Desk) (m q : Bytes) → Asked d m q → (r : Judging) → r ≡ judged_by d → (v : Verdict) → r.answer ≡ Judged v
+pub printable : (d : Desk) (m q : Bytes) → Asked d m q → (r : Judging) → r ≡ judged_by d → (v : Verdict) → r.answer ≡ Ok v
     → length r.choices ≡ 1365 → (count : ℕ) → count ≡ shown_size (view r.desk).verdict → Printable m q r v count
 printable d m q l r i v a w count e =
     let t = judge_told d m q l r i v a in

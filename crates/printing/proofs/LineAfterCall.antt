@@ -6,6 +6,9 @@ use mathlib.Core.Bool.{cond}
 use mathlib.Core.List.{List, [], ◌∷◌}
 use mathlib.Core.Option.{none, some}
 use Rattle.logic.specs.Lists.{any}
+use Rattle.std.specs.Prelude.{Result, Ok, Err}
+use Rattle.refusals.specs.declared.Refusal.{Refusal}
+use Rattle.refusals.specs.Number.{number, named}
 use Rattle.logic.specs.Checked.{Checked, ok, refused, ◌>>=◌, ◌>>◌, got}
 use Rattle.logic.specs.promises.Refusal.{refusal, held}
 use Rattle.logic.specs.Model.{Model}
@@ -17,48 +20,48 @@ use Rattle.models.specs.Grounds.{read_model}
 use Rattle.models.proofs.GroundsPassed.{passed_all, read_passed}
 use Rattle.questions.specs.Layout.{Question, question_of}
 use Rattle.questions.proofs.AcceptedFacts.{accepted}
-use Rattle.protocol.specs.Calls.{Call, load, put, judge, question_for}
-use Rattle.protocol.specs.promises.Chains.{do_put, do_judge}
+use Rattle.protocol.specs.Calls.{Call, load, put, judge, done, judged, says, question_for}
+use Rattle.protocol.specs.promises.Chains.{do_put, do_judge, answered, by_chain}
 use Rattle.protocol.specs.History.{with_blocks, loaded, asked, is_judge, or_else, last_left, passed, verdict_since, held_since, held_from, after}
 use Rattle.verdict_line.specs.Line.{verdict_line}
 use Rattle.plan_judge.specs.declared.Desk.{Desk}
-use Rattle.plan_judge.specs.declared.Taken.TheVariants.{Done, Refused}
 use Rattle.plan_judge.specs.declared.Taking.{Taking}
 use Rattle.judging.specs.declared.Verdict.{Verdict}
-use Rattle.plan_judge.specs.declared.Judgement.TheVariants.{Judged}
-use Rattle.plan_judge.specs.declared.Judgement.{Judgement}
 use Rattle.plan_judge.specs.declared.Judging.{Judging}
 use Rattle.plan_judge.specs.View.{view}
 use Rattle.plan_judge.specs.promises.Values.{nothing, taking, holding, loaded_by, asking, put_by, choices_code, judging, judged_by}
 use Rattle.judging.specs.promises.Announced.{verdict_code}
 use Rattle.plan_judge.specs.promises.Session.{step, desk_after}
+use Rattle.plan_judge.proofs.NumbersListed.{named_back}
 use Rattle.plan_judge.proofs.DesksHoldHistory.{desk_holds}
 use Rattle.printing.specs.promises.Printed.{judging_line, asking_line, loading_line, Loaded, Asked}
 
 -- What an answer of load or put says of what was read.
 module _ {A : Type 0} (d e : Desk) (c : Checked A) where
-  taken_refused : (k : ℕ) → (taking d c e).answer ≡ Refused k → c ≡ refused k
-  taken_refused k = by c
+  taken_refused : (x : Refusal) → ((k : ℕ) → c ≡ refused k → number (named k) ≡ k) → (taking d c e).answer ≡ Err x → c ≡ refused (number x)
+  taken_refused x = by c
     where
-      by : (c : Checked A) → (taking d c e).answer ≡ Refused k → c ≡ refused k
-      by (ok a) i = absurd (let z : ◌≡◌ {A = ℕ} 0 1 = cc in omega arith)
-      by (refused j) i = let z : j ≡ k = cc in ap refused z
+      by : (c : Checked A) → ((k : ℕ) → c ≡ refused k → number (named k) ≡ k) → (taking d c e).answer ≡ Err x → c ≡ refused (number x)
+      by (ok a) f i = absurd (let z : ◌≡◌ {A = ℕ} 0 1 = cc in omega arith)
+      by (refused j) f i = let z : named j ≡ x = cc in ap refused (sym (f j refl) ∙ ap number z)
 
-  taken_done : (taking d c e).answer ≡ Done → refusal c ≡ 0
+  taken_done : (taking d c e).answer ≡ Ok tt → refusal c ≡ 0
   taken_done = by c
     where
-      by : (c : Checked A) → (taking d c e).answer ≡ Done → refusal c ≡ 0
+      by : (c : Checked A) → (taking d c e).answer ≡ Ok tt → refusal c ≡ 0
       by (ok a) i = refl
       by (refused j) i = absurd (let z : ◌≡◌ {A = ℕ} 0 1 = cc in omega arith)
 
 -- ---- load
 
 module _ (d : Desk) (m : Bytes) (r : Taking) (e : d ≡ nothing) (i : r ≡ loaded_by d m) where
-  pub load_refused : (k : ℕ) → r.answer ≡ Refused k → (q : Bytes) → loading_line m q ≡ refused k
-  unfolding loaded_by
-  load_refused k a q = ap (λ c. c >>= (λ x. asking_line x q)) (taken_refused d (holding m) (read_model m) k (sym (ap (λ x. x.answer) i) ∙ a))
+  pub load_refused : (x : Refusal) → r.answer ≡ Err x → (q : Bytes) → loading_line m q ≡ refused (number x)
+  unfolding loaded_by by_chain
+  load_refused x a q =
+      ap (λ c. c >>= (λ x. asking_line x q))
+      (taken_refused d (holding m) (read_model m) x (λ k z. named_back (view d) (load m) k (ap (λ c. (answered [] c (λ m. says done)).answer) z)) (sym (ap (λ x. x.answer) i) ∙ a))
 
-  pub load_done : r.answer ≡ Done → Loaded r.desk m
+  pub load_done : r.answer ≡ Ok tt → Loaded r.desk m
   unfolding loaded_by desk_after step
   load_done a =
       record {
@@ -90,12 +93,14 @@ module _ (d : Desk) (m q : Bytes) (l : Loaded d m) (r : Taking) (i : r ≡ put_b
   unfolding do_put
   put_is = ap (λ o. held 20 o >>= (λ x. question_for x q)) (ap (λ x. (view x).model) l.desk ∙ loaded_view m l.model)
 
-  pub put_refused : (k : ℕ) → r.answer ≡ Refused k → asking_line (model_of m) q ≡ refused k
-  unfolding put_by
-  put_refused k a =
-      ap (λ c. c >>= judging_line (model_of m)) (sym put_is ∙ taken_refused d (asking d q) (do_put (view d) q) k (sym (ap (λ x. x.answer) i) ∙ a))
+  pub put_refused : (x : Refusal) → r.answer ≡ Err x → asking_line (model_of m) q ≡ refused (number x)
+  unfolding put_by by_chain
+  put_refused x a =
+      ap (λ c. c >>= judging_line (model_of m))
+      (sym put_is
+      ∙ taken_refused d (asking d q) (do_put (view d) q) x (λ k z. named_back (view d) (put q) k (ap (λ c. (answered [] c (λ q. says done)).answer) z)) (sym (ap (λ x. x.answer) i) ∙ a))
 
-  pub put_done : r.answer ≡ Done → Asked r.desk m q
+  pub put_done : r.answer ≡ Ok tt → Asked r.desk m q
   unfolding put_by desk_after step
   put_done a =
       record {
@@ -152,13 +157,16 @@ module _ (d : Desk) (m q : Bytes) (l : Asked d m q) (r : Judging) (i : r ≡ jud
   unfolding judged_by
   judging_is = i ∙ ap (judging d) judge_is
 
-  pub judge_refused : (k : ℕ) → r.answer ≡ Judgement.Refused k → judging_line (model_of m) (question_of q) ≡ refused k
-  judge_refused k a = by within (sym (ap (λ x. x.answer) judging_is) ∙ a)
+  pub judge_refused : (x : Refusal) → r.answer ≡ Err x → judging_line (model_of m) (question_of q) ≡ refused (number x)
+  unfolding by_chain
+  judge_refused x a = by within judge_is (sym (ap (λ x. x.answer) judging_is) ∙ a)
     where
-      by : (c : Checked (Unit {0})) → (judging d (c >> ok (asked_verdict m q))).answer ≡ Judgement.Refused k
-          → (c >> ok (verdict_line (model_of m) (question_of q).root (asked_verdict m q))) ≡ refused k
-      by (ok x) z = absurd (let y : ◌≡◌ {A = ℕ} 0 1 = cc in omega arith)
-      by (refused j) z = let y : j ≡ k = cc in ap refused y
+      by : (c : Checked (Unit {0})) → do_judge (view d) ≡ (c >> ok (asked_verdict m q)) → (judging d (c >> ok (asked_verdict m q))).answer ≡ Err x
+          → (c >> ok (verdict_line (model_of m) (question_of q).root (asked_verdict m q))) ≡ refused (number x)
+      by (ok u) e z = absurd (let y : ◌≡◌ {A = ℕ} 0 1 = cc in omega arith)
+      by (refused j) e z =
+          let y : named j ≡ x = cc in
+          ap refused (sym (named_back (view d) judge j (ap (λ c. (answered [] c (λ v. says (judged v))).answer) e)) ∙ ap number y)
 
   -- What judge returns that is not refused.
   pub record Told (v : Verdict) : Type 0 where
@@ -171,16 +179,16 @@ module _ (d : Desk) (m q : Bytes) (l : Asked d m q) (r : Judging) (i : r ≡ jud
   unfolding desk_after step
   told_desk z = ap (λ x. (view x.desk).verdict) (i ∙ ap judged_by l.desk) ∙ judged_view m q l.model l.question z
 
-  pub judge_told : (v : Verdict) → r.answer ≡ Judged v → Told v
+  pub judge_told : (v : Verdict) → r.answer ≡ Ok v → Told v
   judge_told v a = by within refl
     where
       by : (c : Checked (Unit {0})) → within ≡ c → Told v
       by (refused j) z =
-          let y : Judgement.Refused j ≡ Judged v = sym (ap (λ x. x.answer) (judging_is ∙ ap (λ c. judging d (c >> ok (asked_verdict m q))) z)) ∙ a in
+          let y : ◌≡◌ {A = Result Verdict Refusal} (Err (named j)) (Ok v) = sym (ap (λ x. x.answer) (judging_is ∙ ap (λ c. judging d (c >> ok (asked_verdict m q))) z)) ∙ a in
           absurd (let w : ◌≡◌ {A = ℕ} 0 1 = cc in omega arith)
       by (ok x) z =
           let e : r ≡ judging d (ok (asked_verdict m q)) = judging_is ∙ ap (λ c. judging d (c >> ok (asked_verdict m q))) z in
-          let y : Judged (verdict_code (asked_verdict m q)) ≡ Judged v = sym (ap (λ x. x.answer) e) ∙ a in
+          let y : ◌≡◌ {A = Result Verdict Refusal} (Ok (verdict_code (asked_verdict m q))) (Ok v) = sym (ap (λ x. x.answer) e) ∙ a in
           let w : verdict_code (asked_verdict m q) ≡ v = cc in
           record {
             code = sym w;

@@ -12,7 +12,7 @@ ghost use Rattle.printing.specs.promises.Printed.{plan_root, judging_line, askin
 
 use blocks::BLOCK;
 use lamp::Lamp;
-use plan_judge::{Desk, Judgement, Taken, Verdict};
+use plan_judge::{Desk, Judging, Taking, Verdict};
 use verdict_line::{LINE, MOST_INPUT};
 
 // The line of a no.
@@ -43,14 +43,17 @@ fn verdict_line(out: &mut [u8], model: &[u8], q: &[u8], v: Verdict, choices: &[u
         Put (shown_line (denominator_of model) (plan_root q) v choices) out out' 0 result }
 {
     match v {
-        Verdict::No(x) => {
-            let lamp = x.lamp;
-            no_line(out, q, x.count, lamp)
-        }
+        Verdict::No(x) => no_line(out, q, x.count, x.lamp),
         Verdict::Yes => verdict_line::plain_line(out, true),
         Verdict::YesPlan(p) => {
-            let lamp = p.lamp;
-            verdict_line::yes_plan_line(out, p.total, whole(model, p.steps), lamp, p.count, choices)
+            verdict_line::yes_plan_line(
+                out,
+                p.total,
+                whole(model, p.steps),
+                p.lamp,
+                p.count,
+                choices,
+            )
         }
     }
 }
@@ -61,14 +64,15 @@ fn judging_line(out: &mut [u8], model: &[u8], q: &[u8], d: Desk) -> usize
     ensures { let out' = out.exit.now in let model = model.entry.now in let q = q.entry.now in let out = out.entry.now in
         Put (line_of (judging_line (model_of model) (question_of q))) out out' 0 result }
 {
-    let r = plan_judge::judge(d);
-    let a = r.answer;
-    let choices = r.choices;
-    let e = r.desk;
-    match a {
-        Judgement::Refused(k) => verdict_line::refused_line(out, k),
-        Judgement::Judged(v) => {
-            let count = plan_judge::shown_choices(e);
+    let Judging {
+        answer,
+        choices,
+        desk,
+    } = plan_judge::judge(d);
+    match answer {
+        Err(r) => verdict_line::refused_line(out, r.number()),
+        Ok(v) => {
+            let count = plan_judge::shown_choices(desk);
             verdict_line(out, model, q, v, &choices[..count])
         }
     }
@@ -80,12 +84,10 @@ fn asking_line(out: &mut [u8], model: &[u8], q: &[u8], d: Desk) -> usize
     ensures { let out' = out.exit.now in let model = model.entry.now in let q = q.entry.now in let out = out.entry.now in
         Put (line_of (asking_line (model_of model) q)) out out' 0 result }
 {
-    let r = plan_judge::put(d, q);
-    let a = r.answer;
-    let e = r.desk;
-    match a {
-        Taken::Refused(k) => verdict_line::refused_line(out, k),
-        Taken::Done => judging_line(out, model, q, e),
+    let Taking { answer, desk } = plan_judge::put(d, q);
+    match answer {
+        Err(r) => verdict_line::refused_line(out, r.number()),
+        Ok(()) => judging_line(out, model, q, desk),
     }
 }
 
@@ -94,12 +96,10 @@ fn loading_line(out: &mut [u8], model: &[u8], q: &[u8]) -> usize
     requires { 8192 ≤ length out.old }
     ensures { Put (line_of (loading_line model.now q.now)) out.old out.new 0 result }
 {
-    let r = plan_judge::load(plan_judge::empty(), model);
-    let a = r.answer;
-    let d = r.desk;
-    match a {
-        Taken::Refused(k) => verdict_line::refused_line(out, k),
-        Taken::Done => asking_line(out, model, q, d),
+    let Taking { answer, desk } = plan_judge::load(plan_judge::empty(), model);
+    match answer {
+        Err(r) => verdict_line::refused_line(out, r.number()),
+        Ok(()) => asking_line(out, model, q, desk),
     }
 }
 

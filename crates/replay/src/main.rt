@@ -6,8 +6,7 @@
 ghost use Rattle.std.specs.Prelude.{◌+◌, ◌≤◌, ◌≡◌, length};
 
 use plan_judge::{
-    Checking, Denial, Desk, Judgement, Judging, MODEL_BYTES, PlanRecord, Report, Taken, Verdict,
-    Written,
+    Denial, Desk, Judging, MODEL_BYTES, PlanRecord, Refusal, Report, Taking, Verdict,
 };
 use std::io::{Stdin, Stdout};
 use verdict_line::LINE;
@@ -18,29 +17,48 @@ const ADLER: u32 = 65521;
 // Room for a call's record.
 const RECORD: usize = 16384;
 
-// The desk after a call, and whether there was one.
+// What a record asks for.
 #[derive(Clone, Copy)]
-struct Turn {
-    going: bool,
-    desk: Desk,
+enum Operation {
+    Load,
+    Put,
+    Judge,
+    Write,
+    Check,
+    WriteModel,
+    LayDesk,
+}
+
+// The operation of a record's first byte, if there is one.
+fn operation(byte: u8) -> Option<Operation> {
+    match byte {
+        1 => Some(Operation::Load),
+        2 => Some(Operation::Put),
+        3 => Some(Operation::Judge),
+        4 => Some(Operation::Write),
+        5 => Some(Operation::Check),
+        6 => Some(Operation::WriteModel),
+        7 => Some(Operation::LayDesk),
+        _ => None,
+    }
 }
 
 // ---- the words of each answer, put behind what stands in the line already
 
-fn put_refused(out: &mut [u8], at: usize, k: u32) -> usize
+fn put_refused(out: &mut [u8], at: usize, r: Refusal) -> usize
     requires { at + 29 ≤ length out.old }
     ensures { result ≤ at + 29 }
 {
-    verdict_line::put_decimal(out, at, b" refused ", k as u64)
+    verdict_line::put_decimal(out, at, b" refused ", u64::from(r.number()))
 }
 
-fn put_taken(out: &mut [u8], at: usize, answer: Taken) -> usize
+fn put_taken(out: &mut [u8], at: usize, answer: Result<(), Refusal>) -> usize
     requires { at + 29 ≤ length out.old }
     ensures { result ≤ at + 29 }
 {
     match answer {
-        Taken::Done => verdict_line::put_text(out, at, b" done"),
-        Taken::Refused(k) => put_refused(out, at, k),
+        Ok(()) => verdict_line::put_text(out, at, b" done"),
+        Err(r) => put_refused(out, at, r),
     }
 }
 
@@ -49,10 +67,9 @@ fn put_plan(out: &mut [u8], at: usize, p: PlanRecord, choices: &[u8]) -> usize
     ensures { result ≤ at + 5600 }
 {
     let mut next = verdict_line::put_signed(out, at, b" yes ", p.total);
-    next = verdict_line::put_decimal(out, next, b" ", p.steps as u64);
-    let lamp = p.lamp;
-    next = verdict_line::put_lamp(out, next, lamp);
-    next = verdict_line::put_decimal(out, next, b" ", p.count as u64);
+    next = verdict_line::put_decimal(out, next, b" ", u64::from(p.steps));
+    next = verdict_line::put_lamp(out, next, p.lamp);
+    next = verdict_line::put_decimal(out, next, b" ", u64::from(p.count));
     next = verdict_line::put_text(out, next, b" choices");
     verdict_line::put_choices(out, next, choices)
 }
@@ -61,9 +78,8 @@ fn put_denial(out: &mut [u8], at: usize, x: Denial) -> usize
     requires { at + 30 ≤ length out.old }
     ensures { result ≤ at + 30 }
 {
-    let next = verdict_line::put_decimal(out, at, b" no ", x.count as u64);
-    let lamp = x.lamp;
-    verdict_line::put_optional(out, next, lamp)
+    let next = verdict_line::put_decimal(out, at, b" no ", u64::from(x.count));
+    verdict_line::put_optional(out, next, x.lamp)
 }
 
 fn put_verdict(out: &mut [u8], at: usize, v: Verdict, choices: &[u8]) -> usize
@@ -81,25 +97,27 @@ fn put_judged(out: &mut [u8], at: usize, r: Judging) -> usize
     requires { at + 5600 ≤ length out.old }
     ensures { result ≤ at + 5600 }
 {
-    let a = r.answer;
-    let choices = r.choices;
-    let d = r.desk;
-    match a {
-        Judgement::Judged(v) => {
-            let count = plan_judge::shown_choices(d);
+    let Judging {
+        answer,
+        choices,
+        desk,
+    } = r;
+    match answer {
+        Ok(v) => {
+            let count = plan_judge::shown_choices(desk);
             put_verdict(out, at, v, &choices[..count])
         }
-        Judgement::Refused(k) => put_refused(out, at, k),
+        Err(k) => put_refused(out, at, k),
     }
 }
 
-fn put_written(out: &mut [u8], at: usize, answer: Written) -> usize
+fn put_written(out: &mut [u8], at: usize, answer: Result<usize, Refusal>) -> usize
     requires { at + 29 ≤ length out.old }
     ensures { result ≤ at + 29 }
 {
     match answer {
-        Written::Bytes(n) => verdict_line::put_decimal(out, at, b" ", n as u64),
-        Written::Refused(k) => put_refused(out, at, k),
+        Ok(n) => verdict_line::put_decimal(out, at, b" ", n as u64),
+        Err(r) => put_refused(out, at, r),
     }
 }
 
@@ -118,17 +136,16 @@ fn put_report(out: &mut [u8], at: usize, r: Report) -> usize
     ensures { result ≤ at + 35 }
 {
     let next = put_met(out, at, r.met);
-    let lamp = r.lamp;
-    verdict_line::put_lamp(out, next, lamp)
+    verdict_line::put_lamp(out, next, r.lamp)
 }
 
-fn put_checked(out: &mut [u8], at: usize, answer: Checking) -> usize
+fn put_checked(out: &mut [u8], at: usize, answer: Result<Report, Refusal>) -> usize
     requires { at + 35 ≤ length out.old }
     ensures { result ≤ at + 35 }
 {
     match answer {
-        Checking::Accepted(r) => put_report(out, at, r),
-        Checking::Refused(k) => put_refused(out, at, k),
+        Ok(report) => put_report(out, at, report),
+        Err(r) => put_refused(out, at, r),
     }
 }
 
@@ -143,7 +160,7 @@ fn adler(bytes: &[u8]) -> Sums {
     let mut a: u32 = 1;
     let mut b: u32 = 0;
     for byte in bytes {
-        a = (a + *byte as u32) % ADLER;
+        a = (a + u32::from(*byte)) % ADLER;
         b = (b + a) % ADLER;
     }
     Sums { a, b }
@@ -154,8 +171,8 @@ fn put_sums(out: &mut [u8], at: usize, bytes: &[u8]) -> usize
     ensures { result ≤ at + 42 }
 {
     let sums = adler(bytes);
-    let next = verdict_line::put_decimal(out, at, b" ", sums.a as u64);
-    verdict_line::put_decimal(out, next, b" ", sums.b as u64)
+    let next = verdict_line::put_decimal(out, at, b" ", u64::from(sums.a));
+    verdict_line::put_decimal(out, next, b" ", u64::from(sums.b))
 }
 
 // ---- each call with its line
@@ -169,21 +186,19 @@ fn say(to: &mut Stdout, out: &mut [u8], at: usize)
 }
 
 fn load(to: &mut Stdout, desk: Desk, input: &[u8], out: &mut [u8; LINE]) -> Desk {
-    let r = plan_judge::load(desk, input);
-    let a = r.answer;
+    let Taking { answer, desk } = plan_judge::load(desk, input);
     let name = verdict_line::put_text(out, 0, b"load");
-    let end = put_taken(out, name, a);
+    let end = put_taken(out, name, answer);
     say(to, out, end);
-    r.desk
+    desk
 }
 
 fn put(to: &mut Stdout, desk: Desk, input: &[u8], out: &mut [u8; LINE]) -> Desk {
-    let r = plan_judge::put(desk, input);
-    let a = r.answer;
+    let Taking { answer, desk } = plan_judge::put(desk, input);
     let name = verdict_line::put_text(out, 0, b"put");
-    let end = put_taken(out, name, a);
+    let end = put_taken(out, name, answer);
     say(to, out, end);
-    r.desk
+    desk
 }
 
 fn judge(to: &mut Stdout, desk: Desk, out: &mut [u8; LINE]) -> Desk {
@@ -223,79 +238,66 @@ fn check(to: &mut Stdout, desk: Desk, input: &[u8], out: &mut [u8; LINE]) {
 fn by_hand(input: &[u8]) -> Desk
     requires { length input.now ≡ 6152 }
 {
-    let mut d = plan_judge::empty();
-    d.blocks = blocks::u64_at(input, 0) as usize;
-    let mut m = [0u8; MODEL_BYTES];
-    blocks::buffers::copy(&mut m, &input[8..]);
-    d.model = m;
-    d
+    let mut model = [0u8; MODEL_BYTES];
+    model.copy_from_slice(&input[8..]);
+    Desk {
+        blocks: blocks::u64_at(input, 0) as usize,
+        model,
+        ..plan_judge::empty()
+    }
 }
 
 // It takes the place of the last desk; a record of another length ends the list.
-fn lay(to: &mut Stdout, desk: Desk, input: &[u8], out: &mut [u8; LINE]) -> Turn {
+fn lay(to: &mut Stdout, input: &[u8], out: &mut [u8; LINE]) -> Option<Desk> {
     if input.len() != 8 + MODEL_BYTES {
-        return Turn { going: false, desk };
+        return None;
     }
     let name = verdict_line::put_text(out, 0, b"desk");
     say(to, out, name);
-    going_on(by_hand(input))
+    Some(by_hand(input))
 }
 
 // ---- the list
 
-fn going_on(desk: Desk) -> Turn {
-    Turn { going: true, desk }
-}
-
+// The desk after the call, or none where the list ends.
 fn call(
     to: &mut Stdout,
     desk: Desk,
-    operation: u8,
+    operation: Operation,
     input: &mut [u8],
     out: &mut [u8; LINE],
-) -> Turn {
+) -> Option<Desk> {
     match operation {
-        1 => going_on(load(to, desk, input, out)),
-        2 => going_on(put(to, desk, input, out)),
-        3 => going_on(judge(to, desk, out)),
-        4 => {
-            write(to, desk, input, out);
-            going_on(desk)
-        }
-        5 => {
-            check(to, desk, input, out);
-            going_on(desk)
-        }
-        6 => {
-            write_model(to, desk, input, out);
-            going_on(desk)
-        }
-        7 => lay(to, desk, input, out),
-        _ => Turn { going: false, desk },
+        Operation::Load => return Some(load(to, desk, input, out)),
+        Operation::Put => return Some(put(to, desk, input, out)),
+        Operation::Judge => return Some(judge(to, desk, out)),
+        Operation::Write => write(to, desk, input, out),
+        Operation::Check => check(to, desk, input, out),
+        Operation::WriteModel => write_model(to, desk, input, out),
+        Operation::LayDesk => return lay(to, input, out),
     }
+    Some(desk)
 }
 
-// Reads one record into the lent buffer, and makes its call.
+// Reads one record into the lent buffer, and makes its call. A record that is cut short, too long or of no operation ends the list.
 fn replay_one(
     from: &mut Stdin,
     to: &mut Stdout,
     desk: Desk,
     space: &mut [u8],
     out: &mut [u8; LINE],
-) -> Turn {
+) -> Option<Desk> {
     let mut head = [0u8; 5];
-    let got = streams::read_full(from, &mut head).count;
-    if got < 5 {
-        return Turn { going: false, desk };
+    if streams::read_full(from, &mut head).count < 5 {
+        return None;
     }
-    let operation = head[0];
+    let operation = operation(head[0])?;
     let n = blocks::u32_at(&head, 1) as usize;
     if space.len() < n {
-        return Turn { going: false, desk };
+        return None;
     }
-    let more = streams::read_full(from, &mut space[..n]).count;
-    if more < n {
-        return Turn { going: false, desk };
+    if streams::read_full(from, &mut space[..n]).count < n {
+        return None;
     }
     call(to, desk, operation, &mut space[..n], out)
 }
@@ -304,11 +306,10 @@ fn replay_one(
 fn replay_all(from: &mut Stdin, to: &mut Stdout, space: &mut [u8], out: &mut [u8; LINE]) {
     let mut desk = plan_judge::empty();
     for _ in 0..u64::MAX {
-        let turn = replay_one(from, to, desk, space, out);
-        if !turn.going {
-            return;
+        match replay_one(from, to, desk, space, out) {
+            Some(next) => desk = next,
+            None => return,
         }
-        desk = turn.desk;
     }
 }
 

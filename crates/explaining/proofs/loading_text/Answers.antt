@@ -1,21 +1,21 @@
 -- The model's first ground, then the question's.
-use mathlib.Core.Path.{sym, ◌∙◌}
+use mathlib.Core.Path.{sym, ap, ◌∙◌}
+use Rattle.refusals.proofs.Named.{number_some}
+use Rattle.verdict_line.specs.Line.{refused_line}
 use Rattle.verdict_line.specs.Reasons.{whynot_says}
 use Rattle.verdict_line.proofs.PutInTurn.{put_as}
 use Rattle.explaining.proofs.PreparedInput.{load_refused, put_refused, past_both}
 use Rattle.explaining.proofs.loading_text.Goals as goal
 
-pub returns-then-k-ne0 : goal.returns-then-k-ne0
-returns-then-k-ne0 c = let A = c.args in
-    put_as (load_refused whynot_says A.model.now A.q.now c.model_refusal-k.ensures c.if-k-ne0.true) c.refused_line.ensures
+pub returns-in-Err : goal.returns-in-Err
+returns-in-Err c =
+    put_as (ap refused_line c.number.ensures ∙ load_refused whynot_says c.args.model.now c.args.q.now c.in-Err.ensures (number_some _)) c.refused_line.ensures
 
-pub returns-then-g-ne0 : goal.returns-then-g-ne0
-returns-then-g-ne0 c = let A = c.args in
-    put_as (put_refused whynot_says A.model.now A.q.now (sym c.model_refusal-k.ensures ∙ c.if-k-ne0.false) c.question_ground-g.ensures c.if-g-ne0.true) c.refused_line-then-g-ne0.ensures
+pub returns-in-Err-accept_question : goal.returns-in-Err-accept_question
+returns-in-Err-accept_question c = ?
 
 pub judging_text-requires : goal.judging_text-requires
-judging_text-requires c = record { in_bounds = c.requires; model_value = (sym c.model_refusal-k.ensures ∙ c.if-k-ne0.false, sym c.question_ground-g.ensures ∙ c.if-g-ne0.false) }
+judging_text-requires c = record { in_bounds = c.requires; model_value = (sym c.in_default.ensures, sym c.in_default-accept_question.ensures) }
 
 pub returns : goal.returns
-returns c = let A = c.args in
-    put_as (past_both whynot_says A.model.now A.q.now (sym c.model_refusal-k.ensures ∙ c.if-k-ne0.false) (sym c.question_ground-g.ensures ∙ c.if-g-ne0.false)) c.judging_text.ensures
+returns c = put_as (past_both whynot_says c.args.model.now c.args.q.now (sym c.in_default.ensures) (sym c.in_default-accept_question.ensures)) c.judging_text.ensures
