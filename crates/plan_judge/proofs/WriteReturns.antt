@@ -29,7 +29,6 @@ use Rattle.models.specs.Layout.{model_of}
 use Rattle.questions.specs.Layout.{Question, start_of, node_count, node_of, question_of}
 use Rattle.questions.proofs.AcceptedFacts.{accepted}
 use Rattle.questions.proofs.SetsBound.{bound_compares}
-use Rattle.sheets.specs.declared.plans.End.TheVariants.{At}
 use Rattle.sheets.specs.promises.Ends.{end_of, AllRead}
 use Rattle.sheets.specs.Layout.{Sheet, sheet_bytes, blocks_for}
 use Rattle.sheets.proofs.ReadsBack.{sheet_length}
@@ -85,7 +84,7 @@ module _ (m q : Bytes) (r : PlanRoot m q) (cs : List ℕ) where
       let c : read_plan (model_of m) n (start_of q) l ≡ ok (x.0.0, []) =
       ap (read_plan (model_of m) n (start_of q)) z ∙ read_complete (model_of m) n (start_of q) x.0.0 [] (read_sound (model_of m) n (start_of q) cs x.0 x.1).0 in
       let y : length l - 0 ≡ length l = omega arith in
-      sym (ap (end_of (length l)) c ∙ ap At y)
+      sym (ap (end_of (length l)) c ∙ ap Ok y)
 
 -- ---- the shown plan
 

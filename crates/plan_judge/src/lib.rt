@@ -275,11 +275,7 @@ fn plan_size(m: &[u8], choices: &[u8], n: usize, s: usize) -> usize
     requires { (refusal (read_model m.now) ≡ 0) × (s < state_count m.now) }
     ensures { result ≡ plan_size n (read_plan (model_of m.now) n s choices.now) }
 {
-    let end = sheets::plans::plan_end(m, choices, n, s, 0);
-    match end {
-        sheets::plans::End::At(p) => p,
-        sheets::plans::End::Refused(_) => 0,
-    }
+    sheets::plans::plan_end(m, choices, n, s, 0).unwrap_or(0)
 }
 
 // The same for the plan that the root of a question asks for.
