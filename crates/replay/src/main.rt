@@ -30,7 +30,7 @@ enum Operation {
 }
 
 // The operation of a record's first byte, if there is one.
-fn operation(byte: u8) -> Option<Operation> {
+fn operation_of(byte: u8) -> Option<Operation> {
     match byte {
         1 => Some(Operation::Load),
         2 => Some(Operation::Put),
@@ -291,7 +291,7 @@ fn replay_one(
     if streams::read_full(from, &mut head).count < 5 {
         return None;
     }
-    let operation = operation(head[0])?;
+    let operation = operation_of(head[0])?;
     let n = blocks::u32_at(&head, 1) as usize;
     if space.len() < n {
         return None;

@@ -12,7 +12,11 @@ returns-in-Err c =
     put_as (ap refused_line c.number.ensures ∙ load_refused whynot_says c.args.model.now c.args.q.now c.in-Err.ensures (number_some _)) c.refused_line.ensures
 
 pub returns-in-Err-accept_question : goal.returns-in-Err-accept_question
-returns-in-Err-accept_question c = ?
+returns-in-Err-accept_question c =
+    put_as
+    (ap refused_line c.number-in-Err-accept_question.ensures
+    ∙ put_refused whynot_says c.args.model.now c.args.q.now (sym c.in_default.ensures) c.in-Err-accept_question.ensures (number_some _))
+    c.refused_line-in-Err-accept_question.ensures
 
 pub judging_text-requires : goal.judging_text-requires
 judging_text-requires c = record { in_bounds = c.requires; model_value = (sym c.in_default.ensures, sym c.in_default-accept_question.ensures) }

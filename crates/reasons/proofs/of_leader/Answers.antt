@@ -16,16 +16,16 @@ pub returns-then-r : goal.returns-then-r
 unfolding led_code
 returns-then-r c =
     let total_is : to_z w64 (of_z w64 c.lowered-total.result) ≡ lowered c.args.m.now c.args.q.now c.args.j c.args.r.raised = to_z-of_z w64 c.lowered-total.result (record { sfits = c.lowered-total.type_inv }) ∙ c.lowered-total.ensures in
-    rw (total_is, c.whole-all.ensures.value, c.lamp_of-lamp.ensures, c.if-r.true) refl
+    rw (total_is, c.whole-whole.ensures.value, c.lamp_of-lamp.ensures, c.if-r.true) refl
 
 pub returns-then-asks_less : goal.returns-then-asks_less
 unfolding led_code
 returns-then-asks_less c =
     let total_is : to_z w64 (of_z w64 c.lowered-total.result) ≡ lowered c.args.m.now c.args.q.now c.args.j c.args.r.raised = to_z-of_z w64 c.lowered-total.result (record { sfits = c.lowered-total.type_inv }) ∙ c.lowered-total.ensures in
-    rw (total_is, c.whole-all.ensures.value, c.if-r.false, sym c.asks_less.ensures ∙ c.if-asks_less.true) refl
+    rw (total_is, c.whole-whole.ensures.value, c.if-r.false, sym c.asks_less.ensures ∙ c.if-asks_less.true) refl
 
 pub returns : goal.returns
 unfolding led_code
 returns c =
     let total_is : to_z w64 (of_z w64 c.lowered-total.result) ≡ lowered c.args.m.now c.args.q.now c.args.j c.args.r.raised = to_z-of_z w64 c.lowered-total.result (record { sfits = c.lowered-total.type_inv }) ∙ c.lowered-total.ensures in
-    rw (total_is, c.whole-all.ensures.value, c.if-r.false, sym c.asks_less.ensures ∙ c.if-asks_less.false) refl
+    rw (total_is, c.whole-whole.ensures.value, c.if-r.false, sym c.asks_less.ensures ∙ c.if-asks_less.false) refl

@@ -62,8 +62,8 @@ returns-then-at_bound c =
     let e : denominator_of m ^ (node_of S.args.q.now S.args.j).n ≡ (model_in m).denominator ^ (node_of S.args.q.now S.args.j).n = ap (λ (d : ℕ). d ^ (node_of S.args.q.now S.args.j).n) (sym (denominator_is m)) in
     tells_shown _ v (rw (sym e) c.shown.ensures.value) c.shown.ensures.frame
 
-pub reached-lower-requires : goal.reached-lower-requires
-reached-lower-requires c =
+pub reached-below-requires : goal.reached-below-requires
+reached-below-requires c =
     let bounded : Bounded c.args.m.now c.args.q.now c.args.j = bounded_at c.requires.asked.0.given c.requires.asked.1 in
     let all : ℕ = plan_total (model_in c.args.m.now) (node_of c.args.q.now c.args.j).n c.args.s in
     let number : c.plans_counted-all.result ≡ all = let S = c in
@@ -82,8 +82,8 @@ reached-lower-requires c =
     let P = S.requires.asked in
     (P.0, bounded, P.2, P.1.state, placed.0, S.requires.in_bounds.0)
 
-pub reached-upper-requires : goal.reached-upper-requires
-reached-upper-requires c =
+pub reached-above-requires : goal.reached-above-requires
+reached-above-requires c =
     let bounded : Bounded c.args.m.now c.args.q.now c.args.j = bounded_at c.requires.asked.0.given c.requires.asked.1 in
     let all : ℕ = plan_total (model_in c.args.m.now) (node_of c.args.q.now c.args.j).n c.args.s in
     let number : c.plans_counted-all.result ≡ all = let S = c in
@@ -119,6 +119,6 @@ returns c =
     let x = B.exact_total-x.ensures in
     let a = B.neighbours-r.ensures in
     let t = sym tested ∙ c.if-at_bound.false in
-    let lo = c.reached-lower.ensures in
-    let hi = c.reached-upper.ensures in
+    let lo = c.reached-below.ensures in
+    let hi = c.reached-above.ensures in
     tells_reason (missed_verdict bounded S.args.s P.1.state x a t P.2) (missed_reason bounded S.args.s P.1.state x a t P.2) (rw (sym n) (rw (lo.value, hi.value) refl)) (rw (sym n) lo.frame) (rw (sym n) hi.frame)
