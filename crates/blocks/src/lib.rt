@@ -6,6 +6,7 @@ ghost use Rattle.std.specs.Int.Signed.{lt_z};
 ghost use Rattle.logic.specs.Lists.{every};
 ghost use Rattle.blocks.specs.Bytes.{u16, u32, u64, signed, i16, i32, i64, twos_complement};
 ghost use Rattle.blocks.specs.Bytes as spec;
+ghost use Rattle.blocks.specs.Kind.{kind_number};
 ghost use Rattle.blocks.specs.Block.{whole_blocks, word_sum, sums_right, with_word_sum};
 ghost use Rattle.blocks.specs.Block as spec-block;
 
@@ -20,14 +21,14 @@ pub const WORDS: usize = 256;
 
 pub const LAST_WORD: usize = 510;
 
-// The kinds of blocks, in byte 0; a block's number is in byte 1.
-pub const KIND_HEAD: usize = 1;
-
-pub const KIND_ROW: usize = 2;
-
-pub const KIND_QUESTION: usize = 3;
-
-pub const KIND_SHEET: usize = 4;
+// The kind of a block, whose number is in byte 0; the block's own number is in byte 1.
+#[derive(Clone, Copy, Debug, PartialEq, Eq)]
+pub enum Kind {
+    Head = 1,
+    Row = 2,
+    Question = 3,
+    Sheet = 4,
+}
 
 pub const NUMBER_AT: usize = 1;
 
@@ -50,6 +51,7 @@ pub fn wide(b: &[u8], i: usize) -> usize
 }
 
 // The 16-bit number at i, inside the slice.
+#[tactic(auto, unfolding(crate::specs::Bytes::u16))]
 fn pair(b: &[u8], i: usize) -> u32
     requires { i + 1 < length b.now }
     ensures value { result ≡ u16 b.now i }
@@ -59,6 +61,7 @@ fn pair(b: &[u8], i: usize) -> u32
 }
 
 // The 16-bit number at i. Inside the slice, here and below, one comparison serves all its bytes.
+#[tactic(auto, unfolding(crate::specs::Bytes::u16))]
 pub fn u16_at(b: &[u8], i: usize) -> u32
     requires { i < 65544 }
     ensures value { result ≡ u16 b.now i }
@@ -71,6 +74,7 @@ pub fn u16_at(b: &[u8], i: usize) -> u32
 }
 
 // The 32-bit number at i.
+#[tactic(auto, unfolding(crate::specs::Bytes::u32))]
 pub fn u32_at(b: &[u8], i: usize) -> u32
     requires { i < 65540 }
     ensures { result ≡ u32 b.now i }
@@ -82,6 +86,7 @@ pub fn u32_at(b: &[u8], i: usize) -> u32
 }
 
 // The 64-bit number at i.
+#[tactic(auto, unfolding(crate::specs::Bytes::u64))]
 pub fn u64_at(b: &[u8], i: usize) -> u64
     requires { i < 65536 }
     ensures { result ≡ u64 b.now i }
@@ -159,6 +164,7 @@ pub fn zeros(b: &[u8], from: usize, n: usize) -> bool
 }
 
 // Whether a number is from `least` to `most`.
+#[tactic(auto, unfolding(crate::specs::Bytes::within))]
 pub fn within(least: usize, most: usize, x: usize) -> bool
     ensures { result ≡ spec.within least most x }
 {
@@ -199,27 +205,19 @@ pub fn seal(block: &mut [u8])
 }
 
 // Ground 1: whether there are from `least` to `most` whole blocks.
+#[tactic(auto, unfolding(crate::specs::Block::whole_blocks, crate::specs::Block::block_count, crate::specs::Bytes::within))]
 pub fn whole_blocks(b: &[u8], least: usize, most: usize) -> bool
     ensures { result ≡ whole_blocks least most b.now }
 {
-    let n = b.len() / BLOCK;
-    if b.len() % BLOCK != 0 {
-        return false;
-    }
-    if n < least {
-        return false;
-    }
-    n <= most
+    (b.len() % BLOCK == 0) & within(least, most, b.len() / BLOCK)
 }
 
 // Ground 3 of block k: whether it has this kind and number.
-pub fn headed(b: &[u8], k: usize, kind: usize, number: usize) -> bool
+#[tactic(auto, unfolding(crate::specs::Block::headed))]
+pub fn headed(b: &[u8], k: usize, kind: Kind, number: usize) -> bool
     requires { k < 128 }
-    ensures { result ≡ spec-block.headed b.now k kind number }
+    ensures { result ≡ spec-block.headed b.now k (kind_number kind) number }
 {
     let at = BLOCK * k;
-    if wide(b, at) != kind {
-        return false;
-    }
-    wide(b, at + NUMBER_AT) == number
+    (wide(b, at) == kind as usize) & (wide(b, at + NUMBER_AT) == number)
 }

@@ -17,6 +17,7 @@ use crate::{
 use blocks::{all_pass, u32_at};
 
 // Whether the literals at two places contradict.
+#[tactic(auto, unfolding(logic::specs::Model::contradict, crate::specs::Layout::literals))]
 fn contradict(b: &[u8], i: usize, j: usize) -> bool
     requires { (i < 65536) × (j < 65536) }
     ensures { result ≡ model.contradict (literals b.now i) (literals b.now j) }
@@ -42,6 +43,7 @@ fn posts_contradict(b: &[u8], a: usize) -> bool
 }
 
 // Whether the target of outcome i of a cell makes its postcondition true.
+#[tactic(auto, unfolding(crate::specs::Layout::post_of))]
 fn target_true(b: &[u8], s: usize, a: usize, i: usize) -> bool
     requires { (s < 256) × (a < 256) × (i < 256) }
     ensures { let b = b.entry.now in

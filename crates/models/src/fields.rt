@@ -25,6 +25,7 @@ fn below_bit(v: u32, n: usize) -> bool
     u64::from(v) >> n == 0
 }
 
+#[tactic(auto, unfolding(crate::specs::Grounds::literals_in_range, crate::specs::Grounds::mask_in_range, crate::specs::Layout::literals))]
 fn literals_in_range(b: &[u8], at: usize) -> bool
     requires { (at < 65536) × (prop_count b.now ≤ 32) }
     ensures { result ≡ literals_in_range b.now (literals b.now at) }
@@ -55,6 +56,7 @@ fn action_in_range(b: &[u8], a: usize) -> bool
         & all_pass(n, move |i| literals_in_range(b, post_at(a, i)))
 }
 
+#[tactic(auto, unfolding(crate::specs::Grounds::outcome_in_range, crate::specs::Layout::outcome_of))]
 fn outcome_in_range(b: &[u8], s: usize, a: usize, i: usize) -> bool
     requires { (s < 256) × (a < 256) × (i < 256) }
     ensures { result ≡ outcome_in_range b.now (outcome_of b.now s a i) }

@@ -18,8 +18,7 @@ mod fields;
 mod spare;
 
 use blocks::{
-    BLOCK, KIND_HEAD, KIND_ROW, all_pass, headed, i16_at, sums_right, u32_at, whole_blocks, wide,
-    within,
+    BLOCK, Kind, all_pass, headed, i16_at, sums_right, u32_at, whole_blocks, wide, within,
 };
 use refusals::Refusal;
 
@@ -124,6 +123,7 @@ pub fn denominator(b: &[u8]) -> usize
 }
 
 // Whether the literals at a place are true of a mask.
+#[tactic(auto, unfolding(logic::specs::Model::true_of, crate::specs::Layout::literals))]
 pub fn holds(b: &[u8], at: usize, v: u32) -> bool
     requires { at < 65536 }
     ensures { result ≡ true_of (literals b.now at) v }
@@ -134,6 +134,7 @@ pub fn holds(b: &[u8], at: usize, v: u32) -> bool
 }
 
 // The mask of a state.
+#[tactic(auto, unfolding(crate::specs::Layout::state_mask))]
 pub fn state_mask(b: &[u8], s: usize) -> u32
     requires { s < 256 }
     ensures { result ≡ state_mask b.now s }
@@ -158,6 +159,7 @@ pub fn post_at(a: usize, i: usize) -> usize
 }
 
 // How many postconditions an action has.
+#[tactic(auto, unfolding(crate::specs::Layout::post_count))]
 pub fn post_count(b: &[u8], a: usize) -> usize
     requires { a < 256 }
     ensures value { result ≡ post_count b.now a }
@@ -167,6 +169,7 @@ pub fn post_count(b: &[u8], a: usize) -> usize
 }
 
 // How many outcomes of a state and an action are used.
+#[tactic(auto, unfolding(crate::specs::Layout::entries, crate::specs::Layout::pre_of))]
 pub fn entries(b: &[u8], s: usize, a: usize) -> usize
     requires { (s < 256) × (a < 256) }
     ensures value { result ≡ layout.entries b.now s a }
@@ -185,6 +188,7 @@ pub fn entries(b: &[u8], s: usize, a: usize) -> usize
 }
 
 // Where an outcome stands.
+#[tactic(auto, unfolding(crate::specs::Layout::cell_at))]
 pub fn outcome_at(s: usize, a: usize, i: usize) -> usize
     requires { (s < 256) × (a < 256) × (i < 256) }
     ensures value { result ≡ cell_at s a + 4 * i }
@@ -197,6 +201,7 @@ pub fn outcome_at(s: usize, a: usize, i: usize) -> usize
         + OUTCOME_SIZE * i
 }
 
+#[tactic(auto, unfolding(crate::specs::Layout::outcome_of))]
 pub fn target(b: &[u8], s: usize, a: usize, i: usize) -> usize
     requires { (s < 256) × (a < 256) × (i < 256) }
     ensures value { result ≡ (outcome_of b.now s a i).target }
@@ -205,6 +210,7 @@ pub fn target(b: &[u8], s: usize, a: usize, i: usize) -> usize
     wide(b, outcome_at(s, a, i))
 }
 
+#[tactic(auto, unfolding(crate::specs::Layout::outcome_of))]
 pub fn weight(b: &[u8], s: usize, a: usize, i: usize) -> usize
     requires { (s < 256) × (a < 256) × (i < 256) }
     ensures value { result ≡ (outcome_of b.now s a i).weight }
@@ -213,6 +219,7 @@ pub fn weight(b: &[u8], s: usize, a: usize, i: usize) -> usize
     wide(b, outcome_at(s, a, i) + WEIGHT_AT)
 }
 
+#[tactic(auto, unfolding(crate::specs::Layout::outcome_of))]
 pub fn reward(b: &[u8], s: usize, a: usize, i: usize) -> i16
     requires { (s < 256) × (a < 256) × (i < 256) }
     ensures { result ≡ (outcome_of b.now s a i).reward }
@@ -243,14 +250,15 @@ fn kinds_right(b: &[u8]) -> bool
     requires { whole_blocks 2 12 b.now ≡ true }
     ensures { result ≡ kinds_right b.now }
 {
-    headed(b, 0, KIND_HEAD, 0)
+    headed(b, 0, Kind::Head, 0)
         & all_pass(
             b.len() / BLOCK - 1,
-            move |k| headed(b, k + 1, KIND_ROW, k + 1),
+            move |k| headed(b, k + 1, Kind::Row, k + 1),
         )
 }
 
 // Ground 4.
+#[tactic(auto, unfolding(crate::specs::Grounds::sizes_right, blocks::specs::Block::block_count))]
 fn sizes_right(b: &[u8]) -> bool
     ensures { result ≡ sizes_right b.now }
 {

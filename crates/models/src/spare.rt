@@ -35,6 +35,7 @@ const ROW_END: usize = CELLS_AT + STATE_SIZE * ROW_STATES;
 const ROW_END_SIZE: usize = LAST_WORD - ROW_END;
 
 // Of an action: the 3 bytes after the count, and the postconditions beyond it.
+#[tactic(auto, unfolding(crate::specs::Grounds::action_spare))]
 fn action_spare(b: &[u8], a: usize) -> bool
     requires { (a < 8) × (post_count b.now a ≤ 4) × (1024 ≤ length b.now) }
     ensures { result ≡ action_spare b.now a }
@@ -57,6 +58,7 @@ fn head_spare(b: &[u8]) -> bool
         & zeros(b, end, LAST_WORD - end)
 }
 
+#[tactic(auto, unfolding(crate::specs::Grounds::row_spare))]
 fn row_spare(b: &[u8], k: usize) -> bool
     requires { (k < 128) × (512 * k + 512 ≤ length b.now) }
     ensures { result ≡ row_spare b.now k }
@@ -66,6 +68,7 @@ fn row_spare(b: &[u8], k: usize) -> bool
 }
 
 // Of a cell with n used outcomes: what follows them.
+#[tactic(auto, unfolding(crate::specs::Grounds::cell_spare))]
 fn cell_spare(b: &[u8], s: usize, a: usize, n: usize) -> bool
     requires { (s < 256) × (a < 8) × (n ≤ 4) × (n ≡ entries b.now s a) × (cell_at s a + 16 ≤ length b.now) }
     ensures { result ≡ cell_spare b.now s a }
