@@ -17,11 +17,11 @@ use borrow.Author.Tests.{lt-ltb, eq-eqb, eqb-true}
 use Rattle.logic.specs.promises.Refusal.{refusal}
 use Rattle.logic.specs.Lists.{keep, count_from}
 use Rattle.logic.proofs.Tests.{count_more, keep_append, keep_member, counted_range, get_or_member}
-use Rattle.blocks.specs.Bytes.{Bytes, byte, u16}
+use Rattle.blocks.specs.Bytes.{Bytes}
 use Rattle.models.specs.Layout.{state_count, action_count, denominator_of, entries}
 use Rattle.models.specs.Grounds.{read_model}
 use Rattle.models.proofs.GroundsPassed.{passed_all, passed_sized}
-use Rattle.prepared_model.specs.promises.Filled.{listed, Listed, Chosen, source, put_at, Spelled, pattern_sum, Partly, Summed, silent_at, Acting, Silent, Row, acting, silent}
+use Rattle.prepared_model.specs.promises.Filled.{listed, Listed, Chosen, Spelled, pattern_sum, Summed, silent_at, Acting, Silent, Row, acting, silent}
 
 -- ---- lists
 
@@ -153,71 +153,6 @@ module _ {b : Bytes} {s : ℕ} {row : List ℕ} (e : refusal (read_model b) ≡ 
 pub spelled_none : (b : Bytes) (s : ℕ) (row : List ℕ) → Spelled b s 0 row
 spelled_none b s row =
     record { targets = λ j h. absurd (omega arith); weights = λ j h. absurd (omega arith); light = λ j h. absurd (omega arith); rewards = λ j h. absurd (omega arith) }
-
-module _ (b : Bytes) (row : List ℕ) (at k : ℕ) (h : k < 32) (n : length row ≡ 256) where
-  put_other : (j : ℕ) → (j ≡ 32 + k → ⊥) → (j ≡ 64 + k → ⊥) → (j ≡ 96 + k → ⊥) → get_or (put_at b row at k) j 0 ≡ get_or row j 0
-  put_other j x y z =
-      get_or-set_other (set (set row (32 + k) (byte b at)) (64 + k) (byte b (at + 1))) (96 + k) j _ 0 z ∙ get_or-set_other (set row (32 + k) (byte b at)) (64 + k) j _ 0 y ∙ get_or-set_other row (32 + k) j _ 0 x
-
-  put_target : get_or (put_at b row at k) (32 + k) 0 ≡ byte b at
-  put_target =
-      get_or-set_other (set (set row (32 + k) (byte b at)) (64 + k) (byte b (at + 1))) (96 + k) (32 + k) _ 0 (omega arith) ∙ get_or-set_other (set row (32 + k) (byte b at)) (64 + k) (32 + k) _ 0 (omega arith) ∙ get_or-set_same row (32 + k) _ 0 (omega arith)
-
-  put_weight : get_or (put_at b row at k) (64 + k) 0 ≡ byte b (at + 1)
-  put_weight =
-      get_or-set_other (set (set row (32 + k) (byte b at)) (64 + k) (byte b (at + 1))) (96 + k) (64 + k) _ 0 (omega arith) ∙ get_or-set_same (set row (32 + k) (byte b at)) (64 + k) _ 0 (omega (arith, length-set row (32 + k) (byte b at)))
-
-  put_reward : get_or (put_at b row at k) (96 + k) 0 ≡ u16 b (at + 2)
-  put_reward =
-      get_or-set_same (set (set row (32 + k) (byte b at)) (64 + k) (byte b (at + 1))) (96 + k) _ 0 (omega (arith, length-set (set row (32 + k) (byte b at)) (64 + k) (byte b (at + 1)), length-set row (32 + k) (byte b at)))
-
-  pub put_length : length (put_at b row at k) ≡ 256
-  put_length = length-set (set (set row (32 + k) (byte b at)) (64 + k) (byte b (at + 1))) (96 + k) _ ∙ length-set (set row (32 + k) (byte b at)) (64 + k) _ ∙ length-set row (32 + k) _ ∙ n
-
-  -- The choices stay, and one outcome more is spelled out.
-  pub put_kept : {s : ℕ} → Chosen b s row → get_or row 16 0 ≤ 8 → Chosen b s (put_at b row at k)
-  put_kept w g =
-      rw (put_other 16 (omega arith) (omega arith) (omega arith))
-      (record {
-        many = w.many;
-        bytes = λ j l. put_other j (omega arith) (omega arith) (omega arith) ∙ w.bytes j l;
-        counts = λ j l. put_other (8 + j) (omega arith) (omega arith) (omega arith) ∙ w.counts j l;
-      })
-
-  pub put_count : get_or (put_at b row at k) 16 0 ≡ get_or row 16 0
-  put_count = put_other 16 (omega arith) (omega arith) (omega arith)
-
-  pub put_more : {s : ℕ} → Spelled b s k row → at ≡ source b s k → byte b (at + 1) < 256 → Spelled b s (k + 1) (put_at b row at k)
-  put_more {s} w e g =
-      record {
-        targets = below_more _ k (λ j l. put_other (32 + j) (omega arith) (omega arith) (omega arith) ∙ w.targets j l) (put_target ∙ ap (byte b) e);
-        weights = below_more _ k (λ j l. put_other (64 + j) (omega arith) (omega arith) (omega arith) ∙ w.weights j l) (put_weight ∙ ap (λ x. byte b (x + 1)) e);
-        light = below_more (λ j. get_or (put_at b row at k) (64 + j) 0 < 256) k (λ j l. rw (put_other (64 + j) (omega arith) (omega arith) (omega arith)) (w.light j l)) (rw put_weight g);
-        rewards = below_more _ k (λ j l. put_other (96 + j) (omega arith) (omega arith) (omega arith) ∙ w.rewards j l) (put_reward ∙ ap (λ x. u16 b (x + 2)) e);
-      }
-
--- ---- the sums
-
-pub partly_more : {i y v : ℕ} {before row : List ℕ} → i < 8 → y < 16 → length row ≡ 256 → Partly i y before row → v ≡ pattern_sum before i y
-    → Partly i (y + 1) before (set row (128 + 16 * i + y) v)
-partly_more {i} {y} {v} {before} {row} h g n w e =
-    record {
-      kept = λ j l. get_or-set_other row (128 + 16 * i + y) j v 0 (omega arith) ∙ w.kept j (omega arith);
-      at = below_more _ y (λ x l. get_or-set_other row (128 + 16 * i + y) (128 + 16 * i + x) v 0 (omega arith) ∙ w.at x l) (get_or-set_same row (128 + 16 * i + y) v 0 (omega arith) ∙ e);
-    }
-
-pub summed_more : {i : ℕ} {before row after : List ℕ} → i < 8 → Summed i before row → Partly i 16 row after → Summed (i + 1) before after
-summed_more {i} {before} {row} {after} h w p =
-    record {
-      kept = λ j l. p.kept j (omega arith) ∙ w.kept j l;
-      at = λ j x l g. below_more (λ j. get_or after (128 + 16 * j + x) 0 ≡ pattern_sum before j x) i (λ j l. p.kept (128 + 16 * j + x) (omega arith) ∙ w.at j x l g) (p.at x g ∙ same x) j l;
-    }
-  where
-    weight : (o : ℕ) → o < 4 → get_or row (64 + 4 * i + o) 0 ≡ get_or before (64 + 4 * i + o) 0
-    weight o l = w.kept (64 + 4 * i + o) (omega arith)
-
-    same : (x : ℕ) → pattern_sum row i x ≡ pattern_sum before i x
-    same x = rw (w.kept (64 + 4 * i) (omega arith), weight 1 (omega arith), weight 2 (omega arith), weight 3 (omega arith)) refl
 
 -- ---- the silent move
 

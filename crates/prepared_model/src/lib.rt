@@ -51,25 +51,18 @@ const REWARDS: usize = 96;
 // Where it has the sums of weights, sixteen to a choice, one for each pattern.
 const SUMS: usize = 128;
 
-fn widened(x: u16) -> usize
-    ensures value { result ≡ x }
-    ensures range { result < 65536 }
-{
-    x as usize
-}
-
 // ---- the head
 
 pub fn states(m: &[u16; MODEL]) -> usize
     ensures { result ≡ state_count m.now }
 {
-    widened(m[STATE_COUNT_AT])
+    usize::from(m[STATE_COUNT_AT])
 }
 
 pub fn denominator(m: &[u16; MODEL]) -> usize
     ensures { result ≡ denominator_of m.now }
 {
-    widened(m[DENOMINATOR_AT])
+    usize::from(m[DENOMINATOR_AT])
 }
 
 // Two bytes of the head as a number.
@@ -78,7 +71,7 @@ fn pair(m: &[u16; MODEL], k: usize) -> u32
     ensures value { result ≡ bytes.u16 m.now k }
     ensures range { result < 65536 }
 {
-    m[k] as u32 + 256 * m[k + 1] as u32
+    u32::from(m[k]) + 256 * u32::from(m[k + 1])
 }
 
 // The mask of a state.
@@ -94,7 +87,7 @@ pub fn holds(m: &[u16; MODEL], s: usize, i: u8) -> bool
     requires { Prepared m.now × (s < state_count m.now) × (i < 32) }
     ensures { result ≡ prop_in (model_in m.now) s i }
 {
-    (mask(m, s) >> i as u32) % 2 == 1
+    (mask(m, s) >> i) % 2 == 1
 }
 
 // ---- the rows
@@ -104,7 +97,7 @@ pub fn choices(m: &[u16; MODEL], s: usize) -> usize
     requires { s < 32 }
     ensures { result ≡ choices_in m.now s }
 {
-    widened(m[ROWS + ROW * s + COUNT])
+    usize::from(m[ROWS + ROW * s + COUNT])
 }
 
 // The byte of choice i: its action's number, or 255.
@@ -120,14 +113,14 @@ pub fn outcomes(m: &[u16; MODEL], s: usize, i: usize) -> usize
     requires { (s < 32) × (i < 8) }
     ensures { result ≡ outcomes_in m.now s i }
 {
-    widened(m[ROWS + ROW * s + OUTCOMES + i])
+    usize::from(m[ROWS + ROW * s + OUTCOMES + i])
 }
 
 pub fn target(m: &[u16; MODEL], s: usize, i: usize, o: usize) -> usize
     requires { (s < 32) × (i < 8) × (o < 4) }
     ensures { result ≡ (step_in m.now s i o).target }
 {
-    widened(m[ROWS + ROW * s + TARGETS + 4 * i + o])
+    usize::from(m[ROWS + ROW * s + TARGETS + 4 * i + o])
 }
 
 pub fn weight(m: &[u16; MODEL], s: usize, i: usize, o: usize) -> u64
@@ -135,21 +128,14 @@ pub fn weight(m: &[u16; MODEL], s: usize, i: usize, o: usize) -> u64
     ensures value { result ≡ (step_in m.now s i o).weight }
     ensures range { result < 65536 }
 {
-    long(m[ROWS + ROW * s + WEIGHTS + 4 * i + o])
-}
-
-fn long(x: u16) -> u64
-    ensures value { result ≡ x }
-    ensures range { result < 65536 }
-{
-    x as u64
+    u64::from(m[ROWS + ROW * s + WEIGHTS + 4 * i + o])
 }
 
 // A reward of its two bytes, which stand in the row as they are.
 fn signed(x: u16) -> i16
     ensures { result ≡ bytes.signed 15 x }
 {
-    signed16(x as u32)
+    signed16(u32::from(x))
 }
 
 pub fn reward(m: &[u16; MODEL], s: usize, i: usize, o: usize) -> i16
@@ -165,7 +151,7 @@ pub fn lane_target(m: &[u16; MODEL], s: usize, k: usize) -> usize
     ensures value { result ≡ (step_in m.now s (k / 4) (k % 4)).target }
     ensures range { result < 65536 }
 {
-    widened(m[ROWS + ROW * s + TARGETS + k])
+    usize::from(m[ROWS + ROW * s + TARGETS + k])
 }
 
 pub fn lane_reward(m: &[u16; MODEL], s: usize, k: usize) -> i16
@@ -181,12 +167,12 @@ pub fn sum(m: &[u16; MODEL], s: usize, i: usize, y: usize) -> u64
     ensures value { result ≡ sum_in m.now s i y }
     ensures range { result < 65536 }
 {
-    long(m[ROWS + ROW * s + SUMS + 16 * i + y])
+    u64::from(m[ROWS + ROW * s + SUMS + 16 * i + y])
 }
 
 // ---- a choice by its byte
 
-// Where the outcomes of a choice stand, and how many they are.
+// Where the outcomes of a choice stand, and how many they are: none for what is no choice, so that whoever goes through them needs no other test.
 #[derive(Clone, Copy)]
 pub struct Row {
     pub at: usize,
@@ -197,39 +183,27 @@ pub fn row_of(m: &[u16; MODEL], s: usize, a: u8) -> Row
     requires { Prepared m.now × (s < state_count m.now) }
     ensures { RowOf m.now s a result.at result.count }
 {
-    let n = choices(m, s);
-    let mut i: usize = 0;
-    while i < n {
-        if choice(m, s, i) == a {
+    for at in 0..choices(m, s) {
+        if choice(m, s, at) == a {
             return Row {
-                at: i,
-                count: outcomes(m, s, i),
+                at,
+                count: outcomes(m, s, at),
             };
         }
-        i += 1;
     }
     Row { at: 0, count: 0 }
 }
 
 // ---- how it is made
 
-fn short(x: u8) -> u16
-    ensures value { result ≡ x }
-    ensures range { result < 256 }
-{
-    x as u16
-}
-
 // The head block, and room for the rows.
 fn head(b: &[u8]) -> [u16; MODEL]
     requires { 512 ≤ length b.now }
     ensures { (length result ≡ 8704) × ((k : ℕ) → k < 512 → (get_or result k 0 ≡ get_or b.now k 0) × (get_or result k 0 < 256)) }
 {
-    let mut m = [0u16; MODEL];
-    let mut k: usize = 0;
-    while k < ROWS {
-        m[k] = short(b[k]);
-        k += 1;
+    let mut m = [0; MODEL];
+    for k in 0..ROWS {
+        m[k] = u16::from(b[k]);
     }
     m
 }
@@ -240,13 +214,9 @@ pub fn prepare_model(b: &[u8]) -> [u16; MODEL]
     ensures { Prepares b.now result }
 {
     let mut m = head(b);
-    let states = state_count(b);
-    let mut s: usize = 0;
-    while s < states {
+    for s in 0..state_count(b) {
         let from = ROWS + ROW * s;
-        let end = from + ROW;
-        fill(b, &mut m[from..end], s);
-        s += 1;
+        fill(b, &mut m[from..from + ROW], s);
     }
     m
 }

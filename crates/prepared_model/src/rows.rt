@@ -11,19 +11,6 @@ use crate::{COUNT, OUTCOMES, REWARDS, SUMS, TARGETS, WEIGHTS};
 use blocks::{u16_at, wide};
 use models::{SILENT, action_count, denominator, entries, outcome_at};
 
-fn short(x: usize) -> u16
-    requires { x < 65536 }
-    ensures { result ≡ x }
-{
-    x as u16
-}
-
-fn number(x: u16) -> usize
-    ensures { result ≡ x }
-{
-    x as usize
-}
-
 // Lists the action a, which has c outcomes, behind the i choices listed, if it has any; gives the number listed.
 fn list(row: &mut [u16], i: usize, a: usize, c: usize) -> usize
     requires { (i < 8) × (a < 256) × (c < 256) × (length row.old ≡ 256) }
@@ -33,8 +20,8 @@ fn list(row: &mut [u16], i: usize, a: usize, c: usize) -> usize
     if c == 0 {
         return i;
     }
-    row[i] = short(a);
-    row[OUTCOMES + i] = short(c);
+    row[i] = a as u16;
+    row[OUTCOMES + i] = c as u16;
     i + 1
 }
 
@@ -43,15 +30,11 @@ fn choose(b: &[u8], row: &mut [u16], s: usize)
     requires { (refusal (read_model b.now) ≡ 0) × (s < state_count b.now) × (length row.old ≡ 256) }
     ensures { Chosen b.now s row.new }
 {
-    let n = action_count(b);
-    let mut i: usize = 0;
-    let mut a: usize = 0;
-    while a < n {
-        let c = entries(b, s, a);
-        i = list(row, i, a, c);
-        a += 1;
+    let mut i = 0;
+    for a in 0..action_count(b) {
+        i = list(row, i, a, entries(b, s, a));
     }
-    row[COUNT] = short(i);
+    row[COUNT] = i as u16;
 }
 
 // Puts the target, the weight and the reward of an outcome, which stands at `at` in the blocks, in lane k.
@@ -60,8 +43,8 @@ fn put(b: &[u8], row: &mut [u16], at: usize, k: usize)
     ensures frame { row.new ≡ put_at b.now row.old at k }
     ensures value { bytes.byte b.now (at + 1) < 256 }
 {
-    row[TARGETS + k] = short(wide(b, at));
-    row[WEIGHTS + k] = short(wide(b, at + 1));
+    row[TARGETS + k] = wide(b, at) as u16;
+    row[WEIGHTS + k] = wide(b, at + 1) as u16;
     row[REWARDS + k] = u16_at(b, at + 2) as u16;
 }
 
@@ -71,12 +54,10 @@ fn spell(b: &[u8], row: &mut [u16], s: usize)
     ensures { let row' = row.new in let b = b.entry.now in
         Chosen b s row' × Spelled b s (4 * get_or row' 16 0) row' }
 {
-    let n = 4 * number(row[COUNT]);
-    let mut k: usize = 0;
-    while k < n {
-        let at = outcome_at(s, number(row[k / 4]), k % 4);
+    let n = 4 * usize::from(row[COUNT]);
+    for k in 0..n {
+        let at = outcome_at(s, usize::from(row[k / 4]), k % 4);
         put(b, row, at, k);
-        k += 1;
     }
 }
 
@@ -88,15 +69,15 @@ fn or_silent(row: &mut [u16], s: usize, d: usize) -> usize
         (0 < get_or row 16 0 → (result ≡ get_or row 16 0) × (row' ≡ row))
         × (get_or row 16 0 ≡ 0 → (result ≡ 1) × (row' ≡ silent_at row s d)) }
 {
-    let n = number(row[COUNT]);
+    let n = usize::from(row[COUNT]);
     if n != 0 {
         return n;
     }
-    row[0] = short(SILENT);
+    row[0] = SILENT as u16;
     row[OUTCOMES] = 1;
     row[COUNT] = 1;
-    row[TARGETS] = short(s);
-    row[WEIGHTS] = short(d);
+    row[TARGETS] = s as u16;
+    row[WEIGHTS] = d as u16;
     row[WEIGHTS + 1] = 0;
     row[WEIGHTS + 2] = 0;
     row[WEIGHTS + 3] = 0;
@@ -114,11 +95,16 @@ fn part(w: u16, y: u16) -> u16
 }
 
 // The four weights whose bits are 1, summed.
-fn parts(w0: u16, w1: u16, w2: u16, w3: u16, y: u16) -> u16
-    requires { (w0 < 256) × (w1 < 256) × (w2 < 256) × (w3 < 256) }
-    ensures { result ≡ w0 * lane y 0 + w1 * lane y 1 + w2 * lane y 2 + w3 * lane y 3 }
+fn parts(weights: &[u16; 4], y: u16) -> u16
+    requires { (o : ℕ) → o < 4 → get_or weights.now o 0 < 256 }
+    ensures { let w = weights.now in
+        result ≡ get_or w 0 0 * lane y 0 + get_or w 1 0 * lane y 1 + get_or w 2 0 * lane y 2 + get_or w 3 0 * lane y 3 }
 {
-    part(w0, y) + part(w1, y >> 1) + part(w2, y >> 2) + part(w3, y >> 3)
+    let mut sum = 0;
+    for (o, w) in weights.iter().enumerate() {
+        sum += part(*w, y >> o);
+    }
+    sum
 }
 
 // Puts the sums of the weights of the choice at place i, by pattern.
@@ -127,14 +113,9 @@ fn sum_choice(row: &mut [u16], i: usize)
     ensures { Partly i 16 row.old row.new }
 {
     let from = WEIGHTS + 4 * i;
-    let w0 = row[from];
-    let w1 = row[from + 1];
-    let w2 = row[from + 2];
-    let w3 = row[from + 3];
-    let mut y: u16 = 0;
-    while y < 16 {
-        row[SUMS + 16 * i + y as usize] = parts(w0, w1, w2, w3, y);
-        y += 1;
+    let weights = [row[from], row[from + 1], row[from + 2], row[from + 3]];
+    for y in 0..16 {
+        row[SUMS + 16 * i + usize::from(y)] = parts(&weights, y);
     }
 }
 
@@ -143,10 +124,8 @@ fn sum_choices(row: &mut [u16], n: usize)
     requires { (n ≤ 8) × (length row.old ≡ 256) × ((j : ℕ) → j < 4 * n → get_or row.old (64 + j) 0 < 256) }
     ensures { Summed n row.old row.new }
 {
-    let mut i: usize = 0;
-    while i < n {
+    for i in 0..n {
         sum_choice(row, i);
-        i += 1;
     }
 }
 

@@ -2,12 +2,12 @@
 use Prim.Native.Nat.{ℕ, ◌+◌, ◌*◌, ◌≤◌, ◌<◌}
 use native.Mathlib.Numerals.{add-one}
 use native.Mathlib.Omega.{arith}
-use mathlib.Core.Path.{◌≡◌, refl, sym, ap, ap₂, subst, ◌∙◌}
+use mathlib.Core.Path.{◌≡◌, refl, sym, ap₂, subst, ◌∙◌}
 use mathlib.Core.Bool.{Bool, true, false, cond, ◌&&◌}
 use lib.Dec.{eqb}
 use lib.ListN.{length, set, length-set}
 use lib.Seq.{get_or-set_same, get_or-set_other}
-use borrow.Author.Tests.{eq-eqb, ne_eqb, eqb-true}
+use borrow.Author.Tests.{eqb-true}
 use Rattle.logic.specs.Formula.{depth}
 use Rattle.blocks.specs.Bytes.{Bytes, byte, u16, u32}
 use Rattle.questions.specs.Layout.{node_count, node_at, node_of}
@@ -15,33 +15,6 @@ use Rattle.questions.specs.promises.Used.{has_left}
 use Rattle.prepared_question.specs.promises.Nodes.{formula}
 use Rattle.prepared_question.specs.promises.Replaced.{ChildrenBefore, doubled, past, left_for, right_for, Pointed}
 use Rattle.prepared_question.proofs.ChildrenBefore.{one_more}
-
--- ---- the new cells
-
--- The node that c comes down to, by the three cells that are read.
-pub past_by : (b : Bytes) (c op l r : ℕ) (t : Bool) → op ≡ (node_of b c).operator → l ≡ (node_of b c).left → r ≡ (node_of b c).right
-    → (eqb op 4 && eqb l r) ≡ t → cond t l c ≡ past b c
-unfolding past doubled
-past_by b c op l r t e f g h = ap (λ t. cond t l c) (sym h) ∙ (λ j. cond (eqb (e j) 4 && eqb (f j) (g j)) (f j) c)
-
-module _ (q b : Bytes) (i : ℕ) where
-  pub left_replaced : has_left (node_of q i).operator ≡ true → past b (node_of q i).left ≡ left_for q b i
-  unfolding left_for
-  left_replaced e = ap (λ t. cond t (past b (node_of q i).left) (node_of q i).left) (sym e)
-
-  pub left_kept : has_left (node_of q i).operator ≡ false → (node_of q i).left ≡ left_for q b i
-  unfolding left_for
-  left_kept e = ap (λ t. cond t (past b (node_of q i).left) (node_of q i).left) (sym e)
-
-  pub right_replaced : (node_of q i).operator ≡ 4 → past b (node_of q i).right ≡ right_for q b i
-  unfolding right_for
-  right_replaced e = ap (λ t. cond t (past b (node_of q i).right) (node_of q i).right) (sym (eq-eqb (node_of q i).operator 4 e))
-
-  pub right_kept : ((node_of q i).operator ≡ 4 → ⊥) → (node_of q i).right ≡ right_for q b i
-  unfolding right_for
-  right_kept e = ap (λ t. cond t (past b (node_of q i).right) (node_of q i).right) (sym (ne_eqb (node_of q i).operator 4 e))
-
--- ---- one node more
 
 cond_same : (t : Bool) (x y z : ℕ) → (t ≡ true → x ≡ y) → cond t x z ≡ cond t y z
 cond_same true x y z f = f refl

@@ -1,6 +1,6 @@
 // The question prepared for judging: one array, made once. Its nodes point past every "and" whose two halves are one node (the judge values
 // each node that it meets, and such a node has its half's value), and the depth of each stands behind the block.
-#![tactic(auto)]
+#![tactic(auto, unfolding(questions::specs::Layout::node_of, crate::specs::promises::Replaced::past, crate::specs::promises::Replaced::doubled, crate::specs::promises::Replaced::left_for, crate::specs::promises::Replaced::right_for))]
 
 ghost use Rattle.std.specs.Prelude.{◌≡◌, ℕ, ◌+◌, ◌<◌, eqb, length, get_or};
 ghost use Rattle.logic.specs.promises.Refusal.{refusal};
@@ -13,7 +13,6 @@ ghost use Rattle.prepared_question.specs.promises.Shared.{Shared};
 ghost use Rattle.prepared_question.specs.promises.Replaced.{ChildrenBefore, left_for, right_for, Pointed};
 ghost use Rattle.prepared_question.specs.promises.Replaced as replaced;
 
-use blocks::buffers::copy;
 use questions::used::has_left;
 use questions::{
     AND, EQUAL, LEFT_AT, LESS, NODE_COUNT_AT, NODE_SIZE, NODES_AT, P_AT, Q_AT, RIGHT_AT, START_AT,
@@ -44,7 +43,7 @@ pub fn operator(q: &[u8; QUESTION], j: u8) -> u8
     requires { j < 40 }
     ensures { result ≡ (node_of q.now j).operator }
 {
-    q[NODES_AT + NODE_SIZE * j as usize]
+    q[NODES_AT + NODE_SIZE * usize::from(j)]
 }
 
 // Another byte of node j.
@@ -52,7 +51,7 @@ fn cell(q: &[u8; QUESTION], j: u8, k: usize) -> u8
     requires { (j < 40) × (k < 12) }
     ensures { result ≡ get_or q.now (node_at j + k) 0 }
 {
-    q[NODES_AT + NODE_SIZE * j as usize + k]
+    q[NODES_AT + NODE_SIZE * usize::from(j) + k]
 }
 
 // The n of "gain", "plan" or operator 9.
@@ -82,7 +81,7 @@ pub fn bound(q: &[u8; QUESTION], j: u8) -> i32
     requires { j < 40 }
     ensures { result ≡ (node_of q.now j).p }
 {
-    blocks::i32_at(q, NODES_AT + NODE_SIZE * j as usize + P_AT)
+    blocks::i32_at(q, NODES_AT + NODE_SIZE * usize::from(j) + P_AT)
 }
 
 // The q of that bound.
@@ -90,14 +89,14 @@ pub fn parts(q: &[u8; QUESTION], j: u8) -> u32
     requires { j < 40 }
     ensures { result ≡ (node_of q.now j).q }
 {
-    blocks::u32_at(q, NODES_AT + NODE_SIZE * j as usize + Q_AT)
+    blocks::u32_at(q, NODES_AT + NODE_SIZE * usize::from(j) + Q_AT)
 }
 
 pub fn depth(q: &[u8; QUESTION], j: u8) -> u8
     requires { j < 40 }
     ensures { result ≡ depth_in q.now j }
 {
-    q[DEPTHS + j as usize]
+    q[DEPTHS + usize::from(j)]
 }
 
 // Whether node j, of "gain", "plan" or operator 9, asks for less than its bound.
@@ -155,19 +154,10 @@ fn put(q: &[u8], b: &mut [u8; QUESTION], i: u8, d: u8)
 {
     let l = left_for(q, b, i);
     let r = right_for(q, b, i);
-    let at = NODES_AT + NODE_SIZE * i as usize;
+    let at = NODES_AT + NODE_SIZE * usize::from(i);
     b[at + LEFT_AT] = l;
     b[at + RIGHT_AT] = r;
-    b[DEPTHS + i as usize] = d;
-}
-
-fn copied(q: &[u8]) -> [u8; QUESTION]
-    requires { length q.now ≡ 512 }
-    ensures { Pointed q.now result 0 }
-{
-    let mut b = [0u8; QUESTION];
-    copy(&mut b, q);
-    b
+    b[DEPTHS + usize::from(i)] = d;
 }
 
 // The question with every child that is an "and" of one node with itself replaced by that node, and with its depths.
@@ -175,15 +165,12 @@ pub fn prepare_question(q: &[u8]) -> [u8; QUESTION]
     requires { ChildrenBefore q.now }
     ensures { (S A N : ℕ) → refusal (read_question S A N q.now) ≡ 0 → Shared S A N q.now result }
 {
-    let n = questions::node_count(q);
     let depths = questions::depth_table(q);
-    let mut b = copied(q);
-    let mut i: u8 = 0;
-    while i < n {
-        let at = i as usize;
-        let d = depths[at] as u8;
+    let mut b = [0; QUESTION];
+    b[..DEPTHS].copy_from_slice(q);
+    for i in 0..questions::node_count(q) {
+        let d = depths[usize::from(i)] as u8;
         put(q, &mut b, i, d);
-        i += 1;
     }
     b
 }

@@ -124,16 +124,6 @@ other_spare b i n =
     (λ k o _ _ _ _ _. rw o refl)
     n
 
--- ---- children
-
-module _ {A : Type 0} where
-  -- What is read of the first i places: the place if it is one of them, and nothing if not.
-  pub read_below : (i : ℕ) (l : List A) (j : ℕ) (d : A) → j < i → get_or l j d ≡ get_or (take i l) j d
-  read_below i l j d h = sym (get_or-take i l j d h)
-
-  pub read_beyond : (i : ℕ) (l : List A) (j : ℕ) (d : A) → i ≤ j → d ≡ get_or (take i l) j d
-  read_beyond i l j d h = sym (get_or-eq_default (take i l) d (simp length-take (omega arith)))
-
 -- ---- the formulas of the first k nodes
 
 formulas_append : (fs : List Formula) (xs ys : List Node) → formulas fs (xs ++ ys) ≡ formulas (formulas fs xs) ys

@@ -21,10 +21,10 @@ fn mark_children(b: &[u8], marks: &mut [u8; NODES], i: u8)
 {
     let op = operator(b, i);
     if has_left(op) {
-        store(marks, left(b, i) as usize, 1);
+        store(marks, usize::from(left(b, i)), 1);
     }
     if op == AND {
-        store(marks, right(b, i) as usize, 1);
+        store(marks, usize::from(right(b, i)), 1);
     }
 }
 

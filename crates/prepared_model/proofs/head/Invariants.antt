@@ -1,10 +1,7 @@
-use Prim.Native.Nat.{ℕ, ◌-◌, ◌≤◌, ◌<◌}
+use Prim.Native.Nat.{ℕ, ◌<◌}
 use mathlib.Core.Path.{◌≡◌}
 use lib.ListN.{length, get_or}
 use Rattle.prepared_model.proofs.head.Given as goal
 
 abbrev pub invariant-loop-k : goal.invariant-loop-k
-invariant-loop-k l = (l.k ≤ 512) × (length l.m ≡ 8704) × ((j : ℕ) → j < l.k → (get_or l.m j 0 ≡ get_or l.b j 0) × (get_or l.m j 0 < 256))
-
-abbrev pub decreases-loop-k : goal.decreases-loop-k
-decreases-loop-k l = 512 - l.k
+invariant-loop-k l = (length l.m ≡ 8704) × ((j : ℕ) → j < l.k → (get_or l.m j 0 ≡ get_or l.b j 0) × (get_or l.m j 0 < 256))

@@ -1,15 +1,7 @@
 -- The choices are listed and spelled out, the silent move is put where there is none, and then all are summed.
-use Rattle.prepared_model.proofs.RowFilled.{states_few, ready, row_filled}
-use native.Mathlib.Omega.{arith}
+use Rattle.prepared_model.proofs.RowFilled.{ready, row_filled}
 use mathlib.Core.Path.{◌∙◌}
 use Rattle.prepared_model.proofs.rows.fill.Goals as goal
-
-pub denominator-requires : goal.denominator-requires
-denominator-requires c = tt
-
-pub or_silent-n-requires : goal.or_silent-n-requires
-or_silent-n-requires c = let S = c in
-    (omega (arith, S.requires.1, states_few _ S.requires.0), c.denominator.ensures.range, c.spell.auto.row ∙ c.choose.auto.row ∙ S.requires.2)
 
 pub sum_choices-requires : goal.sum_choices-requires
 sum_choices-requires c = let S = c in

@@ -17,13 +17,13 @@ returns-then-op-eq-AND c =
     let marks = c.args.marks.now in
     let x = (node_of c.args.b.now c.args.i).left in
     elim c.if-has_left.branch [
-      | then-has_left w ↦ w.marks-is ∙ w.store.ensures ∙ ap₂ (λ x t. cond t (set marks x 1) marks) w.left.ensures (sym w.if-has_left.true ∙ c.has_left.ensures)
+      | then-has_left w ↦ w.marks-is ∙ w.store.ensures ∙ ap₂ (λ x t. cond t (set marks x 1) marks) (w.from.ensures ∙ w.left.ensures) (sym w.if-has_left.true ∙ c.has_left.ensures)
       | else-has_left w ↦ w.marks-is ∙ ap (λ t. cond t (set marks x 1) marks) (sym w.if-has_left.false ∙ c.has_left.ensures)
     ] in
     let J = c in
     let S = c.args in
     let x = node_of S.b.now S.i in
-    c.store-then-op-eq-AND.ensures ∙ ap₂ (λ l y. set l y 1) after_left c.right.ensures
+    c.store-then-op-eq-AND.ensures ∙ ap₂ (λ l y. set l y 1) after_left (c.from-then-op-eq-AND.ensures ∙ c.right.ensures)
     ∙ both_marked J.operator-op.result x.left x.right S.marks.now c.if-op-eq-AND.true
     ∙ ap (λ op. mark_each (children_by x.left x.right op) S.marks.now) op_read
 
@@ -35,7 +35,7 @@ returns-else-op-eq-AND c =
     let marks = c.args.marks.now in
     let x = (node_of c.args.b.now c.args.i).left in
     elim c.if-has_left.branch [
-      | then-has_left w ↦ w.marks-is ∙ w.store.ensures ∙ ap₂ (λ x t. cond t (set marks x 1) marks) w.left.ensures (sym w.if-has_left.true ∙ c.has_left.ensures)
+      | then-has_left w ↦ w.marks-is ∙ w.store.ensures ∙ ap₂ (λ x t. cond t (set marks x 1) marks) (w.from.ensures ∙ w.left.ensures) (sym w.if-has_left.true ∙ c.has_left.ensures)
       | else-has_left w ↦ w.marks-is ∙ ap (λ t. cond t (set marks x 1) marks) (sym w.if-has_left.false ∙ c.has_left.ensures)
     ] in
     let J = c in
