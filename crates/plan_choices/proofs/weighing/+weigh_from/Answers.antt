@@ -134,23 +134,6 @@ plus-sum-requires t c =
     let w = within T in
     (w.0, w.1, w.2, runs_fit T c.step-t.ensures c.weigh_from-r.ensures)
 
-pub overflow_add-o : goal.overflow_add-o
-overflow_add-o t c =
-    let turn : let S = c.args in
-    let L = c.loop-o in
-    let row = c.row_of-row.result in
-    BeforeOutcome S.m.now S.q.now S.spot.start S.spot.a S.spot.d S.truth.now S.cone.now S.trail.now S.gains.now S.v.now S.spot.h S.spot.s S.spot.k S.choices.now
-    c.after-next.result row.at row.count L.o L.trail L.gains L.v L.sum L.next = let S = c in
-    record {
-      ready = S.requires.ready;
-      here = S.requires.here.0;
-      left = c.if-spot-eq0.false;
-      offers = c.row_of-row.ensures.offers;
-      more = c.loop-o-test.true;
-      ran = c.loop-o.invariant.1;
-    } in
-    omega (arith, (within turn).2)
-
 pub loop-o-preserved : goal.loop-o-preserved
 loop-o-preserved t c =
     let turn : let S = c.args in
