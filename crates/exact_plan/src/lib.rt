@@ -97,6 +97,6 @@ pub fn first_equal(
         First (spec.totals (model_in m) l.n l.s (worth_of m q l.s l.a l.d cone)) x result }
 {
     let need = stored(m, table, l);
-    let p = in_room(m, q, truth, cone, table, l, x, 2, need);
+    let p = in_room(m, q, truth, cone, table, l, x, need);
     p.place
 }

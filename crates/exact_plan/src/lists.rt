@@ -56,13 +56,11 @@ fn longest(m: &[u16; MODEL], table: &[u64; COUNTS], s: usize, i: usize, c: usize
     ensures { Longest m.now table.now s i c k result }
 {
     let mut best: usize = 0;
-    let mut o: usize = 1;
-    while o < c {
+    for o in 1..c {
         let n = plans_counted(table, k, target(m, s, i, o));
         if plans_counted(table, k, target(m, s, i, best)) < n {
             best = o;
         }
-        o += 1;
     }
     best
 }
@@ -83,10 +81,8 @@ pub fn plans_below(
         return 1;
     }
     let mut n: u64 = 1;
-    let mut o: usize = 0;
-    while o < c {
-        n = n * plans_counted(table, k, target(m, s, i, o));
-        o += 1;
+    for o in 0..c {
+        n *= plans_counted(table, k, target(m, s, i, o));
     }
     n
 }
@@ -182,22 +178,16 @@ pub fn list(
     }
     let n = choices(m, spot.s as usize);
     let mut len: usize = 0;
-    let mut i: usize = 0;
-    while i < n {
+    for i in 0..n {
         let first = Spot {
-            start: spot.start,
-            a: spot.a,
-            d: spot.d,
-            h: spot.h,
-            s: spot.s,
             k: spot.k - 1,
             at: spot.at + len,
+            ..spot
         };
         let c = outcomes(m, spot.s as usize, i);
         len += combine(
             m, q, truth, cone, table, late, trail, gains, v, buf, first, i, c,
         );
-        i += 1;
     }
     len
 }
@@ -235,16 +225,16 @@ pub fn combine(
     let s = spot.s as usize;
     let mut lo = longest(m, table, s, i, c, spot.k);
     let mut hi = lo + 1;
-    let first = Outcome { i: i, o: lo };
+    let first = Outcome { i, o: lo };
     let mut len = weighed_below(
         m, q, truth, cone, table, late, trail, gains, v, buf, spot, first,
     );
     while hi - lo < c {
         let o = beside(lo, hi, c);
         let more = Further {
-            i: i,
-            o: o,
-            len: len,
+            i,
+            o,
+            len,
             right: lo < o,
         };
         len = grown(
@@ -288,13 +278,8 @@ fn grown(
     let s = spot.s as usize;
     let n = plans_counted(table, spot.k, target(m, s, more.i, more.o)) as usize;
     let behind = Spot {
-        start: spot.start,
-        a: spot.a,
-        d: spot.d,
-        h: spot.h,
-        s: spot.s,
-        k: spot.k,
         at: spot.at + more.len * n,
+        ..spot
     };
     let to = Outcome {
         i: more.i,
@@ -387,13 +372,9 @@ fn below(
         m, q, truth, cone, trail, gains, v, here, to.i as u8, to.o as u8,
     );
     let on = Spot {
-        start: spot.start,
-        a: spot.a,
-        d: spot.d,
         h: spot.h + 1,
         s: t,
-        k: spot.k,
-        at: spot.at,
+        ..spot
     };
     list(m, q, truth, cone, table, late, trail, gains, v, buf, on)
 }

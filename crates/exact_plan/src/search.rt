@@ -45,26 +45,12 @@ fn find(buf: &[u64], len: usize, x: u64) -> usize
     requires { len ≤ length buf.now }
     ensures { First (take len buf.now) x result }
 {
-    let mut i: usize = 0;
-    while i < len {
+    for i in 0..len {
         if buf[i] == x {
             return i;
         }
-        i += 1;
     }
     len
-}
-
-fn lesser(x: u64, y: u64) -> u64
-    ensures { result ≡ min x y }
-{
-    if y < x { y } else { x }
-}
-
-pub fn greater(x: u64, y: u64) -> u64
-    ensures { result ≡ max x y }
-{
-    if x < y { y } else { x }
 }
 
 // The least and the greatest of the first `len` numbers.
@@ -74,15 +60,13 @@ fn ends_of(buf: &[u64], len: usize) -> Ends
 {
     let mut low = buf[0];
     let mut high = low;
-    let mut i: usize = 1;
-    while i < len {
-        low = lesser(low, buf[i]);
-        high = greater(high, buf[i]);
-        i += 1;
+    for i in 1..len {
+        low = low.min(buf[i]);
+        high = high.max(buf[i]);
     }
     Ends {
-        low: low,
-        high: high,
+        low,
+        high,
     }
 }
 
@@ -115,21 +99,19 @@ fn first_sum(buf: &[u64], at: usize, slow: usize, fast: usize, x: u64) -> Placed
     let from = at + slow;
     let e = ends_of(&buf[from..], fast);
     let all = slow * fast;
-    let mut i: usize = 0;
-    while i < slow {
+    for i in 0..slow {
         let j = first_with(&buf[from..], fast, e, buf[at + i], x);
         if j < fast {
             return Placed {
                 place: i * fast + j,
-                all: all,
+                all,
                 found: true,
             };
         }
-        i += 1;
     }
     Placed {
         place: all,
-        all: all,
+        all,
         found: false,
     }
 }
@@ -205,15 +187,10 @@ fn seek(
         m, q, truth, cone, table, late, trail, gains, v, buf, spot, i, last,
     );
     let behind = Spot {
-        start: spot.start,
-        a: spot.a,
-        d: spot.d,
-        h: spot.h,
-        s: spot.s,
-        k: spot.k,
         at: spot.at + slow,
+        ..spot
     };
-    let to = Outcome { i: i, o: last };
+    let to = Outcome { i, o: last };
     let fast = weighed_below(
         m, q, truth, cone, table, late, trail, gains, v, buf, behind, to,
     );
@@ -248,24 +225,22 @@ fn by_choices(
     let all = plans_counted(table, spot.k + 1, s) as usize;
     let n = choices(m, s);
     let mut before: usize = 0;
-    let mut i: usize = 0;
-    while i < n {
+    for i in 0..n {
         let p = seek(
             m, q, truth, cone, table, late, trail, gains, v, buf, spot, i, x,
         );
         if p.found {
             return Placed {
                 place: before + p.place,
-                all: all,
+                all,
                 found: true,
             };
         }
         before += p.all;
-        i += 1;
     }
     Placed {
         place: before,
-        all: all,
+        all,
         found: false,
     }
 }
@@ -291,13 +266,13 @@ fn at_once(
     if alike(m, cone, gains, v, spot) == x {
         return Placed {
             place: 0,
-            all: all,
+            all,
             found: true,
         };
     }
     Placed {
         place: all,
-        all: all,
+        all,
         found: false,
     }
 }

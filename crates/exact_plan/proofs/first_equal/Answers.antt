@@ -8,7 +8,7 @@ stored-need-requires c = let S = c in
 
 pub in_room-p-requires : goal.in_room-p-requires
 in_room-p-requires c = let S = c in
-    let x = c.stored-need.ensures in record { given = S.requires.given; housed = (x.value, x.range, λ z. absurd (omega (arith, z)), λ z. absurd (omega (arith, z))) }
+    let x = c.stored-need.ensures in record { given = S.requires.given; housed = (x.value, x.range) }
 
 pub returns : goal.returns
 returns c = c.in_room-p.ensures.first

@@ -330,12 +330,6 @@ list-overflow_add-len t c =
     let S = c in
     record { fits = omega (arith, choice_few S.requires.given S.args.spot.k (S.args.spot.k - 1) on S.requires.room c.loop-i.invariant.2 turn c.outcomes-c.ensures (take S.args.spot.h c.loop-i.trail) c.combine-len.ensures.count) }
 
-pub list-overflow_add-i : goal.list-overflow_add-i
-list-overflow_add-i t c =
-    let turn : c.loop-i.i < choices_in c.args.m.now c.args.spot.s = omega (arith, c.loop-i.invariant.0, c.loop-i-test.true) in
-    let S = c in
-    record { fits = omega (arith, turn, S.requires.given.ready.prepared.few_choices S.args.spot.s S.requires.here.0.inside) }
-
 pub list-loop-i-preserved : goal.list-loop-i-preserved
 list-loop-i-preserved t c =
     let on : let k = c.args.spot.k in k ≡ suc (k - 1) = omega (arith, c.requires.here.0.deep, c.loop-i.invariant.1) in

@@ -30,6 +30,3 @@ decreases-combine-loop-hi l = l.c - (l.hi - l.lo)
 abbrev pub invariant-list-loop-i : goal.invariant-list-loop-i
 invariant-list-loop-i l =
     (l.n ≡ choices_in l.m l.spot.s) × (l.spot.h < l.spot.d) × Listed l.m l.q l.spot.start l.spot.a l.spot.d l.cone l.spot.h l.spot.s l.spot.k (l.spot.k - 1) l.spot.at l.initial.trail l.initial.buf l.trail l.gains l.v l.buf l.len l.i
-
-abbrev pub decreases-list-loop-i : goal.decreases-list-loop-i
-decreases-list-loop-i l = l.n - l.i

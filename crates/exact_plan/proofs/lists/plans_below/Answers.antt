@@ -31,9 +31,6 @@ overflow_mul-n c = let C = c.requires.2 in
     let o = c.loop-o.o in
     record { fits = omega (arith, next_fits C o l c.loop-o.invariant.1 (way_counted C o l c.target.ensures c.plans_counted-n.ensures)) }
 
-pub overflow_add-o : goal.overflow_add-o
-overflow_add-o c = omega (arith, c.loop-o-test.true)
-
 pub loop-o-smaller : goal.loop-o-smaller
 loop-o-smaller c = omega (arith, c.loop-o-test.true)
 

@@ -5,6 +5,3 @@ use Rattle.exact_plan.proofs.lists.plans_below.Given as goal
 
 abbrev pub invariant-loop-o : goal.invariant-loop-o
 invariant-loop-o l = (l.o ≤ l.c) × (l.n ≡ ways_below l.m l.s l.i l.k l.o)
-
-abbrev pub decreases-loop-o : goal.decreases-loop-o
-decreases-loop-o l = l.c - l.o

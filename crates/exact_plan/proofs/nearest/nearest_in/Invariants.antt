@@ -4,6 +4,3 @@ use Rattle.exact_plan.proofs.nearest.nearest_in.Given as goal
 
 abbrev pub invariant-loop-i : goal.invariant-loop-i
 invariant-loop-i l = (l.i ≤ l.len) × NearestIn l.buf l.i l.len l.above l.x l.best
-
-abbrev pub decreases-loop-i : goal.decreases-loop-i
-decreases-loop-i l = l.len - l.i

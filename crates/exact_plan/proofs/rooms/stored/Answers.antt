@@ -31,9 +31,6 @@ stored_below-requires c = let S = c in
     let r = place_range G.0 S.args.l.s G.2 L.i g in
     (r.0, r.1, all_counted G.0 G.2 g G.1 (n - 1) (omega (arith, P.1)) (rw z P.2))
 
-pub overflow_add-i : goal.overflow_add-i
-overflow_add-i c = let S = c in omega (arith, c.loop-i-test.true, c.loop-i.invariant.0, S.requires.prepared.0.few_choices S.args.l.s S.requires.prepared.2)
-
 pub loop-i-smaller : goal.loop-i-smaller
 loop-i-smaller c = omega (arith, c.loop-i-test.true)
 
@@ -41,7 +38,7 @@ pub loop-i-preserved : goal.loop-i-preserved
 loop-i-preserved c = let S = c in
     let L = c.loop-i in
     let x = c.stored_below.ensures in
-    (L.invariant.0, L.invariant.1, omega arith, omega (arith, x.range, c.greater-most.ensures, L.invariant.3), most_more (λ j. stored_at S.args.m.now S.args.l.s j (S.args.l.n - 1)) L.invariant.4 x.value c.greater-most.ensures)
+    (L.invariant.0, L.invariant.1, omega arith, omega (arith, x.range, c.max-most.ensures, L.invariant.3), most_more (λ j. stored_at S.args.m.now S.args.l.s j (S.args.l.n - 1)) L.invariant.4 x.value c.max-most.ensures)
 
 pub returns : goal.returns
 returns c = let P = c.requires.d_le_n in

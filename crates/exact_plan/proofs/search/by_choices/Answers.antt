@@ -63,12 +63,6 @@ overflow_add-before c =
     let S = c in
     record { fits = omega (arith, passed_few S.requires.given S.requires.s_bound.0 c.loop-i.invariant.2 turn c.seek-p.ensures.value) }
 
-pub overflow_add-i : goal.overflow_add-i
-overflow_add-i c =
-    let turn : c.loop-i.i < choices_in c.args.m.now c.args.spot.s = omega (arith, c.loop-i.invariant.0, c.loop-i-test.true) in
-    let S = c in
-    record { fits = omega (arith, turn, S.requires.given.ready.prepared.few_choices S.args.spot.s S.requires.here.0.inside) }
-
 pub loop-i-smaller : goal.loop-i-smaller
 loop-i-smaller c = omega (arith, c.loop-i-test.true)
 

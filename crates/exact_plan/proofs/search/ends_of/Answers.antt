@@ -24,7 +24,7 @@ pub bounds-buf-i-in-loop-i : goal.bounds-buf-i-in-loop-i
 bounds-buf-i-in-loop-i c = omega (arith, c.requires.1)
 
 pub loop-i-preserved : goal.loop-i-preserved
-loop-i-preserved c = (omega arith, omega arith, bounded_more c.args.buf.now c.loop-i.invariant.2 c.lesser-low.ensures c.greater-high.ensures)
+loop-i-preserved c = (omega arith, omega arith, bounded_more c.args.buf.now c.loop-i.invariant.2 c.min-low.ensures c.max-high.ensures)
 
 pub returns : goal.returns
 returns c = let L = c.loop-i in

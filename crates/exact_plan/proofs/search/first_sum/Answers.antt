@@ -126,9 +126,6 @@ returns-then-j-fast c =
       found = sym (lt-ltb _ _ (inside c.args.buf.now c.args.at c.args.slow c.args.fast c.args.x c.requires.1 c.loop-i-test.true F row c.if-j-fast.true));
     }
 
-pub overflow_add-i : goal.overflow_add-i
-overflow_add-i c = omega (arith, c.requires.1, c.loop-i-test.true)
-
 pub loop-i-smaller : goal.loop-i-smaller
 loop-i-smaller c = omega (arith, c.loop-i-test.true)
 
