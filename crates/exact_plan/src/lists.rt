@@ -90,21 +90,9 @@ pub fn plans_below(
 // The outcome to take next, beside those from lo to hi: on the right as long as there is one.
 fn beside(lo: usize, hi: usize, c: usize) -> usize
     requires { (lo < hi) × (hi ≤ c) × (hi - lo < c) }
-    ensures { ((result ≡ hi) × (hi < c)) ⊎ (result + 1 ≡ lo) }
+    ensures { ((result ≡ hi) × (hi < c)) ⊎ ((result + 1 ≡ lo) × (c ≤ hi)) }
 {
     if hi < c { hi } else { lo - 1 }
-}
-
-fn least(x: usize, y: usize) -> usize
-    ensures { result ≡ min x y }
-{
-    if y < x { y } else { x }
-}
-
-fn most(x: usize, y: usize) -> usize
-    ensures { result ≡ max x y }
-{
-    if x < y { y } else { x }
 }
 
 // The total of all plans from a spot where the worth of the paths is decided.
@@ -223,14 +211,15 @@ pub fn combine(
         spot.start cone spot.h spot.at trail trail' gains' v' buf buf' result }
 {
     let s = spot.s as usize;
-    let mut lo = longest(m, table, s, i, c, spot.k);
-    let mut hi = lo + 1;
-    let first = Outcome { i, o: lo };
+    let start = longest(m, table, s, i, c, spot.k);
+    let first = Outcome { i, o: start };
     let mut len = weighed_below(
         m, q, truth, cone, table, late, trail, gains, v, buf, spot, first,
     );
-    while hi - lo < c {
-        let o = beside(lo, hi, c);
+    for taken in 1..c {
+        // Those taken stand side by side: from the first on, or as many as are taken before the end.
+        let lo = start.min(c - taken);
+        let o = beside(lo, lo + taken, c);
         let more = Further {
             i,
             o,
@@ -240,8 +229,6 @@ pub fn combine(
         len = grown(
             m, q, truth, cone, table, late, trail, gains, v, buf, spot, more,
         );
-        lo = least(lo, o);
-        hi = most(hi, o + 1);
     }
     len
 }
