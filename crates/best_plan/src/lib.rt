@@ -88,33 +88,17 @@ fn hopeless(m: &[u16; MODEL], best: Best, sum: u64, rest: u64, k: u8, least: boo
     )
 }
 
-// Moves n bytes down to a place, which they may overlap.
-fn move_down(choices: &mut [u8], at: usize, from: usize, n: usize)
-    requires { (at ≤ from) × (from + n ≤ length choices.old) }
-    ensures { let choices' = choices.exit.now in let choices = choices.entry.now in
-        take (at + n) choices' ≡ take at choices ++ take n (drop from choices) }
-{
-    let mut i: usize = 0;
-    while i < n {
-        choices[at + i] = choices[from + i];
-        i += 1;
-    }
-}
-
 // Keeps the better of the best so far, whose choices stand from `at` on, and the candidate behind it.
 fn keep(choices: &mut [u8], b: Best, w: Walked, at: usize, least: bool) -> Best
     requires { (at ≤ b.end) × (b.end ≤ w.end) × (w.end ≤ length choices.old) }
     ensures { Keeps b w at least choices.old choices.new result }
 {
-    let value = w.value;
-    let from = b.end;
-    let n = w.end - from;
-    if wins(b.found, b.value, value, least) {
-        move_down(choices, at, from, n);
+    if wins(b.found, b.value, w.value, least) {
+        choices.copy_within(b.end..w.end, at);
         return Best {
             found: true,
-            value: value,
-            end: at + n,
+            value: w.value,
+            end: at + (w.end - b.end),
         };
     }
     b
@@ -162,19 +146,17 @@ fn last_choice(
     let n = prepared_model::choices(m, s);
     let mut value = total(m, x, s, 0);
     let mut place: usize = 0;
-    let mut i: usize = 1;
-    while i < n {
+    for i in 1..n {
         let v = total(m, x, s, i);
         if exceeds(v, value, least) {
             value = v;
             place = i;
         }
-        i += 1;
     }
     choices[at] = choice(m, s, place);
     Best {
         found: true,
-        value: value,
+        value,
         end: at + 1,
     }
 }
@@ -241,23 +223,18 @@ fn pick(
         value: 0,
         end: spot.at,
     };
-    let mut i: u8 = 0;
-    while i < n {
+    for i in 0..n {
         let from = best.end;
         choices[from] = choice(m, s, i as usize);
         let below = Spot {
-            start: spot.start,
-            h: spot.h,
-            s: spot.s,
             k: spot.k - 1,
             at: from + 1,
-            least: spot.least,
+            ..spot
         };
         let w = walk(
             m, q, truth, cone, late, trail, gains, v, choices, below, i, best,
         );
         best = keep(choices, best, w, spot.at, spot.least);
-        i += 1;
     }
     best
 }
@@ -297,12 +274,11 @@ fn walk(
     let mut sum: u64 = 0;
     let mut rest = denominator(m) as u64;
     let mut end = spot.at;
-    let mut o: u8 = 0;
-    while o < n {
+    for o in 0..n {
         if k > 1 && hopeless(m, best, sum, rest, k, spot.least) {
             return Walked {
                 value: sum,
-                end: end,
+                end,
             };
         }
         let here = Place {
@@ -312,12 +288,11 @@ fn walk(
         };
         let t = step(m, q, truth, cone, trail, gains, v, here, i, o);
         let below = Spot {
-            start: spot.start,
             h: spot.h + 1,
             s: t,
-            k: k,
+            k,
             at: end,
-            least: spot.least,
+            ..spot
         };
         let b = if k == 1 {
             pick_last(m, q, truth, cone, late, trail, gains, v, choices, below)
@@ -328,11 +303,10 @@ fn walk(
         sum = add_mul(sum, w, b.value);
         rest -= w;
         end = b.end;
-        o += 1;
     }
     Walked {
         value: sum,
-        end: end,
+        end,
     }
 }
 
@@ -357,12 +331,12 @@ pub fn find(
     let mut v = [0u8; VALUES];
     learn(q, truth, &trail, &gains, cone, &mut v, 0, start);
     let spot = Spot {
-        start: start,
+        start,
         h: 0,
         s: start,
         k: d,
         at: 0,
-        least: least,
+        least,
     };
     let b = pick(
         m, q, truth, cone, &marks, &mut trail, &mut gains, &mut v, choices, spot,

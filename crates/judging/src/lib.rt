@@ -88,10 +88,10 @@ fn with_plan(total: i64, lamp: Lamp, steps: u8, count: u32) -> Verdict
     ensures { result ≡ YesPlan (record { total = total; lamp = lamp; steps = steps; count = count }) }
 {
     Verdict::YesPlan(PlanRecord {
-        total: total,
-        lamp: lamp,
+        total,
+        lamp,
         steps: steps as u32,
-        count: count,
+        count,
     })
 }
 
@@ -105,13 +105,13 @@ fn deny(m: &[u16; MODEL], q: &[u8; QUESTION], j: u8, r: Decision) -> Verdict
     let count = r.place as u32;
     if asks_equal(q, j) {
         return Verdict::No(Denial {
-            count: count,
+            count,
             lamp: OptionalLamp::Missing,
         });
     }
     let best = lamp_of(m, q, j, r.raised);
     Verdict::No(Denial {
-        count: count,
+        count,
         lamp: OptionalLamp::Present(best),
     })
 }

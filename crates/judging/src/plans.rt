@@ -65,7 +65,7 @@ fn led(
     let raised = over_all_steps(m, q, j, r.value);
     Decision {
         met: meets(m, q, j, raised),
-        raised: raised,
+        raised,
         place: 0,
         given: depth(q, c),
     }
@@ -89,7 +89,7 @@ fn gain_led(
     let raised = best[STATES * steps(q, j) as usize + s as usize];
     Decision {
         met: meets(m, q, j, raised),
-        raised: raised,
+        raised,
         place: 0,
         given: 0,
     }
@@ -148,16 +148,16 @@ fn first(
     let mut nodes = [0u8; NODES];
     let w = worth_of(m, q, j, &mut nodes);
     let l = Sought {
-        s: s,
+        s,
         a: w.before,
         d: w.last,
-        n: n,
+        n,
     };
     let place = first_equal(m, q, truth, &nodes[..w.count], counts, l, total);
     Decision {
         met: place < all,
         raised: total,
-        place: place,
+        place,
         given: 0,
     }
 }

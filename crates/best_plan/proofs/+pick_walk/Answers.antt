@@ -58,11 +58,6 @@ pick-keep-best-requires t c = let S = c in
     let W = c.walk-w in
     keep_asked S.requires.setting c.if-spot-eq0.false L.invariant.2 S.requires.k_in_bounds (omega (arith, L.invariant.0, c.loop-i-test.true)) c.choice.ensures {choices' = W.new.choices} W.ensures.effect
 
-pub pick-overflow_add-i : goal.pick-overflow_add-i
-pick-overflow_add-i t c = let S = c in
-    let P = S.requires.setting in
-    omega (arith, c.loop-i.invariant.0, c.loop-i-test.true, P.ready.prepared.few_choices S.args.spot.s (state_here P))
-
 pub pick-loop-i-preserved : goal.pick-loop-i-preserved
 pick-loop-i-preserved t c = let S = c in
     let L = c.loop-i in
@@ -182,9 +177,6 @@ walk-overflow_sub-rest t c =
     let S = c in
     let L = c.loop-o in
     (rest_after_outcome S.args.spot.k S.requires.setting L.invariant.3 L.invariant.2 here L.rest L.invariant.4 c.weight-w.result c.weight-w.ensures.value).0
-
-pub walk-overflow_add-o : goal.walk-overflow_add-o
-walk-overflow_add-o t c = let S = c in omega (arith, c.loop-o.invariant.0, c.loop-o-test.true, few_here S.requires.setting S.requires.i_bound.0)
 
 pub walk-loop-o-smaller : goal.walk-loop-o-smaller
 walk-loop-o-smaller t c = omega (arith, c.loop-o.invariant.1, c.loop-o-test.true)

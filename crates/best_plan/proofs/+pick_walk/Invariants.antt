@@ -19,13 +19,7 @@ decreases-walk l = l.spot.k + l.spot.k + 1
 abbrev pub invariant-pick-loop-i : goal.invariant-pick-loop-i
 invariant-pick-loop-i l = (l.n ≡ choices_in l.m l.spot.s) × (l.i ≤ l.n) × ChoicesTried l.spot.least l.m l.q l.spot.start l.cone l.spot.h l.spot.s l.spot.k l.spot.at l.initial.trail l.initial.gains l.initial.v l.initial.choices l.i l.trail l.gains l.v l.choices l.best
 
-abbrev pub decreases-pick-loop-i : goal.decreases-pick-loop-i
-decreases-pick-loop-i l = l.n - l.i
-
 abbrev pub invariant-walk-loop-o : goal.invariant-walk-loop-o
 invariant-walk-loop-o l = (l.n ≡ outcomes_in l.m l.spot.s l.i) × (l.o ≤ l.n) × Walking l.spot.least l.m l.spot.s l.i l.spot.k (on_path l.m l.q l.spot.start l.cone (take l.spot.h l.initial.trail)) l.o l.spot.at l.initial.choices l.choices l.sum l.end
     × Kept l.m l.q l.spot.start l.cone l.spot.h l.initial.trail l.initial.gains l.initial.v l.initial.choices l.trail l.gains l.v l.choices
     × (l.rest + weighed l.m l.spot.s l.i l.o ≡ denominator_of l.m)
-
-abbrev pub decreases-walk-loop-o : goal.decreases-walk-loop-o
-decreases-walk-loop-o l = l.n - l.o

@@ -6,6 +6,3 @@ use Rattle.best_plan.proofs.last_choice.Given as goal
 
 abbrev pub invariant-loop-i : goal.invariant-loop-i
 invariant-loop-i l = (l.n ≡ choices_in l.m l.s) × (l.i ≤ l.n) × Ending l.least l.m l.s l.x l.i l.value l.place
-
-abbrev pub decreases-loop-i : goal.decreases-loop-i
-decreases-loop-i l = l.n - l.i
