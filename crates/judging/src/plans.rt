@@ -110,11 +110,9 @@ fn plan_led(
     ensures value { result ≡ sat (model_in m.now) (formula q.now j) s [] }
     ensures frame { Remembers m.now q.now memo.new }
 {
-    let rest = peel(q, truth, left(q, j), s);
-    let c = rest.node;
-    if rest.dead {
+    let Some(c) = peel(q, truth, left(q, j), s) else {
         return meets(m, q, j, 0);
-    }
+    };
     let least = asks_less(q, j);
     let x = best_value(m, q, truth, scratch, memo, c, s, least);
     meets(m, q, j, over_all_steps(m, q, j, x))

@@ -23,9 +23,6 @@ pub node_truth-requires : goal.node_truth-requires
 node_truth-requires c = let P = c.requires in
     let L = c.loop-j in record { asked = (P.0, omega (arith, L.invariant.0, c.loop-j-test.true)); rows = L.invariant.2 }
 
-pub overflow_add-j : goal.overflow_add-j
-overflow_add-j c = omega (arith, c.loop-j.invariant.0, c.loop-j-test.true, c.requires.0.given.nodes.formed.few_nodes)
-
 pub loop-j-preserved : goal.loop-j-preserved
 loop-j-preserved c = let L = c.loop-j in (L.invariant.0, omega (arith, c.loop-j-test.true), c.node_truth.ensures)
 
