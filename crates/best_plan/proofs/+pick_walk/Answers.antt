@@ -9,10 +9,17 @@ use Rattle.evaluation.specs.promises.Known.{Stepped}
 use Rattle.best_plan.proofs.OutcomesWalked.{walking_none}
 use Rattle.best_plan.proofs.HopelessLoses.{weighed_none}
 use Rattle.best_plan.proofs.PathOneStepOn.{state_here, place_here, few_here, picked_leaf, back_none, kept_none}
-use Rattle.best_plan.proofs.LoopsKeepBuffers.{hopeless_asked, hopeless_cannot_win, rest_after_outcome, step_asked, pick_room, last_room, pick_setting, last_setting, Below, below_last, sum_with_outcome_fits, one_outcome_more_walked, buffers_kept_below, all_outcomes_walked, no_choice_tried, walk_room, walk_setting, all_choices_tried, keep_asked, one_choice_more_tried, same}
+use Rattle.best_plan.proofs.LoopsKeepBuffers.{hopeless_asked, hopeless_cannot_win, rest_after_outcome, step_asked, pick_room, last_room, pick_setting, last_setting, Below, below_last, sum_with_outcome_fits, one_outcome_more_walked, buffers_kept_below, all_outcomes_walked, no_choice_tried, walk_room, walk_setting, all_choices_tried, best_there, keep_asked, one_choice_more_tried, same}
 use Prim.Native.Nat.{◌+◌, ◌<◌}
+use Rattle.std.specs.Prelude.{◌≡◌, refl, Option, None, Some, IsSome}
+use Rattle.best_plan.specs.declared.Walked.{Walked}
 use Rattle.best_plan.proofs.+pick_walk.Goals as goal
 use Rattle.best_plan.proofs.+pick_walk.Goals.{walk-then-k-eq1, walk-else-k-eq1}
+
+-- What is not missing is there.
+there : (best : Option Walked) → (best ≡ None → ⊥) → IsSome best
+there None h = absurd (h refl)
+there (Some b) h = refl
 
 pub pick-leaf-requires : goal.pick-leaf-requires
 pick-leaf-requires t c = c.requires.setting.marked.some
@@ -38,7 +45,7 @@ pick-choice-requires t c = let P = c.requires.setting in
 
 pub pick-bounds-choices-from : goal.pick-bounds-choices-from
 pick-bounds-choices-from t c = let S = c in
-    (walk_room S.requires.setting c.if-spot-eq0.false c.loop-i.invariant.2 S.requires.k_in_bounds).0
+    rw c.end_of-from.ensures (walk_room S.requires.setting c.if-spot-eq0.false c.loop-i.invariant.2 S.requires.k_in_bounds).0
 
 pub pick-overflow_add-below : goal.pick-overflow_add-below
 pick-overflow_add-below t c = let S = c in
@@ -50,31 +57,35 @@ pick-walk-w-requires t c = let S = c in
     let L = c.loop-i in
     let some = c.if-spot-eq0.false in
     let r = walk_room S.requires.setting some L.invariant.2 S.requires.k_in_bounds in
-    (omega (arith, S.decreases, some), (walk_setting S.requires.setting some L.invariant.2, (omega (arith, L.invariant.0, c.loop-i-test.true), simp length-set r.1)))
+    (omega (arith, S.decreases, some), (walk_setting S.requires.setting some L.invariant.2, (omega (arith, L.invariant.0, c.loop-i-test.true), rw c.end_of-from.ensures (simp length-set r.1))))
 
-pub pick-keep-best-requires : goal.pick-keep-best-requires
-pick-keep-best-requires t c = let S = c in
+pub pick-keep-requires : goal.pick-keep-requires
+pick-keep-requires t c = let S = c in
     let L = c.loop-i in
     let W = c.walk-w in
-    keep_asked S.requires.setting c.if-spot-eq0.false L.invariant.2 S.requires.k_in_bounds (omega (arith, L.invariant.0, c.loop-i-test.true)) c.choice.ensures {choices' = W.new.choices} W.ensures.effect
+    keep_asked S.requires.setting c.if-spot-eq0.false L.invariant.2 S.requires.k_in_bounds (omega (arith, L.invariant.0, c.loop-i-test.true)) c.choice.ensures c.end_of-from.ensures {choices' = W.new.choices} W.ensures.effect
 
 pub pick-loop-i-preserved : goal.pick-loop-i-preserved
 pick-loop-i-preserved t c = let S = c in
     let L = c.loop-i in
     let W = c.walk-w in
-    let J = c.keep-best in
+    let J = c.keep in
     let place : L.i < choices_in S.args.m.now S.args.spot.s = omega (arith, L.invariant.0, c.loop-i-test.true) in (
       L.invariant.0,
       omega (arith, c.loop-i-test.true),
-      one_choice_more_tried S.requires.setting c.if-spot-eq0.false L.invariant.2 S.requires.k_in_bounds place c.choice.ensures {choices' = W.new.choices} W.ensures.effect W.ensures.frame J.ensures
+      one_choice_more_tried S.requires.setting c.if-spot-eq0.false L.invariant.2 S.requires.k_in_bounds place c.choice.ensures c.end_of-from.ensures {choices' = W.new.choices} W.ensures.effect W.ensures.frame J.ensures
           (J.auto.choices ∙ W.auto.choices),
     )
+
+pub pick-unwrap-requires : goal.pick-unwrap-requires
+pick-unwrap-requires t c = let L = c.loop-i in
+    there _ (best_there c.requires.setting c.if-spot-eq0.false L.invariant.2 (omega (arith, L.invariant.0, L.invariant.1, c.loop-i-test.false)))
 
 pub pick-shape_of-choices : goal.pick-shape_of-choices
 pick-shape_of-choices t c = c.loop-i.invariant.2.kept.room
 
 pub pick-returns : goal.pick-returns
-pick-returns t c = let L = c.loop-i in record { effect = all_choices_tried c.requires.setting c.if-spot-eq0.false L.invariant.2 (omega (arith, L.invariant.0, L.invariant.1, c.loop-i-test.false)); frame = L.invariant.2.kept.back }
+pick-returns t c = let L = c.loop-i in record { effect = all_choices_tried c.requires.setting c.if-spot-eq0.false L.invariant.2 (omega (arith, L.invariant.0, L.invariant.1, c.loop-i-test.false)) c.unwrap.ensures; frame = L.invariant.2.kept.back }
 
 pub walk-outcomes-n-requires : goal.walk-outcomes-n-requires
 walk-outcomes-n-requires t c = let S = c in place_here S.requires.setting S.requires.i_bound.0
@@ -106,7 +117,7 @@ pub walk-returns-then-hopeless : goal.walk-returns-then-hopeless
 walk-returns-then-hopeless t c =
     let here : let A = c.args in Offers A.m.now A.spot.s A.i c.loop-o.o = (c.requires.i_bound.0, omega (arith, c.loop-o.invariant.0, c.loop-o-test.true)) in
     let S = c in
-    let L = c.loop-o in record { effect = hopeless_cannot_win S.args.spot.k S.requires.setting L.invariant.3 L.invariant.2 here L.rest L.invariant.4 S.args.best.found S.args.best.value c.hopeless.ensures c.if-hopeless.true; frame = L.invariant.3.back }
+    let L = c.loop-o in record { effect = hopeless_cannot_win S.args.spot.k S.requires.setting L.invariant.3 L.invariant.2 here L.rest L.invariant.4 S.args.best c.hopeless.ensures c.if-hopeless.true; frame = L.invariant.3.back }
 
 pub walk-step-t-requires : goal.walk-step-t-requires
 walk-step-t-requires t c =

@@ -7,7 +7,7 @@ use Rattle.best_plan.proofs.OutcomesWalked.{Walking}
 use Rattle.best_plan.proofs.HopelessLoses.{weighed}
 use Rattle.best_plan.proofs.PathOneStepOn.{Kept}
 use Rattle.best_plan.proofs.LoopsKeepBuffers.{ChoicesTried}
-use Prim.Native.Nat.{◌+◌, ◌-◌, ◌≤◌}
+use Prim.Native.Nat.{◌+◌, ◌≤◌}
 use Rattle.best_plan.proofs.+pick_walk.Given as goal
 
 abbrev pub decreases-pick : goal.decreases-pick

@@ -1,4 +1,4 @@
-use Prim.Native.Nat.{◌-◌, ◌≤◌}
+use Prim.Native.Nat.{◌≤◌}
 use mathlib.Core.Path.{◌≡◌}
 use Rattle.prepared_model.specs.promises.Rows.{choices_in}
 use Rattle.best_plan.proofs.LastStepBest.{Ending}
