@@ -51,19 +51,18 @@ fn wins(y: u64, x: u64, best: Near, len: usize, above: bool) -> bool
     exceeds(y, best.total, above)
 }
 
-// The number nearest to x on this side of it, of the first `len`, at its first place.
-fn nearest_in(buf: &[u64], len: usize, x: u64, above: bool) -> Near
-    requires { len ≤ length buf.now }
-    ensures { NearestIn buf.now len len above x result }
+// The number of a list nearest to x on this side of it, at its first place.
+fn nearest_in(list: &[u64], x: u64, above: bool) -> Near
+    ensures { NearestIn list.now (length list.now) (length list.now) above x result }
 {
+    let len = list.len();
     let mut best = Near {
         place: len,
         total: 0,
     };
-    for i in 0..len {
-        let y = buf[i];
-        if wins(y, x, best, len, above) {
-            best = Near { place: i, total: y };
+    for (place, y) in list.iter().enumerate() {
+        if wins(*y, x, best, len, above) {
+            best = Near { place, total: *y };
         }
     }
     best
@@ -88,8 +87,8 @@ fn nearest_within(
 {
     let len = totals(m, q, truth, cone, table, buf, l);
     Neighbours {
-        below: nearest_in(buf, len, x, false),
-        above: nearest_in(buf, len, x, true),
+        below: nearest_in(&buf[..len], x, false),
+        above: nearest_in(&buf[..len], x, true),
     }
 }
 

@@ -5,11 +5,11 @@ ghost use Rattle.models.specs.Layout.{state_count};
 ghost use Rattle.prepared_model.specs.promises.Rows.{outcomes_in, model_in, Prepared};
 ghost use Rattle.evaluation.specs.promises.Worth.{worth_of};
 ghost use Rattle.exact_plan.specs.promises.Totals as spec;
-ghost use Rattle.exact_plan.specs.promises.Listing.{Counts, Given};
-ghost use Rattle.exact_plan.specs.promises.Search.{Searched, Counted, stored_at, Housed};
+ghost use Rattle.exact_plan.specs.promises.Listing.{Counts, Given, Found};
+ghost use Rattle.exact_plan.specs.promises.Search.{Counted, stored_at, Housed};
 
 use crate::lists::plans_below;
-use crate::search::{Placed, first_within};
+use crate::search::first_within;
 use crate::{FEW, FEW_ROOM, ROOM, SOME, SOME_ROOM, Sought};
 use evaluation::TRUTHS;
 use limits::{COUNTS, plans_counted};
@@ -56,11 +56,11 @@ fn first_in<const N: usize>(
     table: &[u64; COUNTS],
     l: Sought,
     x: u64,
-) -> Placed
+) -> Option<usize>
     requires given { Given m.now q.now l.s l.a l.d truth.now cone.now table.now }
     requires housed { Housed m.now l.d l.n l.s N × (N ≤ 65819) }
     ensures { let m = m.entry.now in let q = q.entry.now in let cone = cone.entry.now in
-        Searched (spec.totals (model_in m) l.n l.s (worth_of m q l.s l.a l.d cone)) x result }
+        Found (spec.totals (model_in m) l.n l.s (worth_of m q l.s l.a l.d cone)) x result }
 {
     let mut buf = [0u64; N];
     first_within(m, q, truth, cone, table, &mut buf, l, x)
@@ -76,11 +76,11 @@ pub fn in_room(
     l: Sought,
     x: u64,
     need: u64,
-) -> Placed
+) -> Option<usize>
     requires given { Given m.now q.now l.s l.a l.d truth.now cone.now table.now }
     requires housed { Housed m.now l.d l.n l.s (need + 282) × (need ≤ 65537) }
     ensures { let m = m.entry.now in let q = q.entry.now in let cone = cone.entry.now in
-        Searched (spec.totals (model_in m) l.n l.s (worth_of m q l.s l.a l.d cone)) x result }
+        Found (spec.totals (model_in m) l.n l.s (worth_of m q l.s l.a l.d cone)) x result }
 {
     if need <= FEW {
         return first_in::<FEW_ROOM>(m, q, truth, cone, table, l, x);

@@ -1,4 +1,4 @@
-use Prim.Native.Nat.{◌-◌, ◌≤◌}
+use Prim.Native.Nat.{◌≤◌}
 use Rattle.exact_plan.specs.promises.Listing.{Longest}
 use Rattle.exact_plan.proofs.lists.longest.Given as goal
 

@@ -1,4 +1,4 @@
-use Prim.Native.Nat.{◌-◌, ◌≤◌}
+use Prim.Native.Nat.{◌≤◌}
 use mathlib.Core.Path.{◌≡◌}
 use Rattle.exact_plan.specs.promises.Search.{ways_below}
 use Rattle.exact_plan.proofs.lists.plans_below.Given as goal

@@ -1,7 +1,5 @@
 -- `nearest`: the table has the number of plans, and each room has 282 numbers beside as many.
-use Prim.Native.Nat.{ℕ}
 use native.Mathlib.Omega.{arith}
-use lib.ListN.{length-replicate}
 use Rattle.exact_plan.proofs.ListsWritten.{state_small}
 use Rattle.exact_plan.proofs.FirstPlace.{counted}
 use Rattle.exact_plan.proofs.nearest.nearest.Goals as goal

@@ -1,15 +1,12 @@
 -- `spread::fill`: what stands before and behind the filled part stays.
-use Prim.Native.Nat.{ℕ, ◌+◌, ◌-◌, ◌≤◌}
+use Prim.Native.Nat.{ℕ, ◌+◌, ◌-◌}
 use native.Mathlib.Omega.{arith}
 use mathlib.Core.Path.{◌≡◌, sym, ap, ap₂, ◌∙◌}
 use mathlib.Core.List.{List, ◌++◌}
 use lib.ListN.{length, take, drop, replicate, length-replicate}
 use lib.Seq.{drop-drop}
 use borrow.Rule.Slice.PartMut.{put_mid, mid_of, mid_len}
-use Rattle.std.proofs.Common.{rules}
 use Rattle.blocks.specs.Splice.{splice}
-use Rattle.blocks.proofs.Splice.{splice_none}
-use Rattle.exact_plan.proofs.JoinedInPlace.{fill_whole, fill_one_more}
 use Rattle.exact_plan.proofs.spread.fill.Goals as goal
 
 put_back : (s : List ℕ) (at n x k : ℕ) (ys : List ℕ) → k ≡ n → ys ≡ replicate n x → put_mid at k s ys ≡ splice s at (replicate n x)

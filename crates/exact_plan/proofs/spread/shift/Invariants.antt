@@ -1,4 +1,4 @@
-use Prim.Native.Nat.{◌-◌, ◌≤◌}
+use Prim.Native.Nat.{◌≤◌}
 use mathlib.Core.Path.{◌≡◌}
 use Rattle.exact_plan.proofs.JoinedInPlace.{shifted}
 use Rattle.exact_plan.proofs.spread.shift.Given as goal
