@@ -44,8 +44,7 @@ pub struct Outcome {
 // A further outcome to combine a list of `len` totals with, on its right or on its left.
 #[derive(Clone, Copy)]
 pub struct Further {
-    i: usize,
-    o: usize,
+    to: Outcome,
     len: usize,
     right: bool,
 }
@@ -221,8 +220,7 @@ pub fn combine(
         let lo = start.min(c - taken);
         let o = beside(lo, lo + taken, c);
         let more = Further {
-            i,
-            o,
+            to: Outcome { i, o },
             len,
             right: lo < o,
         };
@@ -251,36 +249,32 @@ fn grown(
 ) -> usize
     requires given { Given m.now q.now spot.start spot.a spot.d truth.now cone.now table.now }
     requires here { Here m.now q.now spot.start spot.d cone.now trail.old gains.old v.old spot.h spot.s (spot.k + 1)
-        × Offers m.now spot.s more.i more.o × Marked q.now cone.now late.now }
+        × Offers m.now spot.s more.to.i more.to.o × Marked q.now cone.now late.now }
     requires grows { Grows buf.old spot.at more.len
-        (plan_total (model_in m.now) spot.k (step_in m.now spot.s more.i more.o).target) spot.k }
+        (plan_total (model_in m.now) spot.k (step_in m.now spot.s more.to.i more.to.o).target) spot.k }
     ensures { let trail' = trail.exit.now in let gains' = gains.new in let v' = v.new in let buf' = buf.exit.now in
         let buf = buf.entry.now in let m = m.entry.now in let q = q.entry.now in let cone = cone.entry.now in
         let trail = trail.entry.now in
         let f = worth_on m q spot.start spot.a spot.d cone (take spot.h trail) in
         Written (joined more.right (part buf spot.at more.len)
-        (weighed (model_in m) spot.k f (step_in m spot.s more.i more.o)))
+        (weighed (model_in m) spot.k f (step_in m spot.s more.to.i more.to.o)))
         m q spot.start cone spot.h spot.at trail trail' gains' v' buf buf' result }
 {
     let s = spot.s as usize;
-    let n = plans_counted(table, spot.k, target(m, s, more.i, more.o)) as usize;
+    let n = plans_counted(table, spot.k, target(m, s, more.to.i, more.to.o)) as usize;
     let behind = Spot {
         at: spot.at + more.len * n,
         ..spot
     };
-    let to = Outcome {
-        i: more.i,
-        o: more.o,
-    };
     below(
-        m, q, truth, cone, table, late, trail, gains, v, buf, behind, to,
+        m, q, truth, cone, table, late, trail, gains, v, buf, behind, more.to,
     );
     join(
         buf,
         spot.at,
         more.len,
         n,
-        weight(m, s, more.i, more.o),
+        weight(m, s, more.to.i, more.to.o),
         more.right,
     );
     more.len * n

@@ -161,53 +161,53 @@ combine-returns t c =
     (span_end S.requires.given combine-place S.requires.here.3 S.requires.room c.loop-taken.invariant b.auto.buf (omega arith))
 
 pub grown-target-requires : goal.grown-target-requires
-grown-target-requires t c = let S = c in within S.requires.given S.requires.here.0 S.args.more.i S.args.more.o S.requires.here.1
+grown-target-requires t c = let S = c in within S.requires.given S.requires.here.0 S.args.more.to.i S.args.more.to.o S.requires.here.1
 
 pub grown-plans_counted-n-requires : goal.grown-plans_counted-n-requires
 grown-plans_counted-n-requires t c =
     let S = c in
-    (omega (arith, S.requires.here.0.steps), subst (λ z. z < 32) (sym c.target.ensures) (state_small S.requires.given (reached S.requires.given S.args.spot.s S.args.more.i S.args.more.o S.requires.here.0.inside S.requires.here.1)))
+    (omega (arith, S.requires.here.0.steps), subst (λ z. z < 32) (sym c.target.ensures) (state_small S.requires.given (reached S.requires.given S.args.spot.s S.args.more.to.i S.args.more.to.o S.requires.here.0.inside S.requires.here.1)))
 
 pub grown-overflow_mul-behind : goal.grown-overflow_mul-behind
 grown-overflow_mul-behind t c =
-    let grown-place : Place c.args.m.now c.args.spot.d c.args.spot.s c.args.more.i c.args.spot.k = placed c.args.more.i c.args.spot.k c.requires.here.0 c.requires.here.1.0 in
-    let counted : let S = c.args in c.plans_counted-n.result ≡ ways S.m.now S.spot.s S.more.i S.spot.k S.more.o = let S = c in
-    count_right S.requires.given grown-place S.args.more.o S.requires.here.1.1 S.requires.grows.room.few c.plans_counted-n.ensures c.target.ensures in
+    let grown-place : Place c.args.m.now c.args.spot.d c.args.spot.s c.args.more.to.i c.args.spot.k = placed c.args.more.to.i c.args.spot.k c.requires.here.0 c.requires.here.1.0 in
+    let counted : let S = c.args in c.plans_counted-n.result ≡ ways S.m.now S.spot.s S.more.to.i S.spot.k S.more.to.o = let S = c in
+    count_right S.requires.given grown-place S.args.more.to.o S.requires.here.1.1 S.requires.grows.room.few c.plans_counted-n.ensures c.target.ensures in
     let S = c in record { fits = omega (arith, S.requires.grows.few, ap (λ z. S.args.more.len * z) counted) }
 
 pub grown-overflow_add-behind : goal.grown-overflow_add-behind
 grown-overflow_add-behind t c =
-    let grown-place : Place c.args.m.now c.args.spot.d c.args.spot.s c.args.more.i c.args.spot.k = placed c.args.more.i c.args.spot.k c.requires.here.0 c.requires.here.1.0 in
-    let counted : let S = c.args in c.plans_counted-n.result ≡ ways S.m.now S.spot.s S.more.i S.spot.k S.more.o = let S = c in
-    count_right S.requires.given grown-place S.args.more.o S.requires.here.1.1 S.requires.grows.room.few c.plans_counted-n.ensures c.target.ensures in
+    let grown-place : Place c.args.m.now c.args.spot.d c.args.spot.s c.args.more.to.i c.args.spot.k = placed c.args.more.to.i c.args.spot.k c.requires.here.0 c.requires.here.1.0 in
+    let counted : let S = c.args in c.plans_counted-n.result ≡ ways S.m.now S.spot.s S.more.to.i S.spot.k S.more.to.o = let S = c in
+    count_right S.requires.given grown-place S.args.more.to.o S.requires.here.1.1 S.requires.grows.room.few c.plans_counted-n.ensures c.target.ensures in
     let S = c in record { fits = omega (arith, S.requires.grows.room.fits, ap (λ z. S.args.more.len * z) counted, S.well_formed.1.1.1.1.1.1.1.1.1.0) }
 
 pub grown-below-requires : goal.grown-below-requires
 grown-below-requires t c =
-    let grown-place : Place c.args.m.now c.args.spot.d c.args.spot.s c.args.more.i c.args.spot.k = placed c.args.more.i c.args.spot.k c.requires.here.0 c.requires.here.1.0 in
-    let counted : let S = c.args in c.plans_counted-n.result ≡ ways S.m.now S.spot.s S.more.i S.spot.k S.more.o = let S = c in
-    count_right S.requires.given grown-place S.args.more.o S.requires.here.1.1 S.requires.grows.room.few c.plans_counted-n.ensures c.target.ensures in
+    let grown-place : Place c.args.m.now c.args.spot.d c.args.spot.s c.args.more.to.i c.args.spot.k = placed c.args.more.to.i c.args.spot.k c.requires.here.0 c.requires.here.1.0 in
+    let counted : let S = c.args in c.plans_counted-n.result ≡ ways S.m.now S.spot.s S.more.to.i S.spot.k S.more.to.o = let S = c in
+    count_right S.requires.given grown-place S.args.more.to.o S.requires.here.1.1 S.requires.grows.room.few c.plans_counted-n.ensures c.target.ensures in
     let S = c in
-    let w = ways S.args.m.now S.args.spot.s S.args.more.i S.args.spot.k S.args.more.o in
+    let w = ways S.args.m.now S.args.spot.s S.args.more.to.i S.args.spot.k S.args.more.to.o in
     (omega (arith, S.decreases), (S.requires.given, (S.requires.here, subst (λ n. Room S.args.spot.k w (S.args.spot.at + S.args.more.len * n) (length S.args.buf.now)) (sym counted) S.requires.grows.room)))
 
 pub grown-weight-requires : goal.grown-weight-requires
-grown-weight-requires t c = let S = c in within S.requires.given S.requires.here.0 S.args.more.i S.args.more.o S.requires.here.1
+grown-weight-requires t c = let S = c in within S.requires.given S.requires.here.0 S.args.more.to.i S.args.more.to.o S.requires.here.1
 
 pub grown-join-requires : goal.grown-join-requires
 grown-join-requires t c =
-    let grown-place : Place c.args.m.now c.args.spot.d c.args.spot.s c.args.more.i c.args.spot.k = placed c.args.more.i c.args.spot.k c.requires.here.0 c.requires.here.1.0 in
-    let counted : let S = c.args in c.plans_counted-n.result ≡ ways S.m.now S.spot.s S.more.i S.spot.k S.more.o = let S = c in
-    count_right S.requires.given grown-place S.args.more.o S.requires.here.1.1 S.requires.grows.room.few c.plans_counted-n.ensures c.target.ensures in
+    let grown-place : Place c.args.m.now c.args.spot.d c.args.spot.s c.args.more.to.i c.args.spot.k = placed c.args.more.to.i c.args.spot.k c.requires.here.0 c.requires.here.1.0 in
+    let counted : let S = c.args in c.plans_counted-n.result ≡ ways S.m.now S.spot.s S.more.to.i S.spot.k S.more.to.o = let S = c in
+    count_right S.requires.given grown-place S.args.more.to.o S.requires.here.1.1 S.requires.grows.room.few c.plans_counted-n.ensures c.target.ensures in
     let S = c in
     let b = c.below in
-    grown_joins S.requires.given grown-place S.args.more.o S.requires.here.1.1 S.requires.grows c.plans_counted-n.result counted b.ensures b.auto.buf c.weight.result c.weight.ensures.value
+    grown_joins S.requires.given grown-place S.args.more.to.o S.requires.here.1.1 S.requires.grows c.plans_counted-n.result counted b.ensures b.auto.buf c.weight.result c.weight.ensures.value
 
 pub grown-overflow_mul-result : goal.grown-overflow_mul-result
 grown-overflow_mul-result t c =
-    let grown-place : Place c.args.m.now c.args.spot.d c.args.spot.s c.args.more.i c.args.spot.k = placed c.args.more.i c.args.spot.k c.requires.here.0 c.requires.here.1.0 in
-    let counted : let S = c.args in c.plans_counted-n.result ≡ ways S.m.now S.spot.s S.more.i S.spot.k S.more.o = let S = c in
-    count_right S.requires.given grown-place S.args.more.o S.requires.here.1.1 S.requires.grows.room.few c.plans_counted-n.ensures c.target.ensures in
+    let grown-place : Place c.args.m.now c.args.spot.d c.args.spot.s c.args.more.to.i c.args.spot.k = placed c.args.more.to.i c.args.spot.k c.requires.here.0 c.requires.here.1.0 in
+    let counted : let S = c.args in c.plans_counted-n.result ≡ ways S.m.now S.spot.s S.more.to.i S.spot.k S.more.to.o = let S = c in
+    count_right S.requires.given grown-place S.args.more.to.o S.requires.here.1.1 S.requires.grows.room.few c.plans_counted-n.ensures c.target.ensures in
     let S = c in record { fits = omega (arith, S.requires.grows.few, ap (λ z. S.args.more.len * z) counted) }
 
 pub grown-shape_of-buf : goal.grown-shape_of-buf
@@ -215,12 +215,12 @@ grown-shape_of-buf t c = c.join.auto.buf ∙ c.below.auto.buf
 
 pub grown-returns : goal.grown-returns
 grown-returns t c =
-    let grown-place : Place c.args.m.now c.args.spot.d c.args.spot.s c.args.more.i c.args.spot.k = placed c.args.more.i c.args.spot.k c.requires.here.0 c.requires.here.1.0 in
-    let counted : let S = c.args in c.plans_counted-n.result ≡ ways S.m.now S.spot.s S.more.i S.spot.k S.more.o = let S = c in
-    count_right S.requires.given grown-place S.args.more.o S.requires.here.1.1 S.requires.grows.room.few c.plans_counted-n.ensures c.target.ensures in
+    let grown-place : Place c.args.m.now c.args.spot.d c.args.spot.s c.args.more.to.i c.args.spot.k = placed c.args.more.to.i c.args.spot.k c.requires.here.0 c.requires.here.1.0 in
+    let counted : let S = c.args in c.plans_counted-n.result ≡ ways S.m.now S.spot.s S.more.to.i S.spot.k S.more.to.o = let S = c in
+    count_right S.requires.given grown-place S.args.more.to.o S.requires.here.1.1 S.requires.grows.room.few c.plans_counted-n.ensures c.target.ensures in
     let S = c in
     let b = c.below in
-    grown_written S.requires.given grown-place S.args.more.o S.requires.here.1.1 S.requires.grows c.plans_counted-n.result counted b.ensures b.auto.buf c.weight.result c.weight.ensures.value S.args.more.right c.join.ensures
+    grown_written S.requires.given grown-place S.args.more.to.o S.requires.here.1.1 S.requires.grows c.plans_counted-n.result counted b.ensures b.auto.buf c.weight.result c.weight.ensures.value S.args.more.right c.join.ensures
 
 pub list-decided-requires : goal.list-decided-requires
 list-decided-requires t c =
