@@ -65,10 +65,7 @@ fn first_with(list: &[u64], e: Ends, y: u64, x: u64) -> Option<usize>
     requires { Between list.now e }
     ensures { Found (map (λ z. y + z) list.now) x result }
 {
-    if x < y {
-        return None;
-    }
-    let z = x - y;
+    let z = x.checked_sub(y)?;
     if z < e.low {
         return None;
     }
