@@ -15,47 +15,47 @@ pub choices-n-requires : goal.choices-n-requires
 choices-n-requires c = let S = c in state_small S.requires.given S.requires.here.0.inside
 
 pub loop-i-init : goal.loop-i-init
-loop-i-init c = (c.choices-n.ensures, refl, passed_none c.requires.here.0)
+loop-i-init c = (refl, passed_none c.requires.here.0)
 
 pub seek-p-requires : goal.seek-p-requires
 seek-p-requires c =
-    let turn : c.loop-i.i < choices_in c.args.m.now c.args.spot.s = omega (arith, c.loop-i.invariant.0, c.loop-i-test.true) in
+    let turn : c.loop-i.i < choices_in c.args.m.now c.args.spot.s = omega arith in
     let S = c in
-    let I = c.loop-i.invariant in record { given = S.requires.given; here = (I.2.here, turn, S.requires.here.1); s_bound = (S.requires.s_bound.0, omega (arith, I.1, S.requires.s_bound.1 c.loop-i.i turn)) }
+    let I = c.loop-i.invariant in record { given = S.requires.given; here = (I.1.here, turn, S.requires.here.1); s_bound = (S.requires.s_bound.0, omega (arith, I.0, S.requires.s_bound.1 c.loop-i.i turn)) }
 
 pub overflow_add-result : goal.overflow_add-result
 overflow_add-result c =
-    let turn : c.loop-i.i < choices_in c.args.m.now c.args.spot.s = omega (arith, c.loop-i.invariant.0, c.loop-i-test.true) in
+    let turn : c.loop-i.i < choices_in c.args.m.now c.args.spot.s = omega arith in
     let S = c in
-    record { fits = omega (arith, place_few S.requires.given S.requires.s_bound.0 c.loop-i.invariant.2 turn c.seek-p.ensures.value c.in-Some.is) }
+    record { fits = omega (arith, place_few S.requires.given S.requires.s_bound.0 c.loop-i.invariant.1 turn c.seek-p.ensures.value c.in-Some.is) }
 
 pub overflow_add-before : goal.overflow_add-before
 overflow_add-before c =
-    let turn : c.loop-i.i < choices_in c.args.m.now c.args.spot.s = omega (arith, c.loop-i.invariant.0, c.loop-i-test.true) in
+    let turn : c.loop-i.i < choices_in c.args.m.now c.args.spot.s = omega arith in
     let S = c in
-    record { fits = omega (arith, passed_few S.requires.given S.requires.s_bound.0 c.loop-i.invariant.2 turn c.seek-p.ensures.value) }
+    record { fits = omega (arith, passed_few S.requires.given S.requires.s_bound.0 c.loop-i.invariant.1 turn c.seek-p.ensures.value) }
 
 pub loop-i-preserved : goal.loop-i-preserved
 loop-i-preserved c =
-    let turn : c.loop-i.i < choices_in c.args.m.now c.args.spot.s = omega (arith, c.loop-i.invariant.0, c.loop-i-test.true) in
+    let turn : c.loop-i.i < choices_in c.args.m.now c.args.spot.s = omega arith in
     let S = c in
     let I = c.loop-i.invariant in
     let x = c.seek-p in
-    (I.0, x.auto.buf ∙ I.1, choice_passed S.requires.given S.requires.s_bound.0 I.2 turn x.ensures.value c.in_default.is x.ensures.frame)
+    (x.auto.buf ∙ I.0, choice_passed S.requires.given S.requires.s_bound.0 I.1 turn x.ensures.value c.in_default.is x.ensures.frame)
 
 pub shape_of-buf : goal.shape_of-buf
-shape_of-buf c = c.loop-i.invariant.1
+shape_of-buf c = c.loop-i.invariant.0
 
 pub returns : goal.returns
 returns c =
     let A = c.args in
     let G = c.requires.given in
     let L = c.loop-i in
-    let l : choices_in A.m.now A.spot.s ≤ L.i = omega (arith, L.invariant.0) in
+    let l : choices_in A.m.now A.spot.s ≤ L.i = omega arith in
     subst (First (totals (model_in A.m.now) (A.spot.k + 1) A.spot.s (worth_on A.m.now A.q.now A.spot.start A.spot.a A.spot.d A.cone.now (take A.spot.h A.trail.now))) A.x)
-    (all_counted_there G c.requires.s_bound.0 L.invariant.2 l) (all_passed G c.requires.s_bound.0 L.invariant.2 l)
+    (all_counted_there G c.requires.s_bound.0 L.invariant.1 l) (all_passed G c.requires.s_bound.0 L.invariant.1 l)
 
 pub returns-in-Some : goal.returns-in-Some
 returns-in-Some c =
-    let turn : c.loop-i.i < choices_in c.args.m.now c.args.spot.s = omega (arith, c.loop-i.invariant.0, c.loop-i-test.true) in
-    choice_found c.requires.given c.requires.s_bound.0 c.loop-i.invariant.2 turn c.seek-p.ensures.value c.in-Some.is
+    let turn : c.loop-i.i < choices_in c.args.m.now c.args.spot.s = omega arith in
+    choice_found c.requires.given c.requires.s_bound.0 c.loop-i.invariant.1 turn c.seek-p.ensures.value c.in-Some.is
