@@ -3,10 +3,10 @@
 use Prim.Native.Nat.{ℕ, ◌+◌, ◌-◌, ◌≤◌, ◌<◌}
 use native.Mathlib.Omega.{arith}
 use native.Mathlib.Numerals.{add-one}
-use mathlib.Core.Path.{◌≡◌, refl, sym, ap, ap₂, ◌∙◌}
+use mathlib.Core.Path.{◌≡◌, sym, ap, ap₂, ◌∙◌}
 use mathlib.Core.List.{List, [], ◌∷◌, ◌++◌, append-nil, append_assoc}
-use lib.ListN.{length, get_or, take, drop, set, length-append, length-take, length-drop, length-set}
-use lib.Seq.{length-take-le, take-take, take_at, drop_at, take-add, take-suc, take-suc-set, drop-drop, drop-set-lt, get_or-drop}
+use lib.ListN.{length, take, drop, set, length-append, length-take}
+use lib.Seq.{length-take-le, take-take, take_at, drop_at, take-add, take-suc-set}
 use Rattle.best_plan.specs.promises.Buffers.{Wrote}
 
 pub wrote_none : (at : ℕ) (l : List ℕ) → Wrote [] at l l at
@@ -53,46 +53,3 @@ module _ {x y c0 c1 c2 : List ℕ} {p e f : ℕ} (first : Wrote x p c0 c1 e) (se
         ∙ ap (drop e) (sym (take-add e (f - e) c2) ∙ ap (λ i. take i c2) o ∙ second.wrote)
         ∙ drop_at (take e c1) y e n in
         record { wrote = g ∙ ap₂ ◌++◌ bottom top; next = omega (arith, second.next) }
-
--- ---- moving down
-
--- The first i of the bytes that are moved are in place, and those that are not stand where they stood.
-pub record Moved (c0 : List ℕ) (at from i : ℕ) (c : List ℕ) : Type 0 where
-  pub down : take (at + i) c ≡ take at c0 ++ take i (drop from c0)
-  pub rest : drop (from + i) c ≡ drop (from + i) c0
-  pub size : length c ≡ length c0
-
-module _ (c0 : List ℕ) (at from : ℕ) where
-  pub moved_none : Moved c0 at from 0 c0
-  moved_none = let e : at + 0 ≡ at = omega arith in record { down = ap (λ i. take i c0) e ∙ sym (append-nil (take at c0)); rest = refl; size = refl }
-
-  pub moved_more : (i : ℕ) (c : List ℕ) → at ≤ from → from + i < length c0 → Moved c0 at from i c
-      → Moved c0 at from (i + 1) (set c (at + i) (get_or c (from + i) 0))
-  moved_more i c h l M =
-      let x : ℕ = get_or c (from + i) 0 in
-      let a : at + (i + 1) ≡ (at + i) + 1 = omega arith in
-      let z : (from + i) + 0 ≡ from + i = omega arith in
-      let same : x ≡ get_or (drop from c0) i 0 =
-      ap (λ j. get_or c j 0) (sym z)
-      ∙ sym (get_or-drop (from + i) c 0 0)
-      ∙ ap (λ u. get_or u 0 0) (M.rest ∙ sym (drop-drop i from c0))
-      ∙ get_or-drop i (drop from c0) 0 0
-      ∙ ap (λ j. get_or (drop from c0) j 0) (omega arith) in
-      let more : take (i + 1) (drop from c0) ≡ take i (drop from c0) ++ (get_or (drop from c0) i 0 ∷ []) =
-      ap (λ j. take j (drop from c0)) (add-one i) ∙ take-suc (drop from c0) i 0 (simp length-drop (omega arith)) in
-      record {
-        down =
-            ap (λ j. take j (set c (at + i) x)) (a ∙ add-one (at + i))
-            ∙ take-suc-set c (at + i) x (omega (arith, M.size))
-            ∙ ap₂ (λ u v. u ++ (v ∷ [])) M.down same
-            ∙ append_assoc (take at c0) (take i (drop from c0)) (get_or (drop from c0) i 0 ∷ [])
-            ∙ ap (λ u. take at c0 ++ u) (sym more);
-        rest = further;
-        size = length-set c (at + i) x ∙ M.size;
-      }
-    where
-      on : (u : List ℕ) → drop (from + (i + 1)) u ≡ drop 1 (drop (from + i) u)
-      on u = let e : from + (i + 1) ≡ (from + i) + 1 = omega arith in ap (λ j. drop j u) e ∙ sym (drop-drop 1 (from + i) u)
-
-      further : drop (from + (i + 1)) (set c (at + i) (get_or c (from + i) 0)) ≡ drop (from + (i + 1)) c0
-      further = drop-set-lt (from + (i + 1)) c (at + i) (get_or c (from + i) 0) (omega arith) ∙ on c ∙ ap (drop 1) M.rest ∙ sym (on c0)

@@ -19,17 +19,19 @@ use Rattle.prepared_model.specs.promises.Rows.{choices_in, outcomes_in, step_in,
 use Rattle.prepared_model.proofs.ReadByPlace.{states_are, denominator_is, weights_sum}
 use Rattle.bounds.proofs.Powers.{power_le}
 use Rattle.best_plan.specs.promises.Greatest.{worth, best_left}
+use Rattle.std.specs.Prelude.{Option, None, Some}
+use Rattle.best_plan.specs.declared.Walked.{Walked}
 use Rattle.best_plan.specs.promises.Buffers.{wins}
 use Rattle.logic.proofs.FirstBest.{ordered}
 use Rattle.best_plan.proofs.TotalsBounded.{greatest_small}
 use Rattle.best_plan.proofs.OutcomesWalked.{worth_more}
 
 -- What is no better than what does not win does not win.
-wins_not : (found : Bool) (other x y : ℕ) (least : Bool) → order least x y ≡ true → wins found other y least ≡ false → wins found other x least ≡ false
+wins_not : (best : Option Walked) (x y : ℕ) (least : Bool) → order least x y ≡ true → wins best y least ≡ false → wins best x least ≡ false
 unfolding wins
-wins_not false other x y least h e = e
-wins_not true other x y least h e =
-    ap not (T→true (order least x other) ((ordered least).trans x y other (true→T h) (true→T (beaten (order least y other) e))))
+wins_not None x y least h e = e
+wins_not (Some b) x y least h e =
+    ap not (T→true (order least x b.value) ((ordered least).trans x y b.value (true→T h) (true→T (beaten (order least y b.value) e))))
   where
     beaten : (t : Bool) → not t ≡ false → t ≡ true
     beaten true e = refl
@@ -134,7 +136,7 @@ module _ {m : List ℕ} (w : Prepared m) (s a : ℕ) (here : s < state_count m) 
           (omega (arith, c, e, g.0), omega (arith, c, e, g.1, y, z, ap (λ x. x * all_after) x))
 
       -- Where the limit does not win, neither do they, nor those walked so far.
-      pub limit_lost : (found : Bool) (other : ℕ) → wins found other limit least ≡ false → (wins found other all least ≡ false) × (wins found other sum least ≡ false)
-      limit_lost found other h =
+      pub limit_lost : (best : Option Walked) → wins best limit least ≡ false → (wins best all least ≡ false) × (wins best sum least ≡ false)
+      limit_lost best h =
           let g = no_better least (denominator_of m) k sum rest all between.0 between.1 in
-          (wins_not found other all limit least g.0 h, wins_not found other sum limit least g.1 h)
+          (wins_not best all limit least g.0 h, wins_not best sum limit least g.1 h)

@@ -20,7 +20,8 @@ use Rattle.best_plan.specs.promises.Greatest.{best_choices, worth, below}
 use Rattle.best_plan.specs.promises.Buffers.{Wrote, wins, Ends}
 use Rattle.best_plan.proofs.ChoiceStack.{wrote_choice}
 use Rattle.best_plan.proofs.BestByFirstStep.{worth_of, best_of}
-use Rattle.best_plan.proofs.ChoicesTried.{first, first_more, first_some, best_more, picked_best}
+use Rattle.best_plan.proofs.ChoicesTried.{first, first_more, first_some, best_yet, best_more, picked_best}
+use Rattle.std.specs.Prelude.{Some}
 use Rattle.best_plan.proofs.OutcomesWalked.{worth_more}
 
 below_none : (least : Bool) (M : Model) (f : List Step → ℕ) (l : List Step) → below least M 0 f l ≡ []
@@ -68,8 +69,8 @@ module _ (least : Bool) {m : List ℕ} {s x : ℕ} (w : Prepared m) (here : s < 
       best_next t h f X =
           let b = E.best f X in
           ap (best_of least (model_in m) 0 s f) (first_more m s i)
-          ∙ best_more least (model_in m) 0 s f (first m s i) (choice_in m s i) true value v (sym (ap not (first_some m s i (omega (arith, E.inside)))))
-          (λ _. b.1 ∙ ap (worth_of least (model_in m) 0 s f) b.0) (e ∙ lanes_total i place f X) t h
+          ∙ best_more least (model_in m) 0 s f (first m s i) (choice_in m s i) (Some (record { value = value; end = 0 })) v
+          (best_yet (first_some m s i (omega (arith, E.inside))) (b.1 ∙ ap (worth_of least (model_in m) 0 s f) b.0)) (e ∙ lanes_total i place f X) t h
 
       pub ending_won : not (order least v value) ≡ true → Ending least m s x (i + 1) v i
       ending_won h = record { inside = omega arith; best = λ f X. (sym (best_next true h f X), e ∙ lanes_total i place f X) }
@@ -78,13 +79,13 @@ module _ (least : Bool) {m : List ℕ} {s x : ℕ} (w : Prepared m) (here : s < 
       ending_lost h = record { inside = omega (arith, E.inside); best = λ f X. let b = E.best f X in (b.0 ∙ sym (best_next false h f X), b.1) }
 
     pub ending_all : i ≡ choices_in m s → {p : ℕ} {written : List ℕ} → p < length written
-        → Ends least m s x p written (set written p (choice_in m s at)) (record { found = true; value = value; end = p + 1 })
+        → Ends least m s x p written (set written p (choice_in m s at)) (record { value = value; end = p + 1 })
     ending_all e {p} {written} fits =
         let a : ℕ = choice_in m s at in
         record {
           picked = λ f X.
               let b = E.best f X in
-              picked_best least m f s 0 w here p written (set written p a) (record { found = true; value = value; end = p + 1 }) a
+              picked_best least m f s 0 w here p written (set written p a) (record { value = value; end = p + 1 }) a
               (b.0 ∙ ap (λ n. best_of least (model_in m) 0 s f (first m s n)) e) b.1
               (subst (λ z. Wrote (a ∷ z) p written (set written p a) (p + 1)) (sym (below_none least (model_in m) f (outcomes (model_in m) s a)))
               (wrote_choice a p written fits));

@@ -22,7 +22,7 @@ use Rattle.evaluation.proofs.StepUndone.{back_same, knows_back, state_back, step
 use Rattle.evaluation.proofs.StepTaken.{state_reached, leaf_value, state_stepped, whole_stepped, path_stepped}
 use Rattle.best_plan.specs.promises.Greatest.{best_choices}
 use Rattle.best_plan.specs.promises.Buffers.{Wrote, Setting, Picked}
-use Rattle.best_plan.specs.declared.Best.{Best}
+use Rattle.best_plan.specs.declared.Walked.{Walked}
 use Rattle.best_plan.proofs.ChoiceStack.{wrote_none}
 
 module _ {m q : Bytes} {truth cone late : List ℕ} {start : ℕ} {trail : List ℕ} {gains : List ℤ} {v : List ℕ} {h s k : ℕ}
@@ -40,7 +40,7 @@ module _ {m q : Bytes} {truth cone late : List ℕ} {start : ℕ} {trail : List 
   leaf_here : k ≡ 0 → known v (root_of cone) 0 ≡ on_path m q start cone (take h trail) []
   leaf_here e = leaf_value S.ready S.marked.some (take h trail) gains v S.knows (omega (arith, S.deep, S.whole)) []
 
-  pub picked_leaf : (least : Bool) (b : Best) (at : ℕ) (c : List ℕ) → k ≡ 0 → (b.value ≡ known v (root_of cone) 0) × (b.end ≡ at)
+  pub picked_leaf : (least : Bool) (b : Walked) (at : ℕ) (c : List ℕ) → k ≡ 0 → (b.value ≡ known v (root_of cone) 0) × (b.end ≡ at)
       → Picked least m (on_path m q start cone (take h trail)) s k at c c b
   unfolding greatest best_choices choices
   picked_leaf least b at c e g =
@@ -107,7 +107,7 @@ module _ {m q : Bytes} {truth cone late : List ℕ} {start : ℕ} {trail : List 
       same_value : on_path m q start cone (take (h + 1) trail') ≡ λ r. on_path m q start cone t0 (step_in m s a o ∷ r)
       same_value = path_stepped S.ready offered S.knows T (value_of (model_in m) (formula q (root_of cone)) start) ∙ ap (λ t r. on_path m q start cone t (step_in m s a o ∷ r)) e
 
-      module _ {least : Bool} {at : ℕ} {before after : List ℕ} {b : Best} (P : Picked least m (on_path m q start cone (take (h + 1) trail')) t k at before after b) where
+      module _ {least : Bool} {at : ℕ} {before after : List ℕ} {b : Walked} (P : Picked least m (on_path m q start cone (take (h + 1) trail')) t k at before after b) where
         pub picked_value : b.value ≡ greatest (weights (order least)) (model_in m) k (step_in m s a o).target (λ r. on_path m q start cone t0 (step_in m s a o ∷ r))
         picked_value = P.value ∙ ap₂ (λ x f. greatest (weights (order least)) (model_in m) k x f) T.state same_value
 

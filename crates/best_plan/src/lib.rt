@@ -46,75 +46,52 @@ pub struct Found {
     pub count: usize,
 }
 
-// The best of the choices tried so far: whether there is one, its total, and where its plan's choices end.
-#[derive(Clone, Copy)]
-pub struct Best {
-    found: bool,
-    value: u64,
-    end: usize,
-}
-
-// The total of a choice's outcomes, and where the choices below them end.
+// What a walk came to: the total of plans, and where their choices end.
 #[derive(Clone, Copy)]
 pub struct Walked {
     value: u64,
     end: usize,
 }
 
-// Whether a total wins over the best so far, if there is one.
-fn wins(found: bool, other: u64, value: u64, least: bool) -> bool
-    ensures { result ≡ spec.wins found other value least }
-{
-    if found {
-        return exceeds(value, other, least);
-    }
-    true
-}
-
-// Whether a choice can no longer win: `sum` is the total of its outcomes walked so far, `rest` the weight of those left.
-fn hopeless(m: &[u16; MODEL], best: Best, sum: u64, rest: u64, k: u8, least: bool) -> bool
+// Whether a choice can no longer win over the best so far: `sum` is the total of its outcomes walked so far, `rest` the weight of those left.
+fn hopeless(m: &[u16; MODEL], best: Option<Walked>, sum: u64, rest: u64, k: u8, least: bool) -> bool
     requires { (denominator_of m.now ≤ 100) × (k ≤ 6) × (sum + rest * denominator_of m.now ^ k < 2 ^ 64) }
     ensures { let m = m.entry.now in
-        result ≡ not (spec.wins best.found best.value (best_left least (denominator_of m) k sum rest) least) }
+        result ≡ not (spec.wins best (best_left least (denominator_of m) k sum rest) least) }
 {
+    let Some(b) = best else {
+        return false;
+    };
     if least {
-        return !wins(best.found, best.value, sum, least);
+        return !exceeds(sum, b.value, least);
     }
-    !wins(
-        best.found,
-        best.value,
-        sum + rest * power(denominator(m), k),
-        least,
-    )
+    let most = sum + rest * power(denominator(m), k);
+    !exceeds(most, b.value, least)
 }
 
-// Moves n bytes down to a place, which they may overlap.
-fn move_down(choices: &mut [u8], at: usize, from: usize, n: usize)
-    requires { (at ≤ from) × (from + n ≤ length choices.old) }
-    ensures { let choices' = choices.exit.now in let choices = choices.entry.now in
-        take (at + n) choices' ≡ take at choices ++ take n (drop from choices) }
+// Where the choices of the best so far end, and the candidate's begin.
+fn end_of(best: Option<Walked>, at: usize) -> usize
+    ensures { result ≡ spec.end_of at best }
 {
-    let mut i: usize = 0;
-    while i < n {
-        choices[at + i] = choices[from + i];
-        i += 1;
+    match best {
+        Some(b) => b.end,
+        None => at,
     }
 }
 
-// Keeps the better of the best so far, whose choices stand from `at` on, and the candidate behind it.
-fn keep(choices: &mut [u8], b: Best, w: Walked, at: usize, least: bool) -> Best
-    requires { (at ≤ b.end) × (b.end ≤ w.end) × (w.end ≤ length choices.old) }
-    ensures { Keeps b w at least choices.old choices.new result }
+// Keeps the better of the best so far, if there is one, whose choices stand from `at` on, and the candidate behind it.
+fn keep(choices: &mut [u8], best: Option<Walked>, w: Walked, at: usize, least: bool) -> Walked
+    requires { (at ≤ spec.end_of at best) × (spec.end_of at best ≤ w.end) × (w.end ≤ length choices.old) }
+    ensures { Keeps best w at least choices.old choices.new result }
 {
-    let value = w.value;
-    let from = b.end;
-    let n = w.end - from;
-    if wins(b.found, b.value, value, least) {
-        move_down(choices, at, from, n);
-        return Best {
-            found: true,
-            value: value,
-            end: at + n,
+    let Some(b) = best else {
+        return w;
+    };
+    if exceeds(w.value, b.value, least) {
+        choices.copy_within(b.end..w.end, at);
+        return Walked {
+            value: w.value,
+            end: at + (w.end - b.end),
         };
     }
     b
@@ -136,13 +113,12 @@ fn root(cone: &[u8]) -> u8
 }
 
 // What is found where no step is left: the condition's value, which is known there.
-fn leaf(cone: &[u8], v: &[u8; VALUES], at: usize) -> Best
+fn leaf(cone: &[u8], v: &[u8; VALUES], at: usize) -> Walked
     requires { 0 < length cone.now }
     ensures { (result.value ≡ learnt.known v.now (root_of cone.now) 0) × (result.end ≡ at) }
 {
-    Best {
-        found: true,
-        value: known(v, root(cone), 0) as u64,
+    Walked {
+        value: u64::from(known(v, root(cone), 0)),
         end: at,
     }
 }
@@ -155,28 +131,22 @@ fn last_choice(
     s: usize,
     at: usize,
     least: bool,
-) -> Best
+) -> Walked
     requires { Prepared m.now × (s < state_count m.now) × (at + 3 ≤ length choices.old) }
     ensures { Ends least m.now s x at choices.old choices.new result }
 {
     let n = prepared_model::choices(m, s);
     let mut value = total(m, x, s, 0);
     let mut place: usize = 0;
-    let mut i: usize = 1;
-    while i < n {
+    for i in 1..n {
         let v = total(m, x, s, i);
         if exceeds(v, value, least) {
             value = v;
             place = i;
         }
-        i += 1;
     }
     choices[at] = choice(m, s, place);
-    Best {
-        found: true,
-        value: value,
-        end: at + 1,
-    }
+    Walked { value, end: at + 1 }
 }
 
 // Picks the best choice where one step is left, for all outcomes at once. Its one call is in `walk`, into which it is built for speed.
@@ -191,7 +161,7 @@ fn pick_last(
     v: &[u8; VALUES],
     choices: &mut [u8],
     spot: Spot,
-) -> Best
+) -> Walked
     requires setting { Setting m.now q.now truth.now cone.now late.now spot.start trail.now gains.now v.now spot.h spot.s 1 }
     requires most_choices_in_bounds { spot.at + 3 * most_choices 1 ≤ length choices.old }
     ensures { let choices' = choices.exit.now in let m = m.entry.now in let q = q.entry.now in let cone = cone.entry.now in
@@ -220,7 +190,7 @@ fn pick(
     v: &mut [u8; VALUES],
     choices: &mut [u8],
     spot: Spot,
-) -> Best
+) -> Walked
     requires setting { Setting m.now q.now truth.now cone.now late.now spot.start trail.old gains.old v.old spot.h spot.s
         spot.k }
     requires k_in_bounds { spot.at + 3 * most_choices spot.k ≤ length choices.old }
@@ -236,30 +206,21 @@ fn pick(
     }
     let s = spot.s as usize;
     let n = prepared_model::choices(m, s) as u8;
-    let mut best = Best {
-        found: false,
-        value: 0,
-        end: spot.at,
-    };
-    let mut i: u8 = 0;
-    while i < n {
-        let from = best.end;
+    let mut best: Option<Walked> = None;
+    for i in 0..n {
+        let from = end_of(best, spot.at);
         choices[from] = choice(m, s, i as usize);
         let below = Spot {
-            start: spot.start,
-            h: spot.h,
-            s: spot.s,
             k: spot.k - 1,
             at: from + 1,
-            least: spot.least,
+            ..spot
         };
         let w = walk(
             m, q, truth, cone, late, trail, gains, v, choices, below, i, best,
         );
-        best = keep(choices, best, w, spot.at, spot.least);
-        i += 1;
+        best = Some(keep(choices, best, w, spot.at, spot.least));
     }
-    best
+    best.unwrap()
 }
 
 // Walks the outcomes of the choice at place i, with k steps left after it: sums their weights times the best totals below, and writes the
@@ -278,14 +239,14 @@ fn walk(
     choices: &mut [u8],
     spot: Spot,
     i: u8,
-    best: Best,
+    best: Option<Walked>,
 ) -> Walked
     requires setting { Setting m.now q.now truth.now cone.now late.now spot.start trail.old gains.old v.old spot.h spot.s
         (spot.k + 1) }
     requires i_bound { (i < choices_in m.now spot.s) × (spot.at + 6 * most_choices spot.k ≤ length choices.old) }
     ensures effect { let choices' = choices.exit.now in let m = m.entry.now in let q = q.entry.now in let cone = cone.entry.now in
         let trail = trail.entry.now in let choices = choices.entry.now in
-        Candidate best.found best.value spot.least m (on_path m q spot.start cone (take spot.h trail))
+        Candidate best spot.least m (on_path m q spot.start cone (take spot.h trail))
         (row_in m spot.s i) spot.k spot.at choices choices' result }
     ensures frame { let trail' = trail.exit.now in let gains' = gains.new in let v' = v.new in let m = m.entry.now in
         let q = q.entry.now in let cone = cone.entry.now in let trail = trail.entry.now in
@@ -297,13 +258,9 @@ fn walk(
     let mut sum: u64 = 0;
     let mut rest = denominator(m) as u64;
     let mut end = spot.at;
-    let mut o: u8 = 0;
-    while o < n {
+    for o in 0..n {
         if k > 1 && hopeless(m, best, sum, rest, k, spot.least) {
-            return Walked {
-                value: sum,
-                end: end,
-            };
+            return Walked { value: sum, end };
         }
         let here = Place {
             start: spot.start,
@@ -312,12 +269,11 @@ fn walk(
         };
         let t = step(m, q, truth, cone, trail, gains, v, here, i, o);
         let below = Spot {
-            start: spot.start,
             h: spot.h + 1,
             s: t,
-            k: k,
+            k,
             at: end,
-            least: spot.least,
+            ..spot
         };
         let b = if k == 1 {
             pick_last(m, q, truth, cone, late, trail, gains, v, choices, below)
@@ -328,12 +284,8 @@ fn walk(
         sum = add_mul(sum, w, b.value);
         rest -= w;
         end = b.end;
-        o += 1;
     }
-    Walked {
-        value: sum,
-        end: end,
-    }
+    Walked { value: sum, end }
 }
 
 // Finds the plan of d steps, as many as the condition looks ahead, that has the greatest weight, or the least.
@@ -357,12 +309,12 @@ pub fn find(
     let mut v = [0u8; VALUES];
     learn(q, truth, &trail, &gains, cone, &mut v, 0, start);
     let spot = Spot {
-        start: start,
+        start,
         h: 0,
         s: start,
         k: d,
         at: 0,
-        least: least,
+        least,
     };
     let b = pick(
         m, q, truth, cone, &marks, &mut trail, &mut gains, &mut v, choices, spot,

@@ -1,20 +1,15 @@
 -- The choices of a state searched one after the other: below each the first sum of one number of two lists that stand one behind the other.
 use Prim.Native.Nat.{ℕ, suc, ◌+◌, ◌-◌, ◌*◌, ◌≤◌, ◌<◌}
-use native.Mathlib.Nat.{le_refl, lt_of_not-le}
+use native.Mathlib.Nat.{le_refl}
 use native.Mathlib.Numerals.{add-one}
 use native.Mathlib.Omega.{arith}
-use native.Mathlib.Decide.{dec_le}
 use mathlib.Core.Path.{◌≡◌, refl, sym, ap, ap₂, subst, ◌∙◌}
-use mathlib.Core.Bool.{true, false, false≢true}
 use mathlib.Core.List.{List, [], ◌∷◌, ◌++◌, flat_map}
 use lib.IntN.{ℤ}
-use lib.Dec.{ltb}
 use lib.ListN.{length, take, replicate, length-append}
-use borrow.Author.Tests.{lt-ltb}
 use Rattle.logic.specs.Lists.{count_from, tabulate}
 use Rattle.logic.specs.Model.{Step, outcomes}
 use Rattle.logic.specs.Limits.{multiply, plan_total}
-use Rattle.logic.proofs.Tests.{ltb_lt}
 use Rattle.blocks.specs.Bytes.{Bytes}
 use Rattle.blocks.specs.Splice.{splice}
 use Rattle.blocks.proofs.Splice.{take_written}
@@ -25,8 +20,10 @@ use Rattle.evaluation.proofs.StepUndone.{back_none, back_same, knows_back, state
 use Rattle.exact_plan.specs.declared.search.Placed.{Placed}
 use Rattle.exact_plan.specs.promises.Totals.{totals, combined, weighed, grid, part}
 use Rattle.exact_plan.specs.promises.Room.{Room}
-use Rattle.exact_plan.specs.promises.Listing.{Given, Here, Written, First}
+use Rattle.exact_plan.specs.promises.Listing.{Given, Here, Written, First, Found}
 use Rattle.exact_plan.specs.promises.Search.{Searched, ways_below, Counted, stored_at}
+use Rattle.std.specs.Prelude.{Option, None, Some}
+use Rattle.exact_plan.proofs.Grid.{length_grid}
 use Rattle.exact_plan.proofs.Spans.{combined_right, flat_map_more, flat_map_split}
 use Rattle.exact_plan.proofs.RoomForEach.{room_at}
 use Rattle.exact_plan.proofs.TotalsByFirstStep.{totals_length, weighed_length, choice_length}
@@ -154,8 +151,23 @@ module _ {m q : Bytes} {start a d : ℕ} {truth cone table : List ℕ} (G : Give
           ∙ sym (combined_outcomes w s p place.state place.choice (outcomes_in m s p) (omega arith) (weighed (model_in m) k f))
           ∙ ap (combined (weighed (model_in m) k f)) (all_outcomes w s p place.state place.choice refl)
 
-      pub choice_searched : {x : ℕ} {r : Placed} → Searched (grid (part buf₂ at slow) (part buf₂ (at + slow) fast)) x r → Searched (combined (weighed (model_in m) k f) os) x r
-      choice_searched {x} {r} S = subst (λ l. Searched l x r) sums S
+      pub sums_asked : {a b : List ℕ} → a ≡ part buf₂ at slow → b ≡ part buf₂ (at + slow) fast → (0 < length b) × (length a * length b ≤ 65536)
+      unfolding xs ys
+      sums_asked ea eb =
+          let la : slow ≡ length _ = W.count ∙ sym (ap length first) ∙ sym (ap length ea) in
+          let lb : fast ≡ length _ = Y.count ∙ sym (ap length second) ∙ sym (ap length eb) in
+          (omega (arith, fast_some), omega (arith, sums_few, ap₂ ◌*◌ la lb))
+
+      pub choice_searched : {x : ℕ} {place : Option ℕ} {a b : List ℕ} → a ≡ part buf₂ at slow → b ≡ part buf₂ (at + slow) fast → Found (grid a b) x place
+          → Searched (combined (weighed (model_in m) k f) os) x (record { place = place; all = slow * fast })
+      unfolding xs ys
+      choice_searched {x} {place} ea eb F =
+          record {
+            place = subst (λ l. Found l x place) (ap₂ grid ea eb ∙ sums) F;
+            all =
+                ap₂ ◌*◌ (W.count ∙ sym (ap length first)) (Y.count ∙ sym (ap length second))
+                ∙ sym (length_grid (part buf₂ at slow) (part buf₂ (at + slow) fast)) ∙ ap length sums;
+          }
 
       pub choice_back : Back m q start cone h trail trail₂ gains₂ v₂
       choice_back = back_same W.back.kept Y.back
@@ -197,11 +209,11 @@ module _ {m q : Bytes} {start a d : ℕ} {truth cone table : List ℕ} (G : Give
     next : flat_map C (passed m s i) ++ C (choice_in m s i) ≡ flat_map C (passed m s (i + 1))
     next = sym (ap (λ n. flat_map C (passed m s n)) (add-one i) ∙ flat_map_more C (choice_in m s) i)
 
-    both : First (flat_map C (passed m s (i + 1))) x (before + r.place)
-    both =
-        subst (λ l. First l x (before + r.place)) next
-        (subst (λ n. First (flat_map C (passed m s i) ++ C (choice_in m s i)) x (n + r.place)) (sym O.count)
-        (first_more (C (choice_in m s i)) (subst (First (flat_map C (passed m s i)) x) O.count O.none) S₀.first))
+    both : {j : ℕ} → First (C (choice_in m s i)) x j → First (flat_map C (passed m s (i + 1))) x (before + j)
+    both {j} F =
+        subst (λ l. First l x (before + j)) next
+        (subst (λ n. First (flat_map C (passed m s i) ++ C (choice_in m s i)) x (n + j)) (sym O.count)
+        (first_more (C (choice_in m s i)) (subst (First (flat_map C (passed m s i)) x) O.count O.none) F))
 
     next_length : length (flat_map C (passed m s (i + 1))) ≡ before + r.all
     next_length = sym (ap length next) ∙ length-append (flat_map C (passed m s i)) (C (choice_in m s i)) ∙ ap₂ ◌+◌ (sym O.count) (sym S₀.all)
@@ -215,23 +227,21 @@ module _ {m q : Bytes} {start a d : ℕ} {truth cone table : List ℕ} (G : Give
     pub passed_few : before + r.all ≤ 65536
     passed_few = within
 
-    pub place_few : before + r.place ≤ 65536
-    place_few = omega (arith, within, S₀.first.few, S₀.all)
+    here_found : {o : Option ℕ} → r.place ≡ o → Found (C (choice_in m s i)) x o
+    here_found e = subst (Found (C (choice_in m s i)) x) e S₀.place
 
-    pub choice_found : r.found ≡ true → First T x (before + r.place)
-    choice_found e =
-        let l : r.place < r.all = ltb_lt r.place r.all (sym S₀.found ∙ e) in
-        subst (λ l. First l x (before + r.place)) rest.1 (first_kept rest.0 both (omega (arith, next_length)))
+    pub place_few : {j : ℕ} → r.place ≡ Some j → before + j ≤ 65536
+    place_few e = omega (arith, within, (here_found e).0, S₀.all)
 
-    pub found_inside : r.found ≡ true → before + r.place < length T
-    found_inside e =
-        let l : r.place < r.all = ltb_lt r.place r.all (sym S₀.found ∙ e) in
-        omega (arith, next_length, length-append (flat_map C (passed m s (i + 1))) rest.0, ap length rest.1)
+    pub choice_found : {j : ℕ} → r.place ≡ Some j → (before + j < length T) × First T x (before + j)
+    choice_found {j} e =
+        let f = here_found e in
+        let inside : before + j < length (flat_map C (passed m s (i + 1))) = omega (arith, next_length, S₀.all, f.0) in
+        (omega (arith, inside, length-append (flat_map C (passed m s (i + 1))) rest.0, ap length rest.1), subst (λ l. First l x (before + j)) rest.1 (first_kept rest.0 (both f.1) inside))
 
-    pub choice_passed : r.found ≡ false → {trail₁ : List ℕ} {gains₁ : List ℤ} {v₁ : List ℕ} → Back m q start cone h trail trail₁ gains₁ v₁
+    pub choice_passed : r.place ≡ None → {trail₁ : List ℕ} {gains₁ : List ℤ} {v₁ : List ℕ} → Back m q start cone h trail trail₁ gains₁ v₁
         → PassedOver m q start a d cone h s k trail₀ trail₁ gains₁ v₁ x (before + r.all) (i + 1)
     choice_passed e {trail₁} {gains₁} {v₁} B =
-        let z : r.place ≡ r.all = not_below r.place r.all (sym S₀.found ∙ e) (omega (arith, S₀.first.few, S₀.all)) in
         record {
           below = omega arith;
           here = record {
@@ -243,16 +253,9 @@ module _ {m q : Bytes} {start a d : ℕ} {truth cone table : List ℕ} (G : Give
             knows = knows_back B;
           };
           kept = B.kept ∙ O.kept;
-          none = subst (λ n. First (flat_map C (passed m s (i + 1))) x (before + n)) z both;
+          none = subst (λ n. First (flat_map C (passed m s (i + 1))) x (before + n)) (sym S₀.all) (both (here_found e));
           count = sym next_length;
         }
-      where
-        not_below : (a b : ℕ) → ltb a b ≡ false → a ≤ b → a ≡ b
-        not_below a b e l = same (dec_le b a)
-          where
-            same : Dec (b ≤ a) → a ≡ b
-            same (yes h) = omega arith
-            same (no h) = absurd (false≢true (sym e ∙ lt-ltb a b (lt_of_not-le h)))
 
   pub all_passed : choices_in m s ≤ i → First T x before
   all_passed g =

@@ -1,13 +1,14 @@
 -- The first place of a number in a list, in lists one after the other, and among equal numbers; and the search at the start, before any step.
 use Prim.Native.Nat.{ℕ, ◌+◌, ◌-◌, ◌*◌, ◌≤◌, ◌<◌}
 use native.Mathlib.Nat.{zero-add, lt_of_not-le}
-use native.Mathlib.Decide.{ℕ_discrete, dec_le}
+use native.Mathlib.Decide.{dec_le}
 use native.Mathlib.Omega.{arith}
 use mathlib.Core.Path.{◌≡◌, refl, sym, ap, subst, ◌∙◌}
 use mathlib.Core.List.{List, [], ◌++◌}
 use lib.IntN.{ℤ}
 use lib.ListN.{length, take, get_or, replicate, length-append, length-replicate, get_or-replicate, get_or-append}
-use lib.Seq.{get_or-take, length-take-le, get_or-append-add}
+use lib.Seq.{get_or-append-add}
+use Rattle.std.specs.Prelude.{Option, None, Some, unwrap_or}
 use Rattle.logic.specs.Limits.{plan_total}
 use Rattle.blocks.specs.Bytes.{Bytes}
 use Rattle.prepared_model.specs.promises.Rows.{model_in}
@@ -15,30 +16,12 @@ use Rattle.evaluation.specs.promises.Path.{steps_of, state_after}
 use Rattle.evaluation.specs.promises.Known.{Knows}
 use Rattle.evaluation.specs.promises.Worth.{worth_of, worth_on}
 use Rattle.exact_plan.specs.promises.Totals.{totals}
-use Rattle.exact_plan.specs.promises.Listing.{Given, Here, Written, Listed, First}
+use Rattle.exact_plan.specs.promises.Listing.{Given, Here, Written, Listed, First, Found}
 
-module _ (buf : List ℕ) (len x : ℕ) (fits : len ≤ length buf) where
-  -- None of the first i numbers is x.
-  abbrev pub Absent : ℕ → Type 0
-  Absent i = (j : ℕ) → j < i → (get_or buf j 0 ≡ x → ⊥)
-
-  pub absent_more : (i : ℕ) → Absent i → (get_or buf i 0 ≡ x → ⊥) → Absent (i + 1)
-  absent_more i h g j l = go (ℕ_discrete j i)
-    where
-      go : Dec (j ≡ i) → get_or buf j 0 ≡ x → ⊥
-      go (yes e) = subst (λ k. get_or buf k 0 ≡ x → ⊥) (sym e) g
-      go (no e) = h j (omega arith)
-
-  size : length (take len buf) ≡ len
-  size = length-take-le len buf fits
-
-  pub first_found : (i : ℕ) → i < len → Absent i → get_or buf i 0 ≡ x → First (take len buf) x i
-  first_found i h g e =
-      record { few = omega (arith, size); none_before = λ j l p. g j l (sym (get_or-take len buf j 0 (omega arith)) ∙ p); there = λ l. get_or-take len buf i 0 h ∙ e }
-
-  pub first_nowhere : Absent len → First (take len buf) x len
-  first_nowhere g =
-      record { few = omega (arith, size); none_before = λ j l p. g j l (sym (get_or-take len buf j 0 l) ∙ p); there = λ l. absurd (omega (arith, size)) }
+-- The place, or the number of all where there is none.
+pub place_or_all : {l : List ℕ} {x all : ℕ} (o : Option ℕ) → all ≡ length l → Found l x o → First l x (unwrap_or o all)
+place_or_all {l} {x} None e F = subst (First l x) (sym e) F
+place_or_all (Some r) e F = F.1
 
 -- ---- in lists one after the other
 

@@ -14,7 +14,6 @@ pub mod ChoiceByChoice
 pub mod FirstPlace
 pub mod NearestPlace
 pub mod CountsBelowCap
-pub mod EnoughRoom
 pub mod SumsByRows
 pub mod PlansBelow
 pub mod ChoicesSearched

@@ -1,4 +1,4 @@
--- The nearest number of those seen so far, with one number more: it wins, or the nearest stays. And of a list that stands at the front of a buffer.
+-- The nearest number of those seen so far, with one number more: it wins, or the nearest stays.
 use Prim.Native.Nat.{ℕ, ◌+◌, ◌<◌}
 use native.Mathlib.Omega.{arith}
 use native.Mathlib.Decide.{ℕ_discrete}
@@ -6,15 +6,13 @@ use mathlib.Core.Path.{◌≡◌, refl, sym, ap, ap₂, subst, ◌∙◌}
 use mathlib.Core.Bool.{Bool, true, false, not, ◌&&◌, ◌||◌, false≢true}
 use mathlib.Core.List.{List}
 use lib.Dec.{T, eqb}
-use lib.ListN.{get_or, length}
-use lib.Seq.{get_or-take}
+use lib.ListN.{get_or}
 use borrow.Author.Tests.{eq-eqb, ne_eqb}
 use Rattle.logic.specs.promises.Orders.{weights, order}
 use Rattle.logic.proofs.Tests.{true→T, and_both}
 use Rattle.logic.proofs.Best.{Ordered, Lt, le_lt}
 use Rattle.logic.proofs.FirstBest.{ordered}
 use Rattle.exact_plan.specs.declared.nearest.Near.{Near}
-use Rattle.exact_plan.specs.promises.Listing.{Listed}
 use Rattle.exact_plan.specs.promises.Sides.{on_side, wins, NearestIn}
 
 module _ (l : List ℕ) (len : ℕ) (above : Bool) (x : ℕ) where
@@ -90,22 +88,3 @@ module _ (l : List ℕ) (len : ℕ) (above : Bool) (x : ℕ) where
         no_better : (t : Bool) → (true && (false || not t)) ≡ false → t ≡ true
         no_better true e = refl
         no_better false e = sym e
-
--- The numbers at the front of a buffer are the list.
-pub nearest_listed : {l buf : List ℕ} {len : ℕ} → Listed l buf len → (above : Bool) (x : ℕ) {r : Near} → NearestIn buf len len above x r
-    → NearestIn l (length l) (length l) above x r
-nearest_listed {l} {buf} {len} L above x {r} N =
-    subst (λ k. NearestIn l k k above x r) L.count
-    (record {
-      few = N.few;
-      its_total = λ n. same r.place (N.few n) ∙ N.its_total n;
-      there = N.there;
-      nowhere = λ e j h. ap (on_side above x) (same j h) ∙ N.nowhere e j h;
-      best = λ n j h t. subst (λ y. T (order above y r.total)) (sym (same j h)) (N.best n j h (ap (on_side above x) (sym (same j h)) ∙ t));
-      first = λ n j h t.
-          let k : j < len = omega (arith, N.few n) in
-          subst (λ y. T (not (order above r.total y))) (sym (same j k)) (N.first n j h (ap (on_side above x) (sym (same j k)) ∙ t));
-    })
-  where
-    same : (j : ℕ) → j < len → get_or l j 0 ≡ get_or buf j 0
-    same j h = ap (λ k. get_or k j 0) (sym L.listed) ∙ get_or-take len buf j 0 h

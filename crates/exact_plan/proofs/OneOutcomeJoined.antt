@@ -96,11 +96,11 @@ module _ (a b b₁ : List ℕ) (at : ℕ) (xs ys : List ℕ) (in_a : at ≤ leng
 -- ---- the outcomes taken: lo to hi, and o beside them
 
 abbrev pub Beside : (lo hi c o : ℕ) → Type 0
-Beside lo hi c o = ((o ≡ hi) × (hi < c)) ⊎ (o + 1 ≡ lo)
+Beside lo hi c o = ((o ≡ hi) × (hi < c)) ⊎ ((o + 1 ≡ lo) × (c ≤ hi))
 
 module _ {lo hi c o : ℕ} (some : lo < hi) (most : hi ≤ c) (B : Beside lo hi c o) where
   pub beside_inside : o < c
-  beside_inside = ⊎_elim (λ e. omega (arith, e.0, e.1)) (λ e. omega arith) B
+  beside_inside = ⊎_elim (λ e. omega (arith, e.0, e.1)) (λ e. omega (arith, e.0)) B
 
   pub wider_some : min lo o < max hi (o + 1)
   wider_some = omega arith
@@ -110,10 +110,15 @@ module _ {lo hi c o : ℕ} (some : lo < hi) (most : hi ≤ c) (B : Beside lo hi 
 
   -- There is one more.
   wider_count : max hi (o + 1) - min lo o ≡ suc (hi - lo)
-  wider_count = ⊎_elim (λ e. omega (arith, e.0)) (λ e. omega arith) B
+  wider_count = ⊎_elim (λ e. omega (arith, e.0)) (λ e. omega (arith, e.0)) B
 
-  pub wider_less : hi - lo < c → c - (max hi (o + 1) - min lo o) < c - (hi - lo)
-  wider_less h = rw wider_count (omega arith)
+  -- They stand from a first one on, or as many as there are before the end.
+  pub wider_from : (first taken : ℕ) → lo ≡ min first (c - taken) → hi ≡ lo + taken → taken < c → min first (c - (taken + 1)) ≡ min lo o
+  wider_from first taken e f h = ⊎_elim (λ b. omega (arith, b.0, b.1)) (λ b. omega (arith, b.0, b.1)) B
+
+  pub wider_to : (first taken : ℕ) → lo ≡ min first (c - taken) → hi ≡ lo + taken → taken < c
+      → min first (c - (taken + 1)) + (taken + 1) ≡ max hi (o + 1)
+  wider_to first taken e f h = ⊎_elim (λ b. omega (arith, b.0, b.1)) (λ b. omega (arith, b.0, b.1)) B
 
   -- The lists of those taken, combined with that of o.
   pub wider_combined : (F : ℕ → List ℕ)
@@ -126,9 +131,9 @@ module _ {lo hi c o : ℕ} (some : lo < hi) (most : hi ≤ c) (B : Beside lo hi 
       let k : lo + (hi - lo) ≡ o = omega (arith, e.0) in
       rw (lt-ltb lo o (omega (arith, e.0)), wider_count, l, combined_right F lo (hi - lo), k) refl)
       (λ e.
-      let l : min lo o ≡ o = omega arith in
-      let k : lo ≡ suc o = omega arith in
-      rw (le-ltb lo o (omega arith), wider_count, l, combined_left F o (hi - lo), k) refl)
+      let l : min lo o ≡ o = omega (arith, e.0) in
+      let k : lo ≡ suc o = omega (arith, e.0) in
+      rw (le-ltb lo o (omega (arith, e.0)), wider_count, l, combined_left F o (hi - lo), k) refl)
       B
 
   pub wider_times : (t : ℕ → ℕ) → multiply t (count_from lo (hi - lo)) * t o ≡ multiply t (count_from (min lo o) (max hi (o + 1) - min lo o))
@@ -139,7 +144,7 @@ module _ {lo hi c o : ℕ} (some : lo < hi) (most : hi ≤ c) (B : Beside lo hi 
       let k : lo + (hi - lo) ≡ o = omega (arith, e.0) in
       rw (wider_count, l, multiply_right t lo (hi - lo), k) refl)
       (λ e.
-      let l : min lo o ≡ o = omega arith in
-      let k : lo ≡ suc o = omega arith in
+      let l : min lo o ≡ o = omega (arith, e.0) in
+      let k : lo ≡ suc o = omega (arith, e.0) in
       rw (wider_count, l, multiply_left t o (hi - lo), k) (mul_comm _ _))
       B

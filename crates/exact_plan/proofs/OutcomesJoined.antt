@@ -73,6 +73,12 @@ pub record Spanned (m q : Bytes) (start a d : ℕ) (cone : List ℕ) (h s p k at
   pub written : Written (combined (lists m q start a d cone s p k (take h trail₀)) (count_from lo (hi - lo))) m q start cone h at trail₀ trail gains v buf₀ buf len
   pub whole : length buf ≡ length buf₀
 
+-- The same from an equal number on.
+pub span_from : {m q : Bytes} {start a d : ℕ} {cone : List ℕ} {h s p k at c : ℕ} {trail₀ buf₀ trail : List ℕ} {gains : List ℤ} {v buf : List ℕ} {lo from len : ℕ} (n : ℕ)
+    → lo ≡ from → Spanned m q start a d cone h s p k at c trail₀ buf₀ trail gains v buf from (from + n) len
+    → Spanned m q start a d cone h s p k at c trail₀ buf₀ trail gains v buf lo (lo + n) len
+span_from n e S = rw e S
+
 count_one : (k : ℕ) → count_from k 1 ≡ k ∷ []
 unfolding count_from
 count_one k = refl

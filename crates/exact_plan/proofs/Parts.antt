@@ -6,7 +6,7 @@ use native.Mathlib.Omega.{arith}
 use mathlib.Core.Path.{◌≡◌, refl, sym, ap, ◌∙◌}
 use mathlib.Core.List.{List, [], ◌∷◌, ◌++◌}
 use lib.ListN.{length, take, drop, get_or, length-drop, length-take}
-use lib.Seq.{get_or-drop, get_or-take, take-suc, take-take, length-take-le}
+use lib.Seq.{get_or-drop, get_or-take, take-suc}
 use Rattle.blocks.specs.Splice.{splice}
 use Rattle.blocks.proofs.Splice.{take_splice, drop_splice}
 use Rattle.exact_plan.specs.promises.Totals.{part}
@@ -41,11 +41,8 @@ pub part_more : (l : List ℕ) (p n : ℕ) → p + n < length l → part l p (n 
 unfolding part
 part_more l p n h = rw add-one (take-suc (drop p l) n 0 (simp length-drop (omega arith)) ∙ ap (λ v. take n (drop p l) ++ (v ∷ [])) (get_or-drop p l n 0))
 
--- ---- the rest of a list from a place on, as a part of a slice is
+-- ---- what stands between two places, as a part of a slice is
 
-pub rest_part : (l : List ℕ) (p n : ℕ) → p + n ≤ length l → take n (take (length l - p) (drop p l)) ≡ part l p n
+pub range_part : (l : List ℕ) (p n : ℕ) → take (p + n - p) (drop p l) ≡ part l p n
 unfolding part
-rest_part l p n h = take-take n (length l - p) (drop p l) (omega arith)
-
-pub rest_length : (l : List ℕ) (p n : ℕ) → p + n ≤ length l → n ≤ length (take (length l - p) (drop p l))
-rest_length l p n h = omega (arith, length-take-le (length l - p) (drop p l) (omega (arith, length-drop p l)))
+range_part l p n = let e : p + n - p ≡ n = omega arith in ap (λ j. take j (drop p l)) e

@@ -7,10 +7,11 @@ use native.Mathlib.Decide.{ℕ_discrete}
 use mathlib.Core.Path.{◌≡◌, refl, sym, ap, subst, ◌∙◌}
 use mathlib.Core.List.{List, [], ◌∷◌, ◌++◌, map, flat_map, append-nil, Memᴰ}
 use lib.ListN.{length, take, drop, get_or, length-map, take-append-drop}
-use lib.Seq.{take-suc, length-take-le, get_or-take}
+use lib.Seq.{take-suc, length-take-le}
 use Rattle.logic.proofs.Tests.{get_or_member, member_place}
 use Rattle.exact_plan.specs.promises.Totals.{grid}
-use Rattle.exact_plan.specs.promises.Listing.{First}
+use Rattle.std.specs.Prelude.{Option, None, Some}
+use Rattle.exact_plan.specs.promises.Listing.{First, Found}
 use Rattle.exact_plan.specs.promises.Search.{Between}
 use Rattle.exact_plan.proofs.Grid.{grid_append, length_grid}
 use Rattle.exact_plan.proofs.FirstPlace.{first_none, first_kept, first_more}
@@ -29,18 +30,15 @@ module _ (buf : List ℕ) where
       go (yes z) = rw z (omega arith, omega arith)
       go (no z) = let b = B j (omega arith) in (omega (arith, b.0), omega (arith, b.1))
 
-  pub bounded_between : (len : ℕ) {low high : ℕ} → len ≤ length buf → Bounded low high len → Between (take len buf) (record { low = low; high = high })
-  bounded_between len {low} {high} fits B =
+  pub bounded_between : {low high : ℕ} → Bounded low high (length buf) → Between buf (record { low = low; high = high })
+  bounded_between {low} {high} B =
       record {
         low = λ z u. let p = place z u in subst (λ y. low ≤ y) p.2 (B p.0 p.1).0;
         high = λ z u. let p = place z u in subst (λ y. y ≤ high) p.2 (B p.0 p.1).1;
       }
     where
-      place : (z : ℕ) → Memᴰ z (take len buf) → (i : ℕ) × (i < len) × (get_or buf i 0 ≡ z)
-      place z u =
-          let p = member_place u 0 in
-          let l : p.0 < len = omega (arith, p.1, length-take-le len buf fits) in
-          (p.0, l, sym (get_or-take len buf p.0 0 l) ∙ p.2)
+      place : (z : ℕ) → Memᴰ z buf → (i : ℕ) × (i < length buf) × (get_or buf i 0 ≡ z)
+      place z u = let p = member_place u 0 in (p.0, p.1, p.2)
 
 -- ---- one row
 
@@ -49,26 +47,32 @@ get_or_map f [] j h = absurd (omega arith)
 get_or_map f (z ∷ l) zero h = refl
 get_or_map f (z ∷ l) (suc j) h = get_or_map f l j (omega arith)
 
-module _ (y x : ℕ) (l : List ℕ) {r : ℕ} where
-  pub row_nowhere : r ≡ length l → ((z : ℕ) → Memᴰ z l → (y + z ≡ x → ⊥)) → First (map (λ z. y + z) l) x r
-  row_nowhere e h =
-      let n : length (map (λ z. y + z) l) ≡ length l = length-map l (λ z. y + z) in
+module _ (y x : ℕ) (l : List ℕ) where
+  row_length : length (map (λ z. y + z) l) ≡ length l
+  row_length = length-map l (λ z. y + z)
+
+  pub row_nowhere : ((z : ℕ) → Memᴰ z l → (y + z ≡ x → ⊥)) → Found (map (λ z. y + z) l) x None
+  row_nowhere h =
       record {
         few = omega arith;
         none_before = λ j k p.
-            let i : j < length l = omega arith in
+            let i : j < length l = omega (arith, row_length) in
             h (get_or l j 0) (get_or_member l j 0 i) (sym (get_or_map (λ z. y + z) l j i) ∙ p);
         there = λ k. absurd (omega arith);
       }
 
-  pub row_rest : y ≤ x → First l (x - y) r → First (map (λ z. y + z) l) x r
-  row_rest h F =
-      let n : length (map (λ z. y + z) l) ≡ length l = length-map l (λ z. y + z) in
+  row_rest : {r : ℕ} → y ≤ x → First l (x - y) r → First (map (λ z. y + z) l) x r
+  row_rest {r} h F =
       record {
-        few = omega (arith, F.few);
+        few = omega (arith, F.few, row_length);
         none_before = λ j k p. F.none_before j k (omega (arith, sym (get_or_map (λ z. y + z) l j (omega (arith, F.few))) ∙ p));
-        there = λ k. omega (arith, get_or_map (λ z. y + z) l r (omega arith), F.there (omega arith));
+        there = λ k. omega (arith, get_or_map (λ z. y + z) l r (omega (arith, row_length)), F.there (omega (arith, row_length)));
       }
+
+  -- Where the rest is found among the numbers, or nowhere.
+  pub row_of_rest : (o : Option ℕ) → y ≤ x → Found l (x - y) o → Found (map (λ z. y + z) l) x o
+  row_of_rest None h F = subst (First (map (λ z. y + z) l) x) (sym row_length) (row_rest h F)
+  row_of_rest (Some r) h F = (omega (arith, F.0, row_length), row_rest h F.1)
 
 -- ---- row after row
 
@@ -92,9 +96,9 @@ module _ (xs ys : List ℕ) (x : ℕ) {i j : ℕ} (h : i < length xs) (F : First
   unfolding rows
   rows_length = length_grid (take i xs) ys ∙ ap (λ n. n * length ys) (length-take-le i xs (omega arith))
 
-  row_length : length row ≡ length ys
+  row_size : length row ≡ length ys
   unfolding row
-  row_length = length-map ys (λ z. get_or xs i 0 + z)
+  row_size = length-map ys (λ z. get_or xs i 0 + z)
 
   next_rows : rows ++ row ≡ grid (take (i + 1) xs) ys
   unfolding rows row
@@ -124,5 +128,5 @@ module _ (xs ys : List ℕ) (x : ℕ) {i j : ℕ} (h : i < length xs) (F : First
   unfolding row
   row_passed l =
       let e : i * length ys + j ≡ (i + 1) * length ys =
-      omega (arith, J.few, row_length, ap (λ n. n * length ys) (add-one i) ∙ suc-mul i (length ys)) in
+      omega (arith, J.few, row_size, ap (λ n. n * length ys) (add-one i) ∙ suc-mul i (length ys)) in
       subst (First (grid (take (i + 1) xs) ys) x) e both

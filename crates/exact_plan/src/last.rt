@@ -60,12 +60,10 @@ fn by_lanes(m: &[u16; MODEL], table: &[u64; COUNTS], buf: &mut [u64], spot: Spot
     let more = power(denominator(m), k);
     let n = choices(m, s);
     let mut len: usize = 0;
-    let mut i: usize = 0;
-    while i < n {
+    for i in 0..n {
         let c = plans_below(m, table, s, i, k, outcomes(m, s, i)) as usize;
         fill(buf, spot.at + len, c, total(m, x, s, i) * more);
         len += c;
-        i += 1;
     }
     len
 }

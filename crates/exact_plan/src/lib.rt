@@ -19,7 +19,7 @@ use crate::last::marks;
 use crate::lists::{Spot, list};
 use crate::rooms::{in_room, stored};
 use evaluation::{PLACES, STEPS, TRUTHS, VALUES, learn};
-use limits::COUNTS;
+use limits::{COUNTS, plans_counted};
 use prepared_model::MODEL;
 use prepared_question::QUESTION;
 
@@ -97,6 +97,6 @@ pub fn first_equal(
         First (spec.totals (model_in m) l.n l.s (worth_of m q l.s l.a l.d cone)) x result }
 {
     let need = stored(m, table, l);
-    let p = in_room(m, q, truth, cone, table, l, x, 2, need);
-    p.place
+    let all = plans_counted(table, l.n, l.s as usize) as usize;
+    in_room(m, q, truth, cone, table, l, x, need).unwrap_or(all)
 }

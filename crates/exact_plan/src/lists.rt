@@ -44,8 +44,7 @@ pub struct Outcome {
 // A further outcome to combine a list of `len` totals with, on its right or on its left.
 #[derive(Clone, Copy)]
 pub struct Further {
-    i: usize,
-    o: usize,
+    to: Outcome,
     len: usize,
     right: bool,
 }
@@ -56,13 +55,11 @@ fn longest(m: &[u16; MODEL], table: &[u64; COUNTS], s: usize, i: usize, c: usize
     ensures { Longest m.now table.now s i c k result }
 {
     let mut best: usize = 0;
-    let mut o: usize = 1;
-    while o < c {
+    for o in 1..c {
         let n = plans_counted(table, k, target(m, s, i, o));
         if plans_counted(table, k, target(m, s, i, best)) < n {
             best = o;
         }
-        o += 1;
     }
     best
 }
@@ -83,10 +80,8 @@ pub fn plans_below(
         return 1;
     }
     let mut n: u64 = 1;
-    let mut o: usize = 0;
-    while o < c {
-        n = n * plans_counted(table, k, target(m, s, i, o));
-        o += 1;
+    for o in 0..c {
+        n *= plans_counted(table, k, target(m, s, i, o));
     }
     n
 }
@@ -94,21 +89,9 @@ pub fn plans_below(
 // The outcome to take next, beside those from lo to hi: on the right as long as there is one.
 fn beside(lo: usize, hi: usize, c: usize) -> usize
     requires { (lo < hi) × (hi ≤ c) × (hi - lo < c) }
-    ensures { ((result ≡ hi) × (hi < c)) ⊎ (result + 1 ≡ lo) }
+    ensures { ((result ≡ hi) × (hi < c)) ⊎ ((result + 1 ≡ lo) × (c ≤ hi)) }
 {
     if hi < c { hi } else { lo - 1 }
-}
-
-fn least(x: usize, y: usize) -> usize
-    ensures { result ≡ min x y }
-{
-    if y < x { y } else { x }
-}
-
-fn most(x: usize, y: usize) -> usize
-    ensures { result ≡ max x y }
-{
-    if x < y { y } else { x }
 }
 
 // The total of all plans from a spot where the worth of the paths is decided.
@@ -182,22 +165,16 @@ pub fn list(
     }
     let n = choices(m, spot.s as usize);
     let mut len: usize = 0;
-    let mut i: usize = 0;
-    while i < n {
+    for i in 0..n {
         let first = Spot {
-            start: spot.start,
-            a: spot.a,
-            d: spot.d,
-            h: spot.h,
-            s: spot.s,
             k: spot.k - 1,
             at: spot.at + len,
+            ..spot
         };
         let c = outcomes(m, spot.s as usize, i);
         len += combine(
             m, q, truth, cone, table, late, trail, gains, v, buf, first, i, c,
         );
-        i += 1;
     }
     len
 }
@@ -233,25 +210,23 @@ pub fn combine(
         spot.start cone spot.h spot.at trail trail' gains' v' buf buf' result }
 {
     let s = spot.s as usize;
-    let mut lo = longest(m, table, s, i, c, spot.k);
-    let mut hi = lo + 1;
-    let first = Outcome { i: i, o: lo };
+    let start = longest(m, table, s, i, c, spot.k);
+    let first = Outcome { i, o: start };
     let mut len = weighed_below(
         m, q, truth, cone, table, late, trail, gains, v, buf, spot, first,
     );
-    while hi - lo < c {
-        let o = beside(lo, hi, c);
+    for taken in 1..c {
+        // Those taken stand side by side: from the first on, or as many as are taken before the end.
+        let lo = start.min(c - taken);
+        let o = beside(lo, lo + taken, c);
         let more = Further {
-            i: i,
-            o: o,
-            len: len,
+            to: Outcome { i, o },
+            len,
             right: lo < o,
         };
         len = grown(
             m, q, truth, cone, table, late, trail, gains, v, buf, spot, more,
         );
-        lo = least(lo, o);
-        hi = most(hi, o + 1);
     }
     len
 }
@@ -274,41 +249,32 @@ fn grown(
 ) -> usize
     requires given { Given m.now q.now spot.start spot.a spot.d truth.now cone.now table.now }
     requires here { Here m.now q.now spot.start spot.d cone.now trail.old gains.old v.old spot.h spot.s (spot.k + 1)
-        × Offers m.now spot.s more.i more.o × Marked q.now cone.now late.now }
+        × Offers m.now spot.s more.to.i more.to.o × Marked q.now cone.now late.now }
     requires grows { Grows buf.old spot.at more.len
-        (plan_total (model_in m.now) spot.k (step_in m.now spot.s more.i more.o).target) spot.k }
+        (plan_total (model_in m.now) spot.k (step_in m.now spot.s more.to.i more.to.o).target) spot.k }
     ensures { let trail' = trail.exit.now in let gains' = gains.new in let v' = v.new in let buf' = buf.exit.now in
         let buf = buf.entry.now in let m = m.entry.now in let q = q.entry.now in let cone = cone.entry.now in
         let trail = trail.entry.now in
         let f = worth_on m q spot.start spot.a spot.d cone (take spot.h trail) in
         Written (joined more.right (part buf spot.at more.len)
-        (weighed (model_in m) spot.k f (step_in m spot.s more.i more.o)))
+        (weighed (model_in m) spot.k f (step_in m spot.s more.to.i more.to.o)))
         m q spot.start cone spot.h spot.at trail trail' gains' v' buf buf' result }
 {
     let s = spot.s as usize;
-    let n = plans_counted(table, spot.k, target(m, s, more.i, more.o)) as usize;
+    let n = plans_counted(table, spot.k, target(m, s, more.to.i, more.to.o)) as usize;
     let behind = Spot {
-        start: spot.start,
-        a: spot.a,
-        d: spot.d,
-        h: spot.h,
-        s: spot.s,
-        k: spot.k,
         at: spot.at + more.len * n,
-    };
-    let to = Outcome {
-        i: more.i,
-        o: more.o,
+        ..spot
     };
     below(
-        m, q, truth, cone, table, late, trail, gains, v, buf, behind, to,
+        m, q, truth, cone, table, late, trail, gains, v, buf, behind, more.to,
     );
     join(
         buf,
         spot.at,
         more.len,
         n,
-        weight(m, s, more.i, more.o),
+        weight(m, s, more.to.i, more.to.o),
         more.right,
     );
     more.len * n
@@ -387,13 +353,9 @@ fn below(
         m, q, truth, cone, trail, gains, v, here, to.i as u8, to.o as u8,
     );
     let on = Spot {
-        start: spot.start,
-        a: spot.a,
-        d: spot.d,
         h: spot.h + 1,
         s: t,
-        k: spot.k,
-        at: spot.at,
+        ..spot
     };
     list(m, q, truth, cone, table, late, trail, gains, v, buf, on)
 }

@@ -51,22 +51,19 @@ fn wins(y: u64, x: u64, best: Near, len: usize, above: bool) -> bool
     exceeds(y, best.total, above)
 }
 
-// The number nearest to x on this side of it, of the first `len`, at its first place.
-fn nearest_in(buf: &[u64], len: usize, x: u64, above: bool) -> Near
-    requires { len ≤ length buf.now }
-    ensures { NearestIn buf.now len len above x result }
+// The number of a list nearest to x on this side of it, at its first place.
+fn nearest_in(list: &[u64], x: u64, above: bool) -> Near
+    ensures { NearestIn list.now (length list.now) (length list.now) above x result }
 {
+    let len = list.len();
     let mut best = Near {
         place: len,
         total: 0,
     };
-    let mut i: usize = 0;
-    while i < len {
-        let y = buf[i];
-        if wins(y, x, best, len, above) {
-            best = Near { place: i, total: y };
+    for (place, y) in list.iter().enumerate() {
+        if wins(*y, x, best, len, above) {
+            best = Near { place, total: *y };
         }
-        i += 1;
     }
     best
 }
@@ -90,9 +87,30 @@ fn nearest_within(
 {
     let len = totals(m, q, truth, cone, table, buf, l);
     Neighbours {
-        below: nearest_in(buf, len, x, false),
-        above: nearest_in(buf, len, x, true),
+        below: nearest_in(&buf[..len], x, false),
+        above: nearest_in(&buf[..len], x, true),
     }
+}
+
+// `nearest` in a room of N numbers, which stands in this function's own frame, never in its caller's.
+#[inline(never)]
+fn nearest_in_room<const N: usize>(
+    m: &[u16; MODEL],
+    q: &[u8; QUESTION],
+    truth: &[u8; TRUTHS],
+    cone: &[u8],
+    table: &[u64; COUNTS],
+    l: Sought,
+    x: u64,
+) -> Neighbours
+    requires given { Given m.now q.now l.s l.a l.d truth.now cone.now table.now }
+    requires d_le_n { (l.d ≤ l.n) × (l.n ≤ 6) × (plan_total (model_in m.now) l.n l.s ≤ 65536)
+        × (plan_total (model_in m.now) l.n l.s + 282 ≤ N) × (N ≤ 65819) }
+    ensures { let m = m.entry.now in let q = q.entry.now in let cone = cone.entry.now in
+        Around (spec.totals (model_in m) l.n l.s (worth_of m q l.s l.a l.d cone)) x result }
+{
+    let mut buf = [0u64; N];
+    nearest_within(m, q, truth, cone, table, &mut buf, l, x)
 }
 
 // Of the totals of all plans, the nearest below x and the nearest that is not below it, so may be x, each at its first place in dictionary order of the
@@ -113,13 +131,10 @@ pub fn nearest(
 {
     let all = plans_counted(table, l.n, l.s as usize);
     if all <= FEW {
-        let mut buf = [0u64; FEW_ROOM];
-        return nearest_within(m, q, truth, cone, table, &mut buf, l, x);
+        return nearest_in_room::<FEW_ROOM>(m, q, truth, cone, table, l, x);
     }
     if all <= SOME {
-        let mut buf = [0u64; SOME_ROOM];
-        return nearest_within(m, q, truth, cone, table, &mut buf, l, x);
+        return nearest_in_room::<SOME_ROOM>(m, q, truth, cone, table, l, x);
     }
-    let mut buf = [0u64; ROOM];
-    nearest_within(m, q, truth, cone, table, &mut buf, l, x)
+    nearest_in_room::<ROOM>(m, q, truth, cone, table, l, x)
 }

@@ -1,16 +1,16 @@
 // The search for the first plan with a given total, in a lent buffer. The list of all totals is not stored: below each choice the sums of one total
 // below each outcome are searched, of which two lists are stored.
-ghost use Rattle.std.specs.Prelude.{◌≡◌, map, ◌+◌, ◌*◌, ◌^◌, ◌≤◌, ◌<◌, min, max, get_or, length, replicate, take};
+ghost use Rattle.std.specs.Prelude.{◌≡◌, ℕ, map, ◌+◌, ◌*◌, ◌^◌, ◌≤◌, ◌<◌, length, replicate, take};
 ghost use Rattle.logic.specs.Model.{outcomes};
 ghost use Rattle.logic.specs.Limits.{multiply, plan_total};
 ghost use Rattle.models.specs.Layout.{denominator_of};
 ghost use Rattle.prepared_model.specs.promises.Rows.{choices_in, choice_in, outcomes_in, model_in};
 ghost use Rattle.evaluation.specs.promises.Known.{Back};
 ghost use Rattle.evaluation.specs.promises.Worth.{worth_of, worth_on, worth_known};
-ghost use Rattle.exact_plan.specs.promises.Totals.{combined, weighed, grid, part};
+ghost use Rattle.exact_plan.specs.promises.Totals.{combined, weighed, grid};
 ghost use Rattle.exact_plan.specs.promises.Totals as spec;
 ghost use Rattle.exact_plan.specs.promises.Room.{Room};
-ghost use Rattle.exact_plan.specs.promises.Listing.{Given, Here, Written, Decides, First};
+ghost use Rattle.exact_plan.specs.promises.Listing.{Given, Here, Written, Decides, Found};
 ghost use Rattle.exact_plan.specs.promises.Last.{Marked};
 ghost use Rattle.exact_plan.specs.promises.Search.{Searched, Between, stored_at, Housed};
 
@@ -19,18 +19,16 @@ use crate::last::marks;
 use crate::lists::{Outcome, Spot, alike, combine, weighed_below};
 use crate::spread::fill;
 use evaluation::{PLACES, STEPS, TRUTHS, VALUES, learn};
-use limits::{COUNTS, plans_counted};
+use limits::COUNTS;
 use prepared_model::{MODEL, choices, outcomes};
 use prepared_question::QUESTION;
 use questions::NODES;
 
-// Where a total was sought among those of some plans: its first place, which is their number where it is not there; their number; and whether it
-// is there.
+// Where a total was sought among those of some plans: its first place, if it is there, and their number.
 #[derive(Clone, Copy)]
 pub struct Placed {
-    pub place: usize,
-    pub all: usize,
-    pub found: bool,
+    place: Option<usize>,
+    all: usize,
 }
 
 // Bounds of some numbers: the least and the greatest.
@@ -40,98 +38,55 @@ pub struct Ends {
     high: u64,
 }
 
-// The place of the first x among the first `len` numbers; where there is none, len.
-fn find(buf: &[u64], len: usize, x: u64) -> usize
-    requires { len ≤ length buf.now }
-    ensures { First (take len buf.now) x result }
+// The place of the first x in a list. It is never built into its caller: by itself its loop is short enough to run as fast wherever it is placed.
+#[inline(never)]
+fn find(list: &[u64], x: u64) -> Option<usize>
+    ensures { Found list.now x result }
 {
-    let mut i: usize = 0;
-    while i < len {
-        if buf[i] == x {
-            return i;
-        }
-        i += 1;
-    }
-    len
+    list.iter().position(|y| *y == x)
 }
 
-fn lesser(x: u64, y: u64) -> u64
-    ensures { result ≡ min x y }
+// The least and the greatest number of a list.
+fn ends_of(list: &[u64]) -> Ends
+    requires { 0 < length list.now }
+    ensures { Between list.now result }
 {
-    if y < x { y } else { x }
-}
-
-pub fn greater(x: u64, y: u64) -> u64
-    ensures { result ≡ max x y }
-{
-    if x < y { y } else { x }
-}
-
-// The least and the greatest of the first `len` numbers.
-fn ends_of(buf: &[u64], len: usize) -> Ends
-    requires { (0 < len) × (len ≤ length buf.now) }
-    ensures { Between (take len buf.now) result }
-{
-    let mut low = buf[0];
+    let mut low = list[0];
     let mut high = low;
-    let mut i: usize = 1;
-    while i < len {
-        low = lesser(low, buf[i]);
-        high = greater(high, buf[i]);
-        i += 1;
+    for y in list {
+        low = low.min(*y);
+        high = high.max(*y);
     }
-    Ends {
-        low: low,
-        high: high,
-    }
+    Ends { low, high }
 }
 
-// The place of the first of `len` numbers that makes x with y; where there is none, len. Few y come within the range of these numbers, and the
-// others are passed over.
-fn first_with(buf: &[u64], len: usize, e: Ends, y: u64, x: u64) -> usize
-    requires { (len ≤ length buf.now) × Between (take len buf.now) e }
-    ensures { First (map (λ z. y + z) (take len buf.now)) x result }
+// The place of the first number of a list that makes x with y. Few y come within the range of these numbers, and the others are passed over.
+fn first_with(list: &[u64], e: Ends, y: u64, x: u64) -> Option<usize>
+    requires { Between list.now e }
+    ensures { Found (map (λ z. y + z) list.now) x result }
 {
-    if x < y {
-        return len;
-    }
-    let z = x - y;
+    let z = x.checked_sub(y)?;
     if z < e.low {
-        return len;
+        return None;
     }
     if e.high < z {
-        return len;
+        return None;
     }
-    find(buf, len, z)
+    find(list, z)
 }
 
-// Where the first sum x of one of the `slow` numbers at `at` and one of the `fast` numbers behind them stands among all these sums, those of the
-// first list varying slowest.
-fn first_sum(buf: &[u64], at: usize, slow: usize, fast: usize, x: u64) -> Placed
-    requires { (0 < fast) × (at + slow + fast ≤ length buf.now) × (slow * fast ≤ 65536) }
-    ensures { let buf = buf.entry.now in
-        Searched (grid (part buf at slow) (part buf (at + slow) fast)) x result }
+// Where the first sum x of one number of each of two lists stands among all these sums, those of the first list varying slowest.
+fn first_sum(slow: &[u64], fast: &[u64], x: u64) -> Option<usize>
+    requires { (0 < length fast.now) × (length slow.now * length fast.now ≤ 65536) }
+    ensures { Found (grid slow.now fast.now) x result }
 {
-    let from = at + slow;
-    let e = ends_of(&buf[from..], fast);
-    let all = slow * fast;
-    let mut i: usize = 0;
-    while i < slow {
-        let j = first_with(&buf[from..], fast, e, buf[at + i], x);
-        if j < fast {
-            return Placed {
-                place: i * fast + j,
-                all: all,
-                found: true,
-            };
+    let e = ends_of(fast);
+    for (i, y) in slow.iter().enumerate() {
+        if let Some(j) = first_with(fast, e, *y, x) {
+            return Some(i * fast.len() + j);
         }
-        i += 1;
     }
-    Placed {
-        place: all,
-        all: all,
-        found: false,
-    }
+    None
 }
 
 // Writes the combined list of the first c outcomes of the choice at place i; of none it is the number 0 alone.
@@ -205,19 +160,19 @@ fn seek(
         m, q, truth, cone, table, late, trail, gains, v, buf, spot, i, last,
     );
     let behind = Spot {
-        start: spot.start,
-        a: spot.a,
-        d: spot.d,
-        h: spot.h,
-        s: spot.s,
-        k: spot.k,
         at: spot.at + slow,
+        ..spot
     };
-    let to = Outcome { i: i, o: last };
+    let to = Outcome { i, o: last };
     let fast = weighed_below(
         m, q, truth, cone, table, late, trail, gains, v, buf, behind, to,
     );
-    first_sum(buf, spot.at, slow, fast, x)
+    let end = behind.at + fast;
+    let place = first_sum(&buf[spot.at..behind.at], &buf[behind.at..end], x);
+    Placed {
+        place,
+        all: slow * fast,
+    }
 }
 
 // Where x stands among the totals of all plans from a spot with k + 1 steps to go: the choices are searched in order, until one has it.
@@ -234,7 +189,7 @@ fn by_choices(
     buf: &mut [u64],
     spot: Spot,
     x: u64,
-) -> Placed
+) -> Option<usize>
     requires given { Given m.now q.now spot.start spot.a spot.d truth.now cone.now table.now }
     requires here { Here m.now q.now spot.start spot.d cone.now trail.old gains.old v.old spot.h spot.s (spot.k + 1)
         × Marked q.now cone.now late.now }
@@ -242,64 +197,39 @@ fn by_choices(
         × ((i : _) → i < choices_in m.now spot.s → spot.at + stored_at m.now spot.s i spot.k + 282 ≤ length buf.old) }
     ensures { let m = m.entry.now in let q = q.entry.now in let cone = cone.entry.now in let trail = trail.entry.now in
         let f = worth_on m q spot.start spot.a spot.d cone (take spot.h trail) in
-        Searched (spec.totals (model_in m) (spot.k + 1) spot.s f) x result }
+        Found (spec.totals (model_in m) (spot.k + 1) spot.s f) x result }
 {
-    let s = spot.s as usize;
-    let all = plans_counted(table, spot.k + 1, s) as usize;
-    let n = choices(m, s);
+    let n = choices(m, spot.s as usize);
     let mut before: usize = 0;
-    let mut i: usize = 0;
-    while i < n {
+    for i in 0..n {
         let p = seek(
             m, q, truth, cone, table, late, trail, gains, v, buf, spot, i, x,
         );
-        if p.found {
-            return Placed {
-                place: before + p.place,
-                all: all,
-                found: true,
-            };
+        if let Some(place) = p.place {
+            return Some(before + place);
         }
         before += p.all;
-        i += 1;
     }
-    Placed {
-        place: before,
-        all: all,
-        found: false,
-    }
+    None
 }
 
-// Where x stands among the totals of all plans from a spot where the worth of the paths is decided: all are the same.
+// Where x stands among the totals of all plans from a spot where the worth of the paths is decided: all are the same, however many there are.
 fn at_once(
     m: &[u16; MODEL],
-    table: &[u64; COUNTS],
     cone: &[u8],
     gains: &[i32; PLACES],
     v: &[u8; VALUES],
     spot: Spot,
     x: u64,
-) -> Placed
-    requires decides { Decides m.now cone.now gains.now v.now spot.a spot.d spot.k }
-    requires s_bound { (spot.s < 32) × (0 < get_or table.now (32 * spot.k + spot.s) 0) }
-    ensures { let table = table.entry.now in let gains = gains.entry.now in let v = v.entry.now in let cone = cone.entry.now in
-        let m = m.entry.now in
-        Searched (replicate (get_or table (32 * spot.k + spot.s) 0)
-        (worth_known cone gains v spot.a spot.d * denominator_of m ^ spot.k)) x result }
+) -> Option<usize>
+    requires { Decides m.now cone.now gains.now v.now spot.a spot.d spot.k }
+    ensures { let gains = gains.entry.now in let v = v.entry.now in let cone = cone.entry.now in let m = m.entry.now in
+        ((n : ℕ) → 0 < n → Found (replicate n (worth_known cone gains v spot.a spot.d * denominator_of m ^ spot.k)) x result) }
 {
-    let all = plans_counted(table, spot.k, spot.s as usize) as usize;
     if alike(m, cone, gains, v, spot) == x {
-        return Placed {
-            place: 0,
-            all: all,
-            found: true,
-        };
+        return Some(0);
     }
-    Placed {
-        place: all,
-        all: all,
-        found: false,
-    }
+    None
 }
 
 // Where x stands among the totals of all plans, in a lent buffer, which has room for what is stored and for what is made beside it.
@@ -312,11 +242,11 @@ pub fn first_within(
     buf: &mut [u64],
     l: Sought,
     x: u64,
-) -> Placed
+) -> Option<usize>
     requires given { Given m.now q.now l.s l.a l.d truth.now cone.now table.now }
     requires housed { Housed m.now l.d l.n l.s (length buf.old) }
     ensures { let m = m.entry.now in let q = q.entry.now in let cone = cone.entry.now in
-        Searched (spec.totals (model_in m) l.n l.s (worth_of m q l.s l.a l.d cone)) x result }
+        Found (spec.totals (model_in m) l.n l.s (worth_of m q l.s l.a l.d cone)) x result }
 {
     let late = marks(q, cone);
     let mut trail = [0u16; STEPS];
@@ -333,7 +263,7 @@ pub fn first_within(
         at: 0,
     };
     if l.d == 0 {
-        return at_once(m, table, cone, &gains, &v, spot, x);
+        return at_once(m, cone, &gains, &v, spot, x);
     }
     spot.k = l.n - 1;
     by_choices(

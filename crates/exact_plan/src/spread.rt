@@ -9,10 +9,8 @@ pub fn shift(buf: &mut [u64], from: usize, to: usize, count: usize, w: u64, x: u
     requires { Shifts buf.old from to count w x }
     ensures { buf.new ≡ splice buf.old to (map (λ y. x + w * y) (part buf.old from count)) }
 {
-    let mut i: usize = 0;
-    while i < count {
+    for i in 0..count {
         buf[to + i] = x + w * buf[from + i];
-        i += 1;
     }
 }
 
@@ -32,9 +30,7 @@ pub fn spread(
     ensures { buf.new
         ≡ splice buf.old at (grid (map (λ x. v * x) (part buf.old slow n)) (map (λ y. w * y) (part buf.old fast c))) }
 {
-    let mut i = n;
-    while 0 < i {
-        i -= 1;
+    for i in (0..n).rev() {
         let x = v * buf[slow + i];
         shift(buf, fast, at + i * c, c, w, x);
     }
@@ -59,9 +55,5 @@ pub fn fill(buf: &mut [u64], at: usize, n: usize, x: u64)
     requires { at + n ≤ length buf.old }
     ensures { buf.new ≡ splice buf.old at (replicate n x) }
 {
-    let mut i: usize = 0;
-    while i < n {
-        buf[at + i] = x;
-        i += 1;
-    }
+    buf[at..at + n].fill(x);
 }

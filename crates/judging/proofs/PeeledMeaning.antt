@@ -8,6 +8,8 @@ use mathlib.Core.Bool.{Bool, true, false, ◌&&◌, false≢true}
 use mathlib.Core.List.{List, []}
 use lib.Dec.{eqb}
 use lib.ListN.{get_or}
+use Rattle.std.specs.Prelude.{Option, None, Some}
+use borrow.Author.Tests.{eq-eqb, ne_eqb}
 use Rattle.logic.specs.Model.{Model, Step}
 use Rattle.logic.specs.Formula.{Formula, both, depth, sat}
 use Rattle.logic.specs.Bound.{one_if}
@@ -23,7 +25,6 @@ use Rattle.prepared_question.specs.promises.Nodes.{formula, depth_in}
 use Rattle.evaluation.specs.promises.Reached.{Reached, itself, under_not, and_left, and_right, under_next}
 use Rattle.judging.specs.promises.Truth.{Told}
 use Rattle.judging.specs.promises.Conditions.{Stands, Same, Peels}
-use Rattle.judging.specs.declared.conditions.Peeled.{Peeled}
 
 -- ---- what is reached
 
@@ -135,36 +136,55 @@ module _ {m q truth : Bytes} {c s : ℕ} (h : Stands m q truth c s) (o : (node_o
 same_itself : {m q truth : Bytes} {c s : ℕ} → Stands m q truth c s → Same m q truth c s c
 same_itself h = record { stands = h; looks = refl; values = λ r. refl }
 
-pub peels_none : {q truth : Bytes} {c s : ℕ} → Peels q truth c s (record { dead = false; node = c })
-peels_none = record { never = λ m h e. absurd (false≢true e); left = λ m h e. same_itself h }
+pub peels_none : {q truth : Bytes} {c s : ℕ} → Peels q truth c s (Some c)
+peels_none {q} {truth} {c} {s} =
+    record {
+      never = λ m h e. absurd (let none : ⊥ = cc in none);
+      left = λ m h i e. subst (Same m q truth c s) (let same : c ≡ i = cc in same) (same_itself h);
+    }
 
 module _ {q truth : Bytes} {c s : ℕ} (o : (node_of q c).operator ≡ 4) where
   -- By the depths and the table of truth: i is the child that is read, j the other.
-  peels_by : (i j : ℕ) → ((m : Bytes) → Stands m q truth c s → i < node_count q)
-      → ((m : Bytes) → Stands m q truth c s → depth (formula q i) ≡ 0 → eqb (get_or truth (32 * i + s) 0) 0 ≡ true → (p : List Step) → value_of (model_in m) (formula q c) s p ≡ 0)
-      → ((m : Bytes) → Stands m q truth c s → depth (formula q i) ≡ 0 → eqb (get_or truth (32 * i + s) 0) 0 ≡ false → Same m q truth c s j)
-      → {a b x y z : ℕ} → a ≡ i → b ≡ j → z ≡ depth_in q a → z ≡ 0 → y ≡ 32 * a + s → x ≡ get_or truth y 0 → Peels q truth c s (record { dead = eqb x 0; node = b })
-  peels_by i j few never same {x = x} ea eb ez e0 ey ex =
-      record {
-        never = λ m h e. never m h (shallow m h) (sym there ∙ e);
-        left = λ m h e. subst (Same m q truth c s) (sym eb) (same m h (shallow m h) (sym there ∙ e));
-      }
-    where
-      there : eqb x 0 ≡ eqb (get_or truth (32 * i + s) 0) 0
-      there = ap (λ v. eqb v 0) (ex ∙ ap (λ k. get_or truth k 0) (ey ∙ ap (λ k. 32 * k + s) ea))
+  module _ (i j : ℕ) (few : (m : Bytes) → Stands m q truth c s → i < node_count q) {a x y z : ℕ} (ea : a ≡ i) (ez : z ≡ depth_in q a) (e0 : z ≡ 0)
+      (ey : y ≡ 32 * a + s) (ex : x ≡ get_or truth y 0) where
+    there : eqb x 0 ≡ eqb (get_or truth (32 * i + s) 0) 0
+    there = ap (λ v. eqb v 0) (ex ∙ ap (λ k. get_or truth k 0) (ey ∙ ap (λ k. 32 * k + s) ea))
 
-      shallow : (m : Bytes) → Stands m q truth c s → depth (formula q i) ≡ 0
-      shallow m h = sym (h.nodes.deep i (few m h)) ∙ ap (depth_in q) (sym ea) ∙ sym ez ∙ e0
+    shallow : (m : Bytes) → Stands m q truth c s → depth (formula q i) ≡ 0
+    shallow m h = sym (h.nodes.deep i (few m h)) ∙ ap (depth_in q) (sym ea) ∙ sym ez ∙ e0
 
-  pub peels_left : {a b x y z : ℕ} → a ≡ (node_of q c).left → b ≡ (node_of q c).right → z ≡ depth_in q a → z ≡ 0
-      → y ≡ 32 * a + s → x ≡ get_or truth y 0 → Peels q truth c s (record { dead = eqb x 0; node = b })
-  peels_left =
-      peels_by (node_of q c).left (node_of q c).right (λ m h. omega (arith, before_left h o, h.node)) (λ m h. left_never h o) (λ m h. left_same h o)
+    read_false : ((m : Bytes) → Stands m q truth c s → depth (formula q i) ≡ 0 → eqb (get_or truth (32 * i + s) 0) 0 ≡ true → (p : List Step) → value_of (model_in m) (formula q c) s p ≡ 0)
+        → x ≡ 0 → Peels q truth c s None
+    read_false never e =
+        record { never = λ m h _. never m h (shallow m h) (sym there ∙ eq-eqb x 0 e); left = λ m h k f. absurd (let none : ⊥ = cc in none) }
 
-  pub peels_right : {a b x y z : ℕ} → a ≡ (node_of q c).left → b ≡ (node_of q c).right → z ≡ depth_in q b → z ≡ 0
-      → y ≡ 32 * b + s → x ≡ get_or truth y 0 → Peels q truth c s (record { dead = eqb x 0; node = a })
-  peels_right ea eb =
-      peels_by (node_of q c).right (node_of q c).left (λ m h. omega (arith, before_right h o, h.node)) (λ m h. right_never h o) (λ m h. right_same h o) eb ea
+    read_true : ((m : Bytes) → Stands m q truth c s → depth (formula q i) ≡ 0 → eqb (get_or truth (32 * i + s) 0) 0 ≡ false → Same m q truth c s j)
+        → {b : ℕ} → b ≡ j → (x ≡ 0 → ⊥) → Peels q truth c s (Some b)
+    read_true same {b} eb e =
+        record {
+          never = λ m h f. absurd (let none : ⊥ = cc in none);
+          left = λ m h k f. subst (Same m q truth c s) (let g : j ≡ k = cc in g) (same m h (shallow m h) (sym there ∙ ne_eqb x 0 e));
+        }
+
+  module _ {a b x y z : ℕ} (ea : a ≡ (node_of q c).left) (eb : b ≡ (node_of q c).right) (ez : z ≡ depth_in q a) (e0 : z ≡ 0)
+      (ey : y ≡ 32 * a + s) (ex : x ≡ get_or truth y 0) where
+    pub left_false : x ≡ 0 → Peels q truth c s None
+    left_false =
+        read_false (node_of q c).left (node_of q c).right (λ m h. omega (arith, before_left h o, h.node)) ea ez e0 ey ex (λ m h. left_never h o)
+
+    pub left_true : (x ≡ 0 → ⊥) → Peels q truth c s (Some b)
+    left_true =
+        read_true (node_of q c).left (node_of q c).right (λ m h. omega (arith, before_left h o, h.node)) ea ez e0 ey ex (λ m h. left_same h o) eb
+
+  module _ {a b x y z : ℕ} (ea : a ≡ (node_of q c).left) (eb : b ≡ (node_of q c).right) (ez : z ≡ depth_in q b) (e0 : z ≡ 0)
+      (ey : y ≡ 32 * b + s) (ex : x ≡ get_or truth y 0) where
+    pub right_false : x ≡ 0 → Peels q truth c s None
+    right_false =
+        read_false (node_of q c).right (node_of q c).left (λ m h. omega (arith, before_right h o, h.node)) eb ez e0 ey ex (λ m h. right_never h o)
+
+    pub right_true : (x ≡ 0 → ⊥) → Peels q truth c s (Some a)
+    right_true =
+        read_true (node_of q c).right (node_of q c).left (λ m h. omega (arith, before_right h o, h.node)) eb ez e0 ey ex (λ m h. right_same h o) ea
 
 -- ---- one after the other
 
@@ -178,12 +198,12 @@ alike_itself = record { same = λ m h. same_itself h }
 same_on : {m q truth : Bytes} {c s i j : ℕ} → Same m q truth c s i → Same m q truth i s j → Same m q truth c s j
 same_on x y = record { stands = y.stands; looks = y.looks ∙ x.looks; values = λ r. y.values r ∙ x.values r }
 
-pub alike_on : {q truth : Bytes} {c s i : ℕ} {r : Peeled} → Alike q truth c s i → Peels q truth i s r → r.dead ≡ false → Alike q truth c s r.node
-alike_on x p e = record { same = λ m h. let y = x.same m h in same_on y (p.left m y.stands e) }
+pub alike_on : {q truth : Bytes} {c s i j : ℕ} {r : Option ℕ} → Alike q truth c s i → Peels q truth i s r → r ≡ Some j → Alike q truth c s j
+alike_on {j = j} x p e = record { same = λ m h. let y = x.same m h in same_on y (p.left m y.stands j e) }
 
-pub peels_on : {q truth : Bytes} {c s i : ℕ} {r : Peeled} → Alike q truth c s i → Peels q truth i s r → Peels q truth c s r
+pub peels_on : {q truth : Bytes} {c s i : ℕ} {r : Option ℕ} → Alike q truth c s i → Peels q truth i s r → Peels q truth c s r
 peels_on x p =
     record {
       never = λ m h e t. let y = x.same m h in sym (y.values t) ∙ p.never m y.stands e t;
-      left = λ m h e. let y = x.same m h in same_on y (p.left m y.stands e);
+      left = λ m h j e. let y = x.same m h in same_on y (p.left m y.stands j e);
     }

@@ -51,7 +51,7 @@ use Rattle.relevance.specs.promises.Need.{Given}
 use Rattle.judging.specs.promises.Truth.{Supplied}
 use Rattle.judging.specs.promises.Worths.{Looks}
 use Rattle.judging.specs.declared.plans.Decision.{Decision}
-use Rattle.judging.specs.declared.conditions.Peeled.{Peeled}
+use Rattle.std.specs.Prelude.{Option, None, Some}
 use Rattle.judging.specs.promises.Decided as decided
 use Rattle.judging.specs.promises.Decided.{condition, raised_at, best_raised, best_node, best, Posed, Lengthened, Led}
 use Rattle.judging.specs.promises.Conditions.{Stands, Same, Peels, best_total, Searched}
@@ -201,24 +201,24 @@ module _ {m q : Bytes} {truth : List ℕ} {j s : ℕ} (given : Given m q) (posed
     truth_there f l g =
         g ∙ ap (λ w. meets_at m q j (lowered m q j w)) (best_lengthened b o posed.state (eqb (node_of q j).right 1) f l) ∙ led_truth b s posed.state e
 
-    pub false_condition_truth : {r : Peeled} {t : Bool} → Peels q truth c s r → r.dead ≡ true → t ≡ meets_at m q j (lowered m q j 0) → t ≡ sat (model_in m) (formula q j) s []
+    pub false_condition_truth : {r : Option ℕ} {t : Bool} → Peels q truth c s r → r ≡ None → t ≡ meets_at m q j (lowered m q j 0) → t ≡ sat (model_in m) (formula q j) s []
     false_condition_truth p d f =
         truth_there {v = 0}
         (sym (ap (λ c. best_total m q c s (eqb (node_of q j).right 1)) (sym top)
         ∙ never_best m q c s (eqb (node_of q j).right 1) (p.never m (condition_stands top) d)))
         (record { weighs = sym (mul-zero ((model_in m).denominator ^ ((node_of q j).n - depth (condition q j)))); small = omega arith }) f
 
-    module _ {r : Peeled} (p : Peels q truth c s r) (d : r.dead ≡ false) where
-      left_there : Same m q truth c s r.node
-      left_there = p.left m (condition_stands top) d
+    module _ {r : Option ℕ} (p : Peels q truth c s r) {i : ℕ} (d : r ≡ Some i) where
+      left_there : Same m q truth c s i
+      left_there = p.left m (condition_stands top) i d
 
-      pub peeled_stands : Stands m q truth r.node s
+      pub peeled_stands : Stands m q truth i s
       peeled_stands = left_there.stands
 
-      pub peeled_few_steps : depth (formula q r.node) ≤ 6
+      pub peeled_few_steps : depth (formula q i) ≤ 6
       peeled_few_steps = omega (arith, left_there.looks, condition_few_steps top)
 
-      module _ {least : Bool} {v : ℕ} (same : least ≡ eqb (node_of q j).right 1) (f : v ≡ best_total m q r.node s least) where
+      module _ {least : Bool} {v : ℕ} (same : least ≡ eqb (node_of q j).right 1) (f : v ≡ best_total m q i s least) where
         left_total : v ≡ best_total m q (node_of q j).left s (eqb (node_of q j).right 1)
         left_total = f ∙ same_best least left_there ∙ total_there top same
 

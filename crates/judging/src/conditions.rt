@@ -14,56 +14,43 @@ use prepared_question::{DEPTHS, QUESTION, depth};
 use questions::{AND, NODES};
 use relevance::{cone, place};
 
-// What is left of a condition in a state: nothing where it is false on every path, else a node that means the same there.
-#[derive(Clone, Copy)]
-pub struct Peeled {
-    pub dead: bool,
-    pub node: u8,
-}
-
-// Takes one state formula off c, where c is "and" of one and another node. It asks nothing of its numbers, so it reads them with a test.
-fn peel_one(q: &[u8; QUESTION], truth: &[u8; TRUTHS], c: u8, s: u8) -> Peeled
+// Takes one state formula off c, where c is "and" of one and another node; where that formula is false nothing is left. It asks nothing of its
+// numbers, so it reads them with a test.
+fn peel_one(q: &[u8; QUESTION], truth: &[u8; TRUTHS], c: u8, s: u8) -> Option<u8>
     ensures { Peels q.now truth.now c s result }
 {
     if questions::operator(q, c) != AND {
-        return Peeled {
-            dead: false,
-            node: c,
-        };
+        return Some(c);
     }
     let a = questions::left(q, c);
     let b = questions::right(q, c);
     if byte(q, DEPTHS + a as usize) == 0 {
-        let x = byte(truth, place(a, s));
-        return Peeled {
-            dead: x == 0,
-            node: b,
-        };
+        if byte(truth, place(a, s)) == 0 {
+            return None;
+        }
+        return Some(b);
     }
     if byte(q, DEPTHS + b as usize) == 0 {
-        let x = byte(truth, place(b, s));
-        return Peeled {
-            dead: x == 0,
-            node: a,
-        };
+        if byte(truth, place(b, s)) == 0 {
+            return None;
+        }
+        return Some(a);
     }
-    Peeled {
-        dead: false,
-        node: c,
-    }
+    Some(c)
 }
 
-// Takes all state formulas off c that it joins.
-pub fn peel(q: &[u8; QUESTION], truth: &[u8; TRUTHS], c: u8, s: u8) -> Peeled
+// Takes all state formulas off c that it joins: nothing is left where c is false on every path, else a node that means the same in s.
+pub fn peel(q: &[u8; QUESTION], truth: &[u8; TRUTHS], c: u8, s: u8) -> Option<u8>
     ensures { Peels q.now truth.now c s result }
 {
     let mut at = c;
-    let mut r = peel_one(q, truth, at, s);
-    while !r.dead && r.node < at {
-        at = r.node;
-        r = peel_one(q, truth, at, s);
+    loop {
+        let node = peel_one(q, truth, at, s)?;
+        if at <= node {
+            return Some(node);
+        }
+        at = node;
     }
-    r
 }
 
 // Searches for the plan of greatest total, or of least, as deep as condition c looks.

@@ -42,7 +42,8 @@ use prepared_question::{QUESTION, asks_equal, count, operator, start, steps};
 use questions::{NODES, sets_bound};
 use relevance::needed;
 
-// The numbers of a table of best totals: by condition and state, the greatest and the least.
+// The numbers of a table of best totals: by condition and state, the greatest and the least. Each is one more than the total, and 0 where none is
+// known yet: as an Option<u64> it would take twice the memory, 20 KiB more of the stack.
 const BESTS: usize = 2560;
 
 // What goes with a no: for "equal" the number of all plans, else 0; for "less" and "greater" how the least or greatest total compares with the bound.
@@ -88,10 +89,10 @@ fn with_plan(total: i64, lamp: Lamp, steps: u8, count: u32) -> Verdict
     ensures { result ≡ YesPlan (record { total = total; lamp = lamp; steps = steps; count = count }) }
 {
     Verdict::YesPlan(PlanRecord {
-        total: total,
-        lamp: lamp,
+        total,
+        lamp,
         steps: steps as u32,
-        count: count,
+        count,
     })
 }
 
@@ -105,13 +106,13 @@ fn deny(m: &[u16; MODEL], q: &[u8; QUESTION], j: u8, r: Decision) -> Verdict
     let count = r.place as u32;
     if asks_equal(q, j) {
         return Verdict::No(Denial {
-            count: count,
+            count,
             lamp: None,
         });
     }
     let best = lamp_of(m, q, j, r.raised);
     Verdict::No(Denial {
-        count: count,
+        count,
         lamp: Some(best),
     })
 }

@@ -65,7 +65,7 @@ fn led(
     let raised = over_all_steps(m, q, j, r.value);
     Decision {
         met: meets(m, q, j, raised),
-        raised: raised,
+        raised,
         place: 0,
         given: depth(q, c),
     }
@@ -89,7 +89,7 @@ fn gain_led(
     let raised = best[STATES * steps(q, j) as usize + s as usize];
     Decision {
         met: meets(m, q, j, raised),
-        raised: raised,
+        raised,
         place: 0,
         given: 0,
     }
@@ -110,11 +110,9 @@ fn plan_led(
     ensures value { result ≡ sat (model_in m.now) (formula q.now j) s [] }
     ensures frame { Remembers m.now q.now memo.new }
 {
-    let rest = peel(q, truth, left(q, j), s);
-    let c = rest.node;
-    if rest.dead {
+    let Some(c) = peel(q, truth, left(q, j), s) else {
         return meets(m, q, j, 0);
-    }
+    };
     let least = asks_less(q, j);
     let x = best_value(m, q, truth, scratch, memo, c, s, least);
     meets(m, q, j, over_all_steps(m, q, j, x))
@@ -148,16 +146,16 @@ fn first(
     let mut nodes = [0u8; NODES];
     let w = worth_of(m, q, j, &mut nodes);
     let l = Sought {
-        s: s,
+        s,
         a: w.before,
         d: w.last,
-        n: n,
+        n,
     };
     let place = first_equal(m, q, truth, &nodes[..w.count], counts, l, total);
     Decision {
         met: place < all,
         raised: total,
-        place: place,
+        place,
         given: 0,
     }
 }

@@ -123,12 +123,10 @@ fn by_state(
     requires rows { Rows m.now q.now need.now truth.old scratch.old memo.old j }
     ensures { Rows m.now q.now need.now truth.new scratch.new memo.new (j + 1) }
 {
-    let end = place(j, 0) + STATES;
-    let mut k = place(j, 0);
-    while k < end {
+    let row = place(j, 0);
+    for k in row..row + STATES {
         let x = truth_if(m, q, counts, need, truth, scratch, memo, k);
         truth[k] = x;
-        k += 1;
     }
 }
 
@@ -141,10 +139,8 @@ fn by_table(m: &[u16; MODEL], q: &[u8; QUESTION], truth: &mut [u8; TRUTHS], j: u
     let best = best_gains(m, window(m, q, j), asks_less(q, j), &mut places);
     let at = STATES * steps(q, j) as usize;
     let count = states(m);
-    let mut s: usize = 0;
-    while s < count {
+    for s in 0..count {
         truth[STATES * j as usize + s] = bit(meets(m, q, j, best[at + s]));
-        s += 1;
     }
 }
 
@@ -187,10 +183,8 @@ pub fn truth_table(
     let mut scratch = [0u8; STACK];
     let mut memo = [0u64; BESTS];
     let mut truth = [0u8; TRUTHS];
-    let mut j: u8 = 0;
-    while j < end {
+    for j in 0..end {
         node_truth(m, q, counts, need, &mut truth, &mut scratch, &mut memo, j);
-        j += 1;
     }
     truth
 }

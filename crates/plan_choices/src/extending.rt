@@ -38,13 +38,6 @@ fn choice(
     byte(src, from)
 }
 
-// One choice is read while there are steps to read.
-fn taken(d: usize) -> usize
-    ensures { result ≡ min 1 d }
-{
-    if d == 0 { 0 } else { 1 }
-}
-
 // Writes the choices of n steps from s, of which d are read: the choice in s, then those below each of its outcomes. The two places stand
 // apart: side by side they are handed on as one word right after its halves were written, and the processor waits for that.
 fn extend_from(
@@ -65,21 +58,19 @@ fn extend_from(
         Ran (spec.extend (model_in m) (by_place m places) d n s (drop from src)) (most_choices n) src from result.from dst dst' at result.at }
 {
     if n == 0 {
-        return Cursor { from: from, at: at };
+        return Cursor { from, at };
     }
     let a = choice(m, places, src, from, s, d, n);
     dst[at] = a;
-    let k = taken(d);
+    let k = d.min(1);
     let row = prepared_model::row_of(m, s, a);
     let mut next = Cursor {
         from: from + k,
         at: at + 1,
     };
-    let mut o: usize = 0;
-    while o < row.count {
+    for o in 0..row.count {
         let t = prepared_model::target(m, s, row.at, o);
         next = extend_from(m, places, src, next.from, dst, next.at, t, d - k, n - 1);
-        o += 1;
     }
     next
 }

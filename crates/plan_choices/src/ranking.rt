@@ -30,11 +30,9 @@ fn ways(m: &[u16; MODEL], counts: &[u64; COUNTS], s: usize, i: usize, n: u8) -> 
 {
     let c = prepared_model::outcomes(m, s, i);
     let mut size: u64 = 1;
-    let mut o: usize = 0;
-    while o < c {
+    for o in 0..c {
         let t = prepared_model::target(m, s, i, o);
-        size = size * plans_counted(counts, n, t);
-        o += 1;
+        size *= plans_counted(counts, n, t);
     }
     size
 }
@@ -49,18 +47,16 @@ fn block_of(m: &[u16; MODEL], counts: &[u64; COUNTS], s: usize, n: u8, i: u64) -
 {
     let c = prepared_model::choices(m, s);
     let mut rest = i;
-    let mut a: usize = 0;
-    while a < c {
-        let size = ways(m, counts, s, a, n);
+    for at in 0..c {
+        let size = ways(m, counts, s, at, n);
         if rest < size {
             return Block {
-                at: a,
-                size: size,
+                at,
+                size,
                 place: rest,
             };
         }
         rest -= size;
-        a += 1;
     }
     // Not reached: there are more than i plans.
     Block {
@@ -97,13 +93,11 @@ fn nth_from(
     let mut size = b.size;
     let mut rest = b.place;
     let mut next = at + 1;
-    let mut o: usize = 0;
-    while o < c {
+    for o in 0..c {
         let t = prepared_model::target(m, s, b.at, o);
-        size = size / plans_counted(counts, k, t);
+        size /= plans_counted(counts, k, t);
         next = nth_from(m, counts, choices, t, k, rest / size, next);
-        rest = rest % size;
-        o += 1;
+        rest %= size;
     }
     next
 }

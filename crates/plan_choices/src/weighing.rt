@@ -44,10 +44,7 @@ fn after(choices: &[u8], at: usize) -> usize
     ensures { let choices = choices.entry.now in
         (result ≤ length choices) × (drop result choices ≡ drop 1 (drop at choices)) }
 {
-    if at < choices.len() {
-        return at + 1;
-    }
-    at
+    (at + 1).min(choices.len())
 }
 
 // A sum with the weight of an outcome times x.
@@ -90,8 +87,7 @@ fn weigh_from(
     let i = row.at as u8;
     let mut sum: u64 = 0;
     let mut next = after(choices, spot.at);
-    let mut o: usize = 0;
-    while o < row.count {
+    for o in 0..row.count {
         let here = Place {
             start: spot.start,
             h: spot.h,
@@ -99,23 +95,17 @@ fn weigh_from(
         };
         let t = step(m, q, truth, cone, trail, gains, v, here, i, o as u8);
         let on = Spot {
-            start: spot.start,
-            a: spot.a,
-            d: spot.d,
             h: spot.h + 1,
             s: t,
             k: spot.k - 1,
             at: next,
+            ..spot
         };
         let r = weigh_from(m, q, truth, cone, choices, trail, gains, v, on);
         sum = plus(m, spot.s, row.at, o, sum, r.value);
         next = r.next;
-        o += 1;
     }
-    Part {
-        value: sum,
-        next: next,
-    }
+    Part { value: sum, next }
 }
 
 // The total of the plan with these choices: what the paths that it allows are worth, weighed and summed. A path is worth the value of the
@@ -143,9 +133,9 @@ pub fn plan_weight(
     let mut v = [0u8; VALUES];
     learn(q, truth, &trail, &gains, cone, &mut v, 0, start);
     let spot = Spot {
-        start: start,
-        a: a,
-        d: d,
+        start,
+        a,
+        d,
         h: 0,
         s: start,
         k: n,

@@ -416,7 +416,7 @@ pub fn accept_question(b: &[u8], states: usize, actions: usize, props: usize) ->
     if !blocks::sums_right(b) {
         return Err(Refusal::WordSum);
     }
-    if !blocks::headed(b, 0, blocks::KIND_QUESTION, 0) {
+    if !blocks::headed(b, 0, blocks::Kind::Question, 0) {
         return Err(Refusal::Heading);
     }
     if !counts_right(b, states) {

@@ -12,7 +12,7 @@ ghost use Rattle.sheets.specs.Grounds.{head_right, count_right, weight_right, sp
 ghost use Rattle.sheets.specs.promises.Reader.{Blocks, Gathered};
 
 use blocks::buffers::copy;
-use blocks::{BLOCK, KIND_SHEET, LAST_WORD};
+use blocks::{BLOCK, Kind, LAST_WORD};
 use refusals::Refusal;
 
 pub mod plans;
@@ -129,7 +129,7 @@ fn headings_right(b: &[u8]) -> bool
     requires { length b.now / 512 ≤ 3 }
     ensures { result ≡ every (block_count b.now) (λ k. headed b.now k 4 k) }
 {
-    (0..b.len() / BLOCK).all(|k| blocks::headed(b, k, KIND_SHEET, k))
+    (0..b.len() / BLOCK).all(|k| blocks::headed(b, k, Kind::Sheet, k))
 }
 
 // Ground 4.

@@ -14,18 +14,15 @@ use crate::{
     CHOICES_AT, CHOICES_END, COUNT_AT, IN_BLOCK, START_AT, STEPS_AT, WEIGHT_AT, blocks_for,
 };
 use blocks::buffers::{clear, put_number, store};
-use blocks::{BLOCK, NUMBER_AT, bits_of, seal};
+use blocks::{BLOCK, Kind, NUMBER_AT, bits_of, seal};
 use models::choices::{outcome_count, outcome_target};
-
-// The kind of a sheet's blocks, as it is stored.
-const KIND: u8 = 4;
 
 // The first bytes of block k, which is zero as yet.
 fn head(dst: &mut [u8], k: u8, n: u8, start: u8)
     requires { (length dst.old ≡ 512) × (dst.old ≡ replicate (length dst.old) 0) }
     ensures { dst.new ≡ started n start k }
 {
-    dst[0] = KIND;
+    dst[0] = Kind::Sheet as u8;
     dst[NUMBER_AT] = k;
     dst[STEPS_AT] = n;
     dst[START_AT] = start;

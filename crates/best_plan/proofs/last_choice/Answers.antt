@@ -18,32 +18,29 @@ total-value-requires c = let S = c in
 pub loop-i-init : goal.loop-i-init
 loop-i-init c = let S = c in
     let some = some_choice S.requires.0 S.args.s S.requires.1 in
-    (c.choices-n.ensures, omega (arith, c.choices-n.ensures), ending_first S.args.least S.requires.0 S.requires.1 some c.total-value.ensures)
+    ending_first S.args.least S.requires.0 S.requires.1 some c.total-value.ensures
 
 pub total-v-requires : goal.total-v-requires
 total-v-requires c = let S = c in
-    (S.requires.0, S.requires.1, omega (arith, c.loop-i.invariant.0, c.loop-i-test.true))
+    (S.requires.0, S.requires.1, omega arith)
 
 pub loop-i-preserved : goal.loop-i-preserved
 loop-i-preserved c = let S = c in
     let L = c.loop-i in
-    let l : L.i < choices_in S.args.m.now S.args.s = omega (arith, L.invariant.0, c.loop-i-test.true) in
+    let l : L.i < choices_in S.args.m.now S.args.s = omega arith in
     let v = c.total-v.ensures in
-    let e = sym c.exceeds.ensures in (
-      L.invariant.0,
-      omega (arith, c.loop-i-test.true),
-      elim c.if-exceeds.branch [
-        | then-exceeds w ↦ rw (w.value-is, w.place-is) (ending_won S.args.least S.requires.0 S.requires.1 L.invariant.2 l v (e ∙ w.if-exceeds.true))
-        | else-exceeds w ↦ rw (w.value-is, w.place-is) (ending_lost S.args.least S.requires.0 S.requires.1 L.invariant.2 l v (e ∙ w.if-exceeds.false))
-      ],
-    )
+    let e = sym c.exceeds.ensures in
+    elim c.if-exceeds.branch [
+      | then-exceeds w ↦ rw (w.value-is, w.place-is) (ending_won S.args.least S.requires.0 S.requires.1 L.invariant l v (e ∙ w.if-exceeds.true))
+      | else-exceeds w ↦ rw (w.value-is, w.place-is) (ending_lost S.args.least S.requires.0 S.requires.1 L.invariant l v (e ∙ w.if-exceeds.false))
+    ]
 
 pub choice-requires : goal.choice-requires
 choice-requires c = let S = c in
     let L = c.loop-i in
-    (S.requires.0, S.requires.1, omega (arith, L.invariant.0, L.invariant.1, L.invariant.2.inside))
+    (S.requires.0, S.requires.1, omega (arith, L.invariant.inside, some_choice S.requires.0 S.args.s S.requires.1))
 
 pub returns : goal.returns
 returns c = let S = c in
     let L = c.loop-i in
-    rw c.choice.ensures (ending_all S.args.least S.requires.0 S.requires.1 L.invariant.2 (omega (arith, L.invariant.0, L.invariant.1, c.loop-i-test.false)) (omega (arith, S.requires.2)))
+    rw c.choice.ensures (ending_all S.args.least S.requires.0 S.requires.1 L.invariant (omega (arith, some_choice S.requires.0 S.args.s S.requires.1)) (omega (arith, S.requires.2)))

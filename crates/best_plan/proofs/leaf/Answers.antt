@@ -4,4 +4,4 @@ use Rattle.evaluation.specs.promises.Learnt.{known}
 use Rattle.best_plan.proofs.leaf.Goals as goal
 
 pub returns : goal.returns
-returns c = (c.known.ensures ∙ ap (λ j. known c.args.v.now j 0) c.root.ensures, refl)
+returns c = (c.from.ensures ∙ c.known.ensures ∙ ap (λ j. known c.args.v.now j 0) c.root.ensures, refl)

@@ -1,5 +1,5 @@
 -- What making the list of totals is handed, and what it promises.
-use Rattle.std.specs.Prelude.{ℕ, ◌+◌, ◌*◌, ◌^◌, ◌≤◌, ◌<◌, ◌≡◌, ℤ, get_or, length, take}
+use Rattle.std.specs.Prelude.{ℕ, ◌+◌, ◌*◌, ◌^◌, ◌≤◌, ◌<◌, ◌≡◌, ℤ, Option, None, Some, get_or, length, take}
 use mathlib.Core.List.{List, ◌++◌, Memᴰ}
 use Rattle.logic.specs.Formula.{depth}
 use Rattle.logic.specs.Limits.{plan_total}
@@ -72,3 +72,8 @@ pub record First (l : List ℕ) (x r : ℕ) : Type 0 where
   pub few : r ≤ length l
   pub none_before : (j : ℕ) → j < r → (get_or l j 0 ≡ x → ⊥)
   pub there : r < length l → get_or l r 0 ≡ x
+
+-- The first place of x in the list, if it is there.
+abbrev pub Found : List ℕ → ℕ → Option ℕ → Type 0
+Found l x None = First l x (length l)
+Found l x (Some r) = (r < length l) × First l x r

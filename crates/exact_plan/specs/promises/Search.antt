@@ -1,5 +1,5 @@
 -- What the search for a total is handed, and what it promises.
-use Rattle.std.specs.Prelude.{ℕ, ◌+◌, ◌-◌, ◌≤◌, ◌<◌, ◌≡◌, ltb, length}
+use Rattle.std.specs.Prelude.{ℕ, ◌+◌, ◌-◌, ◌≤◌, ◌<◌, ◌≡◌, length}
 use mathlib.Core.List.{List, Memᴰ}
 use Rattle.logic.specs.Lists.{count_from}
 use Rattle.logic.specs.Limits.{multiply, plan_total}
@@ -8,13 +8,12 @@ use Rattle.models.specs.Layout.{state_count}
 use Rattle.prepared_model.specs.promises.Rows.{choices_in, outcomes_in, step_in, model_in, Prepared}
 use Rattle.exact_plan.specs.declared.search.Ends.{Ends}
 use Rattle.exact_plan.specs.declared.search.Placed.{Placed}
-use Rattle.exact_plan.specs.promises.Listing.{Counts, First}
+use Rattle.exact_plan.specs.promises.Listing.{Counts, Found}
 
--- A number was sought in a list: its first place, the list's length, and whether it is there.
+-- A number was sought in a list: its first place, if it is there, and the list's length.
 pub record Searched (l : List ℕ) (x : ℕ) (r : Placed) : Type 0 where
-  pub first : First l x r.place
+  pub place : Found l x r.place
   pub all : r.all ≡ length l
-  pub found : r.found ≡ ltb r.place r.all
 
 -- The numbers of a list lie between these.
 pub record Between (l : List ℕ) (e : Ends) : Type 0 where

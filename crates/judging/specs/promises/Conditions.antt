@@ -1,5 +1,5 @@
 -- Conditions in a state: what is left of one when the state formulas that it joins are read there, and the best totals that searches found.
-use Rattle.std.specs.Prelude.{ℕ, ◌+◌, ◌*◌, ◌<◌, ◌≡◌, Bool, true, false, List, get_or, length, take}
+use Rattle.std.specs.Prelude.{ℕ, ◌+◌, ◌*◌, ◌<◌, ◌≡◌, Bool, Option, None, Some, List, get_or, length, take}
 use Rattle.logic.specs.Model.{Step}
 use Rattle.logic.specs.promises.Orders.{weights, order}
 use Rattle.logic.specs.Plan.{choices}
@@ -15,7 +15,6 @@ use Rattle.prepared_question.specs.promises.Nodes.{formula, Nodes}
 use Rattle.best_plan.specs.declared.Found.{Found}
 use Rattle.judging.specs.promises.Truth.{Told}
 use Rattle.judging.specs.promises.Decided.{best}
-use Rattle.judging.specs.declared.conditions.Peeled.{Peeled}
 
 -- Node c of a question prepared for the model, in the state s, with a table that is right wherever its truth there can depend on it.
 pub record Stands (m q truth : Bytes) (c s : ℕ) : Type 0 where
@@ -32,10 +31,10 @@ pub record Same (m q truth : Bytes) (c s i : ℕ) : Type 0 where
   pub looks : depth (formula q i) ≡ depth (formula q c)
   pub values : (r : List Step) → value_of (model_in m) (formula q i) s r ≡ value_of (model_in m) (formula q c) s r
 
--- In every model: c is false on every path from s, or the node left is the same.
-pub record Peels (q truth : Bytes) (c s : ℕ) (r : Peeled) : Type 0 where
-  pub never : (m : Bytes) → Stands m q truth c s → r.dead ≡ true → (p : List Step) → value_of (model_in m) (formula q c) s p ≡ 0
-  pub left : (m : Bytes) → Stands m q truth c s → r.dead ≡ false → Same m q truth c s r.node
+-- In every model: c is false on every path from s and nothing is left, or the node left is the same.
+pub record Peels (q truth : Bytes) (c s : ℕ) (r : Option ℕ) : Type 0 where
+  pub never : (m : Bytes) → Stands m q truth c s → r ≡ None → (p : List Step) → value_of (model_in m) (formula q c) s p ≡ 0
+  pub left : (m : Bytes) → Stands m q truth c s → (i : ℕ) → r ≡ Some i → Same m q truth c s i
 
 -- ---- best totals
 

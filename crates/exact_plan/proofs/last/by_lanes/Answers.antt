@@ -90,14 +90,6 @@ overflow_add-len c =
     c.plans_below-c.result ≡ ways_below A.m.now A.spot.s i (A.spot.k - 1) (outcomes_in A.m.now A.spot.s i) = let A = c.args in c.plans_below-c.ensures ∙ ap (ways_below A.m.now A.spot.s c.loop-i.i (A.spot.k - 1)) c.outcomes.ensures in
     record { fits = omega (arith, within, many, c.requires.k_nonzero.2) }
 
-pub overflow_add-i : goal.overflow_add-i
-overflow_add-i c =
-    let turn : c.loop-i.i < choices_in c.args.m.now c.args.spot.s = omega (arith, c.loop-i.invariant.0, c.loop-i-test.true) in
-    let S = c in record { fits = omega (arith, turn, S.requires.prepared.0.few_choices S.args.spot.s S.requires.prepared.2) }
-
-pub loop-i-smaller : goal.loop-i-smaller
-loop-i-smaller c = omega (arith, c.loop-i-test.true)
-
 pub loop-i-preserved : goal.loop-i-preserved
 loop-i-preserved c =
     let turn : c.loop-i.i < choices_in c.args.m.now c.args.spot.s = omega (arith, c.loop-i.invariant.0, c.loop-i-test.true) in

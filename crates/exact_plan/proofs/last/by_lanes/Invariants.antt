@@ -10,6 +10,3 @@ abbrev pub invariant-loop-i : goal.invariant-loop-i
 invariant-loop-i l =
     (l.n ≡ choices_in l.m l.spot.s) × (l.i ≤ l.n) × (length l.buf ≡ length l.initial.buf) × (l.len ≡ length (lane_totals l.m l.spot.s (l.spot.k - 1) l.x l.i))
     × (take (l.spot.at + l.len) l.buf ≡ take l.spot.at l.initial.buf ++ lane_totals l.m l.spot.s (l.spot.k - 1) l.x l.i)
-
-abbrev pub decreases-loop-i : goal.decreases-loop-i
-decreases-loop-i l = l.n - l.i

@@ -13,10 +13,10 @@ use Rattle.prepared_model.proofs.PlacesInRange.{place_range}
 use Rattle.evaluation.specs.promises.Worth.{worth_on}
 use Rattle.exact_plan.specs.promises.Room.{Room}
 use Rattle.exact_plan.specs.promises.Totals.{combined, weighed}
-use Rattle.exact_plan.proofs.OutcomesJoined.{Place, placed, count_right, weighed_shifts, weighed_written, span_outcome, ways, first_room, first_before, first_spanned, span_end, span_grows, span_wider, grown_joins, grown_written}
+use Rattle.exact_plan.proofs.OutcomesJoined.{span_from, Place, placed, count_right, weighed_shifts, weighed_written, span_outcome, ways, first_room, first_before, first_spanned, span_end, span_grows, span_wider, grown_joins, grown_written}
 use Rattle.exact_plan.proofs.ListsWritten.{within, state_small, reached, offered, below_here, below_written, decides, decided_room, decided_written, rebased}
 use Rattle.exact_plan.proofs.ChoiceByChoice.{choice_few, listed_none, choice_room, choice_here, choice_listed, listed_all}
-use Rattle.exact_plan.proofs.OneOutcomeJoined.{beside_inside, wider_less}
+use Rattle.exact_plan.proofs.OneOutcomeJoined.{wider_from, wider_to}
 use Rattle.exact_plan.proofs.lists.+below_combine_grown_list_weighed_below.Goals as goal
 
 -- ---- below an outcome
@@ -91,8 +91,8 @@ weighed_below-returns t c =
     let b = c.below-n in
     weighed_written S.requires.given weighed-place S.args.to.o S.requires.here.1.1 S.args.buf.now S.requires.room b.ensures b.auto.buf c.weight-w.ensures.value c.shift.ensures
 
-pub combine-longest-lo-requires : goal.combine-longest-lo-requires
-combine-longest-lo-requires t c =
+pub combine-longest-start-requires : goal.combine-longest-start-requires
+combine-longest-start-requires t c =
     let S = c in
     let w = S.requires.given.ready.prepared in
     let h = S.requires.here.0.inside in
@@ -106,127 +106,108 @@ combine-longest-lo-requires t c =
       λ o l. state_small S.requires.given (reached S.requires.given S.args.spot.s S.args.i o h (I.1, omega (arith, I.3))),
     )
 
-pub combine-overflow_add-hi : goal.combine-overflow_add-hi
-combine-overflow_add-hi t c =
-    let S = c in
-    let I = S.requires.here in
-    record { fits = omega (arith, c.longest-lo.ensures.inside, I.3, S.requires.given.ready.prepared.few_outcomes S.args.spot.s S.args.i S.requires.here.0.inside I.1) }
-
 pub combine-weighed_below-len-requires : goal.combine-weighed_below-len-requires
 combine-weighed_below-len-requires t c =
     let combine-place : Place c.args.m.now c.args.spot.d c.args.spot.s c.args.i c.args.spot.k = placed c.args.i c.args.spot.k c.requires.here.0 c.requires.here.1 in
     let S = c in
     let I = S.requires.here in
-    let l = c.longest-lo.ensures.inside in
-    (omega (arith, S.decreases), (S.requires.given, ((S.requires.here.0, (I.1, omega (arith, l, I.3)), I.4), first_room S.requires.given combine-place I.3 S.requires.room c.longest-lo.result l)))
+    let l = c.longest-start.ensures.inside in
+    (omega (arith, S.decreases), (S.requires.given, ((S.requires.here.0, (I.1, omega (arith, l, I.3)), I.4), first_room S.requires.given combine-place I.3 S.requires.room c.longest-start.result l)))
 
-pub combine-loop-hi-init : goal.combine-loop-hi-init
-combine-loop-hi-init t c =
+pub combine-loop-taken-init : goal.combine-loop-taken-init
+combine-loop-taken-init t c =
     let combine-place : Place c.args.m.now c.args.spot.d c.args.spot.s c.args.i c.args.spot.k = placed c.args.i c.args.spot.k c.requires.here.0 c.requires.here.1 in
     let S = c in
     let b = c.weighed_below-len in
-    let L = c.longest-lo in
-    first_spanned S.requires.given combine-place S.requires.here.3 S.requires.room L.result L.ensures.inside refl S.requires.here.0 b.ensures L.ensures refl
-
-pub combine-overflow_sub-hi : goal.combine-overflow_sub-hi
-combine-overflow_sub-hi t c = omega (arith, c.loop-hi.invariant.some)
+    let L = c.longest-start in
+    span_from 1 (omega (arith, L.ensures.inside)) (first_spanned S.requires.given combine-place S.requires.here.3 S.requires.room L.result L.ensures.inside refl S.requires.here.0 b.ensures L.ensures refl)
 
 pub combine-beside-o-requires : goal.combine-beside-o-requires
-combine-beside-o-requires t c = let I = c.loop-hi.invariant in (I.some, I.most, omega arith)
+combine-beside-o-requires t c = let I = span_from c.loop-taken.taken c.min-lo.ensures c.loop-taken.invariant in (I.some, I.most, omega arith)
 
 pub combine-grown-len-requires : goal.combine-grown-len-requires
 combine-grown-len-requires t c =
     let combine-place : Place c.args.m.now c.args.spot.d c.args.spot.s c.args.i c.args.spot.k = placed c.args.i c.args.spot.k c.requires.here.0 c.requires.here.1 in
     let S = c in
-    let I = c.loop-hi.invariant in
+    let I = span_from c.loop-taken.taken c.min-lo.ensures c.loop-taken.invariant in
     let o = c.beside-o in
     let z = c.weighed_below-len.auto.buf in (
       omega (arith, S.decreases),
       (S.requires.given, ((I.here, (S.requires.here.1, span_outcome S.requires.given combine-place S.requires.here.3 S.requires.room I z o.result o.ensures), S.requires.here.4), span_grows S.requires.given combine-place S.requires.here.3 S.requires.room I z o.result o.ensures)),
     )
 
-pub combine-overflow_add-o : goal.combine-overflow_add-o
-combine-overflow_add-o t c =
-    let S = c in
-    let I = c.loop-hi.invariant in
-    record { fits = omega (arith, beside_inside I.some I.most c.beside-o.ensures, I.all, S.requires.given.ready.prepared.few_outcomes S.args.spot.s S.args.i S.requires.here.0.inside S.requires.here.1) }
-
-pub combine-loop-hi-smaller : goal.combine-loop-hi-smaller
-combine-loop-hi-smaller t c =
-    let I = c.loop-hi.invariant in
-    rw (c.most-hi.ensures, c.least-lo.ensures) (wider_less I.some I.most c.beside-o.ensures (omega arith))
-
-pub combine-loop-hi-preserved : goal.combine-loop-hi-preserved
-combine-loop-hi-preserved t c =
+pub combine-loop-taken-preserved : goal.combine-loop-taken-preserved
+combine-loop-taken-preserved t c =
     let combine-place : Place c.args.m.now c.args.spot.d c.args.spot.s c.args.i c.args.spot.k = placed c.args.i c.args.spot.k c.requires.here.0 c.requires.here.1 in
     let S = c in
     let o = c.beside-o in
     let x = c.grown-len in
-    span_wider S.requires.given combine-place S.requires.here.3 S.requires.room c.loop-hi.invariant c.weighed_below-len.auto.buf o.result o.ensures x.ensures x.auto.buf c.least-lo.ensures c.most-hi.ensures
+    let I = span_from c.loop-taken.taken c.min-lo.ensures c.loop-taken.invariant in
+    span_wider S.requires.given combine-place S.requires.here.3 S.requires.room I c.weighed_below-len.auto.buf o.result o.ensures x.ensures x.auto.buf (wider_from I.some I.most o.ensures _ _ c.min-lo.ensures refl (omega arith)) (wider_to I.some I.most o.ensures _ _ c.min-lo.ensures refl (omega arith))
 
 pub combine-shape_of-buf : goal.combine-shape_of-buf
-combine-shape_of-buf t c = c.loop-hi.invariant.whole ∙ c.weighed_below-len.auto.buf
+combine-shape_of-buf t c = c.loop-taken.invariant.whole ∙ c.weighed_below-len.auto.buf
 
 pub combine-returns : goal.combine-returns
 combine-returns t c =
     let combine-place : Place c.args.m.now c.args.spot.d c.args.spot.s c.args.i c.args.spot.k = placed c.args.i c.args.spot.k c.requires.here.0 c.requires.here.1 in
     let S = c in
     let b = c.weighed_below-len in
-    let L = c.longest-lo in
+    let L = c.longest-start in
     let M = S.args.m.now in
     let f : List ℕ → List Step → ℕ = worth_on M S.args.q.now S.args.spot.start S.args.spot.a S.args.spot.d S.args.cone.now in
     rebased (λ T. combined (weighed (model_in M) S.args.spot.k (f T)) (take S.args.c (outcomes (model_in M) S.args.spot.s (choice_in M S.args.spot.s S.args.i))))
     b.ensures.back.kept (first_before S.requires.given combine-place S.requires.here.3 S.requires.room L.result L.ensures.inside refl S.requires.here.0 b.ensures)
-    (span_end S.requires.given combine-place S.requires.here.3 S.requires.room c.loop-hi.invariant b.auto.buf (omega arith))
+    (span_end S.requires.given combine-place S.requires.here.3 S.requires.room c.loop-taken.invariant b.auto.buf (omega arith))
 
 pub grown-target-requires : goal.grown-target-requires
-grown-target-requires t c = let S = c in within S.requires.given S.requires.here.0 S.args.more.i S.args.more.o S.requires.here.1
+grown-target-requires t c = let S = c in within S.requires.given S.requires.here.0 S.args.more.to.i S.args.more.to.o S.requires.here.1
 
 pub grown-plans_counted-n-requires : goal.grown-plans_counted-n-requires
 grown-plans_counted-n-requires t c =
     let S = c in
-    (omega (arith, S.requires.here.0.steps), subst (λ z. z < 32) (sym c.target.ensures) (state_small S.requires.given (reached S.requires.given S.args.spot.s S.args.more.i S.args.more.o S.requires.here.0.inside S.requires.here.1)))
+    (omega (arith, S.requires.here.0.steps), subst (λ z. z < 32) (sym c.target.ensures) (state_small S.requires.given (reached S.requires.given S.args.spot.s S.args.more.to.i S.args.more.to.o S.requires.here.0.inside S.requires.here.1)))
 
 pub grown-overflow_mul-behind : goal.grown-overflow_mul-behind
 grown-overflow_mul-behind t c =
-    let grown-place : Place c.args.m.now c.args.spot.d c.args.spot.s c.args.more.i c.args.spot.k = placed c.args.more.i c.args.spot.k c.requires.here.0 c.requires.here.1.0 in
-    let counted : let S = c.args in c.plans_counted-n.result ≡ ways S.m.now S.spot.s S.more.i S.spot.k S.more.o = let S = c in
-    count_right S.requires.given grown-place S.args.more.o S.requires.here.1.1 S.requires.grows.room.few c.plans_counted-n.ensures c.target.ensures in
+    let grown-place : Place c.args.m.now c.args.spot.d c.args.spot.s c.args.more.to.i c.args.spot.k = placed c.args.more.to.i c.args.spot.k c.requires.here.0 c.requires.here.1.0 in
+    let counted : let S = c.args in c.plans_counted-n.result ≡ ways S.m.now S.spot.s S.more.to.i S.spot.k S.more.to.o = let S = c in
+    count_right S.requires.given grown-place S.args.more.to.o S.requires.here.1.1 S.requires.grows.room.few c.plans_counted-n.ensures c.target.ensures in
     let S = c in record { fits = omega (arith, S.requires.grows.few, ap (λ z. S.args.more.len * z) counted) }
 
 pub grown-overflow_add-behind : goal.grown-overflow_add-behind
 grown-overflow_add-behind t c =
-    let grown-place : Place c.args.m.now c.args.spot.d c.args.spot.s c.args.more.i c.args.spot.k = placed c.args.more.i c.args.spot.k c.requires.here.0 c.requires.here.1.0 in
-    let counted : let S = c.args in c.plans_counted-n.result ≡ ways S.m.now S.spot.s S.more.i S.spot.k S.more.o = let S = c in
-    count_right S.requires.given grown-place S.args.more.o S.requires.here.1.1 S.requires.grows.room.few c.plans_counted-n.ensures c.target.ensures in
+    let grown-place : Place c.args.m.now c.args.spot.d c.args.spot.s c.args.more.to.i c.args.spot.k = placed c.args.more.to.i c.args.spot.k c.requires.here.0 c.requires.here.1.0 in
+    let counted : let S = c.args in c.plans_counted-n.result ≡ ways S.m.now S.spot.s S.more.to.i S.spot.k S.more.to.o = let S = c in
+    count_right S.requires.given grown-place S.args.more.to.o S.requires.here.1.1 S.requires.grows.room.few c.plans_counted-n.ensures c.target.ensures in
     let S = c in record { fits = omega (arith, S.requires.grows.room.fits, ap (λ z. S.args.more.len * z) counted, S.well_formed.1.1.1.1.1.1.1.1.1.0) }
 
 pub grown-below-requires : goal.grown-below-requires
 grown-below-requires t c =
-    let grown-place : Place c.args.m.now c.args.spot.d c.args.spot.s c.args.more.i c.args.spot.k = placed c.args.more.i c.args.spot.k c.requires.here.0 c.requires.here.1.0 in
-    let counted : let S = c.args in c.plans_counted-n.result ≡ ways S.m.now S.spot.s S.more.i S.spot.k S.more.o = let S = c in
-    count_right S.requires.given grown-place S.args.more.o S.requires.here.1.1 S.requires.grows.room.few c.plans_counted-n.ensures c.target.ensures in
+    let grown-place : Place c.args.m.now c.args.spot.d c.args.spot.s c.args.more.to.i c.args.spot.k = placed c.args.more.to.i c.args.spot.k c.requires.here.0 c.requires.here.1.0 in
+    let counted : let S = c.args in c.plans_counted-n.result ≡ ways S.m.now S.spot.s S.more.to.i S.spot.k S.more.to.o = let S = c in
+    count_right S.requires.given grown-place S.args.more.to.o S.requires.here.1.1 S.requires.grows.room.few c.plans_counted-n.ensures c.target.ensures in
     let S = c in
-    let w = ways S.args.m.now S.args.spot.s S.args.more.i S.args.spot.k S.args.more.o in
+    let w = ways S.args.m.now S.args.spot.s S.args.more.to.i S.args.spot.k S.args.more.to.o in
     (omega (arith, S.decreases), (S.requires.given, (S.requires.here, subst (λ n. Room S.args.spot.k w (S.args.spot.at + S.args.more.len * n) (length S.args.buf.now)) (sym counted) S.requires.grows.room)))
 
 pub grown-weight-requires : goal.grown-weight-requires
-grown-weight-requires t c = let S = c in within S.requires.given S.requires.here.0 S.args.more.i S.args.more.o S.requires.here.1
+grown-weight-requires t c = let S = c in within S.requires.given S.requires.here.0 S.args.more.to.i S.args.more.to.o S.requires.here.1
 
 pub grown-join-requires : goal.grown-join-requires
 grown-join-requires t c =
-    let grown-place : Place c.args.m.now c.args.spot.d c.args.spot.s c.args.more.i c.args.spot.k = placed c.args.more.i c.args.spot.k c.requires.here.0 c.requires.here.1.0 in
-    let counted : let S = c.args in c.plans_counted-n.result ≡ ways S.m.now S.spot.s S.more.i S.spot.k S.more.o = let S = c in
-    count_right S.requires.given grown-place S.args.more.o S.requires.here.1.1 S.requires.grows.room.few c.plans_counted-n.ensures c.target.ensures in
+    let grown-place : Place c.args.m.now c.args.spot.d c.args.spot.s c.args.more.to.i c.args.spot.k = placed c.args.more.to.i c.args.spot.k c.requires.here.0 c.requires.here.1.0 in
+    let counted : let S = c.args in c.plans_counted-n.result ≡ ways S.m.now S.spot.s S.more.to.i S.spot.k S.more.to.o = let S = c in
+    count_right S.requires.given grown-place S.args.more.to.o S.requires.here.1.1 S.requires.grows.room.few c.plans_counted-n.ensures c.target.ensures in
     let S = c in
     let b = c.below in
-    grown_joins S.requires.given grown-place S.args.more.o S.requires.here.1.1 S.requires.grows c.plans_counted-n.result counted b.ensures b.auto.buf c.weight.result c.weight.ensures.value
+    grown_joins S.requires.given grown-place S.args.more.to.o S.requires.here.1.1 S.requires.grows c.plans_counted-n.result counted b.ensures b.auto.buf c.weight.result c.weight.ensures.value
 
 pub grown-overflow_mul-result : goal.grown-overflow_mul-result
 grown-overflow_mul-result t c =
-    let grown-place : Place c.args.m.now c.args.spot.d c.args.spot.s c.args.more.i c.args.spot.k = placed c.args.more.i c.args.spot.k c.requires.here.0 c.requires.here.1.0 in
-    let counted : let S = c.args in c.plans_counted-n.result ≡ ways S.m.now S.spot.s S.more.i S.spot.k S.more.o = let S = c in
-    count_right S.requires.given grown-place S.args.more.o S.requires.here.1.1 S.requires.grows.room.few c.plans_counted-n.ensures c.target.ensures in
+    let grown-place : Place c.args.m.now c.args.spot.d c.args.spot.s c.args.more.to.i c.args.spot.k = placed c.args.more.to.i c.args.spot.k c.requires.here.0 c.requires.here.1.0 in
+    let counted : let S = c.args in c.plans_counted-n.result ≡ ways S.m.now S.spot.s S.more.to.i S.spot.k S.more.to.o = let S = c in
+    count_right S.requires.given grown-place S.args.more.to.o S.requires.here.1.1 S.requires.grows.room.few c.plans_counted-n.ensures c.target.ensures in
     let S = c in record { fits = omega (arith, S.requires.grows.few, ap (λ z. S.args.more.len * z) counted) }
 
 pub grown-shape_of-buf : goal.grown-shape_of-buf
@@ -234,12 +215,12 @@ grown-shape_of-buf t c = c.join.auto.buf ∙ c.below.auto.buf
 
 pub grown-returns : goal.grown-returns
 grown-returns t c =
-    let grown-place : Place c.args.m.now c.args.spot.d c.args.spot.s c.args.more.i c.args.spot.k = placed c.args.more.i c.args.spot.k c.requires.here.0 c.requires.here.1.0 in
-    let counted : let S = c.args in c.plans_counted-n.result ≡ ways S.m.now S.spot.s S.more.i S.spot.k S.more.o = let S = c in
-    count_right S.requires.given grown-place S.args.more.o S.requires.here.1.1 S.requires.grows.room.few c.plans_counted-n.ensures c.target.ensures in
+    let grown-place : Place c.args.m.now c.args.spot.d c.args.spot.s c.args.more.to.i c.args.spot.k = placed c.args.more.to.i c.args.spot.k c.requires.here.0 c.requires.here.1.0 in
+    let counted : let S = c.args in c.plans_counted-n.result ≡ ways S.m.now S.spot.s S.more.to.i S.spot.k S.more.to.o = let S = c in
+    count_right S.requires.given grown-place S.args.more.to.o S.requires.here.1.1 S.requires.grows.room.few c.plans_counted-n.ensures c.target.ensures in
     let S = c in
     let b = c.below in
-    grown_written S.requires.given grown-place S.args.more.o S.requires.here.1.1 S.requires.grows c.plans_counted-n.result counted b.ensures b.auto.buf c.weight.result c.weight.ensures.value S.args.more.right c.join.ensures
+    grown_written S.requires.given grown-place S.args.more.to.o S.requires.here.1.1 S.requires.grows c.plans_counted-n.result counted b.ensures b.auto.buf c.weight.result c.weight.ensures.value S.args.more.right c.join.ensures
 
 pub list-decided-requires : goal.list-decided-requires
 list-decided-requires t c =
@@ -329,12 +310,6 @@ list-overflow_add-len t c =
     let turn : c.loop-i.i < choices_in c.args.m.now c.args.spot.s = omega (arith, c.loop-i.invariant.0, c.loop-i-test.true) in
     let S = c in
     record { fits = omega (arith, choice_few S.requires.given S.args.spot.k (S.args.spot.k - 1) on S.requires.room c.loop-i.invariant.2 turn c.outcomes-c.ensures (take S.args.spot.h c.loop-i.trail) c.combine-len.ensures.count) }
-
-pub list-overflow_add-i : goal.list-overflow_add-i
-list-overflow_add-i t c =
-    let turn : c.loop-i.i < choices_in c.args.m.now c.args.spot.s = omega (arith, c.loop-i.invariant.0, c.loop-i-test.true) in
-    let S = c in
-    record { fits = omega (arith, turn, S.requires.given.ready.prepared.few_choices S.args.spot.s S.requires.here.0.inside) }
 
 pub list-loop-i-preserved : goal.list-loop-i-preserved
 list-loop-i-preserved t c =

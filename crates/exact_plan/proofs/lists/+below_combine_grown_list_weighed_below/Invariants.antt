@@ -1,4 +1,4 @@
-use Prim.Native.Nat.{◌+◌, ◌*◌, ◌-◌, ◌<◌}
+use Prim.Native.Nat.{◌+◌, ◌*◌, ◌-◌, ◌<◌, min}
 use mathlib.Core.Path.{◌≡◌}
 use Rattle.prepared_model.specs.promises.Rows.{choices_in}
 use Rattle.exact_plan.proofs.OutcomesJoined.{Spanned}
@@ -20,16 +20,10 @@ decreases-list l = 4 * l.spot.k
 abbrev pub decreases-weighed_below : goal.decreases-weighed_below
 decreases-weighed_below l = 4 * l.spot.k + 2
 
-abbrev pub invariant-combine-loop-hi : goal.invariant-combine-loop-hi
-invariant-combine-loop-hi l =
-    Spanned l.m l.q l.spot.start l.spot.a l.spot.d l.cone l.spot.h l.spot.s l.i l.spot.k l.spot.at l.c l.initial.trail l.initial.buf l.trail l.gains l.v l.buf l.lo l.hi l.len
-
-abbrev pub decreases-combine-loop-hi : goal.decreases-combine-loop-hi
-decreases-combine-loop-hi l = l.c - (l.hi - l.lo)
+abbrev pub invariant-combine-loop-taken : goal.invariant-combine-loop-taken
+invariant-combine-loop-taken l =
+    Spanned l.m l.q l.spot.start l.spot.a l.spot.d l.cone l.spot.h l.spot.s l.i l.spot.k l.spot.at l.c l.initial.trail l.initial.buf l.trail l.gains l.v l.buf (min l.start (l.c - l.taken)) (min l.start (l.c - l.taken) + l.taken) l.len
 
 abbrev pub invariant-list-loop-i : goal.invariant-list-loop-i
 invariant-list-loop-i l =
     (l.n ≡ choices_in l.m l.spot.s) × (l.spot.h < l.spot.d) × Listed l.m l.q l.spot.start l.spot.a l.spot.d l.cone l.spot.h l.spot.s l.spot.k (l.spot.k - 1) l.spot.at l.initial.trail l.initial.buf l.trail l.gains l.v l.buf l.len l.i
-
-abbrev pub decreases-list-loop-i : goal.decreases-list-loop-i
-decreases-list-loop-i l = l.n - l.i

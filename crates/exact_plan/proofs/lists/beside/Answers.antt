@@ -8,4 +8,4 @@ pub returns-then-hi-c : goal.returns-then-hi-c
 returns-then-hi-c c = inl (search rules, search rules)
 
 pub returns-else-hi-c : goal.returns-else-hi-c
-returns-else-hi-c c = inr (omega arith)
+returns-else-hi-c c = inr (omega arith, omega arith)

@@ -13,7 +13,7 @@ returns-then-k-eq0 c = let A = c.args in sym (one_way A.m.now A.s A.i A.c c.if-k
 
 pub loop-o-init : goal.loop-o-init
 unfolding multiply count_from
-loop-o-init c = (omega arith, refl)
+loop-o-init c = refl
 
 pub target-requires : goal.target-requires
 target-requires c = let S = c in
@@ -29,22 +29,16 @@ pub overflow_mul-n : goal.overflow_mul-n
 overflow_mul-n c = let C = c.requires.2 in
     let l = c.loop-o-test.true in
     let o = c.loop-o.o in
-    record { fits = omega (arith, next_fits C o l c.loop-o.invariant.1 (way_counted C o l c.target.ensures c.plans_counted-n.ensures)) }
-
-pub overflow_add-o : goal.overflow_add-o
-overflow_add-o c = omega (arith, c.loop-o-test.true)
-
-pub loop-o-smaller : goal.loop-o-smaller
-loop-o-smaller c = omega (arith, c.loop-o-test.true)
+    record { fits = omega (arith, next_fits C o l c.loop-o.invariant (way_counted C o l c.target.ensures c.plans_counted-n.ensures)) }
 
 pub loop-o-preserved : goal.loop-o-preserved
 loop-o-preserved c = let C = c.requires.2 in
     let l = c.loop-o-test.true in
     let o = c.loop-o.o in
-    (omega arith, next_way C o l c.loop-o.invariant.1 (way_counted C o l c.target.ensures c.plans_counted-n.ensures))
+    next_way C o l c.loop-o.invariant (way_counted C o l c.target.ensures c.plans_counted-n.ensures)
 
 pub returns : goal.returns
 returns c = let L = c.loop-o in
     let A = c.args in
-    let e : L.o ≡ A.c = omega (arith, L.invariant.0) in
-    L.invariant.1 ∙ ap (ways_below A.m.now A.s A.i A.k) e
+    let e : L.o ≡ A.c = omega arith in
+    L.invariant ∙ ap (ways_below A.m.now A.s A.i A.k) e

@@ -1,7 +1,5 @@
--- `nearest`: the table has the number of plans, and each buffer has 282 numbers beside as many.
-use Prim.Native.Nat.{ℕ}
+-- `nearest`: the table has the number of plans, and each room has 282 numbers beside as many.
 use native.Mathlib.Omega.{arith}
-use lib.ListN.{length-replicate}
 use Rattle.exact_plan.proofs.ListsWritten.{state_small}
 use Rattle.exact_plan.proofs.FirstPlace.{counted}
 use Rattle.exact_plan.proofs.nearest.nearest.Goals as goal
@@ -9,14 +7,14 @@ use Rattle.exact_plan.proofs.nearest.nearest.Goals as goal
 pub plans_counted-all-requires : goal.plans_counted-all-requires
 plans_counted-all-requires c = let S = c in (S.requires.d_le_n.1, state_small S.requires.given S.requires.given.ready.state)
 
-pub nearest_within-requires : goal.nearest_within-requires
-nearest_within-requires c = let S = c in
-    let P = S.requires.d_le_n in record { given = S.requires.given; d_le_n = (P.0, P.1, P.2, omega (arith, counted S.requires.given S.args.l.n P.1 P.2 c.plans_counted-all.ensures, length-replicate {A = ℕ} 1306 0)) }
+pub nearest_in_room-requires : goal.nearest_in_room-requires
+nearest_in_room-requires c = let S = c in
+    let P = S.requires.d_le_n in record { given = S.requires.given; d_le_n = (P.0, P.1, P.2, omega (arith, counted S.requires.given S.args.l.n P.1 P.2 c.plans_counted-all.ensures), omega arith) }
 
-pub nearest_within-requires-then-all-le-SOME : goal.nearest_within-requires-then-all-le-SOME
-nearest_within-requires-then-all-le-SOME c = let S = c in
-    let P = S.requires.d_le_n in record { given = S.requires.given; d_le_n = (P.0, P.1, P.2, omega (arith, counted S.requires.given S.args.l.n P.1 P.2 c.plans_counted-all.ensures, length-replicate {A = ℕ} 8474 0)) }
+pub nearest_in_room-requires-then-all-le-SOME : goal.nearest_in_room-requires-then-all-le-SOME
+nearest_in_room-requires-then-all-le-SOME c = let S = c in
+    let P = S.requires.d_le_n in record { given = S.requires.given; d_le_n = (P.0, P.1, P.2, omega (arith, counted S.requires.given S.args.l.n P.1 P.2 c.plans_counted-all.ensures), omega arith) }
 
-pub nearest_within-requires-2 : goal.nearest_within-requires-2
-nearest_within-requires-2 c = let S = c in
-    let P = S.requires.d_le_n in record { given = S.requires.given; d_le_n = (P.0, P.1, P.2, omega (arith, counted S.requires.given S.args.l.n P.1 P.2 c.plans_counted-all.ensures, length-replicate {A = ℕ} 65819 0)) }
+pub nearest_in_room-requires-2 : goal.nearest_in_room-requires-2
+nearest_in_room-requires-2 c = let S = c in
+    let P = S.requires.d_le_n in record { given = S.requires.given; d_le_n = (P.0, P.1, P.2, omega (arith, counted S.requires.given S.args.l.n P.1 P.2 c.plans_counted-all.ensures), omega arith) }

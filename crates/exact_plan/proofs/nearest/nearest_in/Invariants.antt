@@ -1,9 +1,5 @@
-use Prim.Native.Nat.{◌-◌, ◌≤◌}
 use Rattle.exact_plan.specs.promises.Sides.{NearestIn}
 use Rattle.exact_plan.proofs.nearest.nearest_in.Given as goal
 
-abbrev pub invariant-loop-i : goal.invariant-loop-i
-invariant-loop-i l = (l.i ≤ l.len) × NearestIn l.buf l.i l.len l.above l.x l.best
-
-abbrev pub decreases-loop-i : goal.decreases-loop-i
-decreases-loop-i l = l.len - l.i
+abbrev pub invariant-loop-place : goal.invariant-loop-place
+invariant-loop-place l = NearestIn l.list l.place l.len l.above l.x l.best

@@ -1,9 +1,5 @@
-use Prim.Native.Nat.{◌-◌, ◌≤◌}
 use Rattle.exact_plan.proofs.SumsByRows.{Bounded}
 use Rattle.exact_plan.proofs.search.ends_of.Given as goal
 
-abbrev pub invariant-loop-i : goal.invariant-loop-i
-invariant-loop-i l = (1 ≤ l.i) × (l.i ≤ l.len) × Bounded l.buf l.low l.high l.i
-
-abbrev pub decreases-loop-i : goal.decreases-loop-i
-decreases-loop-i l = l.len - l.i
+abbrev pub invariant-loop-y : goal.invariant-loop-y
+invariant-loop-y l = Bounded l.list l.low l.high l.y-index

@@ -1,25 +1,32 @@
 -- `search::first_with`: what is out of the range of the numbers makes x with none of them.
 use native.Mathlib.Omega.{arith}
-use mathlib.Core.Path.{◌≡◌, sym}
-use lib.ListN.{length, take}
-use lib.Seq.{length-take-le}
-use Rattle.exact_plan.proofs.SumsByRows.{row_nowhere, row_rest}
+use mathlib.Core.Path.{sym, subst}
+use mathlib.Core.List.{map}
+use Prim.Native.Nat.{◌+◌}
+use Rattle.exact_plan.specs.promises.Listing.{Found}
+use Rattle.exact_plan.proofs.SumsByRows.{row_nowhere, row_of_rest}
 use Rattle.exact_plan.proofs.search.first_with.Goals as goal
 
-pub returns-then-x-y : goal.returns-then-x-y
-returns-then-x-y c =
-    let size : c.args.len ≡ length (take c.args.len c.args.buf.now) = sym (length-take-le c.args.len c.args.buf.now c.requires.0) in
-    let S = c in row_nowhere S.args.y S.args.x (take S.args.len S.args.buf.now) size (λ z u e. omega (arith, e))
+pub returns-in_err-z : goal.returns-in_err-z
+returns-in_err-z c =
+    let A = c.args in
+    subst (Found (map (λ z. A.y + z) A.list.now) A.x) (sym c.from_residual.ensures)
+    (row_nowhere A.y A.x A.list.now (λ z u e. c.in_err-z.ensures (omega (arith, e))))
 
 pub returns-then-z-e : goal.returns-then-z-e
 returns-then-z-e c =
-    let size : c.args.len ≡ length (take c.args.len c.args.buf.now) = sym (length-take-le c.args.len c.args.buf.now c.requires.0) in
-    let S = c in row_nowhere S.args.y S.args.x (take S.args.len S.args.buf.now) size (λ z u e. omega (arith, e, S.requires.1.low z u))
+    let A = c.args in
+    let r = c.in_ok-z.ensures in
+    row_nowhere A.y A.x A.list.now (λ z u e. omega (arith, e, r.1, c.requires.low z u))
 
 pub returns-then-e-z : goal.returns-then-e-z
 returns-then-e-z c =
-    let size : c.args.len ≡ length (take c.args.len c.args.buf.now) = sym (length-take-le c.args.len c.args.buf.now c.requires.0) in
-    let S = c in row_nowhere S.args.y S.args.x (take S.args.len S.args.buf.now) size (λ z u e. omega (arith, e, S.requires.1.high z u))
+    let A = c.args in
+    let r = c.in_ok-z.ensures in
+    row_nowhere A.y A.x A.list.now (λ z u e. omega (arith, e, r.1, c.requires.high z u))
 
 pub returns : goal.returns
-returns c = let S = c in row_rest S.args.y S.args.x (take S.args.len S.args.buf.now) (omega arith) c.find.ensures
+returns c =
+    let A = c.args in
+    let r = c.in_ok-z.ensures in
+    row_of_rest A.y A.x A.list.now c.find.result r.0 (subst (λ z. Found A.list.now z c.find.result) r.1 c.find.ensures)

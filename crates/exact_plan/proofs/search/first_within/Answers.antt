@@ -1,21 +1,18 @@
 -- `search::first_within`: at the start nothing is known but what `learn` adds; where no step decides all plans have one total.
-use Prim.Native.Nat.{ℕ, ◌+◌, ◌-◌, ◌*◌, ◌^◌}
+use Prim.Native.Nat.{ℕ, ◌+◌, ◌-◌}
 use native.Mathlib.Omega.{arith}
 use mathlib.Core.Path.{◌≡◌, refl, sym, ap, ap₂, subst, ◌∙◌}
 use lib.IntN.{ℤ, pos}
 use lib.ListN.{replicate, length-replicate}
-use Rattle.models.specs.Layout.{denominator_of}
 use Rattle.prepared_model.specs.promises.Rows.{model_in}
-use Rattle.evaluation.specs.promises.Worth.{worth_known}
 use Rattle.evaluation.proofs.LearnKnows.{cone_node}
 use Rattle.evaluation.proofs.StepTaken.{begun}
 use Rattle.exact_plan.specs.promises.Totals.{totals}
-use Rattle.exact_plan.specs.promises.Listing.{Here}
-use Rattle.exact_plan.specs.promises.Search.{Searched}
+use Rattle.exact_plan.specs.promises.Listing.{Here, Found}
 use Rattle.exact_plan.proofs.PreparedChoices.{some_plan}
 use Rattle.exact_plan.proofs.LastStepLists.{marks_asked}
 use Rattle.exact_plan.proofs.ListsWritten.{state_small, decides, all_alike}
-use Rattle.exact_plan.proofs.FirstPlace.{begins, start_worth, counted}
+use Rattle.exact_plan.proofs.FirstPlace.{begins, start_worth}
 use Rattle.exact_plan.proofs.search.first_within.Goals as goal
 
 pub marks-late-requires : goal.marks-late-requires
@@ -34,8 +31,7 @@ at_once-requires c =
     (begun G.ready (replicate 6 0) (replicate 7 (pos 0)) (replicate 280 0) v refl (length-replicate {A = ℤ} 7 (pos 0)) (length-replicate {A = ℕ} 280 0) c.learn.ensures) in
     let S = c in
     let G = S.requires.given in
-    let H = S.requires.housed in
-    let n = S.args.l.n in record { decides = decides G here (omega (arith, c.if-l-eq0.true)); s_bound = (state_small G G.ready.state, omega (arith, counted G n H.steps H.few refl, some_plan G.ready.prepared n S.args.l.s G.ready.state)) }
+    decides G here (omega (arith, c.if-l-eq0.true))
 
 pub returns-then-l-eq0 : goal.returns-then-l-eq0
 returns-then-l-eq0 c =
@@ -51,12 +47,10 @@ returns-then-l-eq0 c =
     let H = here in
     let M = model_in A.m.now in
     let v = c.learn.new.v in
-    let n = counted G A.l.n S.requires.housed.steps S.requires.housed.few refl in
-    subst (λ l. Searched l A.x c.at_once.result)
-    (ap (λ n. replicate n (worth_known A.cone.now (replicate 7 (pos 0)) v A.l.a A.l.d * denominator_of A.m.now ^ A.l.n)) n
-    ∙ sym (all_alike G H (omega (arith, c.if-l-eq0.true)))
+    subst (λ l. Found l A.x c.at_once.result)
+    (sym (all_alike G H (omega (arith, c.if-l-eq0.true)))
     ∙ ap (totals M A.l.n A.l.s) (start_worth G (replicate 6 0)))
-    c.at_once.ensures
+    (c.at_once.ensures _ (some_plan G.ready.prepared A.l.n A.l.s G.ready.state))
 
 pub overflow_sub-spot : goal.overflow_sub-spot
 overflow_sub-spot c = omega (arith, c.if-l-eq0.false, c.requires.housed.deep)
@@ -80,6 +74,6 @@ returns c =
     let on : let n = c.args.l.n in n - 1 + 1 ≡ n = omega (arith, c.if-l-eq0.false, c.requires.housed.deep) in
     let S = c in
     let A = S.args in
-    subst (λ l. Searched l A.x c.by_choices.result)
+    subst (λ l. Found l A.x c.by_choices.result)
     (ap₂ (λ n f. totals (model_in A.m.now) n A.l.s f) on (start_worth S.requires.given (replicate 6 0)))
     c.by_choices.ensures

@@ -1,23 +1,22 @@
--- `spread::fill`: after i turns, i copies stand there.
+-- `spread::fill`: what stands before and behind the filled part stays.
+use Prim.Native.Nat.{ℕ, ◌+◌, ◌-◌}
 use native.Mathlib.Omega.{arith}
-use mathlib.Core.Path.{◌≡◌, sym, ap, ◌∙◌}
-use lib.ListN.{length, replicate}
+use mathlib.Core.Path.{◌≡◌, sym, ap, ap₂, ◌∙◌}
+use mathlib.Core.List.{List, ◌++◌}
+use lib.ListN.{length, take, drop, replicate, length-replicate}
+use lib.Seq.{drop-drop}
+use borrow.Rule.Slice.PartMut.{put_mid, mid_of, mid_len}
 use Rattle.blocks.specs.Splice.{splice}
-use Rattle.blocks.proofs.Splice.{splice_none}
-use Rattle.exact_plan.proofs.JoinedInPlace.{fill_whole, fill_one_more}
 use Rattle.exact_plan.proofs.spread.fill.Goals as goal
 
-pub loop-i-init : goal.loop-i-init
-loop-i-init c = (omega arith, sym (splice_none _ _))
-
-pub bounds-buf-at : goal.bounds-buf-at
-bounds-buf-at c = let L = c.loop-i in let S = c in let A = S.args in omega (arith, ap length L.invariant.1, fill_whole A.buf.now A.at A.n A.x S.requires L.i L.invariant.0)
-
-pub loop-i-preserved : goal.loop-i-preserved
-loop-i-preserved c = let L = c.loop-i in let S = c in (omega arith, fill_one_more _ _ _ _ S.requires L.i c.loop-i-test.true L.invariant.1)
-
-pub shape_of-buf : goal.shape_of-buf
-shape_of-buf c = let L = c.loop-i in let S = c in ap length L.invariant.1 ∙ fill_whole _ _ _ S.args.x S.requires L.i L.invariant.0
+put_back : (s : List ℕ) (at n x k : ℕ) (ys : List ℕ) → k ≡ n → ys ≡ replicate n x → put_mid at k s ys ≡ splice s at (replicate n x)
+unfolding splice
+put_back s at n x k ys e f =
+    ap₂ (λ y r. take at s ++ (y ++ r)) f (ap (λ j. drop j (drop at s)) e ∙ drop-drop n at s ∙ ap (λ j. drop (at + j) s) (sym (length-replicate {A = ℕ} n x)))
 
 pub returns : goal.returns
-returns c = let L = c.loop-i in let S = c in let e : L.i ≡ S.args.n = omega arith in L.invariant.1 ∙ ap (λ k. splice S.args.buf.now S.args.at (replicate k S.args.x)) e
+returns c =
+    let A = c.args in
+    let k : A.at + A.n - A.at ≡ A.n = omega arith in
+    let whole : length (mid_of A.at (A.at + A.n - A.at) A.buf.now) ≡ A.n = mid_len A.at (A.at + A.n) A.buf.now c.requires ∙ k in
+    put_back A.buf.now A.at A.n A.x (A.at + A.n - A.at) c.fill.new.self k (c.fill.ensures.after (λ y h. h) ∙ ap (λ j. replicate j A.x) whole)

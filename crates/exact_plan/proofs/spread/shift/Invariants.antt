@@ -1,10 +1,6 @@
-use Prim.Native.Nat.{◌-◌, ◌≤◌}
 use mathlib.Core.Path.{◌≡◌}
 use Rattle.exact_plan.proofs.JoinedInPlace.{shifted}
 use Rattle.exact_plan.proofs.spread.shift.Given as goal
 
 abbrev pub invariant-loop-i : goal.invariant-loop-i
-invariant-loop-i l = (l.i ≤ l.count) × (l.buf ≡ shifted l.initial.buf l.from l.to l.w l.x l.i)
-
-abbrev pub decreases-loop-i : goal.decreases-loop-i
-decreases-loop-i l = l.count - l.i
+invariant-loop-i l = l.buf ≡ shifted l.initial.buf l.from l.to l.w l.x l.i

@@ -1,26 +1,13 @@
--- The invariant: the node reached means the same as c, and r is what is left of it.
-use borrow.Author.Tests.{not-true, ltb-true}
-use Rattle.judging.proofs.PeeledMeaning.{alike_itself, alike_on, peels_on}
+-- The node reached means the same as c, and what is left of it is left of c.
+use mathlib.Core.Path.{subst}
+use Rattle.judging.specs.promises.Conditions.{Peels}
+use Rattle.judging.proofs.PeeledMeaning.{alike_on, peels_on}
 use Rattle.judging.proofs.conditions.peel.Goals as goal
 
-pub peel_one-r-requires : goal.peel_one-r-requires
-peel_one-r-requires c = tt
+pub returns-then-at-node : goal.returns-then-at-node
+returns-then-at-node c =
+    let A = c.args in
+    subst (Peels A.q.now A.truth.now A.c A.s) c.in_ok-node.was (peels_on c.loop-node.invariant c.peel_one.ensures)
 
-pub loop-r-init : goal.loop-r-init
-loop-r-init c = (alike_itself, c.peel_one-r.ensures)
-
-pub peel_one-r-requires-in-loop-r : goal.peel_one-r-requires-in-loop-r
-peel_one-r-requires-in-loop-r c = tt
-
-pub loop-r-smaller : goal.loop-r-smaller
-loop-r-smaller c = ltb-true _ _ c.if-r-at.true-raw
-
-pub loop-r-preserved : goal.loop-r-preserved
-loop-r-preserved c = let L = c.loop-r in
-    (alike_on L.invariant.0 L.invariant.1 (not-true _ c.loop-r-test.true), c.peel_one-r-in-loop-r.ensures)
-
-pub returns-else-r-at : goal.returns-else-r-at
-returns-else-r-at c = let L = c.loop-r in peels_on L.invariant.0 L.invariant.1
-
-pub returns-after-loop-r : goal.returns-after-loop-r
-returns-after-loop-r c = let L = c.loop-r in peels_on L.invariant.0 L.invariant.1
+pub loop-node-preserved : goal.loop-node-preserved
+loop-node-preserved c = alike_on c.loop-node.invariant c.peel_one.ensures c.in_ok-node.was

@@ -1,9 +1,8 @@
-use Rattle.judging.specs.promises.Conditions.{Peels}
 use Rattle.judging.proofs.PeeledMeaning.{Alike}
 use Rattle.judging.proofs.conditions.peel.Given as goal
 
-abbrev pub invariant-loop-r : goal.invariant-loop-r
-invariant-loop-r l = Alike l.q l.truth l.c l.s l.at × Peels l.q l.truth l.at l.s l.r
+abbrev pub invariant-loop-node : goal.invariant-loop-node
+invariant-loop-node l = Alike l.q l.truth l.c l.s l.at
 
-abbrev pub decreases-loop-r : goal.decreases-loop-r
-decreases-loop-r l = l.at
+abbrev pub decreases-loop-node : goal.decreases-loop-node
+decreases-loop-node l = l.at

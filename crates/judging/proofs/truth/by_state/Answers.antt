@@ -8,22 +8,13 @@ use Rattle.judging.specs.promises.Rows.{ByState}
 use Rattle.judging.proofs.TruthByOperator.{right_more}
 use Rattle.judging.proofs.truth.by_state.Goals as goal
 
-pub place-end-requires : goal.place-end-requires
-place-end-requires c = tt
-
-pub overflow_add-end : goal.overflow_add-end
-overflow_add-end c = record { fits = omega (arith, c.place-end.ensures, c.requires.asked.1, c.requires.asked.0.given.nodes.formed.few_nodes) }
-
-pub place-k-requires : goal.place-k-requires
-place-k-requires c = tt
-
 pub loop-k-init : goal.loop-k-init
 loop-k-init c = let S = c in
     let R = S.requires.rows in
-    let e : c.place-k.result ≡ 32 * S.args.j = omega (arith, c.place-k.ensures) in (
-      omega (arith, c.place-end.ensures),
+    let e : c.place-row.result ≡ 32 * S.args.j = omega (arith, c.place-row.ensures) in (
+      omega (arith, c.place-row.ensures),
       omega (arith, e),
-      omega (arith, e, c.place-end.ensures),
+      omega (arith, e, c.place-row.ensures),
       R.size,
       subst (Right S.args.m.now S.args.q.now S.args.need.now S.args.truth.now) (sym e) R.right,
       R.room,
@@ -65,7 +56,7 @@ pub returns : goal.returns
 returns c = let S = c in
     let L = c.loop-k in
     let i = L.invariant in
-    let e : L.k ≡ 32 * (S.args.j + 1) = omega (arith, i.0, i.2, c.loop-k-test.false) in
+    let e : L.k ≡ 32 * (S.args.j + 1) = omega (arith, i.0, i.2) in
     record {
       needs = S.requires.rows.needs;
       size = i.3;

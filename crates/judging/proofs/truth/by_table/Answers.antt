@@ -40,7 +40,7 @@ pub states-count-requires : goal.states-count-requires
 states-count-requires c = tt
 
 pub loop-s-init : goal.loop-s-init
-loop-s-init c = let S = c in (c.states-count.ensures, omega arith, row_none S.args.m.now S.args.q.now S.args.j S.args.truth.now)
+loop-s-init c = let S = c in row_none S.args.m.now S.args.q.now S.args.j S.args.truth.now
 
 pub bounds-best-at : goal.bounds-best-at
 unfolding sets_bound
@@ -48,7 +48,7 @@ bounds-best-at c =
     let bounded : Bounded c.args.m.now c.args.q.now c.args.j = let P = c.requires in record { prepared = P.0.prepared; nodes = P.0.nodes; node = P.1; sets = ap sets_bound P.2.0 } in
     let few_steps : (node_of c.args.q.now c.args.j).n ≤ 6 = (compares c.args.m.now c.args.q.now c.args.j bounded).few_steps in
     let S = c in
-    omega (arith, few_steps, c.steps.ensures, c.loop-s.invariant.0, c.loop-s-test.true, S.requires.0.prepared.states)
+    omega (arith, few_steps, c.steps.ensures, c.states-count.ensures, S.requires.0.prepared.states)
 
 pub meets-requires : goal.meets-requires
 unfolding sets_bound
@@ -57,7 +57,7 @@ meets-requires c =
     let tabled : (let S = c in
     Tabled c.asks_less.result S.args.m.now (window_of S.args.q.now S.args.j) c.best_gains-best.result c.best_gains-best.new.places) = let S = c in
     subst (λ w. Tabled c.asks_less.result S.args.m.now w c.best_gains-best.result c.best_gains-best.new.places) c.window.ensures.0 c.best_gains-best.ensures in
-    let inside : c.loop-s.s < state_count c.args.m.now = omega (arith, c.loop-s.invariant.0, c.loop-s-test.true) in
+    let inside : c.loop-s.s < state_count c.args.m.now = omega (arith, c.states-count.ensures) in
     let S = c in record {
       bounded = bounded;
       x_bound = subst (λ (n : ℕ). get_or c.best_gains-best.result (32 * n + c.loop-s.s) 0 ≤ most_of S.args.m.now S.args.q.now S.args.j) (sym c.steps.ensures)
@@ -69,11 +69,11 @@ bit-requires c = tt
 
 pub bounds-truth-j : goal.bounds-truth-j
 bounds-truth-j c =
-    let inside : c.loop-s.s < state_count c.args.m.now = omega (arith, c.loop-s.invariant.0, c.loop-s-test.true) in
+    let inside : c.loop-s.s < state_count c.args.m.now = omega (arith, c.states-count.ensures) in
     let place_in : 32 * c.args.j + c.loop-s.s < length c.loop-s.truth = let S = c in
     let l = inside in
-    omega (arith, S.requires.1, S.requires.3, S.requires.0.nodes.formed.few_nodes, S.requires.0.prepared.states, c.loop-s.invariant.2.size) in
-    let S = c in omega (arith, place_in, S.requires.3, c.loop-s.invariant.2.size)
+    omega (arith, S.requires.1, S.requires.3, S.requires.0.nodes.formed.few_nodes, S.requires.0.prepared.states, c.loop-s.invariant.size) in
+    let S = c in omega (arith, place_in, S.requires.3, c.loop-s.invariant.size)
 
 pub loop-s-preserved : goal.loop-s-preserved
 unfolding sets_bound
@@ -82,23 +82,19 @@ loop-s-preserved c =
     let tabled : (let S = c in
     Tabled c.asks_less.result S.args.m.now (window_of S.args.q.now S.args.j) c.best_gains-best.result c.best_gains-best.new.places) = let S = c in
     subst (λ w. Tabled c.asks_less.result S.args.m.now w c.best_gains-best.result c.best_gains-best.new.places) c.window.ensures.0 c.best_gains-best.ensures in
-    let inside : c.loop-s.s < state_count c.args.m.now = omega (arith, c.loop-s.invariant.0, c.loop-s-test.true) in
+    let inside : c.loop-s.s < state_count c.args.m.now = omega (arith, c.states-count.ensures) in
     let place_in : 32 * c.args.j + c.loop-s.s < length c.loop-s.truth = let S = c in
     let l = inside in
-    omega (arith, S.requires.1, S.requires.3, S.requires.0.nodes.formed.few_nodes, S.requires.0.prepared.states, c.loop-s.invariant.2.size) in
+    omega (arith, S.requires.1, S.requires.3, S.requires.0.nodes.formed.few_nodes, S.requires.0.prepared.states, c.loop-s.invariant.size) in
     let S = c in
     let L = c.loop-s in
-    let i = L.invariant in (
-      i.0,
-      omega (arith, c.loop-s-test.true),
-      row_more c.bit.result i.2 place_in
-          (c.bit.ensures
-          ∙ ap one_if (table_truth bounded S.requires.2.0 c.asks_less.result tabled S.requires.2.1 L.s inside c.asks_less.ensures
-          (ap (λ (n : ℕ). get_or c.best_gains-best.result (32 * n + L.s) 0) c.steps.ensures) c.meets.ensures)),
-    )
+    row_more c.bit.result L.invariant place_in
+    (c.bit.ensures
+    ∙ ap one_if (table_truth bounded S.requires.2.0 c.asks_less.result tabled S.requires.2.1 L.s inside c.asks_less.ensures
+    (ap (λ (n : ℕ). get_or c.best_gains-best.result (32 * n + L.s) 0) c.steps.ensures) c.meets.ensures))
 
 pub returns : goal.returns
 returns c = let S = c in
     let L = c.loop-s in
-    let e : L.s ≡ state_count S.args.m.now = omega (arith, L.invariant.0, L.invariant.1, c.loop-s-test.false) in
-    subst (λ (n : ℕ). RowTold S.args.m.now S.args.q.now S.args.j S.args.truth.now L.truth n) e L.invariant.2
+    let e : L.s ≡ state_count S.args.m.now = omega (arith, c.states-count.ensures) in
+    subst (λ (n : ℕ). RowTold S.args.m.now S.args.q.now S.args.j S.args.truth.now L.truth n) e L.invariant

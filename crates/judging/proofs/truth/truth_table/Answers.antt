@@ -14,23 +14,20 @@ pub overflow_sub-end : goal.overflow_sub-end
 overflow_sub-end c = omega (arith, c.count-end.ensures, c.requires.0.given.nodes.formed.some_node)
 
 pub loop-j-init : goal.loop-j-init
-loop-j-init c = (omega (arith, c.count-end.ensures), omega arith, rows_none c.requires.1)
+loop-j-init c = rows_none c.requires.1
 
 pub slice_bounds-node_truth-end : goal.slice_bounds-node_truth-end
-slice_bounds-node_truth-end c = sym c.loop-j.invariant.2.room
+slice_bounds-node_truth-end c = sym c.loop-j.invariant.room
 
 pub node_truth-requires : goal.node_truth-requires
 node_truth-requires c = let P = c.requires in
-    let L = c.loop-j in record { asked = (P.0, omega (arith, L.invariant.0, c.loop-j-test.true)); rows = L.invariant.2 }
-
-pub overflow_add-j : goal.overflow_add-j
-overflow_add-j c = omega (arith, c.loop-j.invariant.0, c.loop-j-test.true, c.requires.0.given.nodes.formed.few_nodes)
+    let L = c.loop-j in record { asked = (P.0, omega (arith, c.count-end.ensures)); rows = L.invariant }
 
 pub loop-j-preserved : goal.loop-j-preserved
-loop-j-preserved c = let L = c.loop-j in (L.invariant.0, omega (arith, c.loop-j-test.true), c.node_truth.ensures)
+loop-j-preserved c = c.node_truth.ensures
 
 pub returns : goal.returns
 returns c = let S = c in
     let L = c.loop-j in
-    let e : 32 * L.j ≡ 32 * (node_count S.args.q.now - 1) = omega (arith, L.invariant.0, L.invariant.1, c.loop-j-test.false) in
-    subst (Right S.args.m.now S.args.q.now S.args.need.now L.truth) e L.invariant.2.right
+    let e : 32 * L.j ≡ 32 * (node_count S.args.q.now - 1) = omega (arith, c.count-end.ensures) in
+    subst (Right S.args.m.now S.args.q.now S.args.need.now L.truth) e L.invariant.right

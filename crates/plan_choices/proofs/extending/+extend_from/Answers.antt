@@ -31,7 +31,7 @@ row_of-row-requires t c = c.requires.prepared
 pub overflow_add-next : goal.overflow_add-next
 overflow_add-next t c =
     let S = c in
-    omega (arith, S.requires.placed.1, c.taken-k.ensures, min_one S.args.d)
+    omega (arith, S.requires.placed.1, c.min-k.ensures, min_one S.args.d)
 
 pub overflow_add-next-2 : goal.overflow_add-next-2
 overflow_add-next-2 t c =
@@ -41,7 +41,7 @@ overflow_add-next-2 t c =
 pub loop-o-init : goal.loop-o-init
 loop-o-init t c =
     let S = c in
-    (omega arith, runs_none (model_in S.args.m.now) (by_place S.args.m.now S.args.places.now) (step_in S.args.m.now S.args.s c.row_of-row.result.at) (S.args.d - c.taken-k.result) (S.args.n - 1) S.args.src.now (S.args.from + c.taken-k.result) (S.args.at + 1) _, refl)
+    (runs_none (model_in S.args.m.now) (by_place S.args.m.now S.args.places.now) (step_in S.args.m.now S.args.s c.row_of-row.result.at) (S.args.d - c.min-k.result) (S.args.n - 1) S.args.src.now (S.args.from + c.min-k.result) (S.args.at + 1) _, refl)
 
 pub target-t-requires : goal.target-t-requires
 target-t-requires t c =
@@ -51,7 +51,7 @@ target-t-requires t c =
 pub overflow_sub-d : goal.overflow_sub-d
 overflow_sub-d t c =
     let S = c in
-    omega (arith, c.taken-k.ensures, min-le_right 1 S.args.d)
+    omega (arith, c.min-k.ensures, min-le_right 1 S.args.d)
 
 pub extend_from-next-requires : goal.extend_from-next-requires
 extend_from-next-requires t c =
@@ -66,8 +66,8 @@ extend_from-next-requires t c =
         (w, omega (arith, c.target-t.ensures, w.inside S.args.s row.result.at L.o S.requires.prepared.1 (row.ensures.offers L.o (omega arith)))),
         (
           placed_less S.requires.placed.0,
-          omega (arith, L.invariant.1.near, c.taken-k.ensures, min_one S.args.d),
-          omega (arith, L.invariant.1.next, L.invariant.1.size, L.invariant.2, length-set S.args.dst.now S.args.at c.choice-a.result),
+          omega (arith, L.invariant.0.near, c.min-k.ensures, min_one S.args.d),
+          omega (arith, L.invariant.0.next, L.invariant.0.size, L.invariant.1, length-set S.args.dst.now S.args.at c.choice-a.result),
         ),
       ),
     )
@@ -77,21 +77,20 @@ loop-o-preserved t c =
     let S = c in
     let L = c.loop-o in
     let row = c.row_of-row in
-    let k = c.taken-k.result in
+    let k = c.min-k.result in
     let ran = c.extend_from-next in
     let more = most_choices_more (S.args.n - 1) L.o (omega (arith, row.ensures.few)) in
     let r = most_choices_step S.args.n c.if-n-eq0.false in (
-      omega arith,
       runs_more (model_in S.args.m.now) (by_place S.args.m.now S.args.places.now) (step_in S.args.m.now S.args.s row.result.at) (S.args.d - k) (S.args.n - 1) S.args.src.now
           L.o c.target-t.result _ L.next.from ran.result.from _ L.next.at ran.result.at _ L.dst ran.new.dst
-          c.target-t.ensures (omega (arith, length-set S.args.dst.now S.args.at c.choice-a.result)) L.invariant.1 ran.ensures,
-      ran.auto.dst ∙ L.invariant.2,
+          c.target-t.ensures (omega (arith, length-set S.args.dst.now S.args.at c.choice-a.result)) L.invariant.0 ran.ensures,
+      ran.auto.dst ∙ L.invariant.1,
     )
 
 pub shape_of-dst : goal.shape_of-dst
 shape_of-dst t c =
     let S = c in
-    c.loop-o.invariant.2 ∙ length-set S.args.dst.now S.args.at c.choice-a.result
+    c.loop-o.invariant.1 ∙ length-set S.args.dst.now S.args.at c.choice-a.result
 
 pub returns : goal.returns
 returns t c =
@@ -99,9 +98,9 @@ returns t c =
     let L = c.loop-o in
     let row = c.row_of-row in
     let a = c.choice-a in
-    let k = c.taken-k in
+    let k = c.min-k in
     let from = S.args.from + k.result in
     extend_choice (model_in S.args.m.now) (by_place S.args.m.now S.args.places.now) S.args.src.now S.args.d S.args.n S.args.s S.args.from S.args.at a.result k.result S.args.dst.now L.dst L.next.from L.next.at
-    c.if-n-eq0.false (omega (arith, S.requires.placed.2, most_choices_step S.args.n c.if-n-eq0.false)) a.ensures k.ensures
+    c.if-n-eq0.false (omega (arith, S.requires.placed.2, most_choices_step S.args.n c.if-n-eq0.false)) a.ensures (omega arith)
     (runs_all (model_in S.args.m.now) (by_place S.args.m.now S.args.places.now) (step_in S.args.m.now S.args.s row.result.at) (S.args.d - k.result) (S.args.n - 1) S.args.src.now
-    S.args.s a.result row.result.count L.o from L.next.from (S.args.at + 1) L.next.at _ L.dst row.ensures.row row.ensures.few (omega arith) L.invariant.1)
+    S.args.s a.result row.result.count L.o from L.next.from (S.args.at + 1) L.next.at _ L.dst row.ensures.row row.ensures.few (omega arith) L.invariant.0)

@@ -1,4 +1,4 @@
-use Prim.Native.Nat.{◌*◌, ◌-◌, ◌≤◌}
+use Prim.Native.Nat.{◌*◌, ◌-◌}
 use mathlib.Core.Path.{◌≡◌}
 use lib.ListN.{length, drop}
 use Rattle.prepared_model.specs.promises.Rows.{step_in, model_in}
@@ -12,9 +12,5 @@ decreases-extend_from l = l.n
 
 abbrev pub invariant-loop-o : goal.invariant-loop-o
 invariant-loop-o l =
-    (l.o ≤ l.row.count)
-    × Ran (runs (model_in l.m) (by_place l.m l.places) (step_in l.m l.s l.row.at) (l.d - l.k) (l.n - 1) l.src l.o (drop l.initial.next.from l.src)) (l.o * most_choices (l.n - 1)) l.src l.initial.next.from l.next.from l.initial.dst l.dst l.initial.next.at l.next.at
+    Ran (runs (model_in l.m) (by_place l.m l.places) (step_in l.m l.s l.row.at) (l.d - l.k) (l.n - 1) l.src l.o (drop l.initial.next.from l.src)) (l.o * most_choices (l.n - 1)) l.src l.initial.next.from l.next.from l.initial.dst l.dst l.initial.next.at l.next.at
     × (length l.dst ≡ length l.initial.dst)
-
-abbrev pub decreases-loop-o : goal.decreases-loop-o
-decreases-loop-o l = l.row.count - l.o

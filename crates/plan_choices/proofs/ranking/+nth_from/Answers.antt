@@ -43,7 +43,7 @@ loop-o-init t c =
     let b = c.block_of-b in
     let f = b.ensures.1 in
     let e = f.sized ∙ sym (ways_all S.requires.prepared.0 S.args.s S.requires.s_bound.0 b.result.at b.ensures.0 (S.args.n - 1)) in
-    (c.outcomes-c.ensures, omega arith, below_start S.args.m.now (S.args.n - 1) S.args.s b.result.at b.result.place _ (S.args.at + 1) b.result.size e f.inside f.few)
+    below_start S.args.m.now (S.args.n - 1) S.args.s b.result.at b.result.place _ (S.args.at + 1) b.result.size e f.inside f.few
 
 pub target-t-requires : goal.target-t-requires
 target-t-requires t c =
@@ -56,7 +56,7 @@ plans_counted-size-requires t c =
     let b = c.block_of-b in
     let L = c.loop-o in
     let l : L.o < outcomes_in S.args.m.now S.args.s b.result.at = omega arith in
-    let u = below_turn L.invariant.2 l S.requires.prepared S.requires.s_bound.0 b.ensures.0 (omega arith) c.target-t.ensures in
+    let u = below_turn L.invariant l S.requires.prepared S.requires.s_bound.0 b.ensures.0 (omega arith) c.target-t.ensures in
     (omega arith, omega (arith, S.requires.prepared.0.states, u.state))
 
 pub nonzero_div-size : goal.nonzero_div-size
@@ -65,7 +65,7 @@ nonzero_div-size t c =
     let b = c.block_of-b in
     let L = c.loop-o in
     let l : L.o < outcomes_in S.args.m.now S.args.s b.result.at = omega arith in
-    let u = below_turn L.invariant.2 l S.requires.prepared S.requires.s_bound.0 b.ensures.0 (omega arith) c.target-t.ensures in
+    let u = below_turn L.invariant l S.requires.prepared S.requires.s_bound.0 b.ensures.0 (omega arith) c.target-t.ensures in
     rw (c.plans_counted-size.ensures ∙ u.counted) u.some
 
 pub nonzero_div-rest : goal.nonzero_div-rest
@@ -74,8 +74,8 @@ nonzero_div-rest t c =
     let b = c.block_of-b in
     let L = c.loop-o in
     let l : L.o < outcomes_in S.args.m.now S.args.s b.result.at = omega arith in
-    let u = below_turn L.invariant.2 l S.requires.prepared S.requires.s_bound.0 b.ensures.0 (omega arith) c.target-t.ensures in
-    let v = divides L.invariant.2 l u c.plans_counted-size.ensures in
+    let u = below_turn L.invariant l S.requires.prepared S.requires.s_bound.0 b.ensures.0 (omega arith) c.target-t.ensures in
+    let v = divides L.invariant l u c.plans_counted-size.ensures in
     rw v u.later
 
 pub nth_from-next-requires : goal.nth_from-next-requires
@@ -84,11 +84,11 @@ nth_from-next-requires t c =
     let b = c.block_of-b in
     let L = c.loop-o in
     let l : L.o < outcomes_in S.args.m.now S.args.s b.result.at = omega arith in
-    let u = below_turn L.invariant.2 l S.requires.prepared S.requires.s_bound.0 b.ensures.0 (omega arith) c.target-t.ensures in
-    let v = divides L.invariant.2 l u c.plans_counted-size.ensures in
+    let u = below_turn L.invariant l S.requires.prepared S.requires.s_bound.0 b.ensures.0 (omega arith) c.target-t.ensures in
+    let v = divides L.invariant l u c.plans_counted-size.ensures in
     let r = most_choices_step S.args.n c.if-n-eq0.false in
-    let f = fits L.invariant.2 l (S.requires.prepared.0.few_outcomes S.args.s b.result.at S.requires.s_bound.0 b.ensures.0) (omega (arith, length-set S.args.choices.now S.args.at c.choice.result)) in
-    (omega arith, (S.requires.prepared, (u.state, omega arith, u.few, quotient L.invariant.2 l u v, f)))
+    let f = fits L.invariant l (S.requires.prepared.0.few_outcomes S.args.s b.result.at S.requires.s_bound.0 b.ensures.0) (omega (arith, length-set S.args.choices.now S.args.at c.choice.result)) in
+    (omega arith, (S.requires.prepared, (u.state, omega arith, u.few, quotient L.invariant l u v, f)))
 
 pub nonzero_rem-rest : goal.nonzero_rem-rest
 nonzero_rem-rest t c =
@@ -96,8 +96,8 @@ nonzero_rem-rest t c =
     let b = c.block_of-b in
     let L = c.loop-o in
     let l : L.o < outcomes_in S.args.m.now S.args.s b.result.at = omega arith in
-    let u = below_turn L.invariant.2 l S.requires.prepared S.requires.s_bound.0 b.ensures.0 (omega arith) c.target-t.ensures in
-    let v = divides L.invariant.2 l u c.plans_counted-size.ensures in
+    let u = below_turn L.invariant l S.requires.prepared S.requires.s_bound.0 b.ensures.0 (omega arith) c.target-t.ensures in
+    let v = divides L.invariant l u c.plans_counted-size.ensures in
     rw v u.later
 
 pub loop-o-preserved : goal.loop-o-preserved
@@ -106,17 +106,17 @@ loop-o-preserved t c =
     let b = c.block_of-b in
     let L = c.loop-o in
     let l : L.o < outcomes_in S.args.m.now S.args.s b.result.at = omega arith in
-    let u = below_turn L.invariant.2 l S.requires.prepared S.requires.s_bound.0 b.ensures.0 (omega arith) c.target-t.ensures in
-    let v = divides L.invariant.2 l u c.plans_counted-size.ensures in
+    let u = below_turn L.invariant l S.requires.prepared S.requires.s_bound.0 b.ensures.0 (omega arith) c.target-t.ensures in
+    let v = divides L.invariant l u c.plans_counted-size.ensures in
     let r = most_choices_step S.args.n c.if-n-eq0.false in
-    let f = fits L.invariant.2 l (S.requires.prepared.0.few_outcomes S.args.s b.result.at S.requires.s_bound.0 b.ensures.0) (omega (arith, length-set S.args.choices.now S.args.at c.choice.result)) in
+    let f = fits L.invariant l (S.requires.prepared.0.few_outcomes S.args.s b.result.at S.requires.s_bound.0 b.ensures.0) (omega (arith, length-set S.args.choices.now S.args.at c.choice.result)) in
     let w = c.nth_from-next in
-    (L.invariant.0, omega arith, below_more L.invariant.2 l u v f w.ensures w.auto.choices)
+    below_more L.invariant l u v f w.ensures w.auto.choices
 
 pub shape_of-choices : goal.shape_of-choices
 shape_of-choices t c =
     let S = c in
-    c.loop-o.invariant.2.kept ∙ length-set S.args.choices.now S.args.at c.choice.result
+    c.loop-o.invariant.kept ∙ length-set S.args.choices.now S.args.at c.choice.result
 
 pub returns : goal.returns
 returns t c =
@@ -125,4 +125,4 @@ returns t c =
     let L = c.loop-o in
     let z = c.if-n-eq0.false in
     from_choice (model_in S.args.m.now) z b.ensures.1 c.choice.ensures (outcomes_left S.requires.prepared.0 S.args.s S.requires.s_bound.0 b.result.at b.ensures.0)
-    (omega (arith, most_choices_step S.args.n z)) (below_end S.args.m.now (S.args.n - 1) S.args.s b.result.at b.result.place _ (S.args.at + 1) (S.requires.prepared.0.few_outcomes S.args.s b.result.at S.requires.s_bound.0 b.ensures.0) (omega arith) L.invariant.2)
+    (omega (arith, most_choices_step S.args.n z)) (below_end S.args.m.now (S.args.n - 1) S.args.s b.result.at b.result.place _ (S.args.at + 1) (S.requires.prepared.0.few_outcomes S.args.s b.result.at S.requires.s_bound.0 b.ensures.0) (omega arith) L.invariant)

@@ -1,6 +1,3 @@
-use Prim.Native.Nat.{◌-◌, ◌≤◌}
-use mathlib.Core.Path.{◌≡◌}
-use Rattle.prepared_model.specs.promises.Rows.{outcomes_in}
 use Rattle.plan_choices.proofs.WrittenBelow.{Underway}
 use Rattle.plan_choices.proofs.ranking.+nth_from.Given as goal
 
@@ -9,7 +6,4 @@ decreases-nth_from l = l.n
 
 abbrev pub invariant-loop-o : goal.invariant-loop-o
 invariant-loop-o l =
-    (l.c ≡ outcomes_in l.m l.s l.b.at) × (l.o ≤ l.c) × Underway l.m l.k l.s l.b.at l.initial.rest l.initial.choices l.initial.next l.o l.size l.rest l.choices l.next
-
-abbrev pub decreases-loop-o : goal.decreases-loop-o
-decreases-loop-o l = l.c - l.o
+    Underway l.m l.k l.s l.b.at l.initial.rest l.initial.choices l.initial.next l.o l.size l.rest l.choices l.next

@@ -7,10 +7,10 @@ use Rattle.plan_choices.proofs.ranking.block_of.Goals as goal
 pub choices-c-requires : goal.choices-c-requires
 choices-c-requires c = omega (arith, c.requires.prepared.0.states)
 
-pub loop-a-init : goal.loop-a-init
-loop-a-init c =
+pub loop-at-init : goal.loop-at-init
+loop-at-init c =
     let S = c in
-    (c.choices-c.ensures, omega arith, rest_start S.args.m.now S.args.n S.args.s S.requires.prepared.0 S.requires.s_bound.0 S.args.i S.requires.s_bound.3)
+    rest_start S.args.m.now S.args.n S.args.s S.requires.prepared.0 S.requires.s_bound.0 S.args.i S.requires.s_bound.3
 
 pub ways-size-requires : goal.ways-size-requires
 ways-size-requires c =
@@ -20,15 +20,15 @@ pub returns-then-rest-size : goal.returns-then-rest-size
 returns-then-rest-size c =
     let S = c in
     let w = c.ways-size.ensures in
-    (omega arith, rest_found S.args.m.now S.args.n S.args.s c.loop-a.invariant.2 (omega arith) w.value c.if-rest-size.true w.range)
+    (omega arith, rest_found S.args.m.now S.args.n S.args.s c.loop-at.invariant (omega arith) w.value c.if-rest-size.true w.range)
 
-pub loop-a-preserved : goal.loop-a-preserved
-loop-a-preserved c =
+pub loop-at-preserved : goal.loop-at-preserved
+loop-at-preserved c =
     let S = c in
-    let L = c.loop-a in
-    (L.invariant.0, omega arith, rest_passed S.args.m.now S.args.n S.args.s L.invariant.2 (omega arith) c.ways-size.ensures.value (omega arith))
+    let L = c.loop-at in
+    rest_passed S.args.m.now S.args.n S.args.s L.invariant (omega arith) c.ways-size.ensures.value (omega arith)
 
 pub returns : goal.returns
 returns c =
     let S = c in
-    absurd (rest_none S.args.m.now S.args.n S.args.s c.loop-a.invariant.2 (omega arith))
+    absurd (rest_none S.args.m.now S.args.n S.args.s c.loop-at.invariant (omega arith))

@@ -26,7 +26,7 @@ after-next-requires t c = c.requires.here.1
 pub loop-o-init : goal.loop-o-init
 loop-o-init t c =
     let S = c in
-    (omega arith, runs_none S.args.spot.a S.args.spot.d S.requires.ready S.requires.here.0 S.args.choices.now c.after-next.result c.row_of-row.result.at c.after-next.ensures.0)
+    runs_none S.args.spot.a S.args.spot.d S.requires.ready S.requires.here.0 S.args.choices.now c.after-next.result c.row_of-row.result.at c.after-next.ensures.0
 
 pub overflow_cast-o : goal.overflow_cast-o
 overflow_cast-o t c =
@@ -41,7 +41,7 @@ overflow_cast-o t c =
       left = c.if-spot-eq0.false;
       offers = c.row_of-row.ensures.offers;
       more = c.loop-o-test.true;
-      ran = c.loop-o.invariant.1;
+      ran = c.loop-o.invariant;
     } in
     record { fits = omega (arith, (within turn).2) }
 
@@ -58,7 +58,7 @@ step-t-requires t c =
       left = c.if-spot-eq0.false;
       offers = c.row_of-row.ensures.offers;
       more = c.loop-o-test.true;
-      ran = c.loop-o.invariant.1;
+      ran = c.loop-o.invariant;
     } in
     let T = turn in record { ready = T.ready; offered = offered T; knows = known_here T }
 
@@ -75,7 +75,7 @@ overflow_add-on t c =
       left = c.if-spot-eq0.false;
       offers = c.row_of-row.ensures.offers;
       more = c.loop-o-test.true;
-      ran = c.loop-o.invariant.1;
+      ran = c.loop-o.invariant;
     } in
     record { fits = omega (arith, turn.here.steps) }
 
@@ -92,7 +92,7 @@ overflow_sub-on t c =
       left = c.if-spot-eq0.false;
       offers = c.row_of-row.ensures.offers;
       more = c.loop-o-test.true;
-      ran = c.loop-o.invariant.1;
+      ran = c.loop-o.invariant;
     } in
     omega (arith, turn.left)
 
@@ -109,7 +109,7 @@ weigh_from-r-requires t c =
       left = c.if-spot-eq0.false;
       offers = c.row_of-row.ensures.offers;
       more = c.loop-o-test.true;
-      ran = c.loop-o.invariant.1;
+      ran = c.loop-o.invariant;
     } in
     let S = c in
     let T = turn in
@@ -128,28 +128,11 @@ plus-sum-requires t c =
       left = c.if-spot-eq0.false;
       offers = c.row_of-row.ensures.offers;
       more = c.loop-o-test.true;
-      ran = c.loop-o.invariant.1;
+      ran = c.loop-o.invariant;
     } in
     let T = turn in
     let w = within T in
     (w.0, w.1, w.2, runs_fit T c.step-t.ensures c.weigh_from-r.ensures)
-
-pub overflow_add-o : goal.overflow_add-o
-overflow_add-o t c =
-    let turn : let S = c.args in
-    let L = c.loop-o in
-    let row = c.row_of-row.result in
-    BeforeOutcome S.m.now S.q.now S.spot.start S.spot.a S.spot.d S.truth.now S.cone.now S.trail.now S.gains.now S.v.now S.spot.h S.spot.s S.spot.k S.choices.now
-    c.after-next.result row.at row.count L.o L.trail L.gains L.v L.sum L.next = let S = c in
-    record {
-      ready = S.requires.ready;
-      here = S.requires.here.0;
-      left = c.if-spot-eq0.false;
-      offers = c.row_of-row.ensures.offers;
-      more = c.loop-o-test.true;
-      ran = c.loop-o.invariant.1;
-    } in
-    omega (arith, (within turn).2)
 
 pub loop-o-preserved : goal.loop-o-preserved
 loop-o-preserved t c =
@@ -164,9 +147,9 @@ loop-o-preserved t c =
       left = c.if-spot-eq0.false;
       offers = c.row_of-row.ensures.offers;
       more = c.loop-o-test.true;
-      ran = c.loop-o.invariant.1;
+      ran = c.loop-o.invariant;
     } in
-    (omega arith, runs_more turn c.step-t.ensures c.weigh_from-r.ensures c.plus-sum.ensures)
+    runs_more turn c.step-t.ensures c.weigh_from-r.ensures c.plus-sum.ensures
 
 pub returns : goal.returns
 returns t c =
@@ -174,4 +157,4 @@ returns t c =
     let L = c.loop-o in
     let a = c.byte in
     let n = c.after-next in
-    weigh_choice S.args.spot.a S.args.spot.d S.requires.ready S.requires.here.0 S.args.choices.now S.args.spot.at a.result n.result c.if-spot-eq0.false a.ensures n.ensures.1 c.row_of-row.ensures (omega (arith, L.invariant.0, c.loop-o-test.false)) L.invariant.1
+    weigh_choice S.args.spot.a S.args.spot.d S.requires.ready S.requires.here.0 S.args.choices.now S.args.spot.at a.result n.result c.if-spot-eq0.false a.ensures n.ensures.1 c.row_of-row.ensures (omega arith) L.invariant
