@@ -43,8 +43,7 @@ fn limit(plans: bool) -> u64
 fn capped(plans: bool, x: u64) -> u64
     ensures { result ≡ min (spec.cap plans) x }
 {
-    let cap = limit(plans) + 1;
-    if x < cap { x } else { cap }
+    x.min(limit(plans) + 1)
 }
 
 // The total of no outcomes.
@@ -79,13 +78,10 @@ fn choice_total(
     ensures { let table = table.entry.now in let m = m.entry.now in
         result ≡ min (spec.cap plans) (gather plans (λ o. get_or table (at + o.target) 0) (outcomes (model_in m) s (choice_in m s i))) }
 {
-    let count = prepared_model::outcomes(m, s, i);
     let mut total = none(plans);
-    let mut o: usize = 0;
-    while o < count {
+    for o in 0..prepared_model::outcomes(m, s, i) {
         let t = prepared_model::target(m, s, i, o);
         total = joined(plans, total, table[at + t]);
-        o += 1;
     }
     total
 }
@@ -97,12 +93,9 @@ fn state_total(m: &[u16; MODEL], plans: bool, table: &[u64; COUNTS], at: usize, 
     ensures { let m = m.entry.now in let table = table.entry.now in
         result ≡ min (spec.cap plans) (step_total plans (model_in m) (λ t. get_or table (at + t) 0) s) }
 {
-    let n = prepared_model::choices(m, s);
     let mut total: u64 = 0;
-    let mut i: usize = 0;
-    while i < n {
+    for i in 0..prepared_model::choices(m, s) {
         total = capped(plans, total + choice_total(m, plans, table, at, s, i));
-        i += 1;
     }
     total
 }
@@ -114,14 +107,11 @@ fn totals(m: &[u16; MODEL], plans: bool, rows: usize) -> [u64; COUNTS]
     ensures { Totals plans (model_in m.now) rows result }
 {
     let states = prepared_model::states(m);
-    let end = STATES * rows;
     let mut table = [1u64; COUNTS];
-    let mut k: usize = STATES;
-    while k < end {
+    for k in STATES..STATES * rows {
         if k % STATES < states {
             table[k] = state_total(m, plans, &table, STATES * (k / STATES - 1), k % STATES);
         }
-        k += 1;
     }
     table
 }
@@ -140,13 +130,8 @@ fn row_fits(table: &[u64; COUNTS], n: usize, states: usize, plans: bool) -> bool
     ensures { result ≡ every states (λ s. leb (get_or table.now (32 * n + s) 0) (spec.limit plans)) }
 {
     let most = limit(plans);
-    let mut right = true;
-    let mut s: usize = 0;
-    while s < states {
-        right = right & (table[STATES * n + s] <= most);
-        s += 1;
-    }
-    right
+    let row = STATES * n;
+    table[row..row + states].iter().all(|total| *total <= most)
 }
 
 // Whether a limit is set to node i: it sets a bound on plans, and where plans are counted its relation is "equal".
@@ -172,26 +157,14 @@ fn node_rows(q: &[u8; QUESTION], i: u8, plans: bool) -> usize
     0
 }
 
-fn larger(x: usize, y: usize) -> usize
-    ensures { (x ≤ result) × (y ≤ result) × (x ≤ 7 → y ≤ 7 → result ≤ 7) }
-{
-    if x < y {
-        return y;
-    }
-    x
-}
-
 // The rows that all nodes need.
 fn rows_needed(q: &[u8; QUESTION], plans: bool) -> usize
     requires { ((i : ℕ) → i < node_count q.now → sets_bound (node_of q.now i).operator ≡ true → Compares (node_of q.now i)) × (node_count q.now ≤ 40) }
     ensures { Needed plans q.now (node_count q.now) result }
 {
-    let n = prepared_question::count(q);
     let mut rows: usize = 0;
-    let mut i: u8 = 0;
-    while i < n {
-        rows = larger(rows, node_rows(q, i, plans));
-        i += 1;
+    for i in 0..prepared_question::count(q) {
+        rows = rows.max(node_rows(q, i, plans));
     }
     rows
 }
@@ -237,14 +210,7 @@ fn nodes_fit(m: &[u16; MODEL], q: &[u8; QUESTION], table: &[u64; COUNTS], plans:
     ensures { let m = m.entry.now in let q = q.entry.now in
         result ≡ every_plan (fits plans (model_in m)) (model_in m) (formulas_of q) }
 {
-    let n = prepared_question::count(q);
-    let mut right = true;
-    let mut i: u8 = 0;
-    while i < n {
-        right = right & node_fits(m, q, table, plans, i);
-        i += 1;
-    }
-    right
+    (0..prepared_question::count(q)).all(|i| node_fits(m, q, table, plans, i))
 }
 
 // The test of ground 24: no node that sets a bound on plans has too many paths.
