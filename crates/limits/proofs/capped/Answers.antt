@@ -4,4 +4,4 @@ use Rattle.limits.proofs.CappedTotals.{limit_most}
 use Rattle.limits.proofs.capped.Goals as goal
 
 pub overflow_add-limit : goal.overflow_add-limit
-overflow_add-limit c = omega (arith, c.limit.ensures, limit_most c.args.plans)
+overflow_add-limit g c = omega (arith, c.limit.ensures, limit_most g.K.Kind.plans)

@@ -7,4 +7,4 @@ use Rattle.limits.specs.promises.Totals.{gather, cap}
 use Rattle.limits.proofs.choice_total.Given as goal
 
 abbrev pub invariant-loop-o : goal.invariant-loop-o
-invariant-loop-o l = l.total ≡ min (cap l.plans) (gather l.plans (λ x. get_or l.table (l.at + x.target) 0) (tabulate l.o (step_in l.m l.s l.i)))
+invariant-loop-o g l = l.total ≡ min (cap g.K.Kind.plans) (gather g.K.Kind.plans (λ x. get_or l.table (l.at + x.target) 0) (tabulate l.o (step_in l.m l.s l.i)))

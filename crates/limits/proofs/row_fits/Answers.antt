@@ -10,7 +10,7 @@ use Rattle.limits.proofs.RowTested.{every_listed}
 use Rattle.limits.proofs.row_fits.Goals as goal
 
 pub returns : goal.returns
-returns c =
+returns g c =
     let S = c in
     let passes : ℕ → Bool = λ x. leb x c.limit-most.result in
     let row : 32 * S.args.n + S.args.states - 32 * S.args.n ≡ S.args.states = omega arith in

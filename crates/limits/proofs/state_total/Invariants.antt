@@ -9,4 +9,4 @@ use Rattle.limits.specs.promises.Totals.{gather, cap}
 use Rattle.limits.proofs.state_total.Given as goal
 
 abbrev pub invariant-loop-i : goal.invariant-loop-i
-invariant-loop-i l = l.total ≡ min (cap l.plans) (sum naturals (λ a. gather l.plans (λ o. get_or l.table (l.at + o.target) 0) (outcomes (model_in l.m) l.s a)) (tabulate l.i (choice_in l.m l.s)))
+invariant-loop-i g l = l.total ≡ min (cap g.K.Kind.plans) (sum naturals (λ a. gather g.K.Kind.plans (λ o. get_or l.table (l.at + o.target) 0) (outcomes (model_in l.m) l.s a)) (tabulate l.i (choice_in l.m l.s)))

@@ -7,30 +7,30 @@ use Rattle.limits.proofs.totals.Goals as goal
 use Rattle.limits.proofs.totals.Goals.{then-k-states, else-k-states}
 
 pub loop-k-init : goal.loop-k-init
-loop-k-init c =
+loop-k-init g c =
     let S = c in
-    filled_start S.args.plans S.args.m.now S.requires.0
+    filled_start g.K.Kind.plans S.args.m.now S.requires.0
 
 pub state_total-requires : goal.state_total-requires
-state_total-requires c =
+state_total-requires g c =
     let S = c in record { prepared = (S.requires.0, omega arith, omega arith); by_index = c.loop-k.invariant.small }
 
 pub bounds-table-k : goal.bounds-table-k
-bounds-table-k c = omega (arith, c.loop-k.invariant.size)
+bounds-table-k g c = omega (arith, c.loop-k.invariant.size)
 
 pub loop-k-preserved : goal.loop-k-preserved
-loop-k-preserved c =
+loop-k-preserved g c =
     let S = c in
     let L = c.loop-k in
     elim c.if-k-states.branch [
-        | then-k-states w ↦ subst (λ t. Filled S.args.plans S.args.m.now t (L.k + 1)) (sym w.table-is)
-            (filled_more S.args.plans S.args.m.now S.requires.0 L.table L.k L.invariant w.state_total.result (omega arith) (omega arith) (omega arith) w.state_total.ensures)
-        | else-k-states w ↦ subst (λ t. Filled S.args.plans S.args.m.now t (L.k + 1)) (sym w.table-is)
-            (filled_past S.args.plans S.args.m.now S.requires.0 L.table L.k L.invariant (omega arith))
+        | then-k-states w ↦ subst (λ t. Filled g.K.Kind.plans S.args.m.now t (L.k + 1)) (sym w.table-is)
+            (filled_more g.K.Kind.plans S.args.m.now S.requires.0 L.table L.k L.invariant w.state_total.result (omega arith) (omega arith) (omega arith) w.state_total.ensures)
+        | else-k-states w ↦ subst (λ t. Filled g.K.Kind.plans S.args.m.now t (L.k + 1)) (sym w.table-is)
+            (filled_past g.K.Kind.plans S.args.m.now S.requires.0 L.table L.k L.invariant (omega arith))
     ]
 
 pub returns : goal.returns
-returns c =
+returns g c =
     let S = c in
     let L = c.loop-k in
-    filled_rows S.args.plans S.args.m.now S.requires.0 S.args.rows L.table L.k L.invariant (omega arith)
+    filled_rows g.K.Kind.plans S.args.m.now S.requires.0 S.args.rows L.table L.k L.invariant (omega arith)

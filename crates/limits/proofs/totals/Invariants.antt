@@ -2,4 +2,4 @@ use Rattle.limits.proofs.CappedTotals.{Filled}
 use Rattle.limits.proofs.totals.Given as goal
 
 abbrev pub invariant-loop-k : goal.invariant-loop-k
-invariant-loop-k l = Filled l.plans l.m l.table l.k
+invariant-loop-k g l = Filled g.K.Kind.plans l.m l.table l.k
