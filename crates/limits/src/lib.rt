@@ -223,12 +223,7 @@ pub fn plan_totals(m: &[u16; MODEL], q: &[u8; QUESTION]) -> [u64; COUNTS]
     totals::<Plans>(m, ROWS)
 }
 
-fn node_fits<K: Kind>(
-    m: &[u16; MODEL],
-    q: &[u8; QUESTION],
-    table: &[u64; COUNTS],
-    i: u8,
-) -> bool
+fn node_fits<K: Kind>(m: &[u16; MODEL], q: &[u8; QUESTION], table: &[u64; COUNTS], i: u8) -> bool
     requires { Prepared m.now × (spec.bounded K.plans (node_of q.now i) ≡ true → Totals K.plans (model_in m.now) ((node_of q.now i).n + 1) table.now)
         × (i < 40) × (sets_bound (node_of q.now i).operator ≡ true → Compares (node_of q.now i)) }
     ensures { result ≡ node_fits K.plans (model_in m.now) (node_of q.now i) }

@@ -11,17 +11,10 @@ use Rattle.limits.specs.promises.Totals.{gather, cap}
 use Rattle.limits.proofs.CappedTotals.{state_end, small_of, sum_start, sum_next}
 use Rattle.limits.proofs.state_total.Goals as goal
 
-pub choices-i-end-requires : goal.choices-i-end-requires
-choices-i-end-requires g c = omega (arith, c.requires.prepared.0.states)
-
 pub loop-i-init : goal.loop-i-init
 loop-i-init g c =
     let S = c in
     sum_start (cap g.K.Kind.plans) (λ a. gather g.K.Kind.plans (λ o. get_or S.args.table.now (S.args.at + o.target) 0) (outcomes (model_in S.args.m.now) S.args.s a)) (choice_in S.args.m.now S.args.s)
-
-pub choice_total-requires : goal.choice_total-requires
-choice_total-requires g c =
-    let S = c in record { prepared = (S.requires.prepared.0, S.requires.prepared.1, S.requires.prepared.2, omega arith); by_index = S.requires.by_index }
 
 pub overflow_add-total : goal.overflow_add-total
 overflow_add-total g c =
@@ -33,7 +26,7 @@ loop-i-preserved g c =
     let S = c in
     let L = c.loop-i in
     sum_next (cap g.K.Kind.plans) (λ a. gather g.K.Kind.plans (λ o. get_or S.args.table.now (S.args.at + o.target) 0) (outcomes (model_in S.args.m.now) S.args.s a)) (choice_in S.args.m.now S.args.s)
-          L.i L.total c.choice_total.result _ L.invariant c.choice_total.ensures c.capped-total.ensures
+    L.i L.total c.choice_total.result _ L.invariant c.choice_total.ensures c.capped-total.ensures
 
 pub returns : goal.returns
 returns g c =

@@ -11,22 +11,15 @@ loop-k-init g c =
     let S = c in
     filled_start g.K.Kind.plans S.args.m.now S.requires.0
 
-pub state_total-requires : goal.state_total-requires
-state_total-requires g c =
-    let S = c in record { prepared = (S.requires.0, omega arith, omega arith); by_index = c.loop-k.invariant.small }
-
-pub bounds-table-k : goal.bounds-table-k
-bounds-table-k g c = omega (arith, c.loop-k.invariant.size)
-
 pub loop-k-preserved : goal.loop-k-preserved
 loop-k-preserved g c =
     let S = c in
     let L = c.loop-k in
     elim c.if-k-states.branch [
-        | then-k-states w ↦ subst (λ t. Filled g.K.Kind.plans S.args.m.now t (L.k + 1)) (sym w.table-is)
-            (filled_more g.K.Kind.plans S.args.m.now S.requires.0 L.table L.k L.invariant w.state_total.result (omega arith) (omega arith) (omega arith) w.state_total.ensures)
-        | else-k-states w ↦ subst (λ t. Filled g.K.Kind.plans S.args.m.now t (L.k + 1)) (sym w.table-is)
-            (filled_past g.K.Kind.plans S.args.m.now S.requires.0 L.table L.k L.invariant (omega arith))
+      | then-k-states w ↦ subst (λ t. Filled g.K.Kind.plans S.args.m.now t (L.k + 1)) (sym w.table-is)
+          (filled_more g.K.Kind.plans S.args.m.now S.requires.0 L.table L.k L.invariant w.state_total.result (omega arith) (omega arith) (omega arith) w.state_total.ensures)
+      | else-k-states w ↦ subst (λ t. Filled g.K.Kind.plans S.args.m.now t (L.k + 1)) (sym w.table-is)
+          (filled_past g.K.Kind.plans S.args.m.now S.requires.0 L.table L.k L.invariant (omega arith))
     ]
 
 pub returns : goal.returns
