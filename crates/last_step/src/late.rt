@@ -62,9 +62,7 @@ pub fn late(q: &[u8; QUESTION], cone: &[u8]) -> [u8; NODES]
     let mut marks = [0u8; NODES];
     let root = cone[cone.len() - 1] as usize;
     marks[root] = 1;
-    let mut i = cone.len();
-    while i > 0 {
-        i -= 1;
+    for i in (0..cone.len()).rev() {
         pass_on(q, &mut marks, cone[i]);
     }
     marks
