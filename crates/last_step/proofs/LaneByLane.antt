@@ -5,7 +5,7 @@ use native.Mathlib.Nat.{le_trans, pow-suc}
 use mathlib.Core.Path.{◌≡◌, ap, ap₂, ◌∙◌}
 use mathlib.Core.Bool.{Bool}
 use mathlib.Core.List.{List}
-use lib.Pow.{pow_pos, pow_mono}
+use lib.Pow.{pow_mono}
 use Rattle.logic.specs.Bound.{one_if}
 use Rattle.models.specs.Layout.{state_count}
 use Rattle.prepared_model.specs.promises.Rows.{choices_in, lane, Prepared}
@@ -18,9 +18,6 @@ pub record Built (f : ℕ → Bool) (n i x : ℕ) : Type 0 where
   pub right : (l : ℕ) → i + l < n → lane x l ≡ one_if (f (i + l))
 
 module _ {n i x : ℕ} (p : 0 < i) (h : i ≤ n) (b : x < 2 ^ (n - i)) where
-  pub room_small : n ≤ 32 → x < 2147483648
-  room_small k = le_trans b (pow_mono {i = n - i} {j = 31} (omega arith))
-
   pub room_more : {y : ℕ} (t : Bool) → y ≡ 2 * x + one_if t → y < 2 ^ (n - (i - 1))
   room_more {y} t e =
       let k : n - (i - 1) ≡ suc (n - i) = omega arith in
@@ -28,9 +25,6 @@ module _ {n i x : ℕ} (p : 0 < i) (h : i ≤ n) (b : x < 2 ^ (n - i)) where
       omega (arith, one_if_small t, b)
 
 module _ (f : ℕ → Bool) (n : ℕ) where
-  pub built_none : {i : ℕ} → i ≡ n → Built f n i 0
-  built_none e = record { right = λ l h. absurd (omega arith) }
-
   module _ {i x : ℕ} (p : 0 < i) (h : i ≤ n) (b : Built f n i x) where
     pub built_more : {y : ℕ} {t : Bool} → y ≡ 2 * x + one_if t → t ≡ f (i - 1) → Built f n (i - 1) y
     built_more {y} {t} e g = record { right = at }
@@ -49,9 +43,6 @@ module _ (f : ℕ → Bool) (n : ℕ) where
             lane_suc y l ∙ ap (λ k. lane k l) w ∙ b.right l (omega arith) ∙ ap (λ k. one_if (f k)) z
 
 module _ {m : List ℕ} (w : Prepared m) (s : ℕ) (h : s < state_count m) where
-  pub few_lanes : 4 * choices_in m s ≤ 32
-  few_lanes = omega (arith, w.few_choices s h)
-
   -- A word with all its lanes made has the outcomes' values.
   pub laned : (v : ℕ → ℕ → Bool) (x : ℕ) → ((k : ℕ) → k < 4 * choices_in m s → lane x k ≡ one_if (v (k / 4) (k % 4))) → Laned m s (λ i o. one_if (v i o)) x
   laned v x b = record {

@@ -61,7 +61,11 @@ pub fn gained(m: &[u16; MODEL], s: usize, kind: u8, after: i32, before: i32, bou
 {
     let gain = i64::from(after) - i64::from(before);
     lanes_where(m, s, |k| {
-        related(kind, gain + i64::from(lane_reward(m, s, k)), i64::from(bound))
+        related(
+            kind,
+            gain + i64::from(lane_reward(m, s, k)),
+            i64::from(bound),
+        )
     })
 }
 

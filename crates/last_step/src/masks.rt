@@ -98,8 +98,8 @@ pub fn mask(
         Ended m q at.start cone (take at.h trail) at.s result }
 {
     let mut masks = [0u32; NODES];
-    for i in 0..cone.len() {
-        let j = cone[i] as usize;
+    for (i, node) in cone.iter().enumerate() {
+        let j = *node as usize;
         if late[j] == 1 {
             masks[j] = mask_node(m, q, truth, cone, late, trail, gains, v, &masks, at, i);
         }

@@ -11,7 +11,4 @@ abbrev pub so_far : (m best : List ℕ) (at unit s i o : ℕ) → ℕ
 so_far m best at unit s i o = sum_below o (λ o. (step_in m s i o).weight * (unit * raise (step_in m s i o).reward + get_or best (at + (step_in m s i o).target) 0))
 
 abbrev pub invariant-loop-o : goal.invariant-loop-o
-invariant-loop-o l = (l.count ≡ outcomes_in l.m l.s l.i) × (l.o ≤ l.count) × (l.sum ≡ so_far l.m l.best l.at l.unit l.s l.i l.o)
-
-abbrev pub decreases-loop-o : goal.decreases-loop-o
-decreases-loop-o l = l.count - l.o
+invariant-loop-o l = l.sum ≡ so_far l.m l.best l.at l.unit l.s l.i l.o

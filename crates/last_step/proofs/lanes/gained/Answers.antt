@@ -1,6 +1,6 @@
 -- Each lane asks whether the gain with its outcome's reward stands in the relation to the bound.
-use Prim.Native.Nat.{ℕ, ◌+◌, ◌*◌, ◌/◌, ◌%◌}
-use mathlib.Core.Bool.{Bool, not}
+use Prim.Native.Nat.{ℕ, ◌/◌, ◌%◌}
+use mathlib.Core.Bool.{Bool}
 use lib.IntN.{◌+ℤ◌, ◌-ℤ◌}
 use borrow.Author.Rules.{rules}
 use Rattle.logic.specs.Formula.{relation}
