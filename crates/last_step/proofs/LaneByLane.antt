@@ -1,11 +1,10 @@
 -- A word made lane by lane, from the highest down.
 use Prim.Native.Nat.{ℕ, zero, suc, ◌+◌, ◌*◌, ◌-◌, ◌/◌, ◌%◌, ◌^◌, ◌≤◌, ◌<◌}
 use native.Mathlib.Omega.{arith}
-use native.Mathlib.Nat.{le_trans, pow-suc}
+use native.Mathlib.Nat.{pow-suc}
 use mathlib.Core.Path.{◌≡◌, ap, ap₂, ◌∙◌}
 use mathlib.Core.Bool.{Bool}
 use mathlib.Core.List.{List}
-use lib.Pow.{pow_mono}
 use Rattle.logic.specs.Bound.{one_if}
 use Rattle.models.specs.Layout.{state_count}
 use Rattle.prepared_model.specs.promises.Rows.{choices_in, lane, Prepared}

@@ -15,8 +15,8 @@ use Rattle.questions.specs.Layout.{node_of}
 use Rattle.prepared_question.specs.promises.Nodes.{formula, depth_in, reads_left}
 use Rattle.evaluation.specs.promises.Reached.{Earlier, Cone, root_of}
 use Rattle.prepared_question.specs.promises.Marks.{Grown}
-use Rattle.last_step.specs.promises.Late.{PassedOn, Late, TurnsOn, Placed, Deep}
-use Rattle.prepared_question.proofs.Marks.{blank, grown_mark, grown_none, grown_then, one_only, one_there}
+use Rattle.last_step.specs.promises.Late.{PassedOn, TurnsOn, Placed, Deep}
+use Rattle.prepared_question.proofs.Marks.{blank, grown_mark, one_only, one_there}
 
 -- ---- one node
 

@@ -32,17 +32,9 @@ rebased least m best w k {unit} {s} {n} {value} {place} h e P =
     (e ∙ ap (λ j. denominator_of m ^ (k / 32 - 1) * pay (w.before - (w.steps - j)) (w.last - (w.steps - j))) i)
     (subst (λ at. Picks least m best at unit s n value place) (sym (row_at k h)) P)
 
-pub states-count-requires : goal.states-count-requires
-states-count-requires c = tt
-
 pub loop-k-init : goal.loop-k-init
 loop-k-init c = let S = c in
     (length-replicate {A = ℕ} 224 0, S.requires.2, filled_none S.args.least S.requires.0 S.args.window S.requires.1 S.args.places.now)
-
-pub unit_of-unit-requires : goal.unit_of-unit-requires
-unit_of-unit-requires c = let S = c in
-    let L = c.loop-k in
-    (S.requires.0, S.requires.1, omega (arith, c.loop-k.auto.k), omega (arith, c.loop-k-test.true))
 
 pub pick-x-requires : goal.pick-x-requires
 pick-x-requires c = let S = c in
@@ -53,16 +45,6 @@ pick-x-requires c = let S = c in
       subst (λ at. Low S.args.m.now L.best at c.unit_of-unit.result) (row_at L.k c.loop-k.auto.k)
           (row_low S.args.least S.requires.0 S.args.window S.requires.1 L.best L.places (L.k / 32 - 1) c.unit_of-unit.result L.k few.0 few.1 L.invariant.2 c.unit_of-unit.ensures.range),
     )
-
-pub bounds-best-k : goal.bounds-best-k
-bounds-best-k c = let S = c in
-    let L = c.loop-k in
-    omega (arith, c.loop-k-test.true, S.requires.1.few)
-
-pub bounds-places-k : goal.bounds-places-k
-bounds-places-k c = let S = c in
-    let L = c.loop-k in
-    omega (arith, c.loop-k-test.true, S.requires.1.few)
 
 pub loop-k-preserved : goal.loop-k-preserved
 loop-k-preserved c = let S = c in
@@ -87,9 +69,3 @@ loop-k-preserved c = let S = c in
             (filled_past S.args.least S.requires.0 S.args.window S.requires.1 (omega (arith, c.states-count.ensures, w.if-k-count.false)) L.invariant.2)),
       )
     ]
-
-pub returns : goal.returns
-returns c = let S = c in
-    let L = c.loop-k in
-    let e : L.k ≡ 32 * suc S.args.window.steps = omega (arith, c.loop-k.auto.k-end, c.loop-k-test.false) in
-    subst (Filled S.args.least S.args.m.now S.args.window L.best L.places) e L.invariant.2

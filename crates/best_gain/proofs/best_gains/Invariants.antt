@@ -1,7 +1,5 @@
-use Prim.Native.Nat.{◌+◌, ◌*◌, ◌-◌, ◌≤◌}
 use mathlib.Core.Path.{◌≡◌}
 use lib.ListN.{length}
-use Rattle.models.specs.Layout.{state_count}
 use Rattle.best_gain.specs.promises.Tabled.{Filled}
 use Rattle.best_gain.proofs.best_gains.Given as goal
 

@@ -1,10 +1,10 @@
-use Prim.Native.Nat.{ℕ, ◌+◌, ◌*◌, ◌-◌, ◌≤◌}
+use Prim.Native.Nat.{ℕ, ◌+◌, ◌*◌}
 use mathlib.Core.Path.{◌≡◌}
 use mathlib.Core.List.{List}
 use lib.ListN.{get_or}
 use Rattle.logic.specs.promises.Raised.{raise}
 use Rattle.blocks.specs.Block.{sum_below}
-use Rattle.prepared_model.specs.promises.Rows.{outcomes_in, step_in}
+use Rattle.prepared_model.specs.promises.Rows.{step_in}
 use Rattle.best_gain.proofs.choice_worth.Given as goal
 
 abbrev pub so_far : (m best : List ℕ) (at unit s i o : ℕ) → ℕ

@@ -1,6 +1,3 @@
-use Prim.Native.Nat.{◌-◌, ◌≤◌}
-use mathlib.Core.Path.{◌≡◌}
-use Rattle.prepared_model.specs.promises.Rows.{choices_in}
 use Rattle.best_gain.specs.promises.Tabled.{Picks}
 use Rattle.best_gain.proofs.pick.Given as goal
 
