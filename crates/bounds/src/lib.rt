@@ -26,7 +26,7 @@ pub fn power(d: usize, k: u8) -> u64
     (d as u64).pow(u32::from(k))
 }
 
-// Whether a bound is met whose relation has this number, by a total's lamp.
+// Whether a bound is met whose relation has this number, as the node has it, by a total's lamp.
 fn met_by_lamp(number: u8, lamp: Lamp) -> bool
     requires { (1 ≤ number) × (number ≤ 3) }
     ensures { result ≡ lamps.met_by_lamp (relation number) (said_lamp lamp) }

@@ -62,7 +62,7 @@ pub fn gain_at(gains: &[i32; PLACES], k: u8) -> i32
     gains[usize::from(k)]
 }
 
-// Whether a gain stands in the relation of this number to a bound.
+// Whether a gain stands in the relation of this number to a bound. The node has the number: an enum would be made of it only to be matched here.
 pub fn related(kind: u8, gain: i64, bound: i64) -> bool
     ensures { result ≡ quantity.related integers (relation kind) gain bound }
 {
@@ -119,7 +119,8 @@ fn value_by(
     }
 }
 
-// The value of node j where it becomes known after h steps, the last of which led to the state s.
+// The value of node j where it becomes known after h steps, the last of which led to the state s. Places are widened by `as`, here and in `step`: what
+// `from` gives is another value to the proof, tied to the first by an equation at each use.
 fn learn_node(
     q: &[u8; QUESTION],
     truth: &[u8; TRUTHS],

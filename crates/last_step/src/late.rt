@@ -54,7 +54,8 @@ fn pass_on(q: &[u8; QUESTION], marks: &mut [u8; NODES], j: u8)
     }
 }
 
-// Marks from the condition downwards: children stand before their parents.
+// Marks from the condition downwards: children stand before their parents. By place, since the proof asks where a node stands in the cone, which
+// `iter().rev()` does not tell.
 pub fn late(q: &[u8; QUESTION], cone: &[u8]) -> [u8; NODES]
     requires { Deep q.now × Cone q.now cone.now × (0 < length cone.now) }
     ensures { Late q.now cone.now result }

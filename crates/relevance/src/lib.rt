@@ -123,7 +123,7 @@ fn enter(q: &[u8; QUESTION], marks: &mut [u8; NODES], j: u8)
     }
 }
 
-// Marks from the condition c downwards.
+// Marks from the condition c downwards. Not `0..=c`, which ends with no next place for the invariant to name.
 fn chosen(q: &[u8; QUESTION], c: u8) -> [u8; NODES]
     requires { Asked q.now × (c < question.node_count q.now) }
     ensures { Chosen q.now c result }
