@@ -79,6 +79,9 @@ module _ (plans : Bool) (x : Node) where
   unfolding bounded
   bounded_by e = rw e refl
 
+  pub bounded_plans : sets_bound x.operator ≡ true → not plans ≡ false → eqb x.right 2 ≡ bounded plans x
+  bounded_plans e h = ap (λ t. t || eqb x.right 2) (sym h) ∙ sym (bounded_by e)
+
   pub bounded_operator : bounded plans x ≡ true → sets_bound x.operator ≡ true
   unfolding bounded
   bounded_operator e = and_left (sets_bound x.operator) _ e
