@@ -71,12 +71,9 @@ fn choice_worth(
     ensures { let m = m.entry.now in let best = best.entry.now in
         result ≡ worth_by m best at unit s (choice_in m s i) }
 {
-    let count = outcomes(m, s, i);
     let mut sum: u64 = 0;
-    let mut o: usize = 0;
-    while o < count {
-        sum = sum + weight(m, s, i, o) * outcome_worth(m, best, at, unit, s, i, o);
-        o += 1;
+    for o in 0..outcomes(m, s, i) {
+        sum += weight(m, s, i, o) * outcome_worth(m, best, at, unit, s, i, o);
     }
     sum
 }
@@ -96,19 +93,14 @@ fn pick(
     let n = choices(m, s) as u8;
     let mut value = choice_worth(m, best, at, unit, s, 0);
     let mut place: u8 = 0;
-    let mut i: u8 = 1;
-    while i < n {
+    for i in 1..n {
         let v = choice_worth(m, best, at, unit, s, i as usize);
         if exceeds(v, value, least) {
             value = v;
             place = i;
         }
-        i += 1;
     }
-    Picked {
-        value: value,
-        place: place,
-    }
+    Picked { value, place }
 }
 
 // What a point of the reward of the next step is worth with k steps left, that one among them: nothing where that step does not earn.
@@ -140,10 +132,8 @@ pub fn best_gains(
     ensures { Tabled least m.now window result places.new }
 {
     let count = states(m);
-    let end = STATES * (window.steps as usize + 1);
     let mut best = [0u64; STAGES];
-    let mut k: usize = STATES;
-    while k < end {
+    for k in STATES..STATES * (window.steps as usize + 1) {
         let left = (k / STATES) as u8;
         if k % STATES < count {
             let unit = unit_of(m, window, left);
@@ -151,7 +141,6 @@ pub fn best_gains(
             best[k] = x.value;
             places[k] = x.place;
         }
-        k += 1;
     }
     best
 }

@@ -23,16 +23,10 @@ pub fn power(d: usize, k: u8) -> u64
     requires { (d ≤ 100) × (k ≤ 6) }
     ensures { result ≡ d ^ k }
 {
-    let mut x: u64 = 1;
-    let mut i: u8 = 0;
-    while i < k {
-        x = x * d as u64;
-        i += 1;
-    }
-    x
+    (d as u64).pow(u32::from(k))
 }
 
-// Whether a bound is met whose relation has this number, by a total's lamp.
+// Whether a bound is met whose relation has this number, as the node has it, by a total's lamp.
 fn met_by_lamp(number: u8, lamp: Lamp) -> bool
     requires { (1 ≤ number) × (number ≤ 3) }
     ensures { result ≡ lamps.met_by_lamp (relation number) (said_lamp lamp) }
@@ -48,30 +42,21 @@ fn met_by_lamp(number: u8, lamp: Lamp) -> bool
 pub fn exceeds(value: u64, other: u64, least: bool) -> bool
     ensures { result ≡ not (order least value other) }
 {
-    if least {
-        return value < other;
-    }
-    other < value
+    if least { value < other } else { other < value }
 }
 
 // p where it is above 0, else 0.
 fn above_zero(p: i32) -> u64
     ensures { result ≡ nonnegative p }
 {
-    if p < 0 {
-        return 0;
-    }
-    p as u64
+    u64::from(p.max(0).unsigned_abs())
 }
 
 // How far p is below 0.
 fn below_zero(p: i32) -> u64
     ensures { result ≡ under p }
 {
-    if 0 <= p {
-        return 0;
-    }
-    (0 - p as i64) as u64
+    u64::from(p.min(0).unsigned_abs())
 }
 
 // The denominator to the steps of node j: what all paths of a plan weigh together.
@@ -94,7 +79,7 @@ fn lift(m: &[u16; MODEL], q: &[u8; QUESTION], j: u8) -> u64
     }
     let span = prepared_question::left(q, j);
     let paid = span / SPAN_BASE - (span % SPAN_BASE - 1);
-    RAISE as u64 * paid as u64 * whole(m, q, j)
+    u64::from(RAISE) * u64::from(paid) * whole(m, q, j)
 }
 
 // The two sides of a bound on a raised total x, with nothing negative on either: `parts` times x and `down`, and `up`.
@@ -111,10 +96,10 @@ fn raised_bound(m: &[u16; MODEL], q: &[u8; QUESTION], j: u8) -> Sides
     ensures { Sided m.now q.now j result.parts result.up result.down }
 {
     let d = whole(m, q, j);
-    let parts = prepared_question::parts(q, j) as u64;
+    let parts = u64::from(prepared_question::parts(q, j));
     let p = prepared_question::bound(q, j);
     Sides {
-        parts: parts,
+        parts,
         up: d * above_zero(p) + parts * lift(m, q, j),
         down: d * below_zero(p),
     }
@@ -143,6 +128,7 @@ pub fn meets(m: &[u16; MODEL], q: &[u8; QUESTION], j: u8, x: u64) -> bool
 }
 
 // The least raised total that is not below the bound, and whether it is equal to it: then it is the one that meets "equal", else none does.
+// No Option: the total says where the bound lies in both cases, and a search needs it in both.
 #[derive(Clone, Copy)]
 pub struct Exact {
     pub whole: bool,

@@ -9,9 +9,10 @@ use lib.Dec.{eqb, ltb}
 use lib.IntN.{ℤ, pos, negsuc, neg_ℤ, ◌+ℤ◌, ◌-ℤ◌, +ℤ_comm, +ℤ-neg_ℤ_cancel}
 use lib.Signed.{mag, lt_z, le_z}
 use mir.Syntax.{Width, w16, w32, w64}
-use mir.Val.{SFits, to_z, of_z}
+use mir.Val.{SFits, to_z, of_z, bool_byte}
 use mir.ValLaws.{to_z-of_z}
 use borrow.Author.Tests.{eq-eqb, ne_eqb}
+use Rattle.logic.specs.Bound.{one_if}
 use Rattle.logic.proofs.Naturals.{ltb_leb, eqb_leb}
 
 pub less_is : (a b : ℤ) → lt_z a b ≡ not (le_z b a)
@@ -98,3 +99,13 @@ module _ (x : ℤ) (n : ℕ) (h : mag x < 2 ^ 33) (g : n < 2 ^ 16) where
 -- What is left of a sum without its first part.
 pub rest_of_sum : (x y : ℤ) → (x +ℤ y) -ℤ x ≡ y
 rest_of_sum x y = ap (λ z. z -ℤ x) (+ℤ_comm x y) ∙ +ℤ-neg_ℤ_cancel y x
+
+-- A number of 32 bits that was widened by `from` is read as itself.
+pub read_wider : (x z : ℤ) → mag x < 2 ^ 31 → z ≡ to_z w32 (of_z w32 x) → to_z w64 (of_z w64 z) ≡ x
+read_wider x z h e = ap (λ z. to_z w64 (of_z w64 z)) e ∙ widened x h
+
+-- The byte that `from` makes of a truth value.
+pub byte_is : (t : Bool) → bool_byte t ≡ one_if t
+unfolding one_if
+byte_is true = refl
+byte_is false = refl

@@ -44,17 +44,14 @@ pub struct Place {
 pub fn bit(t: bool) -> u8
     ensures { result ≡ one_if t }
 {
-    if t {
-        return 1;
-    }
-    0
+    u8::from(t)
 }
 
 // The value of node j at place k.
 pub fn known(v: &[u8; VALUES], j: u8, k: u8) -> u8
     ensures { result ≡ spec.known v.now j k }
 {
-    byte(v, PLACES * j as usize + k as usize)
+    byte(v, PLACES * usize::from(j) + usize::from(k))
 }
 
 // The gain after k steps.
@@ -62,11 +59,10 @@ pub fn gain_at(gains: &[i32; PLACES], k: u8) -> i32
     requires { k < 7 }
     ensures { result ≡ get_or gains.now k (pos 0) }
 {
-    let i = k as usize;
-    gains[i]
+    gains[usize::from(k)]
 }
 
-// Whether a gain stands in the relation of this number to a bound.
+// Whether a gain stands in the relation of this number to a bound. The node has the number: an enum would be made of it only to be matched here.
 pub fn related(kind: u8, gain: i64, bound: i64) -> bool
     ensures { result ≡ quantity.related integers (relation kind) gain bound }
 {
@@ -83,7 +79,7 @@ fn gain_between(gains: &[i32; PLACES], k: u8, h: u8) -> i64
     ensures value { let gains = gains.entry.now in result ≡ get_or gains h (pos 0) -ℤ get_or gains k (pos 0) }
     ensures range { mag result < 2 ^ 33 }
 {
-    gain_at(gains, h) as i64 - gain_at(gains, k) as i64
+    i64::from(gain_at(gains, h)) - i64::from(gain_at(gains, k))
 }
 
 // Whether node j, a "gain", is true at place k.
@@ -91,7 +87,11 @@ fn gained(q: &[u8; QUESTION], gains: &[i32; PLACES], h: u8, k: u8, j: u8) -> boo
     requires { (j < 40) × (h < 7) × (k < 7) }
     ensures { result ≡ spec.gained q.now gains.now h k j }
 {
-    related(right(q, j), gain_between(gains, k, h), bound(q, j) as i64)
+    related(
+        right(q, j),
+        gain_between(gains, k, h),
+        i64::from(bound(q, j)),
+    )
 }
 
 // The value at place k of node j, which looks at steps: each arm has its operator's meaning.
@@ -110,16 +110,17 @@ fn value_by(
 {
     let op = operator(q, j);
     match op {
-        NOT => bit(known(v, left(q, j), k) == 0),
+        NOT => u8::from(known(v, left(q, j), k) == 0),
         AND => known(v, left(q, j), k) & known(v, right(q, j), k),
-        DO => bit(trail[k as usize] / 32 == left(q, j) as u16),
+        DO => u8::from(trail[k as usize] / 32 == left(q, j) as u16),
         NEXT => known(v, left(q, j), k + 1),
-        GAIN => bit(gained(q, gains, h, k, j)),
+        GAIN => u8::from(gained(q, gains, h, k, j)),
         _ => 0,
     }
 }
 
-// The value of node j where it becomes known after h steps, the last of which led to the state s.
+// The value of node j where it becomes known after h steps, the last of which led to the state s. Places are widened by `as`, here and in `step`: what
+// `from` gives is another value to the proof, tied to the first by an equation at each use.
 fn learn_node(
     q: &[u8; QUESTION],
     truth: &[u8; TRUTHS],
@@ -164,10 +165,8 @@ pub fn learn(
         let gains = gains.entry.now in let cone = cone.entry.now in let v = v.entry.now in
         v' ≡ learnt q truth trail gains h s cone v }
 {
-    let mut i: usize = 0;
-    while i < cone.len() {
-        learn_node(q, truth, trail, gains, v, h, s, cone[i]);
-        i += 1;
+    for j in cone {
+        learn_node(q, truth, trail, gains, v, h, s, *j);
     }
 }
 
@@ -177,19 +176,11 @@ pub fn worth(cone: &[u8], gains: &[i32; PLACES], v: &[u8; VALUES], a: u8, d: u8)
     requires { Readable cone.now gains.now a d }
     ensures { result ≡ worth_known cone.now gains.now v.now a d }
 {
-    let n = cone.len();
-    if n == 0 {
+    let Some(root) = cone.last() else {
         let up = RAISE * (d - a) as u16;
         return (gain_between(gains, a, d) + up as i64) as u64;
-    }
-    known(v, cone[n - 1], 0) as u64
-}
-
-fn put(trail: &mut [u16], i: usize, x: u16)
-    requires { i < length trail.old }
-    ensures { trail.new ≡ set trail.old i x }
-{
-    trail[i] = x;
+    };
+    u64::from(known(v, *root, 0))
 }
 
 // Takes a step: the outcome o of the choice at place i of the state there. Gives the state reached.
@@ -217,11 +208,7 @@ pub fn step(
     let s = at.s as usize;
     let c = i as usize;
     let e = o as usize;
-    put(
-        trail,
-        n,
-        32 * choice(m, s, c) as u16 + 4 * i as u16 + o as u16,
-    );
+    trail[n] = 32 * choice(m, s, c) as u16 + 4 * i as u16 + o as u16;
     gains[n + 1] = gain_at(gains, h) + reward(m, s, c, e) as i32;
     let t = target(m, s, c, e) as u8;
     learn(q, truth, trail, gains, cone, v, h + 1, t);

@@ -15,18 +15,10 @@ use Rattle.questions.specs.Layout.{node_of}
 use Rattle.prepared_question.specs.promises.Nodes.{formula, depth_in, reads_left}
 use Rattle.evaluation.specs.promises.Reached.{Earlier, Cone, root_of}
 use Rattle.prepared_question.specs.promises.Marks.{Grown}
-use Rattle.last_step.specs.promises.Late.{PassedOn, Late, TurnsOn, Placed, Deep}
-use Rattle.prepared_question.proofs.Marks.{blank, grown_mark, grown_none, grown_then, one_only, one_there}
+use Rattle.last_step.specs.promises.Late.{PassedOn, TurnsOn, Placed, Deep}
+use Rattle.prepared_question.proofs.Marks.{blank, grown_mark, one_only, one_there}
 
 -- ---- one node
-
--- What was marked when a child has been marked if its depth is d.
-abbrev pub LevelDone : (q : Bytes) (d child : ℕ) (marks : List ℕ) → List ℕ → Type 0
-LevelDone q d child marks marks' = Grown (λ k. (k ≡ child) × (depth_in q child ≡ d)) marks marks' × (depth_in q child ≡ d → get_or marks' child 0 ≡ 1)
-
-pub level_marked : (q : Bytes) {d : ℕ} (child : ℕ) (marks : List ℕ) → child < length marks → depth_in q child ≡ d
-    → LevelDone q d child marks (set marks child 1)
-level_marked q child marks h e = (grown_mark _ marks child h (refl, e), λ _. get_or-set_same marks child 1 0 h)
 
 -- What was marked when node j has passed its mark on.
 abbrev pub NodeDone : (q : Bytes) (j : ℕ) (marks : List ℕ) → List ℕ → Type 0
@@ -55,9 +47,6 @@ module _ (q : Bytes) (j : ℕ) (marks : List ℕ) where
   abbrev node : Node
   node = node_of q j
 
-  pub none_passed : ((k : ℕ) → TurnsOn q j k → ⊥) → NodeDone q j marks marks
-  none_passed f = (grown_none (TurnsOn q j) marks, λ _. passed_by (λ k t. absurd (f k t)))
-
   module _ (placed : Placed q j) (deep : depth_in q j ≡ 0 → ⊥) where
     pub left_in : (node.operator ≡ 3) ⊎ (node.operator ≡ 6) → node.left < 40
     unfolding reads_left
@@ -77,23 +66,6 @@ module _ (q : Bytes) (j : ℕ) (marks : List ℕ) where
       unfolding reads_left
       both_in = (placed.left deep (ap reads_left o), placed.right deep o)
 
-      pub both_passed : {d : ℕ} {l r : List ℕ} → d ≡ depth_in q j → LevelDone q d node.left marks l → LevelDone q d node.right l r → NodeDone q j marks r
-      both_passed {d} {l} {r} g a b = (
-        grown_then _ _ (TurnsOn q j) (λ k w. (deep, inr (o, level k w, inl w.0))) (λ k w. (deep, inr (o, level k w, inr w.0))) a.0 b.0,
-        λ _. passed_by (λ k t. ⊎_elim (λ w. absurd (⊎_elim (λ x. omega (arith, o)) (λ x. omega (arith, o)) w.0))
-            (λ w. ⊎_elim
-            (λ x. subst (λ y. get_or r y 0 ≡ 1) (sym x) (b.0.stays _ (a.1 (same x w.1))))
-            (λ x. subst (λ y. get_or r y 0 ≡ 1) (sym x) (b.1 (same x w.1)))
-            w.2)
-            t.1),
-      )
-        where
-          level : (k : ℕ) {c : ℕ} → (k ≡ c) × (depth_in q c ≡ d) → depth_in q k ≡ depth_in q j
-          level k w = ap (depth_in q) w.0 ∙ w.1 ∙ g
-
-          same : {k c : ℕ} → k ≡ c → depth_in q k ≡ depth_in q j → depth_in q c ≡ d
-          same x w = ap (depth_in q) (sym x) ∙ w ∙ sym g
-
 -- ---- the pass from the last place to the first
 
 -- Each marked node has passed its mark on, or stands in the cone before place i.
@@ -111,17 +83,6 @@ module _ {q : Bytes} {cone : List ℕ} (w : Deep q × Cone q cone × (0 < length
 
   deeper : (i : ℕ) → i < length cone → (depth_in q (get_or cone i 0) ≡ 0 → ⊥) → depth (formula q (get_or cone i 0)) ≡ 0 → ⊥
   deeper i l n z = n (w.0.deep (get_or cone i 0) (ordered.nodes i l) ∙ z)
-
-  pub cone_placed : (i : ℕ) → i < length cone → Placed q (get_or cone i 0)
-  cone_placed i l =
-      record {
-        self = cone_node i l;
-        left = λ d e. child (ordered.lefts i l (deeper i l d) e);
-        right = λ d e. child (ordered.rights i l (deeper i l d) e);
-      }
-    where
-      child : {k : ℕ} → Earlier cone i k → k < 40
-      child e = subst (λ x. x < 40) e.2 (cone_node e.0 (omega (arith, e.1)))
 
   pub root_node : root_of cone < 40
   root_node = cone_node (length cone - 1) (omega (arith, w.2))
@@ -160,7 +121,3 @@ module _ {q : Bytes} {cone : List ℕ} (w : Deep q × Cone q cone × (0 < length
 
       old : (k : ℕ) → get_or marks k 0 ≡ 1 → PassedOn q marks k ⊎ Earlier cone (suc i) k → PassedOn q marks' k ⊎ Earlier cone i k
       old k e = ⊎_elim (λ c. inl (passed_stays c done.0)) (λ w. turn k e w (ℕ_discrete w.0 i))
-
-pub passing_end : {q : Bytes} {cone marks : List ℕ} → 0 < length cone → Passing q cone marks 0 → Late q cone marks
-passing_end {q} {cone} h p =
-    record { some = h; root = p.root; closed = λ i l e. ⊎_elim (λ c. c) (λ w. absurd (omega (arith, w.1))) (p.closed (get_or cone i 0) e) }

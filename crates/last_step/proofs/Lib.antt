@@ -1,4 +1,3 @@
-pub mod GainFits
 pub mod LaneByLane
 pub mod LateMarks
 pub mod LaneMeaning

@@ -1,6 +1,6 @@
 // Words of lanes: the last step of a path for all outcomes of a state at once, a bit each, bit 4·i + o for the outcome o of the choice at
 // place i.
-ghost use Rattle.std.specs.Prelude.{◌≡◌, not, ◌+◌, ◌*◌, ◌<◌, eqb, ◌+ℤ◌, ◌-ℤ◌};
+ghost use Rattle.std.specs.Prelude.{◌≡◌, ℕ, Bool, not, ◌+◌, ◌*◌, ◌<◌, eqb, ◌+ℤ◌, ◌-ℤ◌};
 ghost use Rattle.std.specs.Int.Bits.{bit_and};
 ghost use Rattle.logic.specs.Formula.{relation};
 ghost use Rattle.logic.specs.Quantity.{integers};
@@ -17,18 +17,22 @@ use evaluation::related;
 use models::STATES;
 use prepared_model::{MODEL, choice, choices, lane_reward, lane_target, sum};
 
-// A word with one lane more, the lowest.
-fn pushed(x: u32, t: bool) -> u32
-    requires { x < 2147483648 }
-    ensures { result ≡ 2 * x + one_if t }
-{
-    if t {
-        return 2 * x + 1;
-    }
-    2 * x
-}
-
 // ---- words made lane by lane
+
+// The lanes of s, from the highest down: in each, whether what is asked holds there.
+fn lanes_where<F: Fn(usize) -> bool>(m: &[u16; MODEL], s: usize, asks: F) -> u32
+    requires prepared { Prepared m.now × (s < state_count m.now) }
+    requires asked { (k : ℕ) → k < 4 * choices_in m.now s → F.pre asks k }
+    ensures { let m = m.entry.now in (f : ℕ → Bool)
+        → ((k : ℕ) (t : Bool) → k < 4 * choices_in m s → F.post asks k t → t ≡ f k)
+        → (k : ℕ) → k < 4 * choices_in m s → lane result k ≡ one_if (f k) }
+{
+    let mut x: u32 = 0;
+    for k in (0..4 * choices(m, s)).rev() {
+        x = 2 * x + u32::from(asks(k));
+    }
+    x
+}
 
 // Of a state formula, node j: whether it is true in each outcome's target.
 pub fn told(m: &[u16; MODEL], truth: &[u8], s: usize, j: u8) -> u32
@@ -36,14 +40,9 @@ pub fn told(m: &[u16; MODEL], truth: &[u8], s: usize, j: u8) -> u32
     ensures { let m = m.entry.now in let truth = truth.entry.now in
         Laned m s (λ i o. one_if (not (eqb (bytes.byte truth (32 * j + (step_in m s i o).target)) 0))) result }
 {
-    let mut x: u32 = 0;
-    let mut k = 4 * choices(m, s);
-    while k > 0 {
-        k -= 1;
-        let t = lane_target(m, s, k);
-        x = pushed(x, byte(truth, STATES * j as usize + t) != 0);
-    }
-    x
+    lanes_where(m, s, |k| {
+        byte(truth, STATES * j as usize + lane_target(m, s, k)) != 0
+    })
 }
 
 // Of "do": whether an outcome is one of the action a.
@@ -51,13 +50,7 @@ pub fn done(m: &[u16; MODEL], s: usize, a: u8) -> u32
     requires { Prepared m.now × (s < state_count m.now) }
     ensures { Laned m.now s (λ i o. one_if (eqb (choice_in m.now s i) a)) result }
 {
-    let mut x: u32 = 0;
-    let mut k = 4 * choices(m, s);
-    while k > 0 {
-        k -= 1;
-        x = pushed(x, choice(m, s, k / 4) == a);
-    }
-    x
+    lanes_where(m, s, |k| choice(m, s, k / 4) == a)
 }
 
 // Of "gain": whether the rewards since its place, the outcome's among them, stand in the relation to its bound.
@@ -66,17 +59,14 @@ pub fn gained(m: &[u16; MODEL], s: usize, kind: u8, after: i32, before: i32, bou
     ensures { let m = m.entry.now in
         Laned m s (λ i o. one_if (quantity.related integers (relation kind) ((after -ℤ before) +ℤ (step_in m s i o).reward) bound)) result }
 {
-    let gain = after as i64 - before as i64;
-    let mut x: u32 = 0;
-    let mut k = 4 * choices(m, s);
-    while k > 0 {
-        k -= 1;
-        x = pushed(
-            x,
-            related(kind, gain + lane_reward(m, s, k) as i64, bound as i64),
-        );
-    }
-    x
+    let gain = i64::from(after) - i64::from(before);
+    lanes_where(m, s, |k| {
+        related(
+            kind,
+            gain + i64::from(lane_reward(m, s, k)),
+            i64::from(bound),
+        )
+    })
 }
 
 // ---- words made of words
@@ -85,17 +75,14 @@ pub fn gained(m: &[u16; MODEL], s: usize, kind: u8, after: i32, before: i32, bou
 pub fn spread(t: u8) -> u32
     ensures { Lanes (λ _. one_if (not (eqb t 0))) result }
 {
-    if t == 0 {
-        return 0;
-    }
-    4294967295
+    if t == 0 { 0 } else { u32::MAX }
 }
 
 // Of "not".
 pub fn flipped(x: u32) -> u32
     ensures { Lanes (λ i. one_if (eqb (lane x i) 0)) result }
 {
-    x ^ 4294967295
+    x ^ u32::MAX
 }
 
 // Of "and".

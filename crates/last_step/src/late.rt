@@ -54,7 +54,8 @@ fn pass_on(q: &[u8; QUESTION], marks: &mut [u8; NODES], j: u8)
     }
 }
 
-// Marks from the condition downwards: children stand before their parents.
+// Marks from the condition downwards: children stand before their parents. By place, since the proof asks where a node stands in the cone, which
+// `iter().rev()` does not tell.
 pub fn late(q: &[u8; QUESTION], cone: &[u8]) -> [u8; NODES]
     requires { Deep q.now × Cone q.now cone.now × (0 < length cone.now) }
     ensures { Late q.now cone.now result }
@@ -62,9 +63,7 @@ pub fn late(q: &[u8; QUESTION], cone: &[u8]) -> [u8; NODES]
     let mut marks = [0u8; NODES];
     let root = cone[cone.len() - 1] as usize;
     marks[root] = 1;
-    let mut i = cone.len();
-    while i > 0 {
-        i -= 1;
+    for i in (0..cone.len()).rev() {
         pass_on(q, &mut marks, cone[i]);
     }
     marks

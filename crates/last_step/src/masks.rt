@@ -98,13 +98,11 @@ pub fn mask(
         Ended m q at.start cone (take at.h trail) at.s result }
 {
     let mut masks = [0u32; NODES];
-    let mut i: usize = 0;
-    while i < cone.len() {
-        let j = cone[i] as usize;
+    for (i, node) in cone.iter().enumerate() {
+        let j = *node as usize;
         if late[j] == 1 {
             masks[j] = mask_node(m, q, truth, cone, late, trail, gains, v, &masks, at, i);
         }
-        i += 1;
     }
     mask_at(&masks, cone[cone.len() - 1])
 }

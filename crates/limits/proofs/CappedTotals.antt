@@ -113,14 +113,6 @@ unfolding joined
 joined_assoc true x y z = sym (mul_assoc x y z)
 joined_assoc false x y z = sym (add_assoc x y z)
 
-pub joined_times : (plans : Bool) (x y : ℕ) → plans ≡ true → joined plans x y ≡ x * y
-unfolding joined
-joined_times plans x y e = rw e refl
-
-pub joined_plus : (plans : Bool) (x y : ℕ) → plans ≡ false → joined plans x y ≡ x + y
-unfolding joined
-joined_plus plans x y e = rw e refl
-
 module _ {A : Type 0} where
   pub gather_same : (plans : Bool) (f g : A → ℕ) (l : List A) → ((x : A) → Memᴰ x l → Same (cap plans) (f x) (g x))
       → Same (cap plans) (gather plans f l) (gather plans g l)

@@ -19,7 +19,7 @@ use Rattle.logic.specs.Quantity.{Relation}
 use Rattle.logic.specs.Verdict.{is_equal}
 use Rattle.logic.specs.Formula.{Formula, Node, relation, formula_of}
 use Rattle.logic.specs.Limits.{every_plan, path_total, plan_total, limits}
-use Rattle.logic.proofs.Tests.{same_test, every_intro}
+use Rattle.logic.proofs.Tests.{same_test, every_intro, and_left}
 use Rattle.blocks.specs.Bytes.{Bytes}
 use Rattle.questions.specs.Layout.{node_count, node_of, formulas_of}
 use Rattle.questions.specs.promises.Formed.{Compares, sets_bound}
@@ -75,26 +75,16 @@ equal_numbered (suc (suc zero)) h g = refl
 equal_numbered (suc (suc (suc k))) h g = sym (ne_eqb (suc (suc (suc k))) 2 (λ e. omega arith))
 
 module _ (plans : Bool) (x : Node) where
-  pub bounded_other : sets_bound x.operator ≡ false → false ≡ bounded plans x
-  unfolding bounded
-  bounded_other h = rw h refl
-
   bounded_by : sets_bound x.operator ≡ true → bounded plans x ≡ (not plans || eqb x.right 2)
   unfolding bounded
   bounded_by e = rw e refl
-
-  pub bounded_paths : sets_bound x.operator ≡ true → not plans ≡ true → not plans ≡ bounded plans x
-  bounded_paths e h = h ∙ ap (λ t. t || eqb x.right 2) (sym h) ∙ sym (bounded_by e)
 
   pub bounded_plans : sets_bound x.operator ≡ true → not plans ≡ false → eqb x.right 2 ≡ bounded plans x
   bounded_plans e h = ap (λ t. t || eqb x.right 2) (sym h) ∙ sym (bounded_by e)
 
   pub bounded_operator : bounded plans x ≡ true → sets_bound x.operator ≡ true
-  bounded_operator e = go (sets_bound x.operator) refl
-    where
-      go : (t : Bool) → sets_bound x.operator ≡ t → sets_bound x.operator ≡ true
-      go true h = h
-      go false h = absurd (false≢true (bounded_other h ∙ e))
+  unfolding bounded
+  bounded_operator e = and_left (sets_bound x.operator) _ e
 
 module _ (m : Model) (x : Node) (w : sets_bound x.operator ≡ true → Compares x) where
   node_fits_plan : (plans : Bool) → sets_bound x.operator ≡ true

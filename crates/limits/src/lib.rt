@@ -1,7 +1,7 @@
 // Grounds 24 and 25: the numbers of paths and plans from each state, counted by recursion over the steps up to a cap above the limit.
 #![tactic(auto)]
 
-ghost use Rattle.std.specs.Prelude.{◌≡◌, ℕ, ◌+◌, ◌*◌, ◌<◌, ◌≤◌, min, true, false, leb, get_or};
+ghost use Rattle.std.specs.Prelude.{◌≡◌, ℕ, ◌+◌, ◌*◌, ◌<◌, ◌≤◌, Bool, min, true, false, not, ◌||◌, leb, eqb, get_or};
 ghost use Rattle.logic.specs.Lists.{every};
 ghost use Rattle.refusals.specs.Number.{refusal_number};
 ghost use Rattle.logic.specs.promises.Refusal.{refusal};
@@ -34,96 +34,131 @@ pub const COUNTS: usize = 224;
 // Its rows, one for each number of steps.
 const ROWS: usize = 7;
 
-// The most that is served: plans, or else paths.
-fn limit(plans: bool) -> u64
-    ensures { result ≡ spec.limit plans }
-{
-    if plans { MOST_PLANS } else { MOST_PATHS }
+// What is counted from each state. `plans` says in the definitions which of the two it is.
+trait Kind {
+    ghost plans: { Bool };
+
+    // The most that is served.
+    fn limit() -> u64
+        ensures { result ≡ spec.limit plans };
+
+    // The total of no outcomes.
+    fn none() -> u64
+        ensures { result ≡ spec.none plans };
+
+    // The totals of two outcomes together.
+    fn joined(x: u64, y: u64) -> u64
+        requires { (x ≤ 1000001) × (y ≤ 1000001) }
+        ensures { result ≡ spec.joined plans x y };
+
+    // Whether a limit is set to node i, which sets a bound on plans.
+    fn is_limited(q: &[u8; QUESTION], i: u8) -> bool
+        requires { i < 40 }
+        ensures { result ≡ (not plans || eqb (node_of q.now i).right 2) };
+}
+
+// Paths add up over the outcomes of a choice.
+struct Paths;
+
+#[tactic(auto, unfolding(crate::specs::promises::Totals::limit, crate::specs::promises::Totals::none, crate::specs::promises::Totals::joined))]
+impl Kind for Paths {
+    ghost plans = { false };
+
+    fn limit() -> u64 {
+        MOST_PATHS
+    }
+
+    fn none() -> u64 {
+        0
+    }
+
+    fn joined(x: u64, y: u64) -> u64 {
+        x + y
+    }
+
+    fn is_limited(_q: &[u8; QUESTION], _i: u8) -> bool {
+        true
+    }
+}
+
+// Plans multiply over them, and are counted only where the relation is "equal".
+struct Plans;
+
+#[tactic(auto, unfolding(crate::specs::promises::Totals::limit, crate::specs::promises::Totals::none, crate::specs::promises::Totals::joined))]
+impl Kind for Plans {
+    ghost plans = { true };
+
+    fn limit() -> u64 {
+        MOST_PLANS
+    }
+
+    fn none() -> u64 {
+        1
+    }
+
+    fn joined(x: u64, y: u64) -> u64 {
+        x * y
+    }
+
+    fn is_limited(q: &[u8; QUESTION], i: u8) -> bool {
+        asks_equal(q, i)
+    }
 }
 
 // x, counted up to the cap.
-fn capped(plans: bool, x: u64) -> u64
-    ensures { result ≡ min (spec.cap plans) x }
+fn capped<K: Kind>(x: u64) -> u64
+    ensures { result ≡ min (spec.cap K.plans) x }
 {
-    let cap = limit(plans) + 1;
-    if x < cap { x } else { cap }
-}
-
-// The total of no outcomes.
-fn none(plans: bool) -> u64
-    ensures { result ≡ spec.none plans }
-{
-    if plans { 1 } else { 0 }
-}
-
-// The totals of two outcomes together.
-fn joined(plans: bool, x: u64, y: u64) -> u64
-    requires { (x ≤ 1000001) × (y ≤ 1000001) }
-    ensures { result ≡ min (spec.cap plans) (spec.joined plans x y) }
-{
-    if plans {
-        return capped(plans, x * y);
-    }
-    capped(plans, x + y)
+    x.min(K::limit() + 1)
 }
 
 // The total below choice i, from the totals of the states that stand in the table from `at` on.
-fn choice_total(
+fn choice_total<K: Kind>(
     m: &[u16; MODEL],
-    plans: bool,
     table: &[u64; COUNTS],
     at: usize,
     s: usize,
     i: usize,
 ) -> u64
     requires prepared { Prepared m.now × (at + 32 ≤ 224) × (s < state_count m.now) × (i < choices_in m.now s) }
-    requires by_index { (k : ℕ) → get_or table.now k 0 ≤ spec.cap plans }
+    requires by_index { (k : ℕ) → get_or table.now k 0 ≤ spec.cap K.plans }
     ensures { let table = table.entry.now in let m = m.entry.now in
-        result ≡ min (spec.cap plans) (gather plans (λ o. get_or table (at + o.target) 0) (outcomes (model_in m) s (choice_in m s i))) }
+        result ≡ min (spec.cap K.plans) (gather K.plans (λ o. get_or table (at + o.target) 0) (outcomes (model_in m) s (choice_in m s i))) }
 {
-    let count = prepared_model::outcomes(m, s, i);
-    let mut total = none(plans);
-    let mut o: usize = 0;
-    while o < count {
+    let mut total = K::none();
+    for o in 0..prepared_model::outcomes(m, s, i) {
         let t = prepared_model::target(m, s, i, o);
-        total = joined(plans, total, table[at + t]);
-        o += 1;
+        total = capped::<K>(K::joined(total, table[at + t]));
     }
     total
 }
 
 // The total of a state, from those of the states after a step.
-fn state_total(m: &[u16; MODEL], plans: bool, table: &[u64; COUNTS], at: usize, s: usize) -> u64
+fn state_total<K: Kind>(m: &[u16; MODEL], table: &[u64; COUNTS], at: usize, s: usize) -> u64
     requires prepared { Prepared m.now × (at + 32 ≤ 224) × (s < state_count m.now) }
-    requires by_index { (k : ℕ) → get_or table.now k 0 ≤ spec.cap plans }
+    requires by_index { (k : ℕ) → get_or table.now k 0 ≤ spec.cap K.plans }
     ensures { let m = m.entry.now in let table = table.entry.now in
-        result ≡ min (spec.cap plans) (step_total plans (model_in m) (λ t. get_or table (at + t) 0) s) }
+        result ≡ min (spec.cap K.plans) (step_total K.plans (model_in m) (λ t. get_or table (at + t) 0) s) }
 {
-    let n = prepared_model::choices(m, s);
     let mut total: u64 = 0;
-    let mut i: usize = 0;
-    while i < n {
-        total = capped(plans, total + choice_total(m, plans, table, at, s, i));
-        i += 1;
+    for i in 0..prepared_model::choices(m, s) {
+        total = capped::<K>(total + choice_total::<K>(m, table, at, s, i));
     }
     total
 }
 
 // The totals of fewer than `rows` steps from each state: those of k / 32 steps from the state k % 32 stand at k. Rows that nobody asks for are not
 // counted.
-fn totals(m: &[u16; MODEL], plans: bool, rows: usize) -> [u64; COUNTS]
+fn totals<K: Kind>(m: &[u16; MODEL], rows: usize) -> [u64; COUNTS]
     requires { Prepared m.now × (rows ≤ 7) }
-    ensures { Totals plans (model_in m.now) rows result }
+    ensures { Totals K.plans (model_in m.now) rows result }
 {
     let states = prepared_model::states(m);
-    let end = STATES * rows;
     let mut table = [1u64; COUNTS];
-    let mut k: usize = STATES;
-    while k < end {
+    for k in STATES..STATES * rows {
         if k % STATES < states {
-            table[k] = state_total(m, plans, &table, STATES * (k / STATES - 1), k % STATES);
+            table[k] = state_total::<K>(m, &table, STATES * (k / STATES - 1), k % STATES);
         }
-        k += 1;
     }
     table
 }
@@ -133,67 +168,48 @@ pub fn plans_counted(counts: &[u64; COUNTS], n: u8, s: usize) -> u64
     requires { (n ≤ 6) × (s < 32) }
     ensures { result ≡ get_or counts.now (32 * n + s) 0 }
 {
-    counts[STATES * n as usize + s]
+    counts[STATES * usize::from(n) + s]
 }
 
 // Whether the totals of n steps are within the limit, for each of the first states.
-fn row_fits(table: &[u64; COUNTS], n: usize, states: usize, plans: bool) -> bool
+fn row_fits<K: Kind>(table: &[u64; COUNTS], n: usize, states: usize) -> bool
     requires { (n ≤ 6) × (states ≤ 32) }
-    ensures { result ≡ every states (λ s. leb (get_or table.now (32 * n + s) 0) (spec.limit plans)) }
+    ensures { result ≡ every states (λ s. leb (get_or table.now (32 * n + s) 0) (spec.limit K.plans)) }
 {
-    let most = limit(plans);
-    let mut right = true;
-    let mut s: usize = 0;
-    while s < states {
-        right = right & (table[STATES * n + s] <= most);
-        s += 1;
-    }
-    right
+    let most = K::limit();
+    let row = STATES * n;
+    table[row..row + states].iter().all(|total| *total <= most)
 }
 
 // Whether a limit is set to node i: it sets a bound on plans, and where plans are counted its relation is "equal".
-fn bounded(q: &[u8; QUESTION], i: u8, plans: bool) -> bool
+#[tactic(auto, unfolding(crate::specs::promises::Totals::bounded))]
+fn bounded<K: Kind>(q: &[u8; QUESTION], i: u8) -> bool
     requires { i < 40 }
-    ensures { result ≡ spec.bounded plans (node_of q.now i) }
+    ensures { result ≡ spec.bounded K.plans (node_of q.now i) }
 {
-    if sets_bound(operator(q, i)) {
-        return !plans || asks_equal(q, i);
-    }
-    false
+    sets_bound(operator(q, i)) && K::is_limited(q, i)
 }
 
 // The rows of a table that node i needs: up to its steps, or none where no limit is set to it.
-fn node_rows(q: &[u8; QUESTION], i: u8, plans: bool) -> usize
+fn node_rows<K: Kind>(q: &[u8; QUESTION], i: u8) -> usize
     requires { i < 40 }
     ensures { let x = node_of q.now i in
-        (spec.bounded plans x ≡ true → result ≡ x.n + 1) × (spec.bounded plans x ≡ false → result ≡ 0) }
+        (spec.bounded K.plans x ≡ true → result ≡ x.n + 1) × (spec.bounded K.plans x ≡ false → result ≡ 0) }
 {
-    if bounded(q, i, plans) {
-        return steps(q, i) as usize + 1;
+    if bounded::<K>(q, i) {
+        return usize::from(steps(q, i)) + 1;
     }
     0
 }
 
-fn larger(x: usize, y: usize) -> usize
-    ensures { (x ≤ result) × (y ≤ result) × (x ≤ 7 → y ≤ 7 → result ≤ 7) }
-{
-    if x < y {
-        return y;
-    }
-    x
-}
-
 // The rows that all nodes need.
-fn rows_needed(q: &[u8; QUESTION], plans: bool) -> usize
+fn rows_needed<K: Kind>(q: &[u8; QUESTION]) -> usize
     requires { ((i : ℕ) → i < node_count q.now → sets_bound (node_of q.now i).operator ≡ true → Compares (node_of q.now i)) × (node_count q.now ≤ 40) }
-    ensures { Needed plans q.now (node_count q.now) result }
+    ensures { Needed K.plans q.now (node_count q.now) result }
 {
-    let n = prepared_question::count(q);
     let mut rows: usize = 0;
-    let mut i: u8 = 0;
-    while i < n {
-        rows = larger(rows, node_rows(q, i, plans));
-        i += 1;
+    for i in 0..prepared_question::count(q) {
+        rows = rows.max(node_rows::<K>(q, i));
     }
     rows
 }
@@ -203,50 +219,38 @@ pub fn plan_totals(m: &[u16; MODEL], q: &[u8; QUESTION]) -> [u64; COUNTS]
     requires { Prepared m.now × Nodes (state_count m.now) (action_count m.now) (prop_count m.now) q.now }
     ensures { Counted m.now q.now result }
 {
-    if rows_needed(q, true) == 0 {
-        return totals(m, true, 0);
+    if rows_needed::<Plans>(q) == 0 {
+        return totals::<Plans>(m, 0);
     }
-    totals(m, true, ROWS)
+    totals::<Plans>(m, ROWS)
 }
 
-fn node_fits(
-    m: &[u16; MODEL],
-    q: &[u8; QUESTION],
-    table: &[u64; COUNTS],
-    plans: bool,
-    i: u8,
-) -> bool
-    requires { Prepared m.now × (spec.bounded plans (node_of q.now i) ≡ true → Totals plans (model_in m.now) ((node_of q.now i).n + 1) table.now)
+fn node_fits<K: Kind>(m: &[u16; MODEL], q: &[u8; QUESTION], table: &[u64; COUNTS], i: u8) -> bool
+    requires { Prepared m.now × (spec.bounded K.plans (node_of q.now i) ≡ true → Totals K.plans (model_in m.now) ((node_of q.now i).n + 1) table.now)
         × (i < 40) × (sets_bound (node_of q.now i).operator ≡ true → Compares (node_of q.now i)) }
-    ensures { result ≡ node_fits plans (model_in m.now) (node_of q.now i) }
+    ensures { result ≡ node_fits K.plans (model_in m.now) (node_of q.now i) }
 {
-    if !bounded(q, i, plans) {
+    if !bounded::<K>(q, i) {
         return true;
     }
-    row_fits(
-        table,
-        steps(q, i) as usize,
-        prepared_model::states(m),
-        plans,
-    )
+    row_fits::<K>(table, usize::from(steps(q, i)), prepared_model::states(m))
 }
 
 // All nodes are checked. Each was used in the question that was put (ground 13); those that preparing leaves over are "and" nodes, which set no
 // bound.
-fn nodes_fit(m: &[u16; MODEL], q: &[u8; QUESTION], table: &[u64; COUNTS], plans: bool) -> bool
+fn nodes_fit<K: Kind>(m: &[u16; MODEL], q: &[u8; QUESTION], table: &[u64; COUNTS]) -> bool
     requires { Prepared m.now × Nodes (state_count m.now) (action_count m.now) (prop_count m.now) q.now
-        × Serves plans m.now q.now table.now }
+        × Serves K.plans m.now q.now table.now }
     ensures { let m = m.entry.now in let q = q.entry.now in
-        result ≡ every_plan (fits plans (model_in m)) (model_in m) (formulas_of q) }
+        result ≡ every_plan (fits K.plans (model_in m)) (model_in m) (formulas_of q) }
 {
-    let n = prepared_question::count(q);
-    let mut right = true;
-    let mut i: u8 = 0;
-    while i < n {
-        right = right & node_fits(m, q, table, plans, i);
-        i += 1;
+    // No `all`: the contract that is inferred for its closure hides, under a type parameter, what `node_fits` requires.
+    for i in 0..prepared_question::count(q) {
+        if !node_fits::<K>(m, q, table, i) {
+            return false;
+        }
     }
-    right
+    true
 }
 
 // The test of ground 24: no node that sets a bound on plans has too many paths.
@@ -255,8 +259,8 @@ pub fn paths_fit(m: &[u16; MODEL], q: &[u8; QUESTION]) -> bool
     ensures { let m = m.entry.now in let q = q.entry.now in
         result ≡ every_plan (fits false (model_in m)) (model_in m) (formulas_of q) }
 {
-    let table = totals(m, false, rows_needed(q, false));
-    nodes_fit(m, q, &table, false)
+    let table = totals::<Paths>(m, rows_needed::<Paths>(q));
+    nodes_fit::<Paths>(m, q, &table)
 }
 
 // The test of ground 25: no such node whose relation is "equal" has too many plans.
@@ -266,7 +270,7 @@ pub fn plans_fit(m: &[u16; MODEL], q: &[u8; QUESTION], counts: &[u64; COUNTS]) -
     ensures { let m = m.entry.now in let q = q.entry.now in
         result ≡ every_plan (fits true (model_in m)) (model_in m) (formulas_of q) }
 {
-    nodes_fit(m, q, counts, true)
+    nodes_fit::<Plans>(m, q, counts)
 }
 
 // The ground, 24 or 25, on which a prepared question is not judged on a prepared model; 0 where there is none. The plans are counted by the caller,

@@ -25,7 +25,7 @@ use questions::{AND, NEXT, NODES, NOT, PLAN};
 pub fn place(j: u8, s: u8) -> usize
     ensures { result ≡ 32 * j + s }
 {
-    STATES * j as usize + s as usize
+    STATES * usize::from(j) + usize::from(s)
 }
 
 fn mark(need: &mut [u8], j: u8, s: u8)
@@ -42,11 +42,8 @@ fn mark_outcomes(m: &[u16; MODEL], need: &mut [u8; TRUTHS], child: u8, s: u8, i:
         Grown (Below (state_count m) (32 * child + 32)) need need'
         × ((o : ℕ) → o < outcomes_in m s i → Marked need' child (step_in m s i o).target) }
 {
-    let n = outcomes(m, s as usize, i);
-    let mut o: usize = 0;
-    while o < n {
-        mark(need, child, target(m, s as usize, i, o) as u8);
-        o += 1;
+    for o in 0..outcomes(m, usize::from(s), i) {
+        mark(need, child, target(m, usize::from(s), i, o) as u8);
     }
 }
 
@@ -57,11 +54,8 @@ fn mark_next(m: &[u16; MODEL], need: &mut [u8; TRUTHS], child: u8, s: u8)
         Grown (Below (state_count m) (32 * child + 32)) need need'
         × ((i o : ℕ) → Offers m s i o → Marked need' child (step_in m s i o).target) }
 {
-    let n = choices(m, s as usize);
-    let mut i: usize = 0;
-    while i < n {
+    for i in 0..choices(m, usize::from(s)) {
         mark_outcomes(m, need, child, s, i);
-        i += 1;
     }
 }
 
@@ -98,9 +92,7 @@ pub fn needed(m: &[u16; MODEL], q: &[u8; QUESTION]) -> [u8; TRUTHS]
     let root = count(q) - 1;
     let first = place(root, start(q));
     need[first] = 1;
-    let mut k = place(root, 0) + STATES;
-    while k > 0 {
-        k -= 1;
+    for k in (0..place(root, 0) + STATES).rev() {
         pass_on(m, q, &mut need, k);
     }
     need
@@ -114,7 +106,7 @@ fn enter(q: &[u8; QUESTION], marks: &mut [u8; NODES], j: u8)
     ensures { let marks' = marks.exit.now in let marks = marks.entry.now in let q = q.entry.now in
         Grown (Below 32 j) marks marks' × (get_or marks j 0 ≡ 1 → Entered q marks' j) }
 {
-    if byte(marks, j as usize) != 1 {
+    if byte(marks, usize::from(j)) != 1 {
         return;
     }
     if depth(q, j) == 0 {
@@ -122,26 +114,24 @@ fn enter(q: &[u8; QUESTION], marks: &mut [u8; NODES], j: u8)
     }
     let op = operator(q, j);
     match op {
-        NOT | NEXT => store(marks, left(q, j) as usize, 1),
+        NOT | NEXT => store(marks, usize::from(left(q, j)), 1),
         AND => {
-            store(marks, left(q, j) as usize, 1);
-            store(marks, right(q, j) as usize, 1);
+            store(marks, usize::from(left(q, j)), 1);
+            store(marks, usize::from(right(q, j)), 1);
         }
         _ => {}
     }
 }
 
-// Marks from the condition c downwards.
+// Marks from the condition c downwards. Not `0..=c`, which ends with no next place for the invariant to name.
 fn chosen(q: &[u8; QUESTION], c: u8) -> [u8; NODES]
     requires { Asked q.now × (c < question.node_count q.now) }
     ensures { Chosen q.now c result }
 {
     let mut marks = [0u8; NODES];
-    let top = c as usize;
+    let top = usize::from(c);
     marks[top] = 1;
-    let mut j = c + 1;
-    while j > 0 {
-        j -= 1;
+    for j in (0..c + 1).rev() {
         enter(q, &mut marks, j);
     }
     marks
@@ -152,7 +142,7 @@ fn list_node(marks: &[u8; NODES], out: &mut [u8], i: u8, n: usize) -> usize
     requires { Listed marks.now i n out.old × (i < 40) × (length out.old ≡ 40) }
     ensures { Listed marks.now (i + 1) result out.new }
 {
-    if byte(marks, i as usize) == 1 {
+    if byte(marks, usize::from(i)) == 1 {
         store(out, n, i);
         return n + 1;
     }
@@ -167,10 +157,8 @@ pub fn cone(q: &[u8; QUESTION], c: u8, out: &mut [u8]) -> usize
 {
     let marks = chosen(q, c);
     let mut n: usize = 0;
-    let mut i: u8 = 0;
-    while i < c {
+    for i in 0..c + 1 {
         n = list_node(&marks, out, i, n);
-        i += 1;
     }
-    list_node(&marks, out, c, n)
+    n
 }

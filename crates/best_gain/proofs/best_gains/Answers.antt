@@ -1,4 +1,4 @@
--- `best_gains`: the cells passed are right (`TableRows`). The measure is what is left of the table.
+-- `best_gains`: the cells passed are right (`TableRows`).
 use Prim.Native.Nat.{ℕ, suc, ◌+◌, ◌*◌, ◌-◌, ◌/◌, ◌%◌, ◌^◌, ◌≤◌, ◌<◌}
 use native.Mathlib.Omega.{arith}
 use native.Mathlib.Nat.{div-add-mod}
@@ -32,72 +32,40 @@ rebased least m best w k {unit} {s} {n} {value} {place} h e P =
     (e ∙ ap (λ j. denominator_of m ^ (k / 32 - 1) * pay (w.before - (w.steps - j)) (w.last - (w.steps - j))) i)
     (subst (λ at. Picks least m best at unit s n value place) (sym (row_at k h)) P)
 
-pub states-count-requires : goal.states-count-requires
-states-count-requires c = tt
-
 pub loop-k-init : goal.loop-k-init
 loop-k-init c = let S = c in
-    (c.states-count.ensures, refl, omega arith, omega arith, length-replicate {A = ℕ} 224 0, S.requires.2, filled_none S.args.least S.requires.0 S.args.window S.requires.1 S.args.places.now)
-
-pub unit_of-unit-requires : goal.unit_of-unit-requires
-unit_of-unit-requires c = let S = c in
-    let L = c.loop-k in
-    (S.requires.0, S.requires.1, omega (arith, L.invariant.2), omega (arith, L.invariant.1, c.loop-k-test.true))
+    (length-replicate {A = ℕ} 224 0, S.requires.2, filled_none S.args.least S.requires.0 S.args.window S.requires.1 S.args.places.now)
 
 pub pick-x-requires : goal.pick-x-requires
 pick-x-requires c = let S = c in
     let L = c.loop-k in
-    let few = steps_left L.k S.args.window.steps L.invariant.2 L.invariant.1 c.loop-k-test.true in (
+    let few = steps_left L.k S.args.window.steps c.loop-k.auto.k refl c.loop-k-test.true in (
       S.requires.0,
-      omega (arith, L.invariant.0, c.if-k-count.true),
-      subst (λ at. Low S.args.m.now L.best at c.unit_of-unit.result) (row_at L.k L.invariant.2)
-          (row_low S.args.least S.requires.0 S.args.window S.requires.1 L.best L.places (L.k / 32 - 1) c.unit_of-unit.result L.k few.0 few.1 L.invariant.6 c.unit_of-unit.ensures.range),
+      omega (arith, c.states-count.ensures, c.if-k-count.true),
+      subst (λ at. Low S.args.m.now L.best at c.unit_of-unit.result) (row_at L.k c.loop-k.auto.k)
+          (row_low S.args.least S.requires.0 S.args.window S.requires.1 L.best L.places (L.k / 32 - 1) c.unit_of-unit.result L.k few.0 few.1 L.invariant.2 c.unit_of-unit.ensures.range),
     )
-
-pub bounds-best-k : goal.bounds-best-k
-bounds-best-k c = let S = c in
-    let L = c.loop-k in
-    omega (arith, L.invariant.1, c.loop-k-test.true, S.requires.1.few)
-
-pub bounds-places-k : goal.bounds-places-k
-bounds-places-k c = let S = c in
-    let L = c.loop-k in
-    omega (arith, L.invariant.1, c.loop-k-test.true, S.requires.1.few)
 
 pub loop-k-preserved : goal.loop-k-preserved
 loop-k-preserved c = let S = c in
     let L = c.loop-k in
-    let few = steps_left L.k S.args.window.steps L.invariant.2 L.invariant.1 c.loop-k-test.true in
+    let few = steps_left L.k S.args.window.steps c.loop-k.auto.k refl c.loop-k-test.true in
     elim c.if-k-count.branch [
       | then-k-count w ↦
           let x = w.pick-x.result in (
-            L.invariant.0,
-            refl,
-            omega arith,
-            omega (arith, L.invariant.1, c.loop-k-test.true),
-            ap length w.best-is ∙ length-set L.best L.k x.value ∙ L.invariant.4,
-            ap length w.places-is ∙ length-set L.places L.k x.place ∙ L.invariant.5,
+            ap length w.best-is ∙ length-set L.best L.k x.value ∙ L.invariant.0,
+            ap length w.places-is ∙ length-set L.places L.k x.place ∙ L.invariant.1,
             subst (λ y. Filled S.args.least S.args.m.now S.args.window y c.if-k-count.places (L.k + 1)) (sym w.best-is)
                 (subst (λ y. Filled S.args.least S.args.m.now S.args.window (set L.best L.k x.value) y (L.k + 1)) (sym w.places-is)
-                (filled_more S.args.least S.requires.0 S.args.window S.requires.1 few.0 few.1 L.invariant.6 (omega (arith, L.invariant.0, w.if-k-count.true))
-                (rebased S.args.least S.args.m.now L.best S.args.window L.k L.invariant.2 w.unit_of-unit.ensures.value w.pick-x.ensures)
-                (omega (arith, div-add-mod L.k 32, L.invariant.2)) (omega (arith, L.invariant.1, L.invariant.4, c.loop-k-test.true, S.requires.1.few)) (omega (arith, L.invariant.1, L.invariant.5, c.loop-k-test.true, S.requires.1.few)))),
+                (filled_more S.args.least S.requires.0 S.args.window S.requires.1 few.0 few.1 L.invariant.2 (omega (arith, c.states-count.ensures, w.if-k-count.true))
+                (rebased S.args.least S.args.m.now L.best S.args.window L.k c.loop-k.auto.k w.unit_of-unit.ensures.value w.pick-x.ensures)
+                (omega (arith, div-add-mod L.k 32, c.loop-k.auto.k)) (omega (arith, L.invariant.0, c.loop-k-test.true, S.requires.1.few)) (omega (arith, L.invariant.1, c.loop-k-test.true, S.requires.1.few)))),
           )
       | else-k-count w ↦ (
-        L.invariant.0,
-        refl,
-        omega arith,
-        omega (arith, L.invariant.1, c.loop-k-test.true),
-        ap length w.best-is ∙ L.invariant.4,
-        ap length w.places-is ∙ L.invariant.5,
+        ap length w.best-is ∙ L.invariant.0,
+        ap length w.places-is ∙ L.invariant.1,
         subst (λ x. Filled S.args.least S.args.m.now S.args.window x c.if-k-count.places (L.k + 1)) (sym w.best-is)
             (subst (λ x. Filled S.args.least S.args.m.now S.args.window L.best x (L.k + 1)) (sym w.places-is)
-            (filled_past S.args.least S.requires.0 S.args.window S.requires.1 (omega (arith, L.invariant.0, w.if-k-count.false)) L.invariant.6)),
+            (filled_past S.args.least S.requires.0 S.args.window S.requires.1 (omega (arith, c.states-count.ensures, w.if-k-count.false)) L.invariant.2)),
       )
     ]
-
-pub returns : goal.returns
-returns c = let S = c in
-    let L = c.loop-k in
-    let e : L.k ≡ 32 * suc S.args.window.steps = omega (arith, L.invariant.1, L.invariant.3, c.loop-k-test.false) in
-    subst (Filled S.args.least S.args.m.now S.args.window L.best L.places) e L.invariant.6

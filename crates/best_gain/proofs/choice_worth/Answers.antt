@@ -1,46 +1,16 @@
--- `choice_worth`: the sum over the first o outcomes. The measure is what is left of the outcomes.
--- What the first o outcomes add.
-use Prim.Native.Nat.{ℕ, ◌+◌, ◌*◌, ◌^◌, ◌≤◌, ◌<◌}
+-- `choice_worth`: the sum over the first o outcomes. What the first o outcomes add.
+use Prim.Native.Nat.{◌+◌, ◌*◌, ◌^◌, ◌≤◌}
 use native.Mathlib.Omega.{arith}
 use mathlib.Core.Path.{◌≡◌, refl, sym, ap, ap₂, subst, ◌∙◌}
 use Rattle.blocks.specs.Block.{sum_below}
-use Rattle.prepared_model.specs.promises.Rows.{outcomes_in, Offers}
-use Rattle.prepared_model.proofs.PlacesInRange.{read_range}
+use Rattle.prepared_model.specs.promises.Rows.{outcomes_in}
 use Rattle.best_gain.proofs.TableRows.{weighed, sum_fits, worth_all, next_sum}
 use Rattle.best_gain.proofs.choice_worth.Invariants.{so_far}
 use Rattle.best_gain.proofs.choice_worth.Goals as goal
 
-pub outcomes-count-requires : goal.outcomes-count-requires
-outcomes-count-requires c = let w = c.requires.0 in (omega (arith, w.states, c.requires.1), omega (arith, w.few_choices c.args.s c.requires.1, c.requires.2))
-
 pub loop-o-init : goal.loop-o-init
 unfolding sum_below
-loop-o-init c = (c.outcomes-count.ensures, omega arith, refl)
-
-pub weight-requires : goal.weight-requires
-weight-requires c =
-    let offered : (o count : ℕ) → count ≡ outcomes_in c.args.m.now c.args.s c.args.i → o < count → Offers c.args.m.now c.args.s c.args.i o = λ o count e l. (c.requires.2, omega arith) in
-    let S = c in
-    read_range S.requires.0 S.args.s S.requires.1 S.args.i c.loop-o.o (offered c.loop-o.o _ c.loop-o.invariant.0 c.loop-o-test.true)
-
-pub outcome_worth-requires : goal.outcome_worth-requires
-outcome_worth-requires c =
-    let offered : (o count : ℕ) → count ≡ outcomes_in c.args.m.now c.args.s c.args.i → o < count → Offers c.args.m.now c.args.s c.args.i o = λ o count e l. (c.requires.2, omega arith) in
-    let S = c in
-    (S.requires.0, S.requires.1, offered c.loop-o.o _ c.loop-o.invariant.0 c.loop-o-test.true, S.requires.3)
-
-pub overflow_mul-sum : goal.overflow_mul-sum
-overflow_mul-sum c =
-    let product_is : (let S = c in
-    c.weight.result * c.outcome_worth.result ≡ weighed S.requires.0 S.requires.3 S.requires.1 S.args.i c.loop-o.o) = ap₂ ◌*◌ c.weight.ensures.value c.outcome_worth.ensures.value in
-    let next_is : (let S = c in let L = c.loop-o in
-    L.sum + c.weight.result * c.outcome_worth.result ≡ so_far S.args.m.now S.args.best.now S.args.at S.args.unit S.args.s S.args.i (L.o + 1)) = let S = c in
-    let L = c.loop-o in
-    next_sum (weighed S.requires.0 S.requires.3 S.requires.1 S.args.i) L.o L.invariant.2 product_is in
-    let next_fits : c.loop-o.sum + c.weight.result * c.outcome_worth.result ≤ 12000 * 100 ^ 6 = let S = c in
-    let L = c.loop-o in
-    subst (λ x. x ≤ 12000 * 100 ^ 6) (sym next_is) (sum_fits S.requires.0 S.requires.3 S.requires.1 S.args.i S.requires.2 (L.o + 1) (omega (arith, L.invariant.0, c.loop-o-test.true))) in
-    record { fits = omega (arith, next_fits) }
+loop-o-init c = refl
 
 pub overflow_add-sum : goal.overflow_add-sum
 overflow_add-sum c =
@@ -49,10 +19,10 @@ overflow_add-sum c =
     let next_is : (let S = c in let L = c.loop-o in
     L.sum + c.weight.result * c.outcome_worth.result ≡ so_far S.args.m.now S.args.best.now S.args.at S.args.unit S.args.s S.args.i (L.o + 1)) = let S = c in
     let L = c.loop-o in
-    next_sum (weighed S.requires.0 S.requires.3 S.requires.1 S.args.i) L.o L.invariant.2 product_is in
+    next_sum (weighed S.requires.0 S.requires.3 S.requires.1 S.args.i) L.o L.invariant product_is in
     let next_fits : c.loop-o.sum + c.weight.result * c.outcome_worth.result ≤ 12000 * 100 ^ 6 = let S = c in
     let L = c.loop-o in
-    subst (λ x. x ≤ 12000 * 100 ^ 6) (sym next_is) (sum_fits S.requires.0 S.requires.3 S.requires.1 S.args.i S.requires.2 (L.o + 1) (omega (arith, L.invariant.0, c.loop-o-test.true))) in
+    subst (λ x. x ≤ 12000 * 100 ^ 6) (sym next_is) (sum_fits S.requires.0 S.requires.3 S.requires.1 S.args.i S.requires.2 (L.o + 1) (omega (arith, c.outcomes-o-end.ensures, c.loop-o-test.true))) in
     record { fits = omega (arith, next_fits) }
 
 pub loop-o-preserved : goal.loop-o-preserved
@@ -62,11 +32,11 @@ loop-o-preserved c =
     let next_is : (let S = c in let L = c.loop-o in
     L.sum + c.weight.result * c.outcome_worth.result ≡ so_far S.args.m.now S.args.best.now S.args.at S.args.unit S.args.s S.args.i (L.o + 1)) = let S = c in
     let L = c.loop-o in
-    next_sum (weighed S.requires.0 S.requires.3 S.requires.1 S.args.i) L.o L.invariant.2 product_is in
-    (c.loop-o.invariant.0, omega (arith, c.loop-o-test.true), next_is)
+    next_sum (weighed S.requires.0 S.requires.3 S.requires.1 S.args.i) L.o L.invariant product_is in
+    next_is
 
 pub returns : goal.returns
 returns c = let S = c in
     let L = c.loop-o in
-    let e : L.o ≡ outcomes_in S.args.m.now S.args.s S.args.i = omega (arith, L.invariant.0, L.invariant.1, c.loop-o-test.false) in
-    L.invariant.2 ∙ ap (so_far S.args.m.now S.args.best.now S.args.at S.args.unit S.args.s S.args.i) e ∙ worth_all S.requires.0 S.requires.3 S.requires.1 S.args.i S.requires.2
+    let e : L.o ≡ outcomes_in S.args.m.now S.args.s S.args.i = omega (arith, c.outcomes-o-end.ensures, c.loop-o-test.false) in
+    L.invariant ∙ ap (so_far S.args.m.now S.args.best.now S.args.at S.args.unit S.args.s S.args.i) e ∙ worth_all S.requires.0 S.requires.3 S.requires.1 S.args.i S.requires.2

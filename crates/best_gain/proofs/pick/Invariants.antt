@@ -1,11 +1,5 @@
-use Prim.Native.Nat.{◌-◌, ◌≤◌}
-use mathlib.Core.Path.{◌≡◌}
-use Rattle.prepared_model.specs.promises.Rows.{choices_in}
 use Rattle.best_gain.specs.promises.Tabled.{Picks}
 use Rattle.best_gain.proofs.pick.Given as goal
 
 abbrev pub invariant-loop-i : goal.invariant-loop-i
-invariant-loop-i l = (l.n ≡ choices_in l.m l.s) × (l.i ≤ l.n) × Picks l.least l.m l.best l.at l.unit l.s l.i l.value l.place
-
-abbrev pub decreases-loop-i : goal.decreases-loop-i
-decreases-loop-i l = l.n - l.i
+invariant-loop-i l = Picks l.least l.m l.best l.at l.unit l.s l.i l.value l.place

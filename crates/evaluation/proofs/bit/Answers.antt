@@ -1,11 +1,6 @@
-use borrow.Author.Rules.{rules}
-use Rattle.logic.specs.Bound.{one_if}
+use mathlib.Core.Path.{◌∙◌}
+use Rattle.evaluation.proofs.Integers.{byte_is}
 use Rattle.evaluation.proofs.bit.Goals as goal
 
-pub returns-then-t : goal.returns-then-t
-unfolding one_if
-returns-then-t c = search rules
-
 pub returns : goal.returns
-unfolding one_if
-returns c = search rules
+returns c = c.from.ensures ∙ byte_is c.args.t

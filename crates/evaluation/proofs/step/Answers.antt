@@ -9,7 +9,7 @@ use lib.Signed.{mag}
 use Rattle.prepared_model.specs.promises.Rows.{step_in}
 use Rattle.evaluation.specs.promises.Reached.{Ready}
 use mir.Syntax.{w16, w32}
-use Rattle.evaluation.proofs.Integers.{fits32, sum16, wide_fits, wide_is, mag_add}
+use Rattle.evaluation.proofs.Integers.{fits32, sum16, wide_is, mag_add}
 use Rattle.evaluation.proofs.Trails.{gain_small}
 use Rattle.evaluation.proofs.LearnKnows.{cone_node}
 use Rattle.evaluation.proofs.StepTaken.{state_small, sizes_small, stepped}
@@ -26,9 +26,6 @@ reward-requires c =
     let sizes : (c.args.at.s < 32) × (c.args.i < 8) × (c.args.o < 4) = sizes_small P c.requires.offered c.requires.knows in
     sizes
 
-pub overflow_cast-gains : goal.overflow_cast-gains
-overflow_cast-gains c = wide_fits w16 w32 c.reward.result (record { sfits = c.reward.type_inv }) (record { sfits = omega (arith, c.reward.type_inv) })
-
 pub overflow_add-gains : goal.overflow_add-gains
 overflow_add-gains c =
     let P : Ready c.args.m.now c.args.q.now c.args.at.start c.args.truth.now c.args.cone.now = c.requires.ready in
@@ -44,7 +41,7 @@ overflow_add-gains c =
     omega (arith, mag_add so_far reward-of, ap mag (K.gained.right h (omega arith)), O.steps) in
     let S = c in
     let g = c.gain_at in
-    rw (fits32 g.result g.type_inv, wide_is w16 w32 c.reward.result (record { sfits = c.reward.type_inv }) (record { sfits = omega (arith, c.reward.type_inv) })) (record { sfits = rw (g.ensures, c.reward.ensures) (sum_fits c.put-arg-1.given.0.1) })
+    rw (fits32 g.result g.type_inv, wide_is w16 w32 c.reward.result (record { sfits = c.reward.type_inv }) (record { sfits = omega (arith, c.reward.type_inv) })) (record { sfits = rw (g.ensures, c.reward.ensures) (sum_fits c.told-trail) })
 
 pub target-t-requires : goal.target-t-requires
 target-t-requires c =
@@ -82,11 +79,11 @@ returns c =
     let r = P.prepared.modest c.args.at.s c.args.i c.args.o (state_small P O K) O.offers in
     omega (arith, mag_add so_far reward-of, ap mag (K.gained.right h (omega arith)), O.steps) in
     let S = c in
-    let n = c.put-arg-1.given.0.1 in
+    let n = c.told-trail in
     let g = c.gain_at in
     let r = c.reward in
     stepped P S.requires.offered S.requires.knows (whole n) n _ _ _ _
     c.target-t.ensures
-    (c.put.ensures ∙ ap (λ a. set S.args.trail.now S.args.at.h (32 * a + 4 * S.args.i + S.args.o)) c.choice.ensures)
+    (ap (λ a. set S.args.trail.now S.args.at.h (32 * a + 4 * S.args.i + S.args.o)) c.choice.ensures)
     (ap (set S.args.gains.now (S.args.at.h + 1)) (sum16 g.result r.result g.type_inv r.type_inv (rw (g.ensures, r.ensures) (sum_fits n)) ∙ ap₂ ◌+ℤ◌ g.ensures r.ensures))
     c.learn.ensures

@@ -7,6 +7,7 @@ use lib.ListN.{get_or}
 use Rattle.logic.specs.Bound.{one_if}
 use Rattle.questions.specs.Layout.{node_of}
 use Rattle.evaluation.specs.promises.Learnt.{value_by, known}
+use Rattle.evaluation.proofs.Integers.{byte_is}
 use Rattle.evaluation.proofs.LearntInOrder.{other_value}
 use Rattle.evaluation.proofs.value_by.Goals as goal
 
@@ -17,7 +18,7 @@ returns-in-3 c =
     let operator-of : ℕ = (node_of c.args.q.now c.args.j).operator in
     let by_op : (n r x : ℕ) → r ≡ operator-of → r ≡ n → x ≡ at_op n → x ≡ at_op operator-of = λ n r x e k g. g ∙ ap at_op (sym k ∙ e) in
     by_op 3 _ _ c.operator-op.ensures c.in-3.is
-    (c.bit.ensures ∙ ap (λ (x : ℕ). one_if (eqb x 0)) (c.known.ensures ∙ ap (λ (l : ℕ). known c.args.v.now l c.args.k) c.left.ensures))
+    (c.from.ensures ∙ byte_is _ ∙ ap (λ (x : ℕ). one_if (eqb x 0)) (c.known.ensures ∙ ap (λ (l : ℕ). known c.args.v.now l c.args.k) c.left.ensures))
 
 pub returns-in-4 : goal.returns-in-4
 unfolding value_by
@@ -36,7 +37,7 @@ returns-in-5 c =
     let operator-of : ℕ = (node_of c.args.q.now c.args.j).operator in
     let by_op : (n r x : ℕ) → r ≡ operator-of → r ≡ n → x ≡ at_op n → x ≡ at_op operator-of = λ n r x e k g. g ∙ ap at_op (sym k ∙ e) in
     by_op 5 _ _ c.operator-op.ensures c.in-5.is
-    (c.bit-in-5.ensures ∙ ap (λ (l : ℕ). one_if (eqb (get_or c.args.trail.now c.args.k 0 / 32) l)) c.left-in-5.ensures)
+    (c.from-in-5.ensures ∙ byte_is _ ∙ ap (λ (l : ℕ). one_if (eqb (get_or c.args.trail.now c.args.k 0 / 32) l)) c.left-in-5.ensures)
 
 pub returns-in-6 : goal.returns-in-6
 unfolding value_by
@@ -54,7 +55,7 @@ returns-in-7 c =
     let operator-of : ℕ = (node_of c.args.q.now c.args.j).operator in
     let by_op : (n r x : ℕ) → r ≡ operator-of → r ≡ n → x ≡ at_op n → x ≡ at_op operator-of = λ n r x e k g. g ∙ ap at_op (sym k ∙ e) in
     by_op 7 _ _ c.operator-op.ensures c.in-7.is
-    (c.bit-in-7.ensures ∙ ap one_if c.gained.ensures)
+    (c.from-in-7.ensures ∙ byte_is _ ∙ ap one_if c.gained.ensures)
 
 pub returns-in_default : goal.returns-in_default
 returns-in_default c =

@@ -1,7 +1,7 @@
--- `capped` meets its contract: a number below the cap is its own minimum with it, and the cap fits since the limit is at most 1,000,000.
+-- `capped` meets its contract: the cap fits since the limit is at most 1,000,000.
 use native.Mathlib.Omega.{arith}
 use Rattle.limits.proofs.CappedTotals.{limit_most}
 use Rattle.limits.proofs.capped.Goals as goal
 
-pub overflow_add-cap : goal.overflow_add-cap
-overflow_add-cap c = omega (arith, c.limit-cap.ensures, limit_most c.args.plans)
+pub overflow_add-limit : goal.overflow_add-limit
+overflow_add-limit g c = omega (arith, c.limit.ensures, limit_most g.K.Kind.plans)

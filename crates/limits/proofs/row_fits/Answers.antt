@@ -1,25 +1,19 @@
--- `row_fits` meets its contract. The loop's invariant: the answer is the test of the first s states. The measure is what is left of them.
-use Prim.Native.Nat.{◌+◌, ◌*◌}
-use native.Mathlib.Omega.{arith}
-use mathlib.Core.Path.{refl, ap, ◌∙◌}
+-- `row_fits` meets its contract: `all` asks each of the totals of the row.
+use Prim.Native.Nat.{ℕ, ◌*◌, ◌+◌, ◌-◌}
+use Rattle.std.proofs.Common.{arith, rules, ◌≡◌, take, drop, ◌∙◌, ap, get_or}
+use Rattle.std.proofs.lemmas.Iterator.{YieldsList-from_slice}
+use Rattle.std.proofs.lemmas.Iterator.Search.{all_from_yields_List}
 use lib.Dec.{leb}
-use lib.ListN.{get_or}
+use mathlib.Core.Bool.{Bool}
 use Rattle.logic.specs.Lists.{every}
-use Rattle.limits.specs.promises.Totals.{limit}
-use Rattle.logic.proofs.Tests.{every_more}
+use Rattle.limits.proofs.RowTested.{every_listed}
 use Rattle.limits.proofs.row_fits.Goals as goal
 
-pub loop-s-init : goal.loop-s-init
-unfolding every
-loop-s-init c = (omega arith, c.limit-most.ensures, refl)
-
-pub loop-s-preserved : goal.loop-s-preserved
-loop-s-preserved c =
-    let S = c in
-    let L = c.loop-s in
-    (omega arith, L.invariant.1, every_more _ L.s L.invariant.2 (ap (λ k. leb (get_or S.args.table.now (32 * S.args.n + L.s) 0) k) L.invariant.1))
-
 pub returns : goal.returns
-returns c =
+returns g c =
     let S = c in
-    c.loop-s.invariant.2 ∙ ap (λ n. every n (λ s. leb (get_or S.args.table.now (32 * S.args.n + s) 0) (limit S.args.plans))) (omega arith)
+    let passes : ℕ → Bool = λ x. leb x c.limit-most.result in
+    let row : 32 * S.args.n + S.args.states - 32 * S.args.n ≡ S.args.states = omega arith in
+    all_from_yields_List passes _ _ _ c.all.ensures.ran (YieldsList-from_slice (take S.args.states (drop (32 * S.args.n) S.args.table.now)) (c.iter.ensures.rest ∙ ap (λ k. take k (drop (32 * S.args.n) S.args.table.now)) row)) (λ x b q k. search rules)
+    ∙ every_listed passes S.args.table.now (32 * S.args.n) S.args.states (omega arith)
+    ∙ ap (λ most. every S.args.states (λ s. leb (get_or S.args.table.now (32 * S.args.n + s) 0) most)) c.limit-most.ensures

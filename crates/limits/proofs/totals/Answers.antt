@@ -1,5 +1,4 @@
--- `totals` meets its contract. The loop's invariant: the table holds the totals of all places before k (`Filled`); a place of no state stays. The
--- measure is what is left of the rows.
+-- `totals` meets its contract. The loop's invariant: the table holds the totals of all places before k (`Filled`); a place of no state stays.
 use Prim.Native.Nat.{◌+◌}
 use native.Mathlib.Omega.{arith}
 use mathlib.Core.Path.{sym, subst}
@@ -7,40 +6,24 @@ use Rattle.limits.proofs.CappedTotals.{Filled, filled_start, filled_past, filled
 use Rattle.limits.proofs.totals.Goals as goal
 use Rattle.limits.proofs.totals.Goals.{then-k-states, else-k-states}
 
-pub overflow_mul-end : goal.overflow_mul-end
-overflow_mul-end c = omega (arith, c.requires.1)
-
 pub loop-k-init : goal.loop-k-init
-loop-k-init c =
+loop-k-init g c =
     let S = c in
-    (c.states-states.ensures, omega arith, omega arith, filled_start S.args.plans S.args.m.now S.requires.0, omega arith, S.requires.1)
-
-pub state_total-requires : goal.state_total-requires
-state_total-requires c =
-    let S = c in record { prepared = (S.requires.0, omega arith, omega arith); by_index = c.loop-k.invariant.3.small }
-
-pub bounds-table-k : goal.bounds-table-k
-bounds-table-k c = omega (arith, c.loop-k.invariant.3.size)
+    filled_start g.K.Kind.plans S.args.m.now S.requires.0
 
 pub loop-k-preserved : goal.loop-k-preserved
-loop-k-preserved c =
-    let S = c in
-    let L = c.loop-k in (
-      L.invariant.0,
-      omega arith,
-      omega arith,
-      elim c.if-k-states.branch [
-        | then-k-states w ↦ subst (λ t. Filled S.args.plans S.args.m.now t (L.k + 1)) (sym w.table-is)
-            (filled_more S.args.plans S.args.m.now S.requires.0 L.table L.k L.invariant.3 w.state_total.result (omega arith) (omega arith) (omega arith) w.state_total.ensures)
-        | else-k-states w ↦ subst (λ t. Filled S.args.plans S.args.m.now t (L.k + 1)) (sym w.table-is)
-            (filled_past S.args.plans S.args.m.now S.requires.0 L.table L.k L.invariant.3 (omega arith))
-      ],
-      L.invariant.4,
-      L.invariant.5,
-    )
-
-pub returns : goal.returns
-returns c =
+loop-k-preserved g c =
     let S = c in
     let L = c.loop-k in
-    filled_rows S.args.plans S.args.m.now S.requires.0 S.args.rows L.table L.k L.invariant.3 (omega arith)
+    elim c.if-k-states.branch [
+      | then-k-states w ↦ subst (λ t. Filled g.K.Kind.plans S.args.m.now t (L.k + 1)) (sym w.table-is)
+          (filled_more g.K.Kind.plans S.args.m.now S.requires.0 L.table L.k L.invariant w.state_total.result (omega arith) (omega arith) (omega arith) w.state_total.ensures)
+      | else-k-states w ↦ subst (λ t. Filled g.K.Kind.plans S.args.m.now t (L.k + 1)) (sym w.table-is)
+          (filled_past g.K.Kind.plans S.args.m.now S.requires.0 L.table L.k L.invariant (omega arith))
+    ]
+
+pub returns : goal.returns
+returns g c =
+    let S = c in
+    let L = c.loop-k in
+    filled_rows g.K.Kind.plans S.args.m.now S.requires.0 S.args.rows L.table L.k L.invariant (omega arith)

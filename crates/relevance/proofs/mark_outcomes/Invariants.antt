@@ -1,13 +1,9 @@
-use Prim.Native.Nat.{ℕ, ◌+◌, ◌*◌, ◌-◌, ◌≤◌, ◌<◌}
-use mathlib.Core.Path.{◌≡◌}
+use Prim.Native.Nat.{ℕ, ◌+◌, ◌*◌, ◌<◌}
 use Rattle.models.specs.Layout.{state_count}
-use Rattle.prepared_model.specs.promises.Rows.{outcomes_in, step_in}
+use Rattle.prepared_model.specs.promises.Rows.{step_in}
 use Rattle.prepared_question.specs.promises.Marks.{Grown}
 use Rattle.relevance.specs.promises.Need.{Marked, Below}
 use Rattle.relevance.proofs.mark_outcomes.Given as goal
 
 abbrev pub invariant-loop-o : goal.invariant-loop-o
-invariant-loop-o l = (l.n ≡ outcomes_in l.m l.s l.i) × (l.o ≤ l.n) × Grown (Below (state_count l.m) (32 * l.child + 32)) l.initial.need l.need × ((x : ℕ) → x < l.o → Marked l.need l.child (step_in l.m l.s l.i x).target)
-
-abbrev pub decreases-loop-o : goal.decreases-loop-o
-decreases-loop-o l = l.n - l.o
+invariant-loop-o l = Grown (Below (state_count l.m) (32 * l.child + 32)) l.initial.need l.need × ((x : ℕ) → x < l.o → Marked l.need l.child (step_in l.m l.s l.i x).target)

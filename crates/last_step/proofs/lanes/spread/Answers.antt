@@ -7,6 +7,6 @@ pub returns-then-t-eq0 : goal.returns-then-t-eq0
 unfolding one_if
 returns-then-t-eq0 c = record { right = λ i h. rw c.if-t-eq0.true (lane_none i) }
 
-pub returns : goal.returns
+pub returns-else-t-eq0 : goal.returns-else-t-eq0
 unfolding one_if
-returns c = record { right = λ i h. rw (ne_eqb c.args.t 0 c.if-t-eq0.false) (lane_ones 32 i h) }
+returns-else-t-eq0 c = record { right = λ i h. rw (ne_eqb c.args.t 0 c.if-t-eq0.false) (lane_ones 32 i h) }

@@ -1,43 +1,16 @@
--- The invariant: the lanes from k up are made.
-use Prim.Native.Nat.{◌+◌, ◌*◌}
-use native.Mathlib.Omega.{arith}
-use mathlib.Core.Path.{◌≡◌, ap, ◌∙◌}
-use Rattle.last_step.proofs.LaneByLane.{built_none, built_small, built_more, few_lanes, laned}
-use mathlib.Core.Bool.{not}
+-- Each lane asks for the truth in its outcome's target.
+use Prim.Native.Nat.{ℕ, ◌+◌, ◌*◌, ◌/◌, ◌%◌}
+use mathlib.Core.Bool.{Bool, not}
 use lib.Dec.{eqb}
+use borrow.Author.Rules.{rules}
 use Rattle.blocks.specs.Bytes.{byte}
-use Rattle.last_step.proofs.lanes.told.Invariants.{holds}
+use Rattle.prepared_model.specs.promises.Rows.{step_in}
+use Rattle.last_step.proofs.LaneByLane.{laned}
 use Rattle.last_step.proofs.lanes.told.Goals as goal
 
-pub choices-k-requires : goal.choices-k-requires
-choices-k-requires c = omega (arith, c.requires.0.states, c.requires.1)
-
-pub overflow_mul-k : goal.overflow_mul-k
-overflow_mul-k c = record { fits = omega (arith, few_lanes c.requires.0 c.args.s c.requires.1) }
-
-pub loop-k-init : goal.loop-k-init
-loop-k-init c = (omega arith, built_none _ _ (omega arith))
-
-pub lane_target-t-requires : goal.lane_target-t-requires
-lane_target-t-requires c = let S = c in
-    (omega (arith, S.requires.0.states, S.requires.1), omega (arith, few_lanes S.requires.0 S.args.s S.requires.1))
-
-pub pushed-x-requires : goal.pushed-x-requires
-pushed-x-requires c = let L = c.loop-k in
-    let S = c in
-    built_small _ _ c.loop-k-test.true L.invariant.0 L.invariant.1 (few_lanes S.requires.0 S.args.s S.requires.1)
-
-pub loop-k-preserved : goal.loop-k-preserved
-loop-k-preserved c = let L = c.loop-k in
-    let A = c.args in (
-      omega arith,
-      built_more _ _ c.loop-k-test.true L.invariant.0 L.invariant.1 c.pushed-x.ensures
-          (ap (λ b. not (eqb b 0)) (c.byte.ensures ∙ ap (λ t. byte A.truth.now (32 * A.j + t)) c.lane_target-t.ensures.value)),
-    )
-
 pub returns : goal.returns
-returns c = let S = c in
-    let L = c.loop-k in
+returns c =
+    let S = c in
     let A = S.args in
-    let e : L.k ≡ 0 = omega arith in
-    laned S.requires.0 A.s S.requires.1 (holds A.m.now A.truth.now A.s A.j) L.x (rw e at L.invariant.1)
+    let holds : ℕ → ℕ → Bool = λ i o. not (eqb (byte A.truth.now (32 * A.j + (step_in A.m.now A.s i o).target)) 0) in
+    laned S.requires.0 A.s S.requires.1 holds c.lanes_where.result (c.lanes_where.ensures (λ k. holds (k / 4) (k % 4)) (λ k t l e. search rules))
