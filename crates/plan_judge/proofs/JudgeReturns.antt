@@ -4,7 +4,7 @@ use native.Mathlib.Omega.{arith}
 use mathlib.Core.Path.{◌≡◌, refl, sym, ap, ap₂, ◌∙◌}
 use mathlib.Core.Bool.{true}
 use lib.ListN.{length, drop, replicate}
-use Rattle.std.specs.Prelude.{Ok, Err}
+use Rattle.std.specs.Prelude.{Some, Ok, Err}
 use Rattle.refusals.specs.declared.Refusal.{Refusal}
 use Rattle.refusals.specs.Number.{number, named}
 use Rattle.refusals.proofs.Named.{named_number, number_some}
@@ -53,7 +53,7 @@ module _ (d : Desk) where
       record {
         answer = Ok v;
         choices = cs;
-        desk = record { blocks = d.blocks; model = d.model; asked = d.asked; question = d.question; judged = true; verdict = v; choices = cs };
+        desk = record { blocks = d.blocks; model = d.model; asked = d.asked; question = d.question; verdict = Some v; choices = cs };
       }
 
   -- A refusal is answered, and the desk stays.

@@ -68,7 +68,7 @@ module _ (d : Desk) (b : Bytes) where
 
     -- The empty desk with this model.
     abbrev pub with_model : Bytes → Desk → Desk
-    with_model a e = record { blocks = length b / 512; model = a; asked = e.asked; question = e.question; judged = e.judged; verdict = e.verdict; choices = e.choices }
+    with_model a e = record { blocks = length b / 512; model = a; asked = e.asked; question = e.question; verdict = e.verdict; choices = e.choices }
 
     pub load_done : (a : Bytes) → a ≡ padded 6144 b → (e : Desk) → e ≡ nothing → record { answer = Ok tt; desk = with_model a e } ≡ loaded_by d b
     unfolding loaded_by holding nothing
@@ -183,7 +183,7 @@ module _ (d : Desk) where
 
         -- The desk's model with this question, and nothing else.
         abbrev pub with_question : Bytes → Desk → Desk
-        with_question a e = record { blocks = d.blocks; model = d.model; asked = true; question = a; judged = e.judged; verdict = e.verdict; choices = e.choices }
+        with_question a e = record { blocks = d.blocks; model = d.model; asked = true; question = a; verdict = e.verdict; choices = e.choices }
 
         pub put_done : (a : Bytes) → a ≡ padded 512 b → (e : Desk) → e ≡ nothing → record { answer = Ok tt; desk = with_question a e } ≡ put_by d b
         unfolding put_by asking nothing

@@ -21,7 +21,7 @@ ghost use Rattle.judging.specs.promises.Asked.{Served};
 ghost use Rattle.judging.specs.promises.Announced.{Spelled, Weighs};
 ghost use Rattle.plan_judge.specs.View.{choices_in, view};
 ghost use Rattle.plan_judge.specs.promises.State.{held_size};
-ghost use Rattle.plan_judge.specs.promises.Values.{unjudged, nothing, loaded_by, put_by, judge_on, ruling, judging, judged_by, written_by, filled_by, model_written_by, model_filled_by, checking, checked_by};
+ghost use Rattle.plan_judge.specs.promises.Values.{nothing, loaded_by, put_by, judge_on, ruling, judging, judged_by, written_by, filled_by, model_written_by, model_filled_by, checking, checked_by};
 ghost use Rattle.plan_judge.specs.promises.State.{held_both, held_goal, plan_size, size_in, shown_size, shown_total, PlanRoot, plan_on};
 
 pub mod c_call;
@@ -40,15 +40,14 @@ use sheets::GATHERED;
 pub const MODEL_BYTES: usize = 6144;
 
 // The desk, document 01's word for the judge's state: the blocks of a model (none: 0 blocks), the block of a question, and a verdict with
-// its choices beside it. What is not held is zero.
+// the choices of its plan. Their room is fixed, so it stands beside the verdict and not in it; where no plan is held, it is zero.
 #[derive(Clone, Copy)]
 pub struct Desk {
     pub blocks: usize,
     pub model: [u8; MODEL_BYTES],
     pub asked: bool,
     pub question: [u8; BLOCK],
-    pub judged: bool,
-    pub verdict: Verdict,
+    pub verdict: Option<Verdict>,
     pub choices: [u8; CHOICES],
 }
 
@@ -74,16 +73,6 @@ pub struct Report {
     pub lamp: Lamp,
 }
 
-// What stands for a verdict where a desk is not judged.
-fn unjudged() -> Verdict
-    ensures { result ≡ unjudged }
-{
-    Verdict::No(Denial {
-        count: 0,
-        lamp: None,
-    })
-}
-
 // A desk that holds nothing.
 pub fn empty() -> Desk
     ensures { result ≡ nothing }
@@ -93,8 +82,7 @@ pub fn empty() -> Desk
         model: [0u8; MODEL_BYTES],
         asked: false,
         question: [0u8; BLOCK],
-        judged: false,
-        verdict: unjudged(),
+        verdict: None,
         choices: [0u8; CHOICES],
     }
 }
@@ -250,8 +238,7 @@ pub fn judge(d: Desk) -> Judging
             answer: Ok(v),
             choices,
             desk: Desk {
-                judged: true,
-                verdict: v,
+                verdict: Some(v),
                 choices,
                 ..d
             },
@@ -298,10 +285,10 @@ fn shown_size(d: Desk) -> usize
     requires { refusal (held_goal (view d)) ≡ 0 }
     ensures { result ≡ shown_size (view d).verdict }
 {
-    if !d.judged {
+    let Some(verdict) = d.verdict else {
         return 0;
-    }
-    match d.verdict {
+    };
+    match verdict {
         Verdict::YesPlan(_) => first_size(&d.model, d.blocks, &d.question, &d.choices),
         Verdict::Yes => 0,
         Verdict::No(_) => 0,
@@ -319,10 +306,13 @@ pub fn shown_choices(d: Desk) -> usize
 }
 
 // The total in the record of a shown plan.
-fn shown_total(v: Verdict) -> i64
+fn shown_total(v: Option<Verdict>) -> i64
     ensures { result ≡ shown_total v }
 {
-    match v {
+    let Some(verdict) = v else {
+        return 0;
+    };
+    match verdict {
         Verdict::YesPlan(p) => p.total,
         Verdict::Yes => 0,
         Verdict::No(_) => 0,
