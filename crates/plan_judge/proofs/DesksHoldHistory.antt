@@ -1,8 +1,9 @@
 -- Desks that calls gave back hold what the history says, and the calls reply to them as document 01 describes.
 use Prim.Native.Nat.{ℕ, ◌*◌, ◌-◌, ◌/◌, ◌%◌, ◌≤◌}
 use native.Mathlib.Omega.{arith}
+use Rattle.std.specs.Prelude.{Some}
 use mathlib.Core.Path.{◌≡◌, refl, sym, ap, ap₂, subst, ◌∙◌}
-use mathlib.Core.Bool.{Bool, true, false, cond}
+use mathlib.Core.Bool.{Bool, true, false}
 use mathlib.Core.List.{List, [], ◌∷◌, ◌++◌, append-nil, append_assoc, Memᴰ}
 use mathlib.Core.Option.{Option, none, some}
 use lib.ListN.{length, replicate}
@@ -197,7 +198,7 @@ pad_full b e = let z : 512 - length b ≡ 0 = omega arith in ap (λ n. b ++ repl
 
 -- A desk's contents by its model.
 abbrev viewed : Desk → Option Model → Held
-viewed d o = record { model = o; blocks = blocks_in o (model_bytes d); question = question_in d.asked d.question o; verdict = verdict_held o (question_in d.asked d.question o) d.choices d.verdict }
+viewed d o = record { model = o; blocks = blocks_in o (model_bytes d); question = question_in d.question o; verdict = verdict_held o (question_in d.question o) d.choices d.verdict }
 
 view_nothing : view nothing ≡ record { model = none; blocks = []; question = none; verdict = none }
 unfolding view model_bytes blocks_in nothing got read_model whole_blocks within block_count question_in verdict_held
@@ -216,7 +217,7 @@ module _ (d : Desk) (b : Bytes) where
       let u = bind_ok (held 20 (view d).model) _ e in
       let m : (view d).model ≡ some u.0 = held_some 20 (view d).model u.1 in
       let p : padded 512 b ≡ b = pad_full b (question_length (length u.0.states) (length u.0.actions) u.0.propositions b u.2) in
-      ap₂ (λ o c. record { model = (view d).model; blocks = (view d).blocks; question = question_in true c o; verdict = none }) m p
+      ap₂ (λ o c. record { model = (view d).model; blocks = (view d).blocks; question = question_in (Some c) o; verdict = none }) m p
       ∙ ap (λ r. record { model = (view d).model; blocks = (view d).blocks; question = got r; verdict = none }) u.2
 
 pub view_settling : (d : Desk) (v : logic.Verdict) → do_judge (view d) ≡ ok v → view (settling d v) ≡ record { model = (view d).model; blocks = (view d).blocks; question = (view d).question; verdict = some v }

@@ -3,7 +3,6 @@
 use Prim.Native.Nat.{ℕ, ◌*◌, ◌-◌, ◌≤◌, ◌<◌}
 use native.Mathlib.Omega.{arith}
 use mathlib.Core.Path.{◌≡◌, refl, sym, ap, ap₂, ◌∙◌}
-use mathlib.Core.Bool.{Bool, true, false, cond}
 use mathlib.Core.List.{List, [], ◌++◌, append-nil}
 use mathlib.Core.Option.{Option, none, some}
 use lib.Dec.{leb}
@@ -37,7 +36,7 @@ use Rattle.plan_judge.specs.declared.Desk.{Desk}
 use Rattle.judging.specs.declared.PlanRecord.{PlanRecord}
 use Rattle.judging.specs.declared.Verdict.{Verdict}
 use Rattle.judging.specs.declared.Verdict.TheVariants.{No, Yes, YesPlan}
-use Rattle.plan_judge.specs.View.{choices_in, verdict_in, verdict_on, verdict_held, view}
+use Rattle.plan_judge.specs.View.{choices_in, question_bytes, verdict_in, verdict_on, verdict_held, view}
 use Rattle.plan_judge.specs.promises.Values.{writing, written_by, filling, filled_by}
 use Rattle.plan_judge.specs.promises.State.{held_both, held_goal, PlanRoot, plan_size, size_in, shown_size, shown_total}
 use Rattle.plan_judge.proofs.LoadPutReturn.{said_bytes}
@@ -90,7 +89,7 @@ module _ (m q : Bytes) (r : PlanRoot m q) (cs : List ℕ) where
 
 module _ (d : Desk) (e : refusal (held_goal (view d)) ≡ 0) where
   abbrev found : Checked (List ℕ)
-  found = choices_in (model_of (said_bytes d)) (question_of d.question) d.choices
+  found = choices_in (model_of (said_bytes d)) (question_of (question_bytes d)) d.choices
 
   -- A verdict that may be there, with these choices.
   abbrev pub told : Checked (List ℕ) → Optional Verdict → Option logic.Verdict
@@ -108,7 +107,7 @@ module _ (d : Desk) (e : refusal (held_goal (view d)) ≡ 0) where
   verdict_is v i =
       let b = both_asked d e in
       ap₂ (λ o p. verdict_held o p d.choices d.verdict) b.held_model b.held_question
-      ∙ held_told (model_of (said_bytes d)) (question_of d.question) d.choices d.verdict
+      ∙ held_told (model_of (said_bytes d)) (question_of (question_bytes d)) d.choices d.verdict
       ∙ ap (told found) i
 
   pub shown_found : (c : Checked (List ℕ)) (p : PlanRecord) → size_in c ≡ shown_size (verdict_in c (YesPlan p))
@@ -142,7 +141,7 @@ module _ (d : Desk) (e : refusal (held_goal (view d)) ≡ 0) where
       by (Some Yes) c i k = nothing (some logic.yes) (verdict_is (Some Yes) i) refl refl
       by (Some (YesPlan p)) (refused x) i k = nothing none (verdict_is (Some (YesPlan p)) i ∙ ap (λ c. verdict_in c (YesPlan p)) k) refl refl
       by (Some (YesPlan p)) (ok l) i k =
-          let w = first_choices (said_bytes d) d.question (plan_asked d e) d.choices l k in
+          let w = first_choices (said_bytes d) (question_bytes d) (plan_asked d e) d.choices l k in
           let o : (view d).verdict ≡ verdict_in (ok l) (YesPlan p) = verdict_is (Some (YesPlan p)) i ∙ ap (λ c. verdict_in c (YesPlan p)) k in
           let y : shown_size (view d).verdict ≡ length l = ap shown_size o in
           let same : l ≡ take (shown_size (view d).verdict) d.choices = w.2 ∙ ap (λ k. take k d.choices) (sym y) in
@@ -201,10 +200,10 @@ module _ (d : Desk) (a : Bytes) where
 
   module _ (e : refusal (held_goal (view d)) ≡ 0) where
     abbrev steps : ℕ
-    steps = (root_node d.question).n
+    steps = (root_node (question_bytes d)).n
 
     abbrev start : ℕ
-    start = start_of d.question
+    start = start_of (question_bytes d)
 
     write_is : do_write (view d) (length a) ≡ (sheet_held d e (view d).verdict >>= sheet_for steps start (length a))
     unfolding do_write question_of

@@ -19,7 +19,7 @@ ghost use Rattle.protocol.specs.promises.Chains.{check_on};
 ghost use Rattle.limits.specs.promises.Counted.{Counted};
 ghost use Rattle.judging.specs.promises.Asked.{Served};
 ghost use Rattle.judging.specs.promises.Announced.{Spelled, Weighs};
-ghost use Rattle.plan_judge.specs.View.{choices_in, view};
+ghost use Rattle.plan_judge.specs.View.{choices_in, question_block, view};
 ghost use Rattle.plan_judge.specs.promises.State.{held_size};
 ghost use Rattle.plan_judge.specs.promises.Values.{nothing, loaded_by, put_by, judge_on, ruling, judging, judged_by, written_by, filled_by, model_written_by, model_filled_by, checking, checked_by};
 ghost use Rattle.plan_judge.specs.promises.State.{held_both, held_goal, plan_size, size_in, shown_size, shown_total, PlanRoot, plan_on};
@@ -45,8 +45,7 @@ pub const MODEL_BYTES: usize = 6144;
 pub struct Desk {
     pub blocks: usize,
     pub model: [u8; MODEL_BYTES],
-    pub asked: bool,
-    pub question: [u8; BLOCK],
+    pub question: Option<[u8; BLOCK]>,
     pub verdict: Option<Verdict>,
     pub choices: [u8; CHOICES],
 }
@@ -80,8 +79,7 @@ pub fn empty() -> Desk
     Desk {
         blocks: 0,
         model: [0u8; MODEL_BYTES],
-        asked: false,
-        question: [0u8; BLOCK],
+        question: None,
         verdict: None,
         choices: [0u8; CHOICES],
     }
@@ -165,10 +163,19 @@ pub fn put(d: Desk, b: &[u8]) -> Taking
         desk: Desk {
             blocks: d.blocks,
             model: d.model,
-            asked: true,
-            question: q,
+            question: Some(q),
             ..empty()
         },
+    }
+}
+
+// The block that was put; no bytes where none was.
+fn question_bytes(question: &Option<[u8; BLOCK]>) -> &[u8]
+    ensures { result.now ≡ question_block question.now }
+{
+    match question {
+        Some(q) => q,
+        None => &[],
     }
 }
 
@@ -179,10 +186,10 @@ fn question_held(d: Desk) -> Result<(), Refusal>
     if held_bytes(&d.model, d.blocks) == 0 {
         return Err(Refusal::NoModel);
     }
-    if !d.asked {
+    let Some(q) = &d.question else {
         return Err(Refusal::NoQuestion);
-    }
-    if accept_question(&d.question, &d.model).is_err() {
+    };
+    if accept_question(q, &d.model).is_err() {
         return Err(Refusal::NoQuestion);
     }
     Ok(())
@@ -231,7 +238,7 @@ pub fn judge(d: Desk) -> Judging
         return turned_away(d, r);
     }
     let n = blocks_end(MODEL_BYTES, d.blocks);
-    let Ruling { answer, choices } = judged_on(&d.model[..n], &d.question);
+    let Ruling { answer, choices } = judged_on(&d.model[..n], question_bytes(&d.question));
     match answer {
         Err(r) => turned_away(d, r),
         Ok(v) => Judging {
@@ -251,7 +258,7 @@ fn plan_asked(d: Desk) -> Result<(), Refusal>
     ensures { refusal_number result ≡ refusal (held_goal (view d)) }
 {
     question_held(d)?;
-    if !questions::root_sets_bound(&d.question) {
+    if !questions::root_sets_bound(question_bytes(&d.question)) {
         return Err(Refusal::NoBoundOnPlans);
     }
     Ok(())
@@ -289,7 +296,10 @@ fn shown_size(d: Desk) -> usize
         return 0;
     };
     match verdict {
-        Verdict::YesPlan(_) => first_size(&d.model, d.blocks, &d.question, &d.choices),
+        Verdict::YesPlan(_) => {
+            let q = question_bytes(&d.question);
+            first_size(&d.model, d.blocks, q, &d.choices)
+        }
         Verdict::Yes => 0,
         Verdict::No(_) => 0,
     }
@@ -340,8 +350,9 @@ pub fn write(d: Desk, buf: &mut [u8]) -> Result<usize, Refusal>
     if buf.len() < sheet_size(count) {
         return Err(Refusal::SmallBuffer);
     }
-    let n = questions::root_steps(&d.question);
-    let s = questions::start(&d.question);
+    let q = question_bytes(&d.question);
+    let n = questions::root_steps(q);
+    let s = questions::start(q);
     let w = shown_total(d.verdict);
     let model = &d.model[..blocks_end(MODEL_BYTES, d.blocks)];
     Ok(sheets::writer::write_sheet(buf, model, n, s, w, &d.choices[..count]))
@@ -420,5 +431,5 @@ pub fn check(d: Desk, b: &[u8]) -> Result<Report, Refusal>
 {
     plan_asked(d)?;
     let n = blocks_end(MODEL_BYTES, d.blocks);
-    check_on(&d.model[..n], &d.question, b)
+    check_on(&d.model[..n], question_bytes(&d.question), b)
 }
