@@ -14,7 +14,6 @@ ghost use Rattle.verdict_line.specs.Reasons.{reached_line, whynot_says};
 ghost use Rattle.verdict_line.specs.promises.Chain.{judging_text, loading_text, line_of, answer_text};
 ghost use Rattle.explaining.specs.promises.Said.{side_said, side_size, explained_said, Few};
 
-use blocks::BLOCK;
 use limits::{accept_limits, plan_totals};
 use plan_choices::CHOICES;
 use prepared_model::prepare_model;
@@ -22,7 +21,7 @@ use prepared_question::prepare_question;
 use reasons::{Between, Explanation, Reached, explained};
 use refusals::Refusal;
 use verdict_line::reason_lines::{TEXT, no_reason_text, put_nothing, put_reached};
-use verdict_line::{MOST_INPUT, plain_line, refused_line, yes_plan_line};
+use verdict_line::{parts, plain_line, refused_line, yes_plan_line};
 
 // Writes the line of what is reached on a side, with the first of these choices.
 fn put_side(out: &mut [u8], at: usize, word: &[u8], side: Option<Reached>, choices: &[u8]) -> usize
@@ -107,13 +106,8 @@ fn loading_text(out: &mut [u8], model: &[u8], q: &[u8]) -> usize
 pub fn answer(input: &[u8], out: &mut [u8; TEXT]) -> usize
     ensures { Put (answer_text whynot_says input.now) out.old out.new 0 result }
 {
-    let n = input.len();
-    if n < BLOCK {
-        return refused_line(out, 1);
+    match parts(input) {
+        Some((model, question)) => loading_text(out, model, question),
+        None => refused_line(out, 1),
     }
-    if MOST_INPUT < n {
-        return refused_line(out, 1);
-    }
-    let at = n - BLOCK;
-    loading_text(out, &input[..at], &input[at..])
 }

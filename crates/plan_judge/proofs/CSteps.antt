@@ -35,9 +35,9 @@ use Rattle.questions.specs.promises.Formed.{sets_bound}
 use Rattle.questions.proofs.AcceptedFacts.{accepted}
 use Rattle.sheets.specs.Layout.{sheet_bytes, blocks_for}
 use Rattle.sheets.proofs.ReadsBack.{sheet_length}
-use Rattle.protocol.specs.Calls.{load, put, judge, Held, done, judged, says, question_for}
-use Rattle.protocol.specs.promises.Chains.{do_put, do_judge, do_write, sheet_shown, answered, by_chain}
-use Rattle.protocol.proofs.Lists.{empty, with_model, with_question}
+use Rattle.protocol.specs.Calls.{judge, Held, judged, says, question_for}
+use Rattle.protocol.specs.promises.Chains.{do_judge, do_write, sheet_shown, answered, by_chain}
+use Rattle.protocol.proofs.Lists.{with_question}
 use Rattle.judging.specs.declared.PlanRecord.{PlanRecord}
 use Rattle.judging.specs.declared.Verdict.{Verdict}
 use Rattle.judging.specs.declared.Denial.{Denial}

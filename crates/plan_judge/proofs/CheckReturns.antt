@@ -44,7 +44,7 @@ use Rattle.judging.specs.promises.Asked.{Served}
 use Rattle.judging.specs.promises.Announced.{Spelled, Weighs}
 use Rattle.judging.specs.declared.Weighed.{Weighed}
 use Rattle.plan_judge.specs.declared.Desk.{Desk}
-use Rattle.plan_judge.specs.View.{view}
+use Rattle.plan_judge.specs.View.{question_bytes, view}
 use Rattle.plan_judge.specs.promises.Values.{checking, checked_by}
 use Rattle.plan_judge.specs.promises.State.{held_goal, PlanRoot, plan_on}
 use Rattle.plan_judge.proofs.LoadPutReturn.{said_bytes}
@@ -104,9 +104,9 @@ module _ (d : Desk) (b : Bytes) where
   unfolding do_check check_on checked_by
   check_state x e = refused_by (do_check (view d) b) x (goal_refused (view d) (check_for b) (number x) e (number_some x))
 
-  pub check_past : refusal (held_goal (view d)) ≡ 0 → checking (check_on (model_of (said_bytes d)) (question_of d.question) b) ≡ checked_by d b
+  pub check_past : refusal (held_goal (view d)) ≡ 0 → checking (check_on (model_of (said_bytes d)) (question_of (question_bytes d)) b) ≡ checked_by d b
   unfolding do_check check_on checked_by
-  check_past e = sym (ap checking (both_passed (view d) (model_of (said_bytes d)) (question_of d.question) (both_held d (both_asked d e)) (λ m q. check_on m q b)))
+  check_past e = sym (ap checking (both_passed (view d) (model_of (said_bytes d)) (question_of (question_bytes d)) (both_held d (both_asked d e)) (λ m q. check_on m q b)))
 
 -- The bytes of a model and of a question that asks for a plan.
 module _ (m q : Bytes) (r : PlanRoot m q) (b : Bytes) where

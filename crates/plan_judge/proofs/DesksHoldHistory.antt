@@ -1,8 +1,9 @@
 -- Desks that calls gave back hold what the history says, and the calls reply to them as document 01 describes.
 use Prim.Native.Nat.{ℕ, ◌*◌, ◌-◌, ◌/◌, ◌%◌, ◌≤◌}
 use native.Mathlib.Omega.{arith}
+use Rattle.std.specs.Prelude.{Some}
 use mathlib.Core.Path.{◌≡◌, refl, sym, ap, ap₂, subst, ◌∙◌}
-use mathlib.Core.Bool.{Bool, true, false, cond}
+use mathlib.Core.Bool.{Bool, true, false}
 use mathlib.Core.List.{List, [], ◌∷◌, ◌++◌, append-nil, append_assoc, Memᴰ}
 use mathlib.Core.Option.{Option, none, some}
 use lib.ListN.{length, replicate}
@@ -39,7 +40,7 @@ use Rattle.protocol.proofs.FirstGround.{yields_is}
 use Rattle.protocol.proofs.Demand3.{held_some, then_ok}
 use Rattle.plan_judge.proofs.NumbersListed.{named_back}
 use Rattle.plan_judge.specs.declared.Desk.{Desk}
-use Rattle.plan_judge.specs.View.{model_bytes, blocks_in, question_in, choices_in, verdict_in, verdict_on, view}
+use Rattle.plan_judge.specs.View.{model_bytes, blocks_in, question_in, choices_in, verdict_in, verdict_on, verdict_held, view}
 use Rattle.plan_judge.specs.promises.Values.{padded, nothing, taking, holding, loaded_by, asking, put_by, choices_code, settling, judging, judged_by, writing, written_by, filling, filled_by, model_written_by, model_filled_by, checking, checked_by}
 use Rattle.judging.specs.promises.Announced.{verdict_code}
 use Rattle.plan_judge.specs.Said.{said_taken, said_verdict, said_judgement, said_written, said_checking}
@@ -197,30 +198,30 @@ pad_full b e = let z : 512 - length b ≡ 0 = omega arith in ap (λ n. b ++ repl
 
 -- A desk's contents by its model.
 abbrev viewed : Desk → Option Model → Held
-viewed d o = record { model = o; blocks = blocks_in o (model_bytes d); question = question_in d.asked d.question o; verdict = cond d.judged (verdict_on o (question_in d.asked d.question o) d.choices d.verdict) none }
+viewed d o = record { model = o; blocks = blocks_in o (model_bytes d); question = question_in d.question o; verdict = verdict_held o (question_in d.question o) d.choices d.verdict }
 
 view_nothing : view nothing ≡ record { model = none; blocks = []; question = none; verdict = none }
-unfolding view model_bytes blocks_in nothing got read_model whole_blocks within block_count question_in
+unfolding view model_bytes blocks_in nothing got read_model whole_blocks within block_count question_in verdict_held
 view_nothing = refl
 
 pub view_holding : (b : Bytes) (m : Model) → read_model b ≡ ok m → view (holding b) ≡ record { model = some m; blocks = b; question = none; verdict = none }
-unfolding view question_in blocks_in holding got
+unfolding view question_in blocks_in holding got verdict_held
 view_holding b m e =
     ap (viewed (holding b)) (ap got (ap read_model (holding_bytes b e) ∙ e))
     ∙ ap (λ c. record { model = some m; blocks = c; question = none; verdict = none }) (holding_bytes b e)
 
 module _ (d : Desk) (b : Bytes) where
   pub view_asking : (q : Question) → do_put (view d) b ≡ ok q → view (asking d b) ≡ record { model = (view d).model; blocks = (view d).blocks; question = some q; verdict = none }
-  unfolding do_put view asking question_in got model_bytes padded
+  unfolding do_put view asking question_in got model_bytes padded verdict_held
   view_asking q e =
       let u = bind_ok (held 20 (view d).model) _ e in
       let m : (view d).model ≡ some u.0 = held_some 20 (view d).model u.1 in
       let p : padded 512 b ≡ b = pad_full b (question_length (length u.0.states) (length u.0.actions) u.0.propositions b u.2) in
-      ap₂ (λ o c. record { model = (view d).model; blocks = (view d).blocks; question = question_in true c o; verdict = none }) m p
+      ap₂ (λ o c. record { model = (view d).model; blocks = (view d).blocks; question = question_in (Some c) o; verdict = none }) m p
       ∙ ap (λ r. record { model = (view d).model; blocks = (view d).blocks; question = got r; verdict = none }) u.2
 
 pub view_settling : (d : Desk) (v : logic.Verdict) → do_judge (view d) ≡ ok v → view (settling d v) ≡ record { model = (view d).model; blocks = (view d).blocks; question = (view d).question; verdict = some v }
-unfolding view settling question_in model_bytes
+unfolding view settling question_in model_bytes verdict_held
 view_settling d v e = ap (λ o. record { model = (view d).model; blocks = (view d).blocks; question = (view d).question; verdict = o }) (verdict_back (view d) v e)
 
 -- Each call leaves the contents that it says.

@@ -2,9 +2,8 @@
 use Prim.Native.Nat.{ℕ, ◌+◌}
 use native.Mathlib.Omega.{arith}
 use mathlib.Core.Path.{◌≡◌, refl, sym, ap, ap₂, ◌∙◌}
-use mathlib.Core.Bool.{true}
 use lib.ListN.{length, drop, replicate}
-use Rattle.std.specs.Prelude.{Ok, Err}
+use Rattle.std.specs.Prelude.{Some, Ok, Err}
 use Rattle.refusals.specs.declared.Refusal.{Refusal}
 use Rattle.refusals.specs.Number.{number, named}
 use Rattle.refusals.proofs.Named.{named_number, number_some}
@@ -27,7 +26,7 @@ use Rattle.plan_judge.specs.declared.Desk.{Desk}
 use Rattle.judging.specs.declared.Verdict.{Verdict}
 use Rattle.plan_judge.specs.declared.Ruling.{Ruling}
 use Rattle.plan_judge.specs.declared.Judging.{Judging}
-use Rattle.plan_judge.specs.View.{view}
+use Rattle.plan_judge.specs.View.{question_bytes, view}
 use Rattle.plan_judge.specs.promises.Values.{choices_code, settling, judge_on, ruling, judging, judged_by}
 use Rattle.plan_judge.specs.promises.State.{held_both}
 use Rattle.plan_judge.proofs.LoadPutReturn.{said_bytes, padded_copy}
@@ -53,7 +52,7 @@ module _ (d : Desk) where
       record {
         answer = Ok v;
         choices = cs;
-        desk = record { blocks = d.blocks; model = d.model; asked = d.asked; question = d.question; judged = true; verdict = v; choices = cs };
+        desk = record { blocks = d.blocks; model = d.model; question = d.question; verdict = Some v; choices = cs };
       }
 
   -- A refusal is answered, and the desk stays.
@@ -73,13 +72,13 @@ module _ (d : Desk) where
   ground_state k e h = both_refused (view d) judge_on k e h
 
   -- What judging the bytes comes to is answered, and a verdict held.
-  module _ (b : Both d) (r : Ruling) (i : r ≡ ruling (judge_on (model_of (said_bytes d)) (question_of d.question))) where
-    judge_is : judged_by d ≡ judging d (judge_on (model_of (said_bytes d)) (question_of d.question))
+  module _ (b : Both d) (r : Ruling) (i : r ≡ ruling (judge_on (model_of (said_bytes d)) (question_of (question_bytes d)))) where
+    judge_is : judged_by d ≡ judging d (judge_on (model_of (said_bytes d)) (question_of (question_bytes d)))
     unfolding judged_by do_judge
-    judge_is = ap (judging d) (both_passed (view d) (model_of (said_bytes d)) (question_of d.question) (both_held d b) judge_on)
+    judge_is = ap (judging d) (both_passed (view d) (model_of (said_bytes d)) (question_of (question_bytes d)) (both_held d b) judge_on)
 
     pub ruled_refused : (x : Refusal) → r.answer ≡ Err x → away x ≡ judged_by d
-    ruled_refused x a = by (judge_on (model_of (said_bytes d)) (question_of d.question)) (ap (λ (x : Ruling). x.answer) (sym i) ∙ a) ∙ sym judge_is
+    ruled_refused x a = by (judge_on (model_of (said_bytes d)) (question_of (question_bytes d))) (ap (λ (x : Ruling). x.answer) (sym i) ∙ a) ∙ sym judge_is
       where
         by : (c : Checked logic.Verdict) → (ruling c).answer ≡ Err x → away x ≡ judging d c
         by (ok v) z = let y : ◌≡◌ {A = ℕ} 0 1 = cc in absurd (omega arith)
@@ -88,7 +87,7 @@ module _ (d : Desk) where
     pub ruled_judged : (v : Verdict) → r.answer ≡ Ok v → announced r.choices v ≡ judged_by d
     unfolding settling
     ruled_judged v a =
-        by (judge_on (model_of (said_bytes d)) (question_of d.question)) (ap (λ (x : Ruling). x.answer) (sym i) ∙ a) (ap (λ (x : Ruling). x.choices) i)
+        by (judge_on (model_of (said_bytes d)) (question_of (question_bytes d))) (ap (λ (x : Ruling). x.answer) (sym i) ∙ a) (ap (λ (x : Ruling). x.choices) i)
         ∙ sym judge_is
       where
         by : (c : Checked logic.Verdict) → (ruling c).answer ≡ Ok v → r.choices ≡ (ruling c).choices → announced r.choices v ≡ judging d c

@@ -10,7 +10,7 @@ use lib.Dec.{eqb, leb}
 use lib.ListN.{length, take, drop, replicate, length-take}
 use lib.Seq.{take_all, get_or-take}
 use borrow.Author.Tests.{eq-eqb, ne_eqb, eqb-true, leb-true, leb-false}
-use Rattle.std.specs.Prelude.{Ok, Err}
+use Rattle.std.specs.Prelude.{Some, Ok, Err}
 use Rattle.refusals.specs.declared.Refusal.{Refusal}
 use Rattle.refusals.specs.declared.Refusal.TheVariants.{NoModel}
 use Rattle.refusals.specs.Number.{number, named}
@@ -30,7 +30,6 @@ use Rattle.questions.proofs.AcceptedFacts.{accepted}
 use Rattle.protocol.specs.Calls.{question_for}
 use Rattle.protocol.specs.promises.Chains.{do_put}
 use Rattle.plan_judge.specs.declared.Desk.{Desk}
-use Rattle.judging.specs.declared.Verdict.{Verdict}
 use Rattle.plan_judge.specs.View.{model_bytes, view}
 use Rattle.plan_judge.specs.promises.State.{held_size}
 use Rattle.plan_judge.specs.promises.Values.{padded, nothing, taking, holding, loaded_by, asking, put_by}
@@ -68,7 +67,7 @@ module _ (d : Desk) (b : Bytes) where
 
     -- The empty desk with this model.
     abbrev pub with_model : Bytes → Desk → Desk
-    with_model a e = record { blocks = length b / 512; model = a; asked = e.asked; question = e.question; judged = e.judged; verdict = e.verdict; choices = e.choices }
+    with_model a e = record { blocks = length b / 512; model = a; question = e.question; verdict = e.verdict; choices = e.choices }
 
     pub load_done : (a : Bytes) → a ≡ padded 6144 b → (e : Desk) → e ≡ nothing → record { answer = Ok tt; desk = with_model a e } ≡ loaded_by d b
     unfolding loaded_by holding nothing
@@ -183,7 +182,7 @@ module _ (d : Desk) where
 
         -- The desk's model with this question, and nothing else.
         abbrev pub with_question : Bytes → Desk → Desk
-        with_question a e = record { blocks = d.blocks; model = d.model; asked = true; question = a; judged = e.judged; verdict = e.verdict; choices = e.choices }
+        with_question a e = record { blocks = d.blocks; model = d.model; question = Some a; verdict = e.verdict; choices = e.choices }
 
         pub put_done : (a : Bytes) → a ≡ padded 512 b → (e : Desk) → e ≡ nothing → record { answer = Ok tt; desk = with_question a e } ≡ put_by d b
         unfolding put_by asking nothing

@@ -1,6 +1,7 @@
 -- A desk holds a question only if its bytes are accepted for the model, so only one whose nodes are all reached: document 02, A.6.
 use mathlib.Core.Path.{◌≡◌, refl, ap, ◌∙◌}
-use mathlib.Core.Bool.{Bool, true, false, false≢true}
+use Rattle.std.specs.Prelude.{Option as Optional, Some, None}
+use mathlib.Core.Bool.{true, false≢true}
 use mathlib.Core.Option.{Option, none, some}
 use lib.Dec.{eqb}
 use Rattle.logic.specs.Lists.{any}
@@ -15,17 +16,17 @@ use Rattle.protocol.specs.Demand1.{listed}
 use Rattle.protocol.specs.Tested.{run}
 use Rattle.protocol.proofs.UsedNodes.{read_reached}
 use Rattle.plan_judge.specs.declared.Desk.{Desk}
-use Rattle.plan_judge.specs.View.{question_in, view}
+use Rattle.plan_judge.specs.View.{question_block, question_bytes, question_in, view}
 
-in_reached : (asked : Bool) (b : Bytes) (o : Option Model) {q : Question} → question_in asked b o ≡ some q → AllReached b
-unfolding question_in
-in_reached asked b none e = absurd (none≢some e)
-in_reached false b (some m) e = absurd (none≢some e)
-in_reached true b (some m) e = read_reached m b (got_some (question_for m b) e)
+in_reached : (x : Optional Bytes) (o : Option Model) {q : Question} → question_in x o ≡ some q → AllReached (question_block x)
+unfolding question_in question_block
+in_reached x none e = absurd (none≢some e)
+in_reached None (some m) e = absurd (none≢some e)
+in_reached (Some b) (some m) e = read_reached m b (got_some (question_for m b) e)
 
-pub held_reached : (d : Desk) (q : Question) → (view d).question ≡ some q → AllReached d.question
+pub held_reached : (d : Desk) (q : Question) → (view d).question ≡ some q → AllReached (question_bytes d)
 unfolding view
-held_reached d q e = in_reached d.asked d.question _ e
+held_reached d q e = in_reached d.question _ e
 
 -- With a model and no question, a call that asks for one refuses with 21.
 asks_question : (h : Held) (m : Model) → h.model ≡ some m → h.question ≡ none → (c : Call) → any (eqb 21) (listed c) ≡ true → (yields h c).answer ≡ refuse 21
@@ -37,7 +38,7 @@ asks_question h m e f (query (write a)) l = rw (e, f) refl
 asks_question h m e f (query (check b)) l = rw (e, f) refl
 asks_question h m e f (query (write_model a)) l = absurd (false≢true l)
 
-module _ (d : Desk) (m : Model) (e : (view d).model ≡ some m) (n : AllReached d.question → ⊥) where
+module _ (d : Desk) (m : Model) (e : (view d).model ≡ some m) (n : AllReached (question_bytes d) → ⊥) where
   not_held : (o : Option Question) → (view d).question ≡ o → o ≡ none
   not_held none h = refl
   not_held (some q) h = absurd (n (held_reached d q h))

@@ -1,7 +1,8 @@
 -- What a desk holds where the grounds 20, 21 and 22 do not apply, and which of them applies where one does.
 use Prim.Native.Nat.{ℕ, zero, suc, ◌-◌, ◌/◌, ◌%◌, ◌<◌}
 use native.Mathlib.Omega.{arith}
-use mathlib.Core.Path.{◌≡◌, refl, sym, ap, ap₂, ◌∙◌}
+use mathlib.Core.Path.{◌≡◌, refl, sym, ap, ap₂, subst, ◌∙◌}
+use Rattle.std.specs.Prelude.{Option as Optional, Some, None}
 use mathlib.Core.Logic.{⊎_elim}
 use mathlib.Core.Bool.{Bool, true, false, cond}
 use mathlib.Core.List.{List}
@@ -26,7 +27,7 @@ use Rattle.questions.proofs.AcceptedFacts.{accepted, at_plan, at_earns}
 use Rattle.questions.proofs.SetsBound.{sets_which, sets_neither}
 use Rattle.protocol.specs.Calls.{Held}
 use Rattle.plan_judge.specs.declared.Desk.{Desk}
-use Rattle.plan_judge.specs.View.{question_in, view}
+use Rattle.plan_judge.specs.View.{question_block, question_bytes, question_in, view}
 use Rattle.plan_judge.specs.promises.State.{held_size}
 use Rattle.plan_judge.specs.promises.State.{held_both, held_goal, PlanRoot}
 use Rattle.plan_judge.proofs.LoadPutReturn.{said_bytes, model_none, model_passed, model_some, put_question, question_is, said_question}
@@ -107,8 +108,8 @@ module _ {S A N : ℕ} {b : Bytes} (a : Formed S A N b) where
 pub record Both (d : Desk) : Type 0 where
   pub passed : refusal (read_model (said_bytes d)) ≡ 0
   pub held_model : (view d).model ≡ some (model_of (said_bytes d))
-  pub asked : refusal (read_question (state_count (said_bytes d)) (action_count (said_bytes d)) (prop_count (said_bytes d)) d.question) ≡ 0
-  pub held_question : (view d).question ≡ some (question_of d.question)
+  pub asked : refusal (read_question (state_count (said_bytes d)) (action_count (said_bytes d)) (prop_count (said_bytes d)) (question_bytes d)) ≡ 0
+  pub held_question : (view d).question ≡ some (question_of (question_bytes d))
 
 -- What is held by the model and the question.
 abbrev pub both_of : Option Model → Option Question → Checked (Model × Question)
@@ -120,72 +121,76 @@ module _ (d : Desk) where
   no_model e = sym (ap (λ o. refusal (both_of o (view d).question)) (model_none d e))
 
   module _ (h : held_size d.model d.blocks ≡ 0 → ⊥) where
-    -- The question by whether one was asked and how its bytes are read.
-    question_by : (view d).question ≡ cond d.asked (got (put_question d h d.question)) none
+    -- The question by how the bytes of the block are read.
+    question_by : (b : Bytes) → d.question ≡ Some b → (view d).question ≡ got (put_question d h b)
     unfolding view question_in
-    question_by =
-        ap (question_in d.asked d.question) (model_some d h) ∙ ap (λ c. cond d.asked (got c) none) (question_is d h d.question)
+    question_by b i = ap₂ question_in i (model_some d h) ∙ ap got (question_is d h b)
 
     no_question : (view d).question ≡ none → 21 ≡ refusal (held_both (view d))
     unfolding held_both
     no_question e = sym (ap₂ (λ o p. refusal (both_of o p)) (model_some d h) e)
 
-    pub not_asked : d.asked ≡ false → 21 ≡ refusal (held_both (view d))
-    not_asked e = no_question (question_by ∙ ap (λ t. cond t (got (put_question d h d.question)) none) e)
+    pub not_put : d.question ≡ None → 21 ≡ refusal (held_both (view d))
+    unfolding view question_in
+    not_put i = no_question (ap₂ question_in i (model_some d h))
 
-    pub not_accepted : (refusal (put_question d h d.question) ≡ 0 → ⊥) → 21 ≡ refusal (held_both (view d))
-    unfolding got
-    not_accepted r = no_question (question_by ∙ by d.asked (put_question d h d.question) r)
-      where
-        by : (t : Bool) (c : Checked Question) → (refusal c ≡ 0 → ⊥) → cond t (got c) none ≡ none
-        by false c r = refl
-        by true (ok q) r = absurd (r refl)
-        by true (refused k) r = refl
-
-    module _ (t : d.asked ≡ true) (e : refusal (put_question d h d.question) ≡ 0) where
-      pub both_here : Both d
+    module _ (b : Bytes) (i : d.question ≡ Some b) where
+      pub not_accepted : (refusal (put_question d h b) ≡ 0 → ⊥) → 21 ≡ refusal (held_both (view d))
       unfolding got
-      both_here =
-          let r = sym (ap refusal (said_question d h d.question)) ∙ e in
+      not_accepted r = no_question (question_by b i ∙ by (put_question d h b) r)
+        where
+          by : (c : Checked Question) → (refusal c ≡ 0 → ⊥) → got c ≡ none
+          by (ok q) r = absurd (r refl)
+          by (refused k) r = refl
+
+      pub both_here : refusal (put_question d h b) ≡ 0 → Both d
+      unfolding got question_block
+      both_here e =
+          let r = sym (ap refusal (said_question d h b)) ∙ e in
+          let j : b ≡ question_bytes d = sym (ap question_block i) in
+          let S : Bytes = said_bytes d in
           record {
             passed = model_passed d h;
             held_model = model_some d h;
-            asked = r;
-            held_question = question_by ∙ ap₂ (λ u c. cond u (got c) none) t (said_question d h d.question ∙ (accepted _ _ _ d.question r).read);
+            asked = subst (λ z. refusal (read_question (state_count S) (action_count S) (prop_count S) z) ≡ 0) j r;
+            held_question = question_by b i ∙ ap got (said_question d h b ∙ (accepted _ _ _ b r).read) ∙ ap (λ z. some (question_of z)) j;
           }
 
   -- Both are held where neither 20 nor 21 applies.
   pub both : refusal (held_both (view d)) ≡ 0 → Both d
-  both e = by d.asked refl (refusal (put_question d h d.question)) refl
+  both e = by d.question refl
     where
       h : held_size d.model d.blocks ≡ 0 → ⊥
       h z = omega (arith, no_model z)
 
-      by : (t : Bool) → d.asked ≡ t → (k : ℕ) → refusal (put_question d h d.question) ≡ k → Both d
-      by false u k r = absurd (omega (arith, not_asked h u))
-      by true u zero r = both_here h u r
-      by true u (suc k) r = absurd (omega (arith, not_accepted h (λ z. omega arith)))
+      by_ground : (b : Bytes) → d.question ≡ Some b → (k : ℕ) → refusal (put_question d h b) ≡ k → Both d
+      by_ground b i zero r = both_here h b i r
+      by_ground b i (suc k) r = absurd (omega (arith, not_accepted h b i (λ z. omega arith)))
+
+      by : (o : Optional Bytes) → d.question ≡ o → Both d
+      by None i = absurd (omega (arith, not_put h i))
+      by (Some b) i = by_ground b i (refusal (put_question d h b)) refl
 
   module _ (b : Both d) where
     abbrev M : Model
     M = model_of (said_bytes d)
 
-    question_facts : Formed (state_count (said_bytes d)) (action_count (said_bytes d)) (prop_count (said_bytes d)) d.question
-    question_facts = (accepted _ _ _ d.question b.asked).formed
+    question_facts : Formed (state_count (said_bytes d)) (action_count (said_bytes d)) (prop_count (said_bytes d)) (question_bytes d)
+    question_facts = (accepted _ _ _ (question_bytes d) b.asked).formed
 
-    pub both_held : held_both (view d) ≡ ok (M, question_of d.question)
+    pub both_held : held_both (view d) ≡ ok (M, question_of (question_bytes d))
     unfolding held_both
     both_held = ap₂ both_of b.held_model b.held_question
 
-    goal_held : held_goal (view d) ≡ goal M (start_of d.question) (question_of d.question).root
+    goal_held : held_goal (view d) ≡ goal M (start_of (question_bytes d)) (question_of (question_bytes d)).root
     unfolding held_goal question_of
     goal_held = ap (λ c. c >>= (λ x. goal x.0 x.1.start x.1.root)) both_held
 
-    pub no_plan : sets_bound (root_node d.question).operator ≡ false → 22 ≡ refusal (held_goal (view d))
-    no_plan h = sym (ap refusal (goal_held ∙ other_goal question_facts M (start_of d.question) h))
+    pub no_plan : sets_bound (root_node (question_bytes d)).operator ≡ false → 22 ≡ refusal (held_goal (view d))
+    no_plan h = sym (ap refusal (goal_held ∙ other_goal question_facts M (start_of (question_bytes d)) h))
 
-    pub a_plan : sets_bound (root_node d.question).operator ≡ true → 0 ≡ refusal (held_goal (view d))
-    a_plan o = sym (ap refusal (goal_held ∙ root_goal question_facts M (start_of d.question) o))
+    pub a_plan : sets_bound (root_node (question_bytes d)).operator ≡ true → 0 ≡ refusal (held_goal (view d))
+    a_plan o = sym (ap refusal (goal_held ∙ root_goal question_facts M (start_of (question_bytes d)) o))
 
   -- Both are held, and the root sets a bound on plans, where none of 20, 21 and 22 applies.
   module _ (e : refusal (held_goal (view d)) ≡ 0) where
@@ -193,10 +198,10 @@ module _ (d : Desk) where
     unfolding held_goal
     both_asked = both (bind_passed (held_both (view d)) _ e)
 
-    pub plan_asked : PlanRoot (said_bytes d) d.question
-    plan_asked = record { passed = both_asked.passed; asked = both_asked.asked; sets = by (sets_bound (root_node d.question).operator) refl }
+    pub plan_asked : PlanRoot (said_bytes d) (question_bytes d)
+    plan_asked = record { passed = both_asked.passed; asked = both_asked.asked; sets = by (sets_bound (root_node (question_bytes d)).operator) refl }
       where
-        by : (t : Bool) → sets_bound (root_node d.question).operator ≡ t → t ≡ true
+        by : (t : Bool) → sets_bound (root_node (question_bytes d)).operator ≡ t → t ≡ true
         by true o = refl
         by false o = absurd (omega (arith, no_plan both_asked o))
 
@@ -242,8 +247,8 @@ unfolding question_of
 goal_is m q r = root_goal (accepted _ _ _ q r.asked).formed (model_of m) (start_of q) r.sets
 
 pub goal_passed : {B : Type 0} (d : Desk) → refusal (held_goal (view d)) ≡ 0 → (f : Model → Question → Goal → Checked B)
-    → goal_then (view d) f ≡ f (model_of (said_bytes d)) (question_of d.question) (asked_goal (said_bytes d) d.question)
+    → goal_then (view d) f ≡ f (model_of (said_bytes d)) (question_of (question_bytes d)) (asked_goal (said_bytes d) (question_bytes d))
 goal_passed d e f =
     let m : Model = model_of (said_bytes d) in
-    both_passed (view d) m (question_of d.question) (both_held d (both_asked d e)) (λ m q. goal m q.start q.root >>= f m q)
-    ∙ ap (λ c. c >>= f m (question_of d.question)) (goal_is (said_bytes d) d.question (plan_asked d e))
+    both_passed (view d) m (question_of (question_bytes d)) (both_held d (both_asked d e)) (λ m q. goal m q.start q.root >>= f m q)
+    ∙ ap (λ c. c >>= f m (question_of (question_bytes d))) (goal_is (said_bytes d) (question_bytes d) (plan_asked d e))

@@ -3,14 +3,13 @@
 use Prim.Native.Nat.{ℕ, ◌*◌, ◌-◌, ◌≤◌, ◌<◌}
 use native.Mathlib.Omega.{arith}
 use mathlib.Core.Path.{◌≡◌, refl, sym, ap, ap₂, ◌∙◌}
-use mathlib.Core.Bool.{Bool, true, false, cond}
 use mathlib.Core.List.{List, [], ◌++◌, append-nil}
 use mathlib.Core.Option.{Option, none, some}
 use lib.Dec.{leb}
 use lib.ListN.{length, take, drop, length-append}
 use lib.Seq.{take-append_seam, length-take-le}
 use borrow.Author.Tests.{le-leb, lt-leb}
-use Rattle.std.specs.Prelude.{Ok, Err}
+use Rattle.std.specs.Prelude.{Option as Optional, Some, None, Ok, Err}
 use Rattle.refusals.specs.declared.Refusal.{Refusal}
 use Rattle.refusals.specs.declared.Refusal.TheVariants.{SmallBuffer, NoPlanShown}
 use Rattle.refusals.specs.Number.{number, named}
@@ -37,7 +36,7 @@ use Rattle.plan_judge.specs.declared.Desk.{Desk}
 use Rattle.judging.specs.declared.PlanRecord.{PlanRecord}
 use Rattle.judging.specs.declared.Verdict.{Verdict}
 use Rattle.judging.specs.declared.Verdict.TheVariants.{No, Yes, YesPlan}
-use Rattle.plan_judge.specs.View.{choices_in, verdict_in, verdict_on, view}
+use Rattle.plan_judge.specs.View.{choices_in, question_bytes, verdict_in, verdict_on, verdict_held, view}
 use Rattle.plan_judge.specs.promises.Values.{writing, written_by, filling, filled_by}
 use Rattle.plan_judge.specs.promises.State.{held_both, held_goal, PlanRoot, plan_size, size_in, shown_size, shown_total}
 use Rattle.plan_judge.proofs.LoadPutReturn.{said_bytes}
@@ -90,15 +89,26 @@ module _ (m q : Bytes) (r : PlanRoot m q) (cs : List ℕ) where
 
 module _ (d : Desk) (e : refusal (held_goal (view d)) ≡ 0) where
   abbrev found : Checked (List ℕ)
-  found = choices_in (model_of (said_bytes d)) (question_of d.question) d.choices
+  found = choices_in (model_of (said_bytes d)) (question_of (question_bytes d)) d.choices
 
-  -- The verdict by whether the desk was judged.
-  pub verdict_is : (t : Bool) (v : Verdict) → d.judged ≡ t → d.verdict ≡ v → (view d).verdict ≡ cond t (verdict_in found v) none
-  unfolding view verdict_on
-  verdict_is t v i j =
+  -- A verdict that may be there, with these choices.
+  abbrev pub told : Checked (List ℕ) → Optional Verdict → Option logic.Verdict
+  told c None = none
+  told c (Some v) = verdict_in c v
+
+  held_told : (m : Model) (q : Question) (cs : List ℕ) (v : Optional Verdict) → verdict_held (some m) (some q) cs v ≡ told (choices_in m q cs) v
+  unfolding verdict_held verdict_on
+  held_told m q cs None = refl
+  held_told m q cs (Some v) = refl
+
+  -- The verdict of the desk, by what it holds.
+  pub verdict_is : (v : Optional Verdict) → d.verdict ≡ v → (view d).verdict ≡ told found v
+  unfolding view
+  verdict_is v i =
       let b = both_asked d e in
-      ap₂ (λ o p. cond d.judged (verdict_on o p d.choices d.verdict) none) b.held_model b.held_question
-      ∙ ap₂ (λ t v. cond t (verdict_in found v) none) i j
+      ap₂ (λ o p. verdict_held o p d.choices d.verdict) b.held_model b.held_question
+      ∙ held_told (model_of (said_bytes d)) (question_of (question_bytes d)) d.choices d.verdict
+      ∙ ap (told found) i
 
   pub shown_found : (c : Checked (List ℕ)) (p : PlanRecord) → size_in c ≡ shown_size (verdict_in c (YesPlan p))
   unfolding size_in shown_size verdict_in
@@ -118,47 +128,47 @@ module _ (d : Desk) (e : refusal (held_goal (view d)) ≡ 0) where
 
   pub shown_by : ShownBy (view d).verdict
   unfolding verdict_in sheet_shown shown_size shown_total
-  shown_by = by d.judged d.verdict found refl refl refl
+  shown_by = by d.verdict found refl refl
     where
       nothing : (o : Option logic.Verdict) → (view d).verdict ≡ o → shown_size o ≡ 0 → sheet_held o ≡ refused 23 → ShownBy (view d).verdict
       nothing o i z s =
           let y : shown_size (view d).verdict ≡ 0 = ap shown_size i ∙ z in
           record { none_shown = λ _. ap sheet_held i ∙ s; few = omega arith; there = λ h. absurd (h y); some_shown = λ h. absurd (h y) }
 
-      by : (t : Bool) (v : Verdict) (c : Checked (List ℕ)) → d.judged ≡ t → d.verdict ≡ v → found ≡ c → ShownBy (view d).verdict
-      by false v c i j k = nothing none (verdict_is false v i j) refl refl
-      by true (No x) c i j k = nothing _ (verdict_is true (No x) i j) refl refl
-      by true Yes c i j k = nothing (some logic.yes) (verdict_is true Yes i j) refl refl
-      by true (YesPlan p) (refused x) i j k = nothing none (verdict_is true (YesPlan p) i j ∙ ap (λ c. verdict_in c (YesPlan p)) k) refl refl
-      by true (YesPlan p) (ok l) i j k =
-          let w = first_choices (said_bytes d) d.question (plan_asked d e) d.choices l k in
-          let o : (view d).verdict ≡ verdict_in (ok l) (YesPlan p) = verdict_is true (YesPlan p) i j ∙ ap (λ c. verdict_in c (YesPlan p)) k in
+      by : (v : Optional Verdict) (c : Checked (List ℕ)) → d.verdict ≡ v → found ≡ c → ShownBy (view d).verdict
+      by None c i k = nothing none (verdict_is None i) refl refl
+      by (Some (No x)) c i k = nothing _ (verdict_is (Some (No x)) i) refl refl
+      by (Some Yes) c i k = nothing (some logic.yes) (verdict_is (Some Yes) i) refl refl
+      by (Some (YesPlan p)) (refused x) i k = nothing none (verdict_is (Some (YesPlan p)) i ∙ ap (λ c. verdict_in c (YesPlan p)) k) refl refl
+      by (Some (YesPlan p)) (ok l) i k =
+          let w = first_choices (said_bytes d) (question_bytes d) (plan_asked d e) d.choices l k in
+          let o : (view d).verdict ≡ verdict_in (ok l) (YesPlan p) = verdict_is (Some (YesPlan p)) i ∙ ap (λ c. verdict_in c (YesPlan p)) k in
           let y : shown_size (view d).verdict ≡ length l = ap shown_size o in
           let same : l ≡ take (shown_size (view d).verdict) d.choices = w.2 ∙ ap (λ k. take k d.choices) (sym y) in
           record {
             none_shown = λ z. absurd (omega (arith, w.0));
             few = omega (arith, w.1);
             there = λ _. k ∙ ap ok same;
-            some_shown = λ _. ap sheet_held o ∙ ap₂ (λ x z. ok (record { weight = x; choices = z })) (sym (ap shown_total j)) same;
+            some_shown = λ _. ap sheet_held o ∙ ap₂ (λ x z. ok (record { weight = x; choices = z })) (sym (ap shown_total i)) same;
           }
 
 -- Where a ground of the state applies, no plan is shown.
 pub not_shown : (d : Desk) → (refusal (held_goal (view d)) ≡ 0 → ⊥) → 0 ≡ shown_size (view d).verdict
-unfolding view held_goal held_both verdict_on verdict_in shown_size choices_in
-not_shown d h = by d.judged (view d).model (view d).question d.verdict h
+unfolding view held_goal held_both verdict_held verdict_on verdict_in shown_size choices_in
+not_shown d h = by (view d).model (view d).question d.verdict h
   where
     none_found : (c : Checked Goal) (f : Goal → Checked (List ℕ)) (p : PlanRecord) → (refusal c ≡ 0 → ⊥) → 0 ≡ shown_size (verdict_in (c >>= f) (YesPlan p))
     none_found (ok g) f p i = absurd (i refl)
     none_found (refused k) f p i = refl
 
-    by : (t : Bool) (o : Option Model) (p : Option Question) (v : Verdict) → (refusal (both_of o p >>= (λ x. goal x.0 x.1.start x.1.root)) ≡ 0 → ⊥)
-        → 0 ≡ shown_size (cond t (verdict_on o p d.choices v) none)
-    by false o p v i = refl
-    by true none p v i = refl
-    by true (some m) none v i = refl
-    by true (some m) (some q) (No x) i = refl
-    by true (some m) (some q) Yes i = refl
-    by true (some m) (some q) (YesPlan x) i = none_found (goal m q.start q.root) _ x i
+    by : (o : Option Model) (p : Option Question) (v : Optional Verdict) → (refusal (both_of o p >>= (λ x. goal x.0 x.1.start x.1.root)) ≡ 0 → ⊥)
+        → 0 ≡ shown_size (verdict_held o p d.choices v)
+    by o p None i = refl
+    by none p (Some v) i = refl
+    by (some m) none (Some v) i = refl
+    by (some m) (some q) (Some (No x)) i = refl
+    by (some m) (some q) (Some Yes) i = refl
+    by (some m) (some q) (Some (YesPlan x)) i = none_found (goal m q.start q.root) _ x i
 
 -- ---- what is written
 
@@ -190,10 +200,10 @@ module _ (d : Desk) (a : Bytes) where
 
   module _ (e : refusal (held_goal (view d)) ≡ 0) where
     abbrev steps : ℕ
-    steps = (root_node d.question).n
+    steps = (root_node (question_bytes d)).n
 
     abbrev start : ℕ
-    start = start_of d.question
+    start = start_of (question_bytes d)
 
     write_is : do_write (view d) (length a) ≡ (sheet_held d e (view d).verdict >>= sheet_for steps start (length a))
     unfolding do_write question_of

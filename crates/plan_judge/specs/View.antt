@@ -1,7 +1,7 @@
 -- What a desk value holds, whoever put it together: the model, with its blocks, if its bytes are those of a model that load accepts, the
 -- question if its bytes are accepted for that model, the verdict if it was judged and, for a yes with a plan, the choices begin with those of
 -- one. Demand 1 is about any desk value; on desks that calls gave back this is what was loaded, put and judged (proved: `DesksHoldHistory`).
-use Rattle.std.specs.Prelude.{ℕ, ◌*◌, Bool, cond, List, [], take}
+use Rattle.std.specs.Prelude.{Option as Optional, Some, None, ℕ, ◌*◌, List, [], take}
 use Rattle.std.proofs.Math.Option.{Option, none, some}
 use Rattle.logic.specs.Checked.{Checked, ok, refused, ◌>>=◌, got}
 use Rattle.logic.specs.Model.{Model}
@@ -27,10 +27,19 @@ unfoldable pub blocks_in : Option Model → Bytes → Bytes
 blocks_in none b = []
 blocks_in (some m) b = b
 
--- The question in a block, if one was asked, for the model that is held.
-unfoldable pub question_in : Bool → Bytes → Option Model → Option Question
-question_in asked b none = none
-question_in asked b (some m) = cond asked (got (question_for m b)) none
+-- The block that a desk has for a question; no bytes where none was put.
+unfoldable pub question_block : Optional Bytes → Bytes
+question_block None = []
+question_block (Some b) = b
+
+abbrev pub question_bytes : Desk → Bytes
+question_bytes d = question_block d.question
+
+-- The question in a block, if one was put, for the model that is held.
+unfoldable pub question_in : Optional Bytes → Option Model → Option Question
+question_in o none = none
+question_in None (some m) = none
+question_in (Some b) (some m) = got (question_for m b)
 
 -- The choices of the plan with which a list of choices begins.
 unfoldable pub choices_in : Model → Question → List ℕ → Checked (List ℕ)
@@ -49,8 +58,13 @@ verdict_on none o cs v = none
 verdict_on (some m) none cs v = none
 verdict_on (some m) (some q) cs v = verdict_in (choices_in m q cs) v
 
+-- The verdict that is held, if there is one.
+unfoldable pub verdict_held : Option Model → Option Question → List ℕ → Optional Verdict → Option logic.Verdict
+verdict_held o p cs None = none
+verdict_held o p cs (Some v) = verdict_on o p cs v
+
 unfoldable pub view : Desk → Held
 view d =
     let m : Option Model = got (read_model (model_bytes d)) in
-    let q : Option Question = question_in d.asked d.question m in
-    record { model = m; blocks = blocks_in m (model_bytes d); question = q; verdict = cond d.judged (verdict_on m q d.choices d.verdict) none }
+    let q : Option Question = question_in d.question m in
+    record { model = m; blocks = blocks_in m (model_bytes d); question = q; verdict = verdict_held m q d.choices d.verdict }

@@ -19,9 +19,9 @@ ghost use Rattle.protocol.specs.promises.Chains.{check_on};
 ghost use Rattle.limits.specs.promises.Counted.{Counted};
 ghost use Rattle.judging.specs.promises.Asked.{Served};
 ghost use Rattle.judging.specs.promises.Announced.{Spelled, Weighs};
-ghost use Rattle.plan_judge.specs.View.{choices_in, view};
+ghost use Rattle.plan_judge.specs.View.{choices_in, question_block, view};
 ghost use Rattle.plan_judge.specs.promises.State.{held_size};
-ghost use Rattle.plan_judge.specs.promises.Values.{unjudged, nothing, loaded_by, put_by, judge_on, ruling, judging, judged_by, written_by, filled_by, model_written_by, model_filled_by, checking, checked_by};
+ghost use Rattle.plan_judge.specs.promises.Values.{nothing, loaded_by, put_by, judge_on, ruling, judging, judged_by, written_by, filled_by, model_written_by, model_filled_by, checking, checked_by};
 ghost use Rattle.plan_judge.specs.promises.State.{held_both, held_goal, plan_size, size_in, shown_size, shown_total, PlanRoot, plan_on};
 
 pub mod c_call;
@@ -40,15 +40,13 @@ use sheets::GATHERED;
 pub const MODEL_BYTES: usize = 6144;
 
 // The desk, document 01's word for the judge's state: the blocks of a model (none: 0 blocks), the block of a question, and a verdict with
-// its choices beside it. What is not held is zero.
+// the choices of its plan. Their room is fixed, so it stands beside the verdict and not in it; where no plan is held, it is zero.
 #[derive(Clone, Copy)]
 pub struct Desk {
     pub blocks: usize,
     pub model: [u8; MODEL_BYTES],
-    pub asked: bool,
-    pub question: [u8; BLOCK],
-    pub judged: bool,
-    pub verdict: Verdict,
+    pub question: Option<[u8; BLOCK]>,
+    pub verdict: Option<Verdict>,
     pub choices: [u8; CHOICES],
 }
 
@@ -74,16 +72,6 @@ pub struct Report {
     pub lamp: Lamp,
 }
 
-// What stands for a verdict where a desk is not judged.
-fn unjudged() -> Verdict
-    ensures { result ≡ unjudged }
-{
-    Verdict::No(Denial {
-        count: 0,
-        lamp: None,
-    })
-}
-
 // A desk that holds nothing.
 pub fn empty() -> Desk
     ensures { result ≡ nothing }
@@ -91,10 +79,8 @@ pub fn empty() -> Desk
     Desk {
         blocks: 0,
         model: [0u8; MODEL_BYTES],
-        asked: false,
-        question: [0u8; BLOCK],
-        judged: false,
-        verdict: unjudged(),
+        question: None,
+        verdict: None,
         choices: [0u8; CHOICES],
     }
 }
@@ -177,10 +163,19 @@ pub fn put(d: Desk, b: &[u8]) -> Taking
         desk: Desk {
             blocks: d.blocks,
             model: d.model,
-            asked: true,
-            question: q,
+            question: Some(q),
             ..empty()
         },
+    }
+}
+
+// The block that was put; no bytes where none was.
+fn question_bytes(question: &Option<[u8; BLOCK]>) -> &[u8]
+    ensures { result.now ≡ question_block question.now }
+{
+    match question {
+        Some(q) => q,
+        None => &[],
     }
 }
 
@@ -191,10 +186,10 @@ fn question_held(d: Desk) -> Result<(), Refusal>
     if held_bytes(&d.model, d.blocks) == 0 {
         return Err(Refusal::NoModel);
     }
-    if !d.asked {
+    let Some(q) = &d.question else {
         return Err(Refusal::NoQuestion);
-    }
-    if accept_question(&d.question, &d.model).is_err() {
+    };
+    if accept_question(q, &d.model).is_err() {
         return Err(Refusal::NoQuestion);
     }
     Ok(())
@@ -243,15 +238,14 @@ pub fn judge(d: Desk) -> Judging
         return turned_away(d, r);
     }
     let n = blocks_end(MODEL_BYTES, d.blocks);
-    let Ruling { answer, choices } = judged_on(&d.model[..n], &d.question);
+    let Ruling { answer, choices } = judged_on(&d.model[..n], question_bytes(&d.question));
     match answer {
         Err(r) => turned_away(d, r),
         Ok(v) => Judging {
             answer: Ok(v),
             choices,
             desk: Desk {
-                judged: true,
-                verdict: v,
+                verdict: Some(v),
                 choices,
                 ..d
             },
@@ -264,7 +258,7 @@ fn plan_asked(d: Desk) -> Result<(), Refusal>
     ensures { refusal_number result ≡ refusal (held_goal (view d)) }
 {
     question_held(d)?;
-    if !questions::root_sets_bound(&d.question) {
+    if !questions::root_sets_bound(question_bytes(&d.question)) {
         return Err(Refusal::NoBoundOnPlans);
     }
     Ok(())
@@ -298,11 +292,14 @@ fn shown_size(d: Desk) -> usize
     requires { refusal (held_goal (view d)) ≡ 0 }
     ensures { result ≡ shown_size (view d).verdict }
 {
-    if !d.judged {
+    let Some(verdict) = d.verdict else {
         return 0;
-    }
-    match d.verdict {
-        Verdict::YesPlan(_) => first_size(&d.model, d.blocks, &d.question, &d.choices),
+    };
+    match verdict {
+        Verdict::YesPlan(_) => {
+            let q = question_bytes(&d.question);
+            first_size(&d.model, d.blocks, q, &d.choices)
+        }
         Verdict::Yes => 0,
         Verdict::No(_) => 0,
     }
@@ -319,10 +316,13 @@ pub fn shown_choices(d: Desk) -> usize
 }
 
 // The total in the record of a shown plan.
-fn shown_total(v: Verdict) -> i64
+fn shown_total(v: Option<Verdict>) -> i64
     ensures { result ≡ shown_total v }
 {
-    match v {
+    let Some(verdict) = v else {
+        return 0;
+    };
+    match verdict {
         Verdict::YesPlan(p) => p.total,
         Verdict::Yes => 0,
         Verdict::No(_) => 0,
@@ -350,8 +350,9 @@ pub fn write(d: Desk, buf: &mut [u8]) -> Result<usize, Refusal>
     if buf.len() < sheet_size(count) {
         return Err(Refusal::SmallBuffer);
     }
-    let n = questions::root_steps(&d.question);
-    let s = questions::start(&d.question);
+    let q = question_bytes(&d.question);
+    let n = questions::root_steps(q);
+    let s = questions::start(q);
     let w = shown_total(d.verdict);
     let model = &d.model[..blocks_end(MODEL_BYTES, d.blocks)];
     Ok(sheets::writer::write_sheet(buf, model, n, s, w, &d.choices[..count]))
@@ -430,5 +431,5 @@ pub fn check(d: Desk, b: &[u8]) -> Result<Report, Refusal>
 {
     plan_asked(d)?;
     let n = blocks_end(MODEL_BYTES, d.blocks);
-    check_on(&d.model[..n], &d.question, b)
+    check_on(&d.model[..n], question_bytes(&d.question), b)
 }

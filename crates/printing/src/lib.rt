@@ -10,10 +10,9 @@ ghost use Rattle.verdict_line.specs.Line.{no_plans_line, plain_line, verdict_say
 ghost use Rattle.verdict_line.specs.promises.Chain.{line_of, answer_text};
 ghost use Rattle.printing.specs.promises.Printed.{plan_root, judging_line, asking_line, loading_line, shown_line, Shown, Loaded, Asked};
 
-use blocks::BLOCK;
 use lamp::Lamp;
 use plan_judge::{Desk, Judging, Taking, Verdict};
-use verdict_line::{LINE, MOST_INPUT};
+use verdict_line::LINE;
 
 // The line of a no.
 fn no_line(out: &mut [u8], q: &[u8], count: u32, lamp: Option<Lamp>) -> usize
@@ -107,13 +106,8 @@ fn loading_line(out: &mut [u8], model: &[u8], q: &[u8]) -> usize
 pub fn answer(input: &[u8], out: &mut [u8; LINE]) -> usize
     ensures { Put (answer_text verdict_says input.now) out.old out.new 0 result }
 {
-    let n = input.len();
-    if n < BLOCK {
-        return verdict_line::refused_line(out, 1);
+    match verdict_line::parts(input) {
+        Some((model, question)) => loading_line(out, model, question),
+        None => verdict_line::refused_line(out, 1),
     }
-    if MOST_INPUT < n {
-        return verdict_line::refused_line(out, 1);
-    }
-    let at = n - BLOCK;
-    loading_line(out, &input[..at], &input[at..])
 }

@@ -38,6 +38,7 @@ pub fn read_full<R: Read>(reader: &mut R, buf: &mut [u8]) -> Moved
     ensures bytes { Consumes (R.remaining reader.old) (R.remaining reader.new) (take result.count buf.new) }
     ensures whole { result.failed ≡ false → result.count < length buf.new → IsAtEnd (R.remaining reader.new) }
 {
+    // A `while`: what each read gives decides how often it is read, and `done` is what is answered.
     let mut done = 0;
     while done < buf.len() {
         match reader.read(&mut buf[done..]) {
@@ -55,6 +56,7 @@ pub fn write_all<W: Write>(writer: &mut W, bytes: &[u8]) -> Moved
     ensures bytes { Appends (W.contents writer.old) (W.contents writer.new) (take result.count bytes.now) }
     ensures whole { result.failed ≡ false → result.count ≡ length bytes.now }
 {
+    // A `while`, as in `read_full`.
     let mut done = 0;
     while done < bytes.len() {
         match writer.write(&bytes[done..]) {

@@ -2,13 +2,15 @@
 #![tactic(auto)]
 
 ghost use mathlib.Core.List.{◌++◌, flat_map};
-ghost use Rattle.std.specs.Prelude.{◌+◌, ◌*◌, ◌≤◌, length};
+ghost use Rattle.std.specs.Prelude.{◌≡◌, ◌+◌, ◌*◌, ◌≤◌, true, false, length, MatchOption};
+ghost use Rattle.blocks.specs.Bytes.{within};
 ghost use Rattle.lamp.specs.Said.{said_lamp, said_optional};
 ghost use Rattle.verdict_line.specs.Text.{decimal, signed_decimal, numbered, Put};
-ghost use Rattle.verdict_line.specs.Line.{lamp_word, optional_word, refused_line, plain_line, no_plans_line, yes_plan_line};
+ghost use Rattle.verdict_line.specs.Line.{model_part, question_part, lamp_word, optional_word, refused_line, plain_line, no_plans_line, yes_plan_line};
 
 pub mod reason_lines;
 
+use blocks::BLOCK;
 use lamp::Lamp;
 
 // The most bytes of a program's input: a model of 12 blocks, and a question.
@@ -16,6 +18,17 @@ pub const MOST_INPUT: usize = 6656;
 
 // Room for the longest line.
 pub const LINE: usize = 8192;
+
+// The model and the question that an input holds, the question in its last block; none where the input is too short or too long for both.
+pub fn parts(input: &[u8]) -> Option<(&[u8], &[u8])>
+    ensures { MatchOption result (within 512 6656 (length input.now) ≡ false)
+        (λ p. (within 512 6656 (length input.now) ≡ true) × (p.0.now ≡ model_part input.now) × (p.1.now ≡ question_part input.now)) }
+{
+    if !blocks::within(BLOCK, MOST_INPUT, input.len()) {
+        return None;
+    }
+    Some(input.split_at(input.len() - BLOCK))
+}
 
 // Writes a text at a place; gives the place after it.
 pub fn put_text(out: &mut [u8], at: usize, text: &[u8]) -> usize
@@ -58,10 +71,8 @@ pub fn put_choices(out: &mut [u8], at: usize, choices: &[u8]) -> usize
     ensures range { result ≤ at + 4 * length choices.now }
 {
     let mut next = at;
-    let mut i: usize = 0;
-    while i < choices.len() {
-        next = put_decimal(out, next, b" ", choices[i] as u64);
-        i += 1;
+    for choice in choices {
+        next = put_decimal(out, next, b" ", u64::from(*choice));
     }
     next
 }

@@ -1,10 +1,11 @@
 // Reads a model followed by a question from standard input and prints why it is answered no; where it is not, the line of the verdict.
 #![tactic(auto)]
 
+use verdict_line::MOST_INPUT;
 use verdict_line::reason_lines::TEXT;
 
 // Room for a byte more than 13 blocks, so that longer input is seen to be too long.
-const INPUT: usize = 6657;
+const INPUT: usize = MOST_INPUT + 1;
 
 fn main(rt: HostRuntime) {
     let mut input = [0u8; INPUT];

@@ -1,23 +1,13 @@
--- By the length of the input; its last 512 bytes are the question.
-use native.Mathlib.Omega.{arith}
-use mathlib.Core.Path.{sym}
-use Prim.Native.Nat.{◌-◌}
-use lib.ListN.{length}
-use lib.Seq.{length-take-le}
+-- By the parts of the input, or by its length where it has none.
 use Rattle.verdict_line.proofs.PutInTurn.{put_as}
 use Rattle.verdict_line.specs.Reasons.{whynot_says}
-use Rattle.verdict_line.proofs.TextByLength.{too_short, too_long, both_parts}
+use Rattle.verdict_line.proofs.TextByLength.{no_parts, both_parts}
 use Rattle.explaining.proofs.answer.Goals as goal
 
-pub returns-then-n-lt-BLOCK : goal.returns-then-n-lt-BLOCK
-returns-then-n-lt-BLOCK c = put_as (too_short whynot_says c.args.input.now c.if-n-lt-BLOCK.true) c.refused_line.ensures
+pub returns-in-Some : goal.returns-in-Some
+returns-in-Some c =
+    let p = c.in-Some.ensures in
+    put_as (both_parts whynot_says c.args.input.now p.0 p.1 p.2) c.loading_text.ensures
 
-pub returns-then-n-gt-MOST_INPUT : goal.returns-then-n-gt-MOST_INPUT
-returns-then-n-gt-MOST_INPUT c = put_as (too_long whynot_says c.args.input.now c.if-n-gt-MOST_INPUT.true) c.refused_line-then-n-gt-MOST_INPUT.ensures
-
-pub slice_bounds-loading_text-end-2 : goal.slice_bounds-loading_text-end-2
-slice_bounds-loading_text-end-2 c = let b = c.args.input.now in
-    sym (length-take-le (length b - 512) b (omega arith))
-
-pub returns : goal.returns
-returns c = put_as (both_parts whynot_says c.args.input.now (omega (arith, c.if-n-lt-BLOCK.false)) (omega (arith, c.if-n-gt-MOST_INPUT.false))) c.loading_text.ensures
+pub returns-in-None : goal.returns-in-None
+returns-in-None c = put_as (no_parts whynot_says c.args.input.now c.in-None.ensures) c.refused_line.ensures

@@ -16,7 +16,7 @@ use Rattle.protocol.specs.Replies.{Session}
 use Rattle.protocol.specs.Demand2.{Demand2Always}
 use Rattle.protocol.specs.Demand3.{Demand3Always}
 use Rattle.plan_judge.specs.declared.Desk.{Desk}
-use Rattle.plan_judge.specs.View.{view}
+use Rattle.plan_judge.specs.View.{question_bytes, view}
 use Rattle.plan_judge.proofs.Claims.Ran.{Answered, Ran, Described, OfTheCode}
 use Rattle.plan_judge.proofs.Claims.Demand1.{Demand1}
 use Rattle.plan_judge.proofs.Claims.Offered.{CCallTold, ShownChoicesTold}
@@ -39,8 +39,8 @@ pub record Delivery : Type 0 where
   pub demand_3 : (session : Session) → OfTheCode session → Demand3Always session
   -- document 02, A.6, for any desk value, also one put together by hand: all nodes of the question that it holds are reached from the root;
   -- with another question it holds none, and every call for which 21 is listed gives 21
-  pub held_reached : (d : Desk) (q : Question) → (view d).question ≡ some q → AllReached d.question
-  pub others_not_held : (d : Desk) (m : Model) → (view d).model ≡ some m → (AllReached d.question → ⊥)
+  pub held_reached : (d : Desk) (q : Question) → (view d).question ≡ some q → AllReached (question_bytes d)
+  pub others_not_held : (d : Desk) (m : Model) → (view d).model ≡ some m → (AllReached (question_bytes d) → ⊥)
       → {c : Call} {r : Reply} {e : Desk} → Answered d c r e → any (eqb 21) (listed c) ≡ true → r.answer ≡ refuse 21
   -- document 02, A.7
   pub models_written : ModelsWritten

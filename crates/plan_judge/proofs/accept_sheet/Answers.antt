@@ -1,10 +1,6 @@
 -- The sheet's grounds, then those of its choices, which are gathered first.
-use Prim.Native.Nat.{◌≤◌}
 use native.Mathlib.Omega.{arith}
 use mathlib.Core.Path.{sym, ap₂, ◌∙◌}
-use lib.ListN.{length}
-use lib.Seq.{length-take-le}
-use borrow.Author.Rules.{rules}
 use Rattle.std.proofs.lemmas.Result.{err_from_is_err_and}
 use Rattle.refusals.proofs.Named.{number_some}
 use Rattle.logic.specs.promises.Refusal.{refusal}

@@ -1,17 +1,15 @@
 -- A ground of the state stands; past it the sheet is checked on the bytes that the desk says it has.
 -- The bytes that are cut are those that the desk says it has.
-use Prim.Native.Nat.{◌≤◌}
-use mathlib.Core.Path.{◌≡◌, sym, ap, subst, ◌∙◌}
-use lib.ListN.{length, take}
-use lib.Seq.{length-take-le}
+use mathlib.Core.Path.{◌≡◌, sym, ap₂, subst, ◌∙◌}
+use lib.ListN.{take}
 use Rattle.std.proofs.lemmas.Result.{err_from_is_err_and}
 use Rattle.models.specs.Layout.{model_of}
 use Rattle.questions.specs.Layout.{question_of}
-use Rattle.plan_judge.specs.View.{view}
+use Rattle.plan_judge.specs.View.{question_bytes}
 use Rattle.plan_judge.specs.promises.Values.{checking}
 use Rattle.protocol.specs.promises.Chains.{check_on}
-use Rattle.plan_judge.specs.promises.State.{held_goal, PlanRoot}
-use Rattle.plan_judge.proofs.LoadPutReturn.{said_bytes, cut_inside, cut_said}
+use Rattle.plan_judge.specs.promises.State.{PlanRoot}
+use Rattle.plan_judge.proofs.LoadPutReturn.{said_bytes, cut_said}
 use Rattle.plan_judge.proofs.StateGrounds.{plan_asked}
 use Rattle.plan_judge.proofs.CheckReturns.{check_state, check_past}
 use borrow.Author.Rules.{rules}
@@ -26,12 +24,13 @@ pub check_on-requires : goal.check_on-requires
 check_on-requires c =
     let d = c.args.d in
     let cut : take c.blocks_end-n.result d.model ≡ said_bytes d = cut_said d (search rules) c.blocks_end-n.result c.blocks_end-n.ensures in
-    subst (λ z. PlanRoot z d.question) (sym cut) (plan_asked d (sym c.in_ok-plan_asked.ensures))
+    subst (λ q. PlanRoot (take c.blocks_end-n.result d.model) q) (sym c.question_bytes.ensures)
+    (subst (λ z. PlanRoot z (question_bytes d)) (sym cut) (plan_asked d (sym c.in_ok-plan_asked.ensures)))
 
 pub returns : goal.returns
 returns c =
     let d = c.args.d in
     let cut : take c.blocks_end-n.result d.model ≡ said_bytes d = cut_said d (search rules) c.blocks_end-n.result c.blocks_end-n.ensures in
     c.check_on.ensures
-    ∙ ap (λ z. checking (check_on (model_of z) (question_of d.question) c.args.b.now)) cut
+    ∙ ap₂ (λ z q. checking (check_on (model_of z) (question_of q) c.args.b.now)) cut c.question_bytes.ensures
     ∙ check_past d c.args.b.now (sym c.in_ok-plan_asked.ensures)

@@ -7,15 +7,10 @@ use mir.Syntax.{w64}
 use mir.Val.{to_z, of_z}
 use mir.ValLaws.{to_z-of_z}
 use Rattle.std.proofs.lemmas.Result.{err_from_is_err_and}
-use Rattle.logic.specs.promises.Refusal.{refusal}
-use Rattle.logic.specs.Limits.{limits}
-use Rattle.models.specs.Layout.{state_count, action_count, prop_count, model_of}
-use Rattle.prepared_model.specs.promises.Rows.{model_in}
-use Rattle.questions.specs.Layout.{start_of, question_of}
+use Rattle.models.specs.Layout.{model_of}
+use Rattle.questions.specs.Layout.{start_of}
 use Rattle.sheets.specs.Layout.{sheet_of}
-use Rattle.prepared_question.specs.promises.Shared.{Shared}
 use Rattle.prepared_question.proofs.ChildrenBefore.{ordered}
-use Rattle.plan_judge.specs.promises.State.{plan_on}
 use Rattle.plan_judge.proofs.StateGrounds.{root_node}
 use Rattle.plan_judge.proofs.CheckReturns.{on_sheet, check_limited, root_there, limits_there, shared_there, sheet_served, spelled_there, check_sheet, check_differs, check_met}
 use Rattle.plan_judge.proofs.check_on.Goals as goal

@@ -5,4 +5,4 @@ use Rattle.plan_judge.proofs.empty.Goals as goal
 
 pub returns : goal.returns
 unfolding nothing
-returns c = rw c.unjudged.ensures refl
+returns c = refl

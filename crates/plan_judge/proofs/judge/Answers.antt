@@ -1,5 +1,5 @@
 -- The bytes that are cut are those that the desk says it has.
-use mathlib.Core.Path.{◌≡◌, sym, ap, ◌∙◌}
+use mathlib.Core.Path.{◌≡◌, sym, ap, ap₂, ◌∙◌}
 use lib.ListN.{take}
 use Rattle.refusals.specs.Number.{number}
 use Rattle.refusals.proofs.Named.{number_some}
@@ -23,8 +23,7 @@ pub judged_on-answer-requires : goal.judged_on-answer-requires
 judged_on-answer-requires c =
     let cut : take c.blocks_end-n.result c.args.d.model ≡ said_bytes c.args.d = cut_said c.args.d (search rules) c.blocks_end-n.result c.blocks_end-n.ensures in
     let held : Both c.args.d = both c.args.d (sym c.in_default.ensures) in
-    let q = c.args.d.question in
-    (ap (λ z. refusal (read_model z)) cut ∙ held.passed, ap (λ z. refusal (read_question (state_count z) (action_count z) (prop_count z) q)) cut ∙ held.asked)
+    (ap (λ z. refusal (read_model z)) cut ∙ held.passed, ap₂ (λ z q. refusal (read_question (state_count z) (action_count z) (prop_count z) q)) cut c.question_bytes.ensures ∙ held.asked)
 
 pub returns-in-Err-answer : goal.returns-in-Err-answer
 returns-in-Err-answer c =
@@ -32,11 +31,11 @@ returns-in-Err-answer c =
     let cut : take c.blocks_end-n.result d.model ≡ said_bytes d = cut_said d (search rules) c.blocks_end-n.result c.blocks_end-n.ensures in
     c.turned_away-in-Err-answer.ensures
     ∙ ruled_refused d (both d (sym c.in_default.ensures)) c.judged_on-answer.result
-    (c.judged_on-answer.ensures ∙ ap (λ z. ruling (judge_on (model_of z) (question_of d.question))) cut) c.in-Err-answer.r c.in-Err-answer.is
+    (c.judged_on-answer.ensures ∙ ap₂ (λ z q. ruling (judge_on (model_of z) (question_of q))) cut c.question_bytes.ensures) c.in-Err-answer.r c.in-Err-answer.is
 
 pub returns-in-Ok : goal.returns-in-Ok
 returns-in-Ok c =
     let d = c.args.d in
     let cut : take c.blocks_end-n.result d.model ≡ said_bytes d = cut_said d (search rules) c.blocks_end-n.result c.blocks_end-n.ensures in
     ruled_judged d (both d (sym c.in_default.ensures)) c.judged_on-answer.result
-    (c.judged_on-answer.ensures ∙ ap (λ z. ruling (judge_on (model_of z) (question_of d.question))) cut) c.in-Ok.v c.in-Ok.is
+    (c.judged_on-answer.ensures ∙ ap₂ (λ z q. ruling (judge_on (model_of z) (question_of q))) cut c.question_bytes.ensures) c.in-Ok.v c.in-Ok.is

@@ -3,9 +3,8 @@ use mathlib.Core.Path.{◌≡◌, sym, ap, ◌∙◌}
 use native.Mathlib.Omega.{arith}
 use Rattle.logic.specs.promises.Refusal.{refusal}
 use Rattle.logic.specs.Limits.{limits}
-use Rattle.models.specs.Layout.{state_count, action_count, prop_count, model_of}
+use Rattle.models.specs.Layout.{model_of}
 use Rattle.questions.specs.Layout.{question_of}
-use Rattle.prepared_question.specs.promises.Shared.{Shared}
 use Rattle.prepared_question.proofs.ChildrenBefore.{ordered}
 use Rattle.judging.specs.promises.Announced.{verdict_code}
 use Rattle.judging.proofs.BothPrepared.{asked_prepared, limits_prepared, served}

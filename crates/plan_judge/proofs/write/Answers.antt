@@ -18,9 +18,9 @@ use Rattle.questions.specs.Layout.{start_of, node_count, node_of}
 use Rattle.questions.proofs.AcceptedFacts.{accepted}
 use Rattle.sheets.specs.promises.Ends.{end_of}
 use Rattle.sheets.specs.Layout.{blocks_for, sheet_bytes}
-use Rattle.plan_judge.specs.View.{view}
+use Rattle.plan_judge.specs.View.{question_bytes, view}
 use Rattle.plan_judge.specs.promises.State.{held_goal}
-use Rattle.plan_judge.proofs.LoadPutReturn.{said_bytes, cut_inside, cut_said}
+use Rattle.plan_judge.proofs.LoadPutReturn.{said_bytes, cut_said}
 use Rattle.plan_judge.proofs.StateGrounds.{plan_asked}
 use Rattle.plan_judge.proofs.WriteReturns.{choices_read, found_shown, write_state, write_none, count_few, write_short, write_done}
 use Rattle.plan_judge.proofs.write.Goals as goal
@@ -72,18 +72,20 @@ write_sheet-requires c =
     let E = c in
     let S = c in
     let d = S.args.d in
-    let q = d.question in
+    let q = question_bytes d in
     let l = take E.shown_size-count.result d.choices in
     let r = plan_asked d asked in
     let n = P.root_steps-n in
     let s = P.start-s in
+    let steps : n.result ≡ (node_of q (node_count q - 1)).n = n.ensures ∙ ap (λ q. (node_of q (node_count q - 1)).n) c.question_bytes-q.ensures in
+    let start : s.result ≡ start_of q = s.ensures ∙ ap start_of c.question_bytes-q.ensures in
     let e = cut in
     let found = found_shown d S.args.buf.now asked E.shown_size-count.result E.shown_size-count.ensures E.if-count-eq0.false in record {
       m_value = (
         ap (λ z. refusal (read_model z)) e ∙ r.passed,
-        omega (arith, (accepted _ _ _ q r.asked).formed.starts, s.ensures, ap state_count e),
+        omega (arith, (accepted _ _ _ q r.asked).formed.starts, start, ap state_count e),
         choices_read (said_bytes d) q r d.choices l found
-            ∙ ap₂ (λ n s. end_of (length l) (read_plan (model_of (said_bytes d)) n s l)) (sym n.ensures) (sym s.ensures)
+            ∙ ap₂ (λ n s. end_of (length l) (read_plan (model_of (said_bytes d)) n s l)) (sym steps) (sym start)
             ∙ ap (λ z. end_of (length l) (read_plan (model_of z) n.result s.result l)) (sym e),
       );
       choices_len_bound = (omega (arith, small, whole), omega (arith, ap (λ k. 512 * blocks_for k) whole, P.sheet_size.ensures, P.if-buf-sheet_size.false));
@@ -95,15 +97,17 @@ returns c =
     let P = c in
     let E = c in
     let S = c in
-    let q = S.args.d.question in
+    let q = question_bytes S.args.d in
     let cs = take E.shown_size-count.result S.args.d.choices in
     let n = P.root_steps-n in
     let s = P.start-s in
     let w = P.shown_total-w in
+    let steps : n.result ≡ (node_of q (node_count q - 1)).n = n.ensures ∙ ap (λ q. (node_of q (node_count q - 1)).n) c.question_bytes-q.ensures in
+    let start : s.result ≡ start_of q = s.ensures ∙ ap start_of c.question_bytes-q.ensures in
     let sheet = c.write_sheet in
     let rest = drop sheet.result S.args.buf.now in clauses_value_frame (write_done S.args.d S.args.buf.now asked E.shown_size-count.result E.shown_size-count.ensures E.if-count-eq0.false
     (omega (arith, P.sheet_size.ensures, P.if-buf-sheet_size.false)) sheet.result sheet.ensures.value sheet.new.buf
     (sheet.ensures.effect
     ∙ ap (λ z. sheet_bytes n.result s.result z cs ++ rest) (to_z-of_z w64 w.result (record { sfits = w.type_inv }))
-    ∙ ap₂ (λ n s. sheet_bytes n s w.result cs ++ rest) n.ensures s.ensures
+    ∙ ap₂ (λ n s. sheet_bytes n s w.result cs ++ rest) steps start
     ∙ ap (λ w. sheet_bytes (node_of q (node_count q - 1)).n (start_of q) w cs ++ rest) w.ensures))

@@ -3,9 +3,7 @@
 use native.Mathlib.Omega.{arith}
 use borrow.Author.Rules.{rules}
 use mathlib.Core.Path.{◌≡◌, sym, ◌∙◌}
-use lib.ListN.{length, take, length-take}
-use Rattle.blocks.specs.Bytes.{Bytes}
-use Rattle.plan_judge.specs.declared.Desk.{Desk}
+use lib.ListN.{length, length-take}
 use Rattle.plan_judge.proofs.WriteModelReturns.{write_model_none, cut_size, write_model_short, write_model_done}
 use Rattle.plan_judge.proofs.write_model.Goals as goal
 

@@ -1,5 +1,5 @@
 -- What judge, write and check find: on the desk a model, a question, a goal, a shown plan; on a sheet a plan.
-use Rattle.std.specs.Prelude.{ℕ, ◌*◌, ◌-◌, ◌≡◌, true, cond, List, eqb, ℤ, pos, length, take}
+use Rattle.std.specs.Prelude.{Option as Optional, Some, None, ℕ, ◌*◌, ◌-◌, ◌≡◌, true, cond, List, eqb, ℤ, pos, length, take}
 use Rattle.std.proofs.Math.Option.{Option, none, some}
 use Rattle.logic.specs.Checked.{Checked, ok, refused, ◌>>=◌}
 use Rattle.logic.specs.promises.Refusal.{refusal, held}
@@ -58,10 +58,11 @@ shown_size (some (logic.no x)) = 0
 shown_size (some logic.yes) = 0
 shown_size (some (logic.yes_plan x)) = length x.choices
 
-unfoldable pub shown_total : Verdict → ℤ
-shown_total (No x) = pos 0
-shown_total Yes = pos 0
-shown_total (YesPlan x) = x.total
+unfoldable pub shown_total : Optional Verdict → ℤ
+shown_total None = pos 0
+shown_total (Some (No x)) = pos 0
+shown_total (Some Yes) = pos 0
+shown_total (Some (YesPlan x)) = x.total
 
 -- ---- the plan on a sheet: grounds 1 to 6, then 10
 

@@ -1,5 +1,5 @@
 -- What each call returns, for every desk value and every input, by the grounds and definitions of the calls.
-use Rattle.std.specs.Prelude.{ℕ, ◌-◌, ◌/◌, true, false, ◌++◌, length, drop, replicate, None, Result, Ok, Err}
+use Rattle.std.specs.Prelude.{ℕ, ◌-◌, ◌/◌, ◌++◌, length, drop, replicate, Some, None, Result, Ok, Err}
 use Rattle.logic.specs.Checked.{Checked, ok, refused, ◌>>◌}
 use Rattle.logic.specs.Model.{Model}
 use Rattle.logic.specs.Limits.{limits}
@@ -14,8 +14,6 @@ use Rattle.plan_judge.specs.declared.Desk.{Desk}
 use Rattle.refusals.specs.declared.Refusal.{Refusal}
 use Rattle.refusals.specs.Number.{named}
 use Rattle.plan_judge.specs.declared.Taking.{Taking}
-use Rattle.judging.specs.declared.Verdict.{Verdict}
-use Rattle.judging.specs.declared.Verdict.TheVariants.{No}
 use Rattle.plan_judge.specs.declared.Judging.{Judging}
 use Rattle.plan_judge.specs.declared.Ruling.{Ruling}
 use Rattle.plan_judge.specs.declared.Report as code
@@ -26,14 +24,10 @@ use Rattle.plan_judge.specs.View.{view}
 unfoldable pub padded : ℕ → Bytes → Bytes
 padded n b = b ++ replicate (n - length b) 0
 
--- What stands for a verdict on a desk that is not judged.
-abbrev pub unjudged : Verdict
-unjudged = No (record { count = 0; lamp = None })
-
 -- The empty desk.
 unfoldable pub nothing : Desk
 nothing =
-    record { blocks = 0; model = replicate 6144 0; asked = false; question = replicate 512 0; judged = false; verdict = unjudged; choices = replicate 1365 0 }
+    record { blocks = 0; model = replicate 6144 0; question = None; verdict = None; choices = replicate 1365 0 }
 
 -- The desk changes only where the call is not refused.
 abbrev pub taking : {A : Type 0} → Desk → Checked A → Desk → Taking
@@ -43,7 +37,7 @@ taking d (refused k) e = record { answer = Err (named k); desk = d }
 -- A desk with this model and nothing else.
 unfoldable pub holding : Bytes → Desk
 holding b =
-    record { blocks = length b / 512; model = padded 6144 b; asked = false; question = replicate 512 0; judged = false; verdict = unjudged; choices = replicate 1365 0 }
+    record { blocks = length b / 512; model = padded 6144 b; question = None; verdict = None; choices = replicate 1365 0 }
 
 unfoldable pub loaded_by : Desk → Bytes → Taking
 loaded_by d b = taking d (read_model b) (holding b)
@@ -51,7 +45,7 @@ loaded_by d b = taking d (read_model b) (holding b)
 -- The desk with this question, not judged.
 unfoldable pub asking : Desk → Bytes → Desk
 asking d b =
-    record { blocks = d.blocks; model = d.model; asked = true; question = padded 512 b; judged = false; verdict = unjudged; choices = replicate 1365 0 }
+    record { blocks = d.blocks; model = d.model; question = Some (padded 512 b); verdict = None; choices = replicate 1365 0 }
 
 unfoldable pub put_by : Desk → Bytes → Taking
 put_by d b = taking d (do_put (view d) b) (asking d b)
@@ -67,7 +61,7 @@ choices_code (logic.yes_plan x) = padded 1365 x.choices
 -- Sets the verdict only.
 unfoldable pub settling : Desk → logic.Verdict → Desk
 settling d v =
-    record { blocks = d.blocks; model = d.model; asked = d.asked; question = d.question; judged = true; verdict = verdict_code v; choices = choices_code v }
+    record { blocks = d.blocks; model = d.model; question = d.question; verdict = Some (verdict_code v); choices = choices_code v }
 
 -- Grounds 24 and 25, then the verdict.
 abbrev pub judge_on : Model → Question → Checked logic.Verdict

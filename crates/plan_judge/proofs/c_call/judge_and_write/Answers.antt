@@ -1,5 +1,5 @@
 -- A ground of the bytes is told on; else what is told of what they hold.
-use mathlib.Core.Path.{sym, ◌∙◌}
+use mathlib.Core.Path.{sym}
 use lib.ListN.{length}
 use Rattle.std.proofs.lemmas.Result.{err_from_is_err_and}
 use Rattle.refusals.proofs.Named.{number_some}
