@@ -62,13 +62,13 @@ pub fn gain_at(gains: &[i32; PLACES], k: u8) -> i32
     gains[usize::from(k)]
 }
 
-// Whether a gain stands in the relation of this number to a bound. The node has the number: an enum would be made of it only to be matched here.
+// Whether a gain stands in the relation of this number to a bound. It takes any number, as its contract says what 0, and each above 3, comes to.
 pub fn related(kind: u8, gain: i64, bound: i64) -> bool
     ensures { result ≡ quantity.related integers (relation kind) gain bound }
 {
     if kind == Relation::Less as u8 {
         gain < bound
-    } else if (kind == 0) | (kind == Relation::Equal as u8) {
+    } else if kind == 0 || kind == Relation::Equal as u8 {
         gain == bound
     } else {
         gain > bound
