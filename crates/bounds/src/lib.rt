@@ -16,7 +16,8 @@ ghost use Rattle.bounds.specs.promises.Bounded.{Bounded, Sided, Exactly, under, 
 use lamp::{Lamp, compared};
 use prepared_model::{MODEL, RAISE, denominator};
 use prepared_question::QUESTION;
-use questions::{EARNS, EQUAL, GREATER, LESS, SPAN_BASE};
+use questions::SPAN_BASE;
+use questions::operators::{Operator, Relation};
 
 // The denominator to the number of steps.
 pub fn power(d: usize, k: u8) -> u64
@@ -32,9 +33,9 @@ fn met_by_lamp(number: u8, lamp: Lamp) -> bool
     ensures { result ≡ lamps.met_by_lamp (relation number) (said_lamp lamp) }
 {
     match lamp {
-        Lamp::Below => number == LESS,
-        Lamp::At => number == EQUAL,
-        Lamp::Above => number == GREATER,
+        Lamp::Below => number == Relation::Less as u8,
+        Lamp::At => number == Relation::Equal as u8,
+        Lamp::Above => number == Relation::Greater as u8,
     }
 }
 
@@ -74,7 +75,7 @@ fn lift(m: &[u16; MODEL], q: &[u8; QUESTION], j: u8) -> u64
     ensures value { result ≡ lift_of m.now q.now j }
     ensures range { result ≤ 6000 * 100 ^ 6 }
 {
-    if prepared_question::operator(q, j) != EARNS {
+    if prepared_question::operator(q, j) != Operator::Earns as u8 {
         return 0;
     }
     let span = prepared_question::left(q, j);

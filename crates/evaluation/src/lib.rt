@@ -19,7 +19,7 @@ use blocks::byte;
 use models::STATES;
 use prepared_model::{MODEL, RAISE, choice, reward, target};
 use prepared_question::{QUESTION, bound, depth, left, operator, right};
-use questions::{AND, DO, EQUAL, GAIN, LESS, NEXT, NOT};
+use questions::operators::{Operator, Relation};
 
 // The most steps of a path.
 pub const STEPS: usize = 6;
@@ -62,14 +62,16 @@ pub fn gain_at(gains: &[i32; PLACES], k: u8) -> i32
     gains[usize::from(k)]
 }
 
-// Whether a gain stands in the relation of this number to a bound. The node has the number: an enum would be made of it only to be matched here.
+// Whether a gain stands in the relation of this number to a bound. It takes any number, as its contract says what 0, and each above 3, comes to.
 pub fn related(kind: u8, gain: i64, bound: i64) -> bool
     ensures { result ≡ quantity.related integers (relation kind) gain bound }
 {
-    match kind {
-        LESS => gain < bound,
-        0 | EQUAL => gain == bound,
-        _ => gain > bound,
+    if kind == Relation::Less as u8 {
+        gain < bound
+    } else if kind == 0 || kind == Relation::Equal as u8 {
+        gain == bound
+    } else {
+        gain > bound
     }
 }
 
@@ -108,13 +110,15 @@ fn value_by(
     ensures { let q = q.entry.now in let trail = trail.entry.now in let gains = gains.entry.now in let v = v.entry.now in
         result ≡ value_by q trail gains h k j (node_of q j).operator v }
 {
-    let op = operator(q, j);
-    match op {
-        NOT => u8::from(known(v, left(q, j), k) == 0),
-        AND => known(v, left(q, j), k) & known(v, right(q, j), k),
-        DO => u8::from(trail[k as usize] / 32 == left(q, j) as u16),
-        NEXT => known(v, left(q, j), k + 1),
-        GAIN => u8::from(gained(q, gains, h, k, j)),
+    let Ok(operator) = Operator::try_from(operator(q, j)) else {
+        return 0;
+    };
+    match operator {
+        Operator::Not => u8::from(known(v, left(q, j), k) == 0),
+        Operator::And => known(v, left(q, j), k) & known(v, right(q, j), k),
+        Operator::Do => u8::from(trail[k as usize] / 32 == left(q, j) as u16),
+        Operator::Next => known(v, left(q, j), k + 1),
+        Operator::Gain => u8::from(gained(q, gains, h, k, j)),
         _ => 0,
     }
 }

@@ -11,7 +11,8 @@ use blocks::byte;
 use evaluation::{TRUTHS, bit};
 use prepared_model::MODEL;
 use prepared_question::{DEPTHS, QUESTION, depth};
-use questions::{AND, NODES};
+use questions::NODES;
+use questions::operators::Operator;
 use relevance::{cone, place};
 
 // Takes one state formula off c, where c is "and" of one and another node; where that formula is false nothing is left. It asks nothing of its
@@ -19,7 +20,7 @@ use relevance::{cone, place};
 fn peel_one(q: &[u8; QUESTION], truth: &[u8; TRUTHS], c: u8, s: u8) -> Option<u8>
     ensures { Peels q.now truth.now c s result }
 {
-    if questions::operator(q, c) != AND {
+    if questions::operator(q, c) != Operator::And as u8 {
         return Some(c);
     }
     let a = questions::left(q, c);

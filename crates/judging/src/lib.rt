@@ -105,10 +105,7 @@ fn deny(m: &[u16; MODEL], q: &[u8; QUESTION], j: u8, r: Decision) -> Verdict
 {
     let count = r.place as u32;
     if asks_equal(q, j) {
-        return Verdict::No(Denial {
-            count,
-            lamp: None,
-        });
+        return Verdict::No(Denial { count, lamp: None });
     }
     let best = lamp_of(m, q, j, r.raised);
     Verdict::No(Denial {

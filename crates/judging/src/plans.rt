@@ -24,7 +24,8 @@ use limits::{COUNTS, plans_counted};
 use models::STATES;
 use prepared_model::{MODEL, STAGES, denominator};
 use prepared_question::{QUESTION, asks_equal, asks_less, depth, left, operator, steps};
-use questions::{EARNS, NODES};
+use questions::NODES;
+use questions::operators::Operator;
 
 // What deciding a node in a state came to: whether it is true, the raised total of the plan found, its place for "equal" (from 0; the number of
 // all plans if there is none), and how many steps of that plan the scratch has.
@@ -178,7 +179,7 @@ pub fn decide(
     if asks_equal(q, j) {
         return first(m, q, counts, truth, j, s);
     }
-    if operator(q, j) == EARNS {
+    if operator(q, j) == Operator::Earns as u8 {
         return gain_led(m, q, places, j, s);
     }
     led(m, q, truth, scratch, j, s)

@@ -24,7 +24,8 @@ use limits::COUNTS;
 use models::STATES;
 use prepared_model::{MODEL, STAGES, holds, states};
 use prepared_question::{QUESTION, asks_equal, asks_less, count, left, operator, right, steps};
-use questions::{AND, EARNS, NOT, PROP, sets_bound};
+use questions::operators::Operator;
+use questions::sets_bound;
 use relevance::place;
 
 // The truth of node j in s, as it was found.
@@ -42,11 +43,13 @@ pub fn plain_truth(m: &[u16; MODEL], q: &[u8; QUESTION], truth: &[u8; TRUTHS], j
     ensures { let q = q.entry.now in let m = m.entry.now in
         (depth (formula q j) ≡ 0 → result ≡ value_of (model_in m) (formula q j) s []) }
 {
-    let op = operator(q, j);
-    match op {
-        PROP => bit(holds(m, s as usize, left(q, j))),
-        NOT => bit(found(truth, left(q, j), s) == 0),
-        AND => found(truth, left(q, j), s) & found(truth, right(q, j), s),
+    let Ok(operator) = Operator::try_from(operator(q, j)) else {
+        return 0;
+    };
+    match operator {
+        Operator::Prop => bit(holds(m, s as usize, left(q, j))),
+        Operator::Not => bit(found(truth, left(q, j), s) == 0),
+        Operator::And => found(truth, left(q, j), s) & found(truth, right(q, j), s),
         _ => 0,
     }
 }
@@ -159,7 +162,7 @@ fn node_truth(
     requires rows { Rows m.now q.now need.now truth.old scratch.old memo.old j }
     ensures { Rows m.now q.now need.now truth.new scratch.new memo.new (j + 1) }
 {
-    if operator(q, j) == EARNS {
+    if operator(q, j) == Operator::Earns as u8 {
         if !asks_equal(q, j) {
             by_table(m, q, truth, j);
             return;

@@ -8,7 +8,8 @@ ghost use Rattle.judging.specs.promises.Worths.{Looks};
 use best_gain::Window;
 use prepared_model::MODEL;
 use prepared_question::{QUESTION, depth, left, operator, steps};
-use questions::{EARNS, NODES, SPAN_BASE};
+use questions::operators::Operator;
+use questions::{NODES, SPAN_BASE};
 use relevance::cone;
 
 // How many nodes of the condition are listed, how many steps come before those that are looked at, and the last that is.
@@ -38,7 +39,7 @@ pub fn worth_of(m: &[u16; MODEL], q: &[u8; QUESTION], j: u8, nodes: &mut [u8; NO
     requires { Bounded m.now q.now j × (length nodes.old ≡ 40) }
     ensures { Looks q.now j nodes.new result.count result.before result.last }
 {
-    if operator(q, j) == EARNS {
+    if operator(q, j) == Operator::Earns as u8 {
         let w = window(m, q, j);
         return Worth {
             count: 0,

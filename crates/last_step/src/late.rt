@@ -6,7 +6,8 @@ ghost use Rattle.prepared_question.specs.promises.Marks.{Grown};
 ghost use Rattle.last_step.specs.promises.Late.{PassedOn, Late, TurnsOn, Placed, Deep};
 
 use prepared_question::{QUESTION, depth, left, operator, right};
-use questions::{AND, NEXT, NODES, NOT};
+use questions::NODES;
+use questions::operators::Operator;
 
 // ---- the nodes that matter
 
@@ -43,10 +44,12 @@ fn pass_on(q: &[u8; QUESTION], marks: &mut [u8; NODES], j: u8)
     if d == 0 {
         return;
     }
-    let op = operator(q, j);
-    match op {
-        NOT | NEXT => mark(marks, left(q, j)),
-        AND => {
+    let Ok(operator) = Operator::try_from(operator(q, j)) else {
+        return;
+    };
+    match operator {
+        Operator::Not | Operator::Next => mark(marks, left(q, j)),
+        Operator::And => {
             mark_level(q, marks, d, left(q, j));
             mark_level(q, marks, d, right(q, j));
         }

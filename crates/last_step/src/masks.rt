@@ -6,7 +6,8 @@ use crate::lanes::{done, flipped, gained, met, spread, told};
 use evaluation::{PLACES, Place, STEPS, TRUTHS, VALUES, gain_at, known};
 use prepared_model::MODEL;
 use prepared_question::{QUESTION, bound, depth, left, operator, right};
-use questions::{AND, DO, GAIN, NEXT, NODES, NOT};
+use questions::NODES;
+use questions::operators::Operator;
 
 // The word of node j.
 fn mask_at(masks: &[u32; NODES], j: u8) -> u32
@@ -60,16 +61,18 @@ fn mask_node(
         return 0;
     }
     let k = h + 1 - d;
-    let op = operator(q, j);
-    match op {
-        NOT => flipped(mask_at(masks, left(q, j))),
-        AND => met(
+    let Ok(operator) = Operator::try_from(operator(q, j)) else {
+        return 0;
+    };
+    match operator {
+        Operator::Not => flipped(mask_at(masks, left(q, j))),
+        Operator::And => met(
             part(q, v, masks, d, k, left(q, j)),
             part(q, v, masks, d, k, right(q, j)),
         ),
-        DO => done(m, s, left(q, j)),
-        NEXT => mask_at(masks, left(q, j)),
-        GAIN => gained(
+        Operator::Do => done(m, s, left(q, j)),
+        Operator::Next => mask_at(masks, left(q, j)),
+        Operator::Gain => gained(
             m,
             s,
             right(q, j),

@@ -13,10 +13,10 @@ ghost use Rattle.prepared_question.specs.promises.Shared.{Shared};
 ghost use Rattle.prepared_question.specs.promises.Replaced.{ChildrenBefore, left_for, right_for, Pointed};
 ghost use Rattle.prepared_question.specs.promises.Replaced as replaced;
 
+use questions::operators::{Operator, Relation};
 use questions::used::has_left;
 use questions::{
-    AND, EQUAL, LEFT_AT, LESS, NODE_COUNT_AT, NODE_SIZE, NODES_AT, P_AT, Q_AT, RIGHT_AT, START_AT,
-    STEPS_AT,
+    LEFT_AT, NODE_COUNT_AT, NODE_SIZE, NODES_AT, P_AT, Q_AT, RIGHT_AT, START_AT, STEPS_AT,
 };
 
 // The bytes of a prepared question: its block, and the depth of each of 40 nodes.
@@ -104,7 +104,7 @@ pub fn asks_less(q: &[u8; QUESTION], j: u8) -> bool
     requires { j < 40 }
     ensures { result ≡ eqb (node_of q.now j).right 1 }
 {
-    right(q, j) == LESS
+    right(q, j) == Relation::Less as u8
 }
 
 // Whether it asks for just its bound.
@@ -112,7 +112,7 @@ pub fn asks_equal(q: &[u8; QUESTION], j: u8) -> bool
     requires { j < 40 }
     ensures { result ≡ eqb (node_of q.now j).right 2 }
 {
-    right(q, j) == EQUAL
+    right(q, j) == Relation::Equal as u8
 }
 
 // ---- making it
@@ -122,7 +122,7 @@ fn past(b: &[u8], c: u8) -> u8
     ensures { result ≡ replaced.past b.now c }
 {
     let l = questions::left(b, c);
-    if (questions::operator(b, c) == AND) & (l == questions::right(b, c)) {
+    if (questions::operator(b, c) == Operator::And as u8) & (l == questions::right(b, c)) {
         return l;
     }
     c
@@ -141,7 +141,7 @@ fn left_for(q: &[u8], b: &[u8], i: u8) -> u8
 fn right_for(q: &[u8], b: &[u8], i: u8) -> u8
     ensures { result ≡ right_for q.now b.now i }
 {
-    if questions::operator(q, i) == AND {
+    if questions::operator(q, i) == Operator::And as u8 {
         return past(b, questions::right(q, i));
     }
     questions::right(q, i)

@@ -14,37 +14,12 @@ ghost use Rattle.questions.specs.promises.Formed.{sets_bound};
 ghost use Rattle.questions.specs.promises.Tables.{formulas_before, table};
 ghost use Rattle.questions.specs.promises.Passes.{Nodes, InRangeOfSome};
 
+pub mod operators;
 pub mod used;
 
+use crate::operators::{Operator, Relation};
 use crate::used::all_reached;
 use refusals::Refusal;
-
-// The operators of nodes, by document 01's words.
-pub const FALSE: u8 = 1;
-
-pub const PROP: u8 = 2;
-
-pub const NOT: u8 = 3;
-
-pub const AND: u8 = 4;
-
-pub const DO: u8 = 5;
-
-pub const NEXT: u8 = 6;
-
-pub const GAIN: u8 = 7;
-
-pub const PLAN: u8 = 8;
-
-// Operator 9 of document 02: some plan earns so much on average.
-pub const EARNS: u8 = 9;
-
-// The relations of "gain", "plan" and operator 9.
-pub const LESS: u8 = 1;
-
-pub const EQUAL: u8 = 2;
-
-pub const GREATER: u8 = 3;
 
 // Where a question's fields stand in its block. Four spare bytes follow the node count; a question has at most 40 nodes of 12 bytes.
 pub const START_AT: usize = 2;
@@ -178,7 +153,7 @@ pub fn root(q: &[u8]) -> u8
 pub fn sets_bound(operator: u8) -> bool
     ensures { result ≡ sets_bound operator }
 {
-    (operator == PLAN) | (operator == EARNS)
+    (operator == Operator::Plan as u8) | (operator == Operator::Earns as u8)
 }
 
 // Whether the root's operator sets a bound on plans.
@@ -199,10 +174,7 @@ pub fn root_steps(q: &[u8]) -> u8
 fn relation_in_range(relation: u8) -> bool
     ensures { result ≡ within 1 3 relation }
 {
-    match relation {
-        LESS | EQUAL | GREATER => true,
-        _ => false,
-    }
+    Relation::try_from(relation).is_ok()
 }
 
 // Whether the steps and the relation of node i, a "gain", a "plan" or of operator 9, are in range.
@@ -258,17 +230,18 @@ fn earns_in_range(b: &[u8], i: u8) -> bool
 fn node_in_range(b: &[u8], i: u8, actions: usize, props: usize) -> bool
     ensures { result ≡ node_in_range actions props i (node_of b.now i) }
 {
-    let op = operator(b, i);
-    match op {
-        FALSE => true,
-        PROP => usize::from(left(b, i)) < props,
-        NOT | NEXT => left(b, i) < i,
-        AND => (left(b, i) < i) & (right(b, i) < i),
-        DO => usize::from(left(b, i)) < actions,
-        GAIN => compares(b, i) & gain_bound(p(b, i), q(b, i)),
-        PLAN => plan_in_range(b, i),
-        EARNS => earns_in_range(b, i),
-        _ => false,
+    let Ok(operator) = Operator::try_from(operator(b, i)) else {
+        return false;
+    };
+    match operator {
+        Operator::False => true,
+        Operator::Prop => usize::from(left(b, i)) < props,
+        Operator::Not | Operator::Next => left(b, i) < i,
+        Operator::And => (left(b, i) < i) & (right(b, i) < i),
+        Operator::Do => usize::from(left(b, i)) < actions,
+        Operator::Gain => compares(b, i) & gain_bound(p(b, i), q(b, i)),
+        Operator::Plan => plan_in_range(b, i),
+        Operator::Earns => earns_in_range(b, i),
     }
 }
 
@@ -287,14 +260,16 @@ fn node_spare(b: &[u8], i: u8) -> bool
     ensures { result ≡ node_spare b.now i }
 {
     let at = node_at(i);
-    let op = operator(b, i);
-    match op {
-        FALSE => blocks::zeros(b, at + STEPS_AT, FROM_STEPS),
-        PROP | DO => only_left(b, at),
-        NOT | NEXT => only_left(b, at),
-        AND => blocks::zeros(b, at + STEPS_AT, 1) & blocks::zeros(b, at + P_AT, FROM_P),
-        GAIN => blocks::zeros(b, at + LEFT_AT, 1),
-        _ => true,
+    let Ok(operator) = Operator::try_from(operator(b, i)) else {
+        return true;
+    };
+    match operator {
+        Operator::False => blocks::zeros(b, at + STEPS_AT, FROM_STEPS),
+        Operator::Prop | Operator::Do => only_left(b, at),
+        Operator::Not | Operator::Next => only_left(b, at),
+        Operator::And => blocks::zeros(b, at + STEPS_AT, 1) & blocks::zeros(b, at + P_AT, FROM_P),
+        Operator::Gain => blocks::zeros(b, at + LEFT_AT, 1),
+        Operator::Plan | Operator::Earns => true,
     }
 }
 
@@ -321,14 +296,20 @@ fn node_depth(b: &[u8], depths: &[u32; NODES], i: u8) -> u32
     requires { (i < 40) × (depths.now ≡ table depth (formulas_before b.now i)) }
     ensures { result ≡ depth (formula_of (formulas_before b.now i) (node_of b.now i)) }
 {
-    let op = operator(b, i);
-    match op {
-        NOT => child_depth(depths, i, left(b, i)),
-        AND => child_depth(depths, i, left(b, i)).max(child_depth(depths, i, right(b, i))),
-        DO => 1,
-        NEXT => child_depth(depths, i, left(b, i)) + 1,
-        GAIN => u32::from(steps(b, i)),
-        _ => 0,
+    let Ok(operator) = Operator::try_from(operator(b, i)) else {
+        return 0;
+    };
+    match operator {
+        Operator::Not => child_depth(depths, i, left(b, i)),
+        Operator::And => child_depth(depths, i, left(b, i)).max(child_depth(
+            depths,
+            i,
+            right(b, i),
+        )),
+        Operator::Do => 1,
+        Operator::Next => child_depth(depths, i, left(b, i)) + 1,
+        Operator::Gain => u32::from(steps(b, i)),
+        Operator::False | Operator::Prop | Operator::Plan | Operator::Earns => 0,
     }
 }
 
@@ -348,11 +329,10 @@ fn node_shallow(b: &[u8], depths: &[u32; NODES], i: u8) -> bool
     requires { (i < node_count b.now) × (i < 40) × (depths.now ≡ table depth (formulas_of b.now)) }
     ensures { result ≡ shallow (get_or (formulas_of b.now) i never) }
 {
-    let op = operator(b, i);
-    match op {
-        PLAN => child_depth(depths, i, left(b, i)) <= u32::from(steps(b, i)),
-        _ => true,
+    if operator(b, i) != Operator::Plan as u8 {
+        return true;
     }
+    child_depth(depths, i, left(b, i)) <= u32::from(steps(b, i))
 }
 
 // Ground 5.

@@ -5,14 +5,18 @@ ghost use Rattle.questions.specs.Children.{children};
 ghost use Rattle.questions.specs.Children as spec;
 ghost use Rattle.questions.specs.promises.Used.{has_left, mark_each, Downward, Marks};
 
-use crate::{AND, NEXT, NODES, NOT, PLAN, left, node_count, operator, right, root};
+use crate::operators::Operator;
+use crate::{NODES, left, node_count, operator, right, root};
 use blocks::buffers::store;
 
 // Whether a node has a child in the left cell, by its operator.
 pub fn has_left(op: u8) -> bool
     ensures { result ≡ has_left op }
 {
-    (op == NOT) | (op == AND) | (op == NEXT) | (op == PLAN)
+    (op == Operator::Not as u8)
+        | (op == Operator::And as u8)
+        | (op == Operator::Next as u8)
+        | (op == Operator::Plan as u8)
 }
 
 // Marks the children of node i.
@@ -23,7 +27,7 @@ fn mark_children(b: &[u8], marks: &mut [u8; NODES], i: u8)
     if has_left(op) {
         store(marks, usize::from(left(b, i)), 1);
     }
-    if op == AND {
+    if op == Operator::And as u8 {
         store(marks, usize::from(right(b, i)), 1);
     }
 }

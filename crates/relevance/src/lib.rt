@@ -17,7 +17,8 @@ use evaluation::TRUTHS;
 use models::STATES;
 use prepared_model::{MODEL, choices, outcomes, target};
 use prepared_question::{QUESTION, count, depth, left, operator, right, start};
-use questions::{AND, NEXT, NODES, NOT, PLAN};
+use questions::NODES;
+use questions::operators::Operator;
 
 // ---- what the verdict can depend on
 
@@ -71,14 +72,16 @@ fn pass_on(m: &[u16; MODEL], q: &[u8; QUESTION], need: &mut [u8; TRUTHS], k: usi
     }
     let j = (k / STATES) as u8;
     let s = (k % STATES) as u8;
-    let op = operator(q, j);
-    match op {
-        NOT | PLAN => mark(need, left(q, j), s),
-        AND => {
+    let Ok(operator) = Operator::try_from(operator(q, j)) else {
+        return;
+    };
+    match operator {
+        Operator::Not | Operator::Plan => mark(need, left(q, j), s),
+        Operator::And => {
             mark(need, left(q, j), s);
             mark(need, right(q, j), s);
         }
-        NEXT => mark_next(m, need, left(q, j), s),
+        Operator::Next => mark_next(m, need, left(q, j), s),
         _ => {}
     }
 }
@@ -112,10 +115,12 @@ fn enter(q: &[u8; QUESTION], marks: &mut [u8; NODES], j: u8)
     if depth(q, j) == 0 {
         return;
     }
-    let op = operator(q, j);
-    match op {
-        NOT | NEXT => store(marks, usize::from(left(q, j)), 1),
-        AND => {
+    let Ok(operator) = Operator::try_from(operator(q, j)) else {
+        return;
+    };
+    match operator {
+        Operator::Not | Operator::Next => store(marks, usize::from(left(q, j)), 1),
+        Operator::And => {
             store(marks, usize::from(left(q, j)), 1);
             store(marks, usize::from(right(q, j)), 1);
         }

@@ -12,16 +12,16 @@ use Rattle.bounds.proofs.lift.Goals as goal
 clauses_value_range : {A B : Type 0} → A × B → record { value : A; range : B }
 clauses_value_range p = record { value = p.0; range = p.1 }
 
-pub returns-then-operator-ne-EARNS : goal.returns-then-operator-ne-EARNS
-returns-then-operator-ne-EARNS c = let S = c in
+pub returns-then-operator : goal.returns-then-operator
+returns-then-operator c = let S = c in
     let b = S.requires in clauses_value_range (⊎_elim
     (λ o. (sym (lift_8 S.args.m.now S.args.q.now S.args.j b o), omega arith))
-    (λ o. absurd (c.if-operator-ne-EARNS.true (c.operator.ensures ∙ o)))
+    (λ o. absurd (c.if-operator.true (c.operator.ensures ∙ o)))
     (sets_which (node_of S.args.q.now S.args.j).operator b.sets))
 
 pub returns : goal.returns
 returns c =
-    let nine : (node_of c.args.q.now c.args.j).operator ≡ 9 = sym c.operator.ensures ∙ c.if-operator-ne-EARNS.false in
+    let nine : (node_of c.args.q.now c.args.j).operator ≡ 9 = sym c.operator.ensures ∙ c.if-operator.false in
     let lifted : c.from.result * c.from-2.result * c.whole.result ≡ lift_of c.args.m.now c.args.q.now c.args.j = let S = c in
     ap (λ k. k * c.whole.result) (ap₂ ◌*◌ c.from.ensures c.from-2.ensures)
     ∙ ap₂ (λ l d. 1000 * (l / 8 - (l % 8 - 1)) * d) c.left-span.ensures c.whole.ensures.value

@@ -10,19 +10,19 @@ use Rattle.questions.proofs.TableNodeByNode.{child_value, all_before, formula_he
 use Rattle.questions.proofs.FormulaByOperator.{row_8, other_shallow}
 use Rattle.questions.proofs.node_shallow.Goals as goal
 
-pub returns-in-8 : goal.returns-in-8
+pub returns : goal.returns
 unfolding depth shallow
-returns-in-8 c = let S = c in
+returns c = let S = c in
     let b = S.args.b.now in
     let i = S.args.i in
     let x = node_of b i in
     let fs = formulas_before b i in
-    let o : x.operator ≡ 8 = sym c.operator-op.ensures ∙ c.in-8.is in
+    let o : x.operator ≡ 8 = sym c.operator.ensures ∙ c.if-operator.false in
     let v : c.child_depth.result ≡ depth (get_or fs x.left never) = c.child_depth.ensures ∙ child_value depth b i (node_count b) (omega arith) (omega arith) (S.requires.2 ∙ ap (table depth) (sym (all_before b))) c.left.ensures in
     ap₂ leb v (c.from.ensures ∙ c.steps.ensures) ∙ sym (ap shallow (formula_here b i S.requires.0 ∙ row_8 fs x o))
 
-pub returns-in_default : goal.returns-in_default
-returns-in_default c = let S = c in
+pub returns-then-operator : goal.returns-then-operator
+returns-then-operator c = let S = c in
     let b = S.args.b.now in
     let i = S.args.i in
-    other_shallow (formulas_before b i) (node_of b i) c.operator-op.result (sym c.operator-op.ensures) c.in_default.in_default-own.rest.1 ∙ sym (ap shallow (formula_here b i S.requires.0))
+    other_shallow (formulas_before b i) (node_of b i) c.operator.result (sym c.operator.ensures) c.if-operator.true ∙ sym (ap shallow (formula_here b i S.requires.0))

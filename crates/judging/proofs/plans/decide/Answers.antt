@@ -26,10 +26,10 @@ gain_led-requires c =
     let places_size : length c.args.places.now ≡ 224 = ap length c.requires.in_bounds.1 ∙ length-replicate {A = ℕ} 224 0 in
     let S = c in
     let P = S.requires.asked in
-    let n = asked_other S.args.q.now S.args.j c.asks_equal.ensures c.if-asks_equal.false in record { bounded = (bounded_at P.0.given P.1, sym c.operator.ensures ∙ c.if-operator-eq-EARNS.true, P.1.state); fact = (n, places_size) }
+    let n = asked_other S.args.q.now S.args.j c.asks_equal.ensures c.if-asks_equal.false in record { bounded = (bounded_at P.0.given P.1, sym c.operator.ensures ∙ c.if-operator.true, P.1.state); fact = (n, places_size) }
 
-pub returns-then-operator-eq-EARNS : goal.returns-then-operator-eq-EARNS
-returns-then-operator-eq-EARNS c = let S = c in
+pub returns-then-operator : goal.returns-then-operator
+returns-then-operator c = let S = c in
     let n = asked_other S.args.q.now S.args.j c.asks_equal.ensures c.if-asks_equal.false in
     record { led = λ f. c.gain_led.ensures S.args.scratch.now; placed = λ e. absurd (n e) }
 
@@ -37,7 +37,7 @@ pub led-requires : goal.led-requires
 led-requires c = let S = c in
     let P = S.requires.asked in
     let n = asked_other S.args.q.now S.args.j c.asks_equal.ensures c.if-asks_equal.false in
-    let o = either (bounded_at P.0.given P.1) (λ o. o) (λ o. absurd (c.if-operator-eq-EARNS.false (c.operator.ensures ∙ o))) in record { given = (P.0.given, P.1, o); fact = (n, S.requires.in_bounds.0) }
+    let o = either (bounded_at P.0.given P.1) (λ o. o) (λ o. absurd (c.if-operator.false (c.operator.ensures ∙ o))) in record { given = (P.0.given, P.1, o); fact = (n, S.requires.in_bounds.0) }
 
 pub returns : goal.returns
 returns c = let S = c in

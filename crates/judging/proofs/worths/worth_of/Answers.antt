@@ -12,11 +12,11 @@ pub operator-requires : goal.operator-requires
 operator-requires c = few c.args.m.now c.args.q.now c.args.j c.requires.0
 
 pub window-w-requires : goal.window-w-requires
-window-w-requires c = let S = c in (S.requires.0, sym c.operator.ensures ∙ c.if-operator-eq-EARNS.true)
+window-w-requires c = let S = c in (S.requires.0, sym c.operator.ensures ∙ c.if-operator.true)
 
-pub returns-then-operator-eq-EARNS : goal.returns-then-operator-eq-EARNS
-returns-then-operator-eq-EARNS c = let S = c in
-    let o = sym c.operator.ensures ∙ c.if-operator-eq-EARNS.true in
+pub returns-then-operator : goal.returns-then-operator
+returns-then-operator c = let S = c in
+    let o = sym c.operator.ensures ∙ c.if-operator.true in
     let w = c.window-w.ensures.0 in
     record {
       few = omega arith;
@@ -32,21 +32,21 @@ pub cone-k-requires : goal.cone-k-requires
 cone-k-requires c =
     let eight : (op : ℕ) → op ≡ (node_of c.args.q.now c.args.j).operator → (op ≡ 9 → ⊥) → (node_of c.args.q.now c.args.j).operator ≡ 8 = λ op e n. either c.requires.0 (λ o. o) (λ o. absurd (n (e ∙ o))) in
     let S = c in
-    let o = eight _ c.operator.ensures c.if-operator-eq-EARNS.false in
+    let o = eight _ c.operator.ensures c.if-operator.false in
     ((_, _, _, S.requires.0.nodes), omega (arith, c.left-c.ensures, (before S.requires.0 o).0), S.requires.1)
 
 pub depth-requires : goal.depth-requires
 depth-requires c =
     let eight : (op : ℕ) → op ≡ (node_of c.args.q.now c.args.j).operator → (op ≡ 9 → ⊥) → (node_of c.args.q.now c.args.j).operator ≡ 8 = λ op e n. either c.requires.0 (λ o. o) (λ o. absurd (n (e ∙ o))) in
     let S = c in
-    let o = eight _ c.operator.ensures c.if-operator-eq-EARNS.false in
+    let o = eight _ c.operator.ensures c.if-operator.false in
     omega (arith, c.left-c.ensures, (before S.requires.0 o).1)
 
 pub returns : goal.returns
 returns c =
     let eight : (op : ℕ) → op ≡ (node_of c.args.q.now c.args.j).operator → (op ≡ 9 → ⊥) → (node_of c.args.q.now c.args.j).operator ≡ 8 = λ op e n. either c.requires.0 (λ o. o) (λ o. absurd (n (e ∙ o))) in
     let S = c in
-    let o = eight _ c.operator.ensures c.if-operator-eq-EARNS.false in
+    let o = eight _ c.operator.ensures c.if-operator.false in
     let e = c.left-c.ensures in
     let k = c.cone-k.ensures in
     record {

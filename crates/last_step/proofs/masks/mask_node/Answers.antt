@@ -12,7 +12,9 @@ use Rattle.logic.specs.Formula.{Node, relation}
 use Rattle.logic.specs.Quantity.{integers, related}
 use Rattle.logic.specs.Bound.{one_if}
 use Rattle.prepared_model.specs.promises.Rows.{choice_in, step_in, lane}
+use Rattle.questions.specs.declared.operators.Operator.TheVariants.{Not, And, Do, Next, Gain}
 use Rattle.questions.specs.Layout.{node_of}
+use Rattle.questions.proofs.OperatorRead.{number_is, number_not, number_none}
 use Rattle.prepared_question.specs.promises.Nodes.{reads_left}
 use Rattle.evaluation.proofs.Integers.{fits32}
 use Rattle.evaluation.proofs.LearnKnows.{depth_is}
@@ -43,63 +45,63 @@ returns-then-d-h c = let S = c in
 pub mask_at-requires : goal.mask_at-requires
 unfolding reads_left
 mask_at-requires c = let S = c in
-    let l = left_small S.requires.before_last S.requires.masked.0 S.requires.masked.1 S.requires.masked.3 (deeper c.depth-d.ensures c.if-d-eq0.false) 3 (sym c.operator-op.ensures ∙ c.in-3.is) refl in
+    let l = left_small S.requires.before_last S.requires.masked.0 S.requires.masked.1 S.requires.masked.3 (deeper c.depth-d.ensures c.if-d-eq0.false) 3 (sym c.operator.ensures ∙ number_is Not c.try_from.ensures c.in-Ok.is c.in-Not.is) refl in
     omega (arith, l, c.left.ensures)
 
 pub part-requires : goal.part-requires
 unfolding reads_left
 part-requires c = let S = c in
-    let l = left_small S.requires.before_last S.requires.masked.0 S.requires.masked.1 S.requires.masked.3 (deeper c.depth-d.ensures c.if-d-eq0.false) 4 (sym c.operator-op.ensures ∙ c.in-4.is) refl in
-    omega (arith, l, c.left-in-4.ensures)
+    let l = left_small S.requires.before_last S.requires.masked.0 S.requires.masked.1 S.requires.masked.3 (deeper c.depth-d.ensures c.if-d-eq0.false) 4 (sym c.operator.ensures ∙ number_is And c.try_from.ensures c.in-Ok.is c.in-And.is) refl in
+    omega (arith, l, c.left-in-And.ensures)
 
-pub part-requires-in-4 : goal.part-requires-in-4
-part-requires-in-4 c = let S = c in
-    let l = right_small S.requires.before_last S.requires.masked.0 S.requires.masked.1 S.requires.masked.3 (deeper c.depth-d.ensures c.if-d-eq0.false) (sym c.operator-op.ensures ∙ c.in-4.is) in
+pub part-requires-in-And : goal.part-requires-in-And
+part-requires-in-And c = let S = c in
+    let l = right_small S.requires.before_last S.requires.masked.0 S.requires.masked.1 S.requires.masked.3 (deeper c.depth-d.ensures c.if-d-eq0.false) (sym c.operator.ensures ∙ number_is And c.try_from.ensures c.in-Ok.is c.in-And.is) in
     omega (arith, l, c.right.ensures)
 
 pub done-requires : goal.done-requires
 done-requires c = let S = c in
     (S.requires.before_last.ready.prepared, state_here S.requires.before_last)
 
-pub mask_at-requires-in-6 : goal.mask_at-requires-in-6
+pub mask_at-requires-in-Next : goal.mask_at-requires-in-Next
 unfolding reads_left
-mask_at-requires-in-6 c = let S = c in
-    let l = left_small S.requires.before_last S.requires.masked.0 S.requires.masked.1 S.requires.masked.3 (deeper c.depth-d.ensures c.if-d-eq0.false) 6 (sym c.operator-op.ensures ∙ c.in-6.is) refl in
-    omega (arith, l, c.left-in-6.ensures)
+mask_at-requires-in-Next c = let S = c in
+    let l = left_small S.requires.before_last S.requires.masked.0 S.requires.masked.1 S.requires.masked.3 (deeper c.depth-d.ensures c.if-d-eq0.false) 6 (sym c.operator.ensures ∙ number_is Next c.try_from.ensures c.in-Ok.is c.in-Next.is) refl in
+    omega (arith, l, c.left-in-Next.ensures)
 
 pub gained-requires : goal.gained-requires
 gained-requires c = let S = c in
     (S.requires.before_last.ready.prepared, state_here S.requires.before_last)
 
-pub returns-in-3 : goal.returns-in-3
-returns-in-3 c = let S = c in
+pub returns-in-Not : goal.returns-in-Not
+returns-in-Not c = let S = c in
     let w = c.mask_at.ensures ∙ ap (λ z. get_or S.args.masks.now z 0) c.left.ensures in
-    not_word S.requires.before_last S.requires.masked.0 S.requires.masked.1 S.requires.masked.3 (deeper c.depth-d.ensures c.if-d-eq0.false) c.flipped.result (sym c.operator-op.ensures ∙ c.in-3.is)
+    not_word S.requires.before_last S.requires.masked.0 S.requires.masked.1 S.requires.masked.3 (deeper c.depth-d.ensures c.if-d-eq0.false) c.flipped.result (sym c.operator.ensures ∙ number_is Not c.try_from.ensures c.in-Ok.is c.in-Not.is)
     (subst (λ x. Lanes (λ n. one_if (eqb (lane x n) 0)) c.flipped.result) w c.flipped.ensures)
 
-pub returns-in-4 : goal.returns-in-4
-returns-in-4 c = let S = c in
+pub returns-in-And : goal.returns-in-And
+returns-in-And c = let S = c in
     let d = c.depth-d in
     let P : ℕ → ℕ → Type 0 = λ z y. Part S.args.q.now S.args.v.now S.args.masks.now d.result (S.args.at.h + 1 - d.result) z y in
-    and_word S.requires.before_last S.requires.masked.0 S.requires.masked.1 S.requires.masked.3 (deeper c.depth-d.ensures c.if-d-eq0.false) c.met.result d.result (S.args.at.h + 1 - d.result) c.part.result c.part-in-4.result
-    (sym c.operator-op.ensures ∙ c.in-4.is) d.ensures (omega (arith, c.if-d-h.false))
-    (subst (λ z. P z c.part.result) c.left-in-4.ensures c.part.ensures)
-    (subst (λ z. P z c.part-in-4.result) c.right.ensures c.part-in-4.ensures)
+    and_word S.requires.before_last S.requires.masked.0 S.requires.masked.1 S.requires.masked.3 (deeper c.depth-d.ensures c.if-d-eq0.false) c.met.result d.result (S.args.at.h + 1 - d.result) c.part.result c.part-in-And.result
+    (sym c.operator.ensures ∙ number_is And c.try_from.ensures c.in-Ok.is c.in-And.is) d.ensures (omega (arith, c.if-d-h.false))
+    (subst (λ z. P z c.part.result) c.left-in-And.ensures c.part.ensures)
+    (subst (λ z. P z c.part-in-And.result) c.right.ensures c.part-in-And.ensures)
     c.met.ensures
 
-pub returns-in-5 : goal.returns-in-5
-returns-in-5 c = let S = c in
-    do_word S.requires.before_last S.requires.masked.0 S.requires.masked.1 S.requires.masked.3 (deeper c.depth-d.ensures c.if-d-eq0.false) c.done.result (sym c.operator-op.ensures ∙ c.in-5.is)
-    (subst (λ x. Laned S.args.m.now S.args.at.s (λ a o. one_if (eqb (choice_in S.args.m.now S.args.at.s a) x)) c.done.result) c.left-in-5.ensures c.done.ensures)
+pub returns-in-Do : goal.returns-in-Do
+returns-in-Do c = let S = c in
+    do_word S.requires.before_last S.requires.masked.0 S.requires.masked.1 S.requires.masked.3 (deeper c.depth-d.ensures c.if-d-eq0.false) c.done.result (sym c.operator.ensures ∙ number_is Do c.try_from.ensures c.in-Ok.is c.in-Do.is)
+    (subst (λ x. Laned S.args.m.now S.args.at.s (λ a o. one_if (eqb (choice_in S.args.m.now S.args.at.s a) x)) c.done.result) c.left-in-Do.ensures c.done.ensures)
 
-pub returns-in-6 : goal.returns-in-6
-returns-in-6 c = let S = c in
+pub returns-in-Next : goal.returns-in-Next
+returns-in-Next c = let S = c in
     subst (Worded S.args.m.now S.args.q.now S.args.at.start S.args.cone.now (take S.args.at.h S.args.trail.now) S.args.at.s (get_or S.args.cone.now S.args.i 0))
-    (sym (c.mask_at-in-6.ensures ∙ ap (λ z. get_or S.args.masks.now z 0) c.left-in-6.ensures))
-    (next_word S.requires.before_last S.requires.masked.0 S.requires.masked.1 S.requires.masked.3 (deeper c.depth-d.ensures c.if-d-eq0.false) (sym c.operator-op.ensures ∙ c.in-6.is))
+    (sym (c.mask_at-in-Next.ensures ∙ ap (λ z. get_or S.args.masks.now z 0) c.left-in-Next.ensures))
+    (next_word S.requires.before_last S.requires.masked.0 S.requires.masked.1 S.requires.masked.3 (deeper c.depth-d.ensures c.if-d-eq0.false) (sym c.operator.ensures ∙ number_is Next c.try_from.ensures c.in-Ok.is c.in-Next.is))
 
-pub returns-in-7 : goal.returns-in-7
-returns-in-7 c =
+pub returns-in-Gain : goal.returns-in-Gain
+returns-in-Gain c =
     let node : Node = node_of c.args.q.now (get_or c.args.cone.now c.args.i 0) in
     let Gains : (kind : ℕ) (after before bound : ℤ) → ℕ → Type 0 = λ kind after before bound r. Laned c.args.m.now c.args.at.s (λ a o. one_if (related integers (relation kind) ((after -ℤ before) +ℤ (step_in c.args.m.now c.args.at.s a o).reward) bound)) r in
     let gain_lanes : (k kind : ℕ) (after before bound : ℤ) (r : ℕ) → kind ≡ node.right → after ≡ get_or c.args.gains.now c.args.at.h (pos 0)
@@ -111,13 +113,22 @@ returns-in-7 c =
     let S = c in
     let d = c.depth-d in
     gain_word S.requires.before_last S.requires.masked.0 S.requires.masked.1 S.requires.masked.3 (deeper c.depth-d.ensures c.if-d-eq0.false) c.gained.result d.result (S.args.at.h + 1 - d.result)
-    (sym c.operator-op.ensures ∙ c.in-7.is) d.ensures (omega (arith, c.if-d-h.false))
-    (gain_lanes (S.args.at.h + 1 - d.result) _ _ _ _ c.gained.result c.right-in-7.ensures (signed c.gain_at.type_inv c.gain_at.ensures)
-    (signed c.gain_at-in-7.type_inv c.gain_at-in-7.ensures) (signed c.bound.type_inv c.bound.ensures) c.gained.ensures)
+    (sym c.operator.ensures ∙ number_is Gain c.try_from.ensures c.in-Ok.is c.in-Gain.is) d.ensures (omega (arith, c.if-d-h.false))
+    (gain_lanes (S.args.at.h + 1 - d.result) _ _ _ _ c.gained.result c.right-in-Gain.ensures (signed c.gain_at.type_inv c.gain_at.ensures)
+    (signed c.gain_at-in-Gain.type_inv c.gain_at-in-Gain.ensures) (signed c.bound.type_inv c.bound.ensures) c.gained.ensures)
 
 pub returns-in_default : goal.returns-in_default
 returns-in_default c = let S = c in
-    let n = c.in_default.in_default-own.rest in
-    let e = c.operator-op.ensures in
+    let no = number_none c.try_from.ensures c.in_default.is in
+    let e = c.operator.ensures in
     no_word S.requires.before_last S.requires.masked.0 S.requires.masked.1 S.requires.masked.3 (deeper c.depth-d.ensures c.if-d-eq0.false) 0
-    (λ k. n.0.0.0.0.1 (e ∙ k)) (λ k. n.0.0.0.1 (e ∙ k)) (λ k. n.0.0.1 (e ∙ k)) (λ k. n.0.1 (e ∙ k)) (λ k. n.1 (e ∙ k))
+    (λ k. no Not (e ∙ k)) (λ k. no And (e ∙ k)) (λ k. no Do (e ∙ k)) (λ k. no Next (e ∙ k)) (λ k. no Gain (e ∙ k))
+
+pub returns-in_default-operator : goal.returns-in_default-operator
+returns-in_default-operator c = let S = c in
+    let n = c.in_default-operator in
+    let r = c.try_from.ensures in
+    let is = c.in-Ok.is in
+    let e = c.operator.ensures in
+    no_word S.requires.before_last S.requires.masked.0 S.requires.masked.1 S.requires.masked.3 (deeper c.depth-d.ensures c.if-d-eq0.false) 0
+    (λ k. number_not Not r is n.not-Not (e ∙ k)) (λ k. number_not And r is n.not-And (e ∙ k)) (λ k. number_not Do r is n.not-Do (e ∙ k)) (λ k. number_not Next r is n.not-Next (e ∙ k)) (λ k. number_not Gain r is n.not-Gain (e ∙ k))

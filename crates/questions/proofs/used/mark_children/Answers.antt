@@ -9,9 +9,9 @@ use Rattle.questions.proofs.ChildrenMarked.{left_marked, both_marked, one_marked
 use Rattle.questions.proofs.used.mark_children.Goals as goal
 use Rattle.questions.proofs.used.mark_children.Goals.{then-has_left, else-has_left}
 
-pub returns-then-op-eq-AND : goal.returns-then-op-eq-AND
+pub returns-then-op : goal.returns-then-op
 unfolding children
-returns-then-op-eq-AND c =
+returns-then-op c =
     let op_read : c.operator-op.result ≡ (node_of c.args.b.now c.args.i).operator = c.operator-op.ensures in
     let after_left : c.if-has_left.marks ≡ left_marked c.operator-op.result (node_of c.args.b.now c.args.i).left c.args.marks.now =
     let marks = c.args.marks.now in
@@ -23,13 +23,13 @@ returns-then-op-eq-AND c =
     let J = c in
     let S = c.args in
     let x = node_of S.b.now S.i in
-    c.store-then-op-eq-AND.ensures ∙ ap₂ (λ l y. set l y 1) after_left (c.from-then-op-eq-AND.ensures ∙ c.right.ensures)
-    ∙ both_marked J.operator-op.result x.left x.right S.marks.now c.if-op-eq-AND.true
+    c.store-then-op.ensures ∙ ap₂ (λ l y. set l y 1) after_left (c.from-then-op.ensures ∙ c.right.ensures)
+    ∙ both_marked J.operator-op.result x.left x.right S.marks.now c.if-op.true
     ∙ ap (λ op. mark_each (children_by x.left x.right op) S.marks.now) op_read
 
-pub returns-else-op-eq-AND : goal.returns-else-op-eq-AND
+pub returns-else-op : goal.returns-else-op
 unfolding children
-returns-else-op-eq-AND c =
+returns-else-op c =
     let op_read : c.operator-op.result ≡ (node_of c.args.b.now c.args.i).operator = c.operator-op.ensures in
     let after_left : c.if-has_left.marks ≡ left_marked c.operator-op.result (node_of c.args.b.now c.args.i).left c.args.marks.now =
     let marks = c.args.marks.now in
@@ -41,5 +41,5 @@ returns-else-op-eq-AND c =
     let J = c in
     let S = c.args in
     let x = node_of S.b.now S.i in
-    after_left ∙ one_marked J.operator-op.result x.left x.right S.marks.now c.if-op-eq-AND.false
+    after_left ∙ one_marked J.operator-op.result x.left x.right S.marks.now c.if-op.false
     ∙ ap (λ op. mark_each (children_by x.left x.right op) S.marks.now) op_read
