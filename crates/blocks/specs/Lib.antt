@@ -2,4 +2,3 @@ pub mod Bytes
 pub mod Block
 pub mod OneWord
 pub mod Splice
-pub mod promises

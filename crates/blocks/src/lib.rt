@@ -6,7 +6,6 @@ ghost use Rattle.std.specs.Int.Signed.{lt_z};
 ghost use Rattle.logic.specs.Lists.{every};
 ghost use Rattle.blocks.specs.Bytes.{u16, u32, u64, signed, i16, i32, i64, twos_complement};
 ghost use Rattle.blocks.specs.Bytes as spec;
-ghost use Rattle.blocks.specs.promises.Kind.{kind_number};
 ghost use Rattle.blocks.specs.Block.{whole_blocks, word_sum, sums_right, with_word_sum};
 ghost use Rattle.blocks.specs.Block as spec-block;
 
@@ -214,10 +213,10 @@ pub fn whole_blocks(b: &[u8], least: usize, most: usize) -> bool
 
 // Ground 3 of block k: whether it has this kind and number.
 #[tactic(auto, unfolding(crate::specs::Block::headed))]
-pub fn headed(b: &[u8], k: usize, kind: Kind, number: usize) -> bool
+pub fn headed(b: &[u8], k: usize, kind: usize, number: usize) -> bool
     requires { k < 128 }
-    ensures { result ≡ spec-block.headed b.now k (kind_number kind) number }
+    ensures { result ≡ spec-block.headed b.now k kind number }
 {
     let at = BLOCK * k;
-    (wide(b, at) == kind as usize) & (wide(b, at + NUMBER_AT) == number)
+    (wide(b, at) == kind) & (wide(b, at + NUMBER_AT) == number)
 }

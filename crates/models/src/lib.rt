@@ -250,10 +250,10 @@ fn kinds_right(b: &[u8]) -> bool
     requires { whole_blocks 2 12 b.now ≡ true }
     ensures { result ≡ kinds_right b.now }
 {
-    headed(b, 0, Kind::Head, 0)
+    headed(b, 0, Kind::Head as usize, 0)
         & all_pass(
             b.len() / BLOCK - 1,
-            move |k| headed(b, k + 1, Kind::Row, k + 1),
+            move |k| headed(b, k + 1, Kind::Row as usize, k + 1),
         )
 }
 
@@ -271,7 +271,8 @@ fn sizes_right(b: &[u8]) -> bool
         & rows
 }
 
-// A model is refused on the first ground that it does not pass.
+// A model is refused on the first ground that it does not pass. It is kept out of its callers: built into the C call, its loops run a tenth slower.
+#[inline(never)]
 #[tactic(auto, unfolding(crate::specs::Grounds::read_model))]
 pub fn accept_model(b: &[u8]) -> Result<(), Refusal>
     ensures { refusal_number result ≡ refusal (read_model b.now) }

@@ -3,3 +3,4 @@ pub mod Formed
 pub mod Tables
 pub mod Passes
 pub mod Used
+pub mod Operators

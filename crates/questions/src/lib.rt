@@ -396,7 +396,7 @@ pub fn accept_question(b: &[u8], states: usize, actions: usize, props: usize) ->
     if !blocks::sums_right(b) {
         return Err(Refusal::WordSum);
     }
-    if !blocks::headed(b, 0, blocks::Kind::Question, 0) {
+    if !blocks::headed(b, 0, blocks::Kind::Question as usize, 0) {
         return Err(Refusal::Heading);
     }
     if !counts_right(b, states) {

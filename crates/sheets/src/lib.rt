@@ -129,7 +129,7 @@ fn headings_right(b: &[u8]) -> bool
     requires { length b.now / 512 ≤ 3 }
     ensures { result ≡ every (block_count b.now) (λ k. headed b.now k 4 k) }
 {
-    (0..b.len() / BLOCK).all(|k| blocks::headed(b, k, Kind::Sheet, k))
+    (0..b.len() / BLOCK).all(|k| blocks::headed(b, k, Kind::Sheet as usize, k))
 }
 
 // Ground 4.
