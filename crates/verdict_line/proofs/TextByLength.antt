@@ -1,13 +1,9 @@
 -- The text by the input's length: refused, or that of the model and the question in it.
-use Prim.Native.Nat.{ℕ, ◌-◌, ◌≤◌, ◌<◌}
-use native.Mathlib.Omega.{arith}
+use Prim.Native.Nat.{ℕ}
 use mathlib.Core.Path.{◌≡◌, refl, sym, ap, ap₂, ◌∙◌}
 use mathlib.Core.Bool.{Bool, true, false}
 use mathlib.Core.List.{List}
-use lib.Dec.{leb}
-use lib.ListN.{length, take, drop, length-drop}
-use lib.Seq.{take_all}
-use borrow.Author.Tests.{le-leb, lt-leb}
+use lib.ListN.{length}
 use Rattle.logic.specs.Checked.{guard, ◌>>◌}
 use Rattle.blocks.specs.Bytes.{Bytes, within}
 use Rattle.verdict_line.specs.Line.{Says, model_part, question_part, refused_line}

@@ -2,16 +2,10 @@
 use native.Mathlib.Omega.{arith}
 use mathlib.Core.Path.{◌≡◌, sym, ap, ◌∙◌}
 use lib.ListN.{length, replicate}
-use Rattle.logic.specs.promises.Refusal.{refusal}
-use Rattle.logic.specs.Limits.{limits}
-use Rattle.logic.specs.Verdict.{verdict}
-use Rattle.logic.specs.Reason.{reason}
-use Rattle.models.specs.Layout.{state_count, action_count, prop_count, model_of}
+use Rattle.models.specs.Layout.{model_of}
 use Rattle.questions.specs.Layout.{question_of}
-use Rattle.prepared_question.specs.promises.Shared.{Shared}
 use Rattle.prepared_question.proofs.ChildrenBefore.{ordered}
 use Rattle.judging.proofs.BothPrepared.{limits_prepared, served}
-use Rattle.reasons.specs.promises.Told.{Tells}
 use Rattle.refusals.proofs.Named.{number_some}
 use Rattle.verdict_line.specs.Line.{refused_line}
 use Rattle.verdict_line.specs.Reasons.{whynot_says}

@@ -3,7 +3,7 @@ use Prim.Native.Nat.{◌<◌}
 use native.Mathlib.Omega.{arith}
 use mathlib.Core.Path.{◌≡◌, sym}
 use mathlib.Core.List.{[], ◌∷◌, flat_map}
-use lib.ListN.{length, get_or}
+use lib.ListN.{length}
 use Rattle.verdict_line.specs.Text.{text}
 use Rattle.verdict_line.proofs.PutInTurn.{put_none, number_room, choices_more, choices_all}
 use Rattle.verdict_line.proofs.put_choices.Goals as goal
