@@ -8,7 +8,8 @@ use mathlib.Core.List.{List, [], ◌∷◌, ◌++◌, append-nil, append_assoc, 
 use mathlib.Core.Option.{Option, none, some}
 use lib.ListN.{length, replicate}
 use lib.Seq.{take_at}
-use Rattle.refusals.specs.Number.{number, named}
+use Rattle.refusals.specs.Number.{number}
+use Rattle.refusals.specs.promises.Named.{named}
 use Rattle.logic.specs.Checked.{Checked, ok, refused, ◌>>=◌, got}
 use Rattle.logic.specs.promises.Refusal.{held}
 use Rattle.logic.specs.Model.{Model}

@@ -5,7 +5,8 @@ use mathlib.Core.Path.{◌≡◌, refl, sym, ap, ap₂, ◌∙◌}
 use lib.ListN.{length, drop, replicate}
 use Rattle.std.specs.Prelude.{Some, Ok, Err}
 use Rattle.refusals.specs.declared.Refusal.{Refusal}
-use Rattle.refusals.specs.Number.{number, named}
+use Rattle.refusals.specs.Number.{number}
+use Rattle.refusals.specs.promises.Named.{named}
 use Rattle.refusals.proofs.Named.{named_number, number_some}
 use Rattle.logic.specs.Checked.{Checked, ok, refused, ◌>>◌}
 use Rattle.logic.specs.promises.Refusal.{refusal}

@@ -13,7 +13,8 @@ use borrow.Author.Tests.{eq-eqb, ne_eqb, eqb-true, leb-true, leb-false}
 use Rattle.std.specs.Prelude.{Some, Ok, Err}
 use Rattle.refusals.specs.declared.Refusal.{Refusal}
 use Rattle.refusals.specs.declared.Refusal.TheVariants.{NoModel}
-use Rattle.refusals.specs.Number.{number, named}
+use Rattle.refusals.specs.Number.{number}
+use Rattle.refusals.specs.promises.Named.{named}
 use Rattle.refusals.proofs.Named.{named_number, number_some}
 use Rattle.logic.specs.Checked.{Checked, ok, refused, ◌>>=◌, got}
 use Rattle.logic.specs.promises.Refusal.{refusal, held}

@@ -3,7 +3,8 @@ use Prim.Native.Nat.{ℕ}
 use mathlib.Core.Path.{◌≡◌, refl, sym, ap, subst, ◌∙◌}
 use mathlib.Core.Bool.{Bool, true}
 use lib.Dec.{eqb}
-use Rattle.refusals.specs.Number.{number, named}
+use Rattle.refusals.specs.Number.{number}
+use Rattle.refusals.specs.promises.Named.{named}
 use Rattle.logic.specs.Lists.{all}
 use Rattle.logic.proofs.Tests.{all_at, any_some, eqb_eq}
 use Rattle.protocol.specs.Calls.{Call, load, put, judge, query, write, check, write_model, Held, refuse}

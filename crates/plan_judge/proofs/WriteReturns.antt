@@ -12,7 +12,8 @@ use borrow.Author.Tests.{le-leb, lt-leb}
 use Rattle.std.specs.Prelude.{Option as Optional, Some, None, Ok, Err}
 use Rattle.refusals.specs.declared.Refusal.{Refusal}
 use Rattle.refusals.specs.declared.Refusal.TheVariants.{SmallBuffer, NoPlanShown}
-use Rattle.refusals.specs.Number.{number, named}
+use Rattle.refusals.specs.Number.{number}
+use Rattle.refusals.specs.promises.Named.{named}
 use Rattle.refusals.proofs.Named.{named_number, number_some}
 use Rattle.logic.specs.Checked.{Checked, ok, refused, ◌>>=◌, ◌>>◌, guard}
 use Rattle.logic.specs.promises.Refusal.{refusal, held}

@@ -8,7 +8,8 @@ use mathlib.Core.Option.{none, some}
 use Rattle.logic.specs.Lists.{any}
 use Rattle.std.specs.Prelude.{Result, Ok, Err}
 use Rattle.refusals.specs.declared.Refusal.{Refusal}
-use Rattle.refusals.specs.Number.{number, named}
+use Rattle.refusals.specs.Number.{number}
+use Rattle.refusals.specs.promises.Named.{named}
 use Rattle.logic.specs.Checked.{Checked, ok, refused, ◌>>=◌, ◌>>◌, got}
 use Rattle.logic.specs.promises.Refusal.{refusal, held}
 use Rattle.logic.specs.Model.{Model}

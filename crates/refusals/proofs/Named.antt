@@ -6,7 +6,8 @@ use mathlib.Core.Bool.{true, false, false≢true}
 use Rattle.std.specs.Prelude.{Result, Ok, Err, is_err}
 use Rattle.refusals.specs.declared.Refusal.{Refusal}
 use Rattle.refusals.specs.declared.Refusal.TheVariants.{BlockCount, WordSum, Heading, HeadFields, FieldRange, SpareBytes, Inconsistent, NotFormed, NotThePlan, WrongTotal, SmallBuffer, UnreachedNode, NoModel, NoQuestion, NoBoundOnPlans, NoPlanShown, TooManyPaths, TooManyPlans}
-use Rattle.refusals.specs.Number.{number, refusal_number, named}
+use Rattle.refusals.specs.Number.{number, refusal_number}
+use Rattle.refusals.specs.promises.Named.{named}
 
 pub named_number : (r : Refusal) → named (number r) ≡ r
 named_number BlockCount = refl

@@ -1,5 +1,5 @@
 -- The number of each ground of refusal, and of what is told of a call: 0 where it is not refused.
-use Rattle.std.specs.Prelude.{ℕ, cond, List, [], ◌∷◌, eqb, Result, Ok, Err}
+use Rattle.std.specs.Prelude.{ℕ, Result, Ok, Err}
 use Rattle.refusals.specs.declared.Refusal.{Refusal}
 use Rattle.refusals.specs.declared.Refusal.TheVariants.{BlockCount, WordSum, Heading, HeadFields, FieldRange, SpareBytes, Inconsistent, NotFormed, NotThePlan, WrongTotal, SmallBuffer, UnreachedNode, NoModel, NoQuestion, NoBoundOnPlans, NoPlanShown, TooManyPaths, TooManyPlans}
 
@@ -26,14 +26,3 @@ number TooManyPlans = 25
 abbrev pub refusal_number : {A : Type 0} → Result A Refusal → ℕ
 refusal_number (Ok a) = 0
 refusal_number (Err r) = number r
-
--- The ground with a number: the first of these, if no number is another's.
-abbrev pub named_in : List Refusal → ℕ → Refusal
-named_in [] k = TooManyPlans
-named_in (r ∷ rs) k = cond (eqb (number r) k) r (named_in rs k)
-
-abbrev pub grounds : List Refusal
-grounds = BlockCount ∷ WordSum ∷ Heading ∷ HeadFields ∷ FieldRange ∷ SpareBytes ∷ Inconsistent ∷ NotFormed ∷ NotThePlan ∷ WrongTotal ∷ SmallBuffer ∷ UnreachedNode ∷ NoModel ∷ NoQuestion ∷ NoBoundOnPlans ∷ NoPlanShown ∷ TooManyPaths ∷ TooManyPlans ∷ []
-
-abbrev pub named : ℕ → Refusal
-named = named_in grounds

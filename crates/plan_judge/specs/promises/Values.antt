@@ -12,7 +12,7 @@ use Rattle.protocol.specs.promises.Chains.{do_put, do_judge, do_write, do_write_
 use Rattle.lamp.specs.promises.Codes.{lamp_code}
 use Rattle.plan_judge.specs.declared.Desk.{Desk}
 use Rattle.refusals.specs.declared.Refusal.{Refusal}
-use Rattle.refusals.specs.Number.{named}
+use Rattle.refusals.specs.promises.Named.{named}
 use Rattle.plan_judge.specs.declared.Taking.{Taking}
 use Rattle.plan_judge.specs.declared.Judging.{Judging}
 use Rattle.plan_judge.specs.declared.Ruling.{Ruling}
