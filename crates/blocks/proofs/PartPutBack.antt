@@ -1,17 +1,11 @@
 -- Lists that are written part by part: a part lent from the middle is put back between what stands before it and what stands after it.
-use Prim.Native.Nat.{ℕ, zero, suc, ◌+◌, ◌-◌, ◌≤◌}
-use native.Mathlib.Nat.{sub-zero, suc-sub-suc}
+use Prim.Native.Nat.{ℕ, ◌+◌, ◌-◌, ◌≤◌}
 use native.Mathlib.Omega.{arith}
-use mathlib.Core.Path.{◌≡◌, refl, sym, ap, ap₂, ◌∙◌}
+use mathlib.Core.Path.{◌≡◌, sym, ap, ap₂, ◌∙◌}
 use mathlib.Core.List.{List, [], ◌++◌, append_assoc, append-nil}
-use lib.ListN.{length, take, drop, replicate, length-append, length-drop, drop_of_length-le}
+use lib.ListN.{length, take, drop, length-append, length-drop, drop_of_length-le}
 use lib.Seq.{take_all, take_at, drop_at, drop-drop}
 use borrow.Rule.Slice.PartMut.{mid_of, put_mid}
-
-pub drop-replicate : (k n v : ℕ) → k ≤ n → drop k (replicate n v) ≡ replicate (n - k) v
-drop-replicate zero n v h = rw sub-zero refl
-drop-replicate (suc k) zero v h = absurd (omega arith)
-drop-replicate (suc k) (suc n) v h = rw suc-sub-suc (drop-replicate k n v (omega arith))
 
 -- d is x, and d₀ from there on.
 module _ (x d₀ d : List ℕ) (a : ℕ) (e : d ≡ x ++ drop a d₀) (l : length x ≡ a) where

@@ -2,4 +2,4 @@ pub mod Bytes
 pub mod Block
 pub mod OneWord
 pub mod Splice
-pub mod Kind
+pub mod promises

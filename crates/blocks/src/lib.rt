@@ -6,7 +6,7 @@ ghost use Rattle.std.specs.Int.Signed.{lt_z};
 ghost use Rattle.logic.specs.Lists.{every};
 ghost use Rattle.blocks.specs.Bytes.{u16, u32, u64, signed, i16, i32, i64, twos_complement};
 ghost use Rattle.blocks.specs.Bytes as spec;
-ghost use Rattle.blocks.specs.Kind.{kind_number};
+ghost use Rattle.blocks.specs.promises.Kind.{kind_number};
 ghost use Rattle.blocks.specs.Block.{whole_blocks, word_sum, sums_right, with_word_sum};
 ghost use Rattle.blocks.specs.Block as spec-block;
 

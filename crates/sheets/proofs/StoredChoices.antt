@@ -13,7 +13,7 @@ use Rattle.blocks.specs.Bytes.{Bytes, twos_complement}
 use Rattle.blocks.specs.Block.{with_word_sum}
 use Rattle.sheets.specs.Layout.{sheet_block, blocks_for, sheet_bytes}
 use Rattle.sheets.specs.promises.Writer.{unsealed, chunk_size, begun, sealed, place, stored}
-use Rattle.blocks.proofs.PartPutBack.{drop-replicate}
+use Rattle.std.proofs.lemmas.List.{drop-replicate}
 use Rattle.sheets.proofs.PiecesInOrder.{pieces, pieces_none, pieces_more, pieces_same, pieces_length, next_piece}
 use Rattle.sheets.proofs.BlockBegun.{fields, fields_length, fields_first, unsealed_length, sealed_block}
 
@@ -117,7 +117,7 @@ module _ (n start w : ℕ) (cs : List ℕ) where
       ap (λ i. stored cs (490 * k) c (x ++ (unsealed n start w k i [] ++ y))) (chunk_length k)
       ∙ ap (λ l. stored cs (490 * k) c (x ++ (l ++ y))) (fields_first n start w k c [])
       ∙ into_block cs k c x (fields n start w k c) zeros y (few k) inside lx (fields_length n start w k c) (omega (arith, few k, length-replicate {A = ℕ} 494 0))
-      ∙ ap₂ (λ s r. x ++ ((fields n start w k c ++ (s ++ r)) ++ y)) front (drop-replicate c 494 0 (omega (arith, few k)))
+      ∙ ap₂ (λ s r. x ++ ((fields n start w k c ++ (s ++ r)) ++ y)) front (drop-replicate c 494 0)
       ∙ ap (λ l. x ++ (l ++ y)) (sym (fields_first n start w k c (chunk k)))
 
   -- Block after block, in a buffer that goes on with t.

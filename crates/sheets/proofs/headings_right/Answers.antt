@@ -1,7 +1,7 @@
 use Rattle.std.proofs.Common.{rules, refl}
 use borrow.Author.Tests.{tests}
 use Rattle.blocks.specs.Block.{block_count, headed}
-use Rattle.sheets.proofs.EveryInRange.{every_from_all}
+use Rattle.blocks.proofs.EveryInRange.{every_from_all}
 use Rattle.sheets.proofs.headings_right.Goals as goal
 
 pub returns : goal.returns

@@ -2,7 +2,7 @@ use Rattle.std.proofs.Common.{rules, refl}
 use borrow.Author.Tests.{tests}
 use Rattle.blocks.specs.Block.{block_count}
 use Rattle.sheets.specs.Grounds.{spare_right}
-use Rattle.sheets.proofs.EveryInRange.{every_from_all}
+use Rattle.blocks.proofs.EveryInRange.{every_from_all}
 use Rattle.sheets.proofs.spares_right.Goals as goal
 
 pub returns : goal.returns
