@@ -9,7 +9,7 @@ use Rattle.blocks.specs.Bytes.{within}
 use Rattle.questions.specs.declared.operators.Operator.{Operator}
 use Rattle.questions.specs.declared.operators.Operator.TheVariants.{False, Prop, Not, And, Do, Next, Gain, Plan, Earns}
 use Rattle.questions.specs.declared.operators.Unknown.{Unknown}
-use Rattle.questions.specs.Operators.{operator_number, operator_of, relation_of}
+use Rattle.questions.specs.promises.Operators.{operator_number, operator_of, relation_of}
 use Rattle.questions.proofs.TableNodeByNode.{by_operator}
 
 pub operator_of_number : (o : Operator) → operator_of (operator_number o) ≡ Ok o

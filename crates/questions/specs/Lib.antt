@@ -1,5 +1,4 @@
 pub mod Layout
-pub mod Operators
 pub mod Children
 pub mod Grounds
 pub mod promises

@@ -1,8 +1,8 @@
 // The operators of a question's nodes and the relations of its bounds, and the bytes that stand for them.
-#![tactic(auto, unfolding(crate::specs::Operators::operator_of, crate::specs::Operators::relation_of))]
+#![tactic(auto, unfolding(crate::specs::promises::Operators::operator_of, crate::specs::promises::Operators::relation_of))]
 
 ghost use Rattle.std.specs.Prelude.{◌≡◌};
-ghost use Rattle.questions.specs.Operators.{operator_of, relation_of};
+ghost use Rattle.questions.specs.promises.Operators.{operator_of, relation_of};
 
 #[derive(Clone, Copy, PartialEq, Eq)]
 pub enum Operator {

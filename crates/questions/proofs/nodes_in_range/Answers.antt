@@ -2,7 +2,7 @@ use Rattle.std.proofs.Common.{rules}
 use borrow.Author.Tests.{tests}
 use Rattle.questions.specs.Layout.{node_of}
 use Rattle.questions.specs.Grounds.{node_in_range}
-use Rattle.questions.proofs.EveryInRange.{every_from_all}
+use Rattle.blocks.proofs.EveryInRange.{every_from_all}
 use Rattle.questions.proofs.nodes_in_range.Goals as goal
 
 pub returns : goal.returns

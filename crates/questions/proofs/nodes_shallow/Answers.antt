@@ -2,7 +2,7 @@ use Rattle.std.proofs.Common.{rules, get_or}
 use borrow.Author.Tests.{tests}
 use Rattle.logic.specs.Formula.{shallow, never}
 use Rattle.questions.specs.Layout.{formulas_of}
-use Rattle.questions.proofs.EveryInRange.{every_from_all}
+use Rattle.blocks.proofs.EveryInRange.{every_from_all}
 use Rattle.questions.proofs.nodes_shallow.Goals as goal
 
 pub returns : goal.returns

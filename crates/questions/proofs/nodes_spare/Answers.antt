@@ -1,7 +1,7 @@
 use Rattle.std.proofs.Common.{rules}
 use borrow.Author.Tests.{tests}
 use Rattle.questions.specs.Grounds.{node_spare}
-use Rattle.questions.proofs.EveryInRange.{every_from_all}
+use Rattle.blocks.proofs.EveryInRange.{every_from_all}
 use Rattle.questions.proofs.nodes_spare.Goals as goal
 
 pub returns : goal.returns

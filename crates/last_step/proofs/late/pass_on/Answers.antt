@@ -9,7 +9,7 @@ use Rattle.std.specs.Prelude.{Result, Ok}
 use Rattle.questions.specs.declared.operators.Operator.{Operator}
 use Rattle.questions.specs.declared.operators.Operator.TheVariants.{Not, And, Next}
 use Rattle.questions.specs.declared.operators.Unknown.{Unknown}
-use Rattle.questions.specs.Operators.{operator_of}
+use Rattle.questions.specs.promises.Operators.{operator_of}
 use Rattle.questions.proofs.OperatorRead.{number_is, number_not, number_none}
 use Rattle.last_step.proofs.LateMarks.{NodeDone, left_in, left_passed, both_in}
 use borrow.Author.Rules.{rules}

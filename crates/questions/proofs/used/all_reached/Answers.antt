@@ -3,7 +3,7 @@ use Rattle.std.proofs.Common.{rules, get_or, ◌∙◌}
 use borrow.Author.Tests.{tests}
 use lib.Dec.{eqb}
 use Rattle.questions.proofs.AllReached.{marks_tell}
-use Rattle.questions.proofs.EveryInRange.{every_from_all}
+use Rattle.blocks.proofs.EveryInRange.{every_from_all}
 use Rattle.questions.proofs.used.all_reached.Goals as goal
 
 pub returns : goal.returns
