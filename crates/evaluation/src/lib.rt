@@ -62,16 +62,20 @@ pub fn gain_at(gains: &[i32; PLACES], k: u8) -> i32
     gains[usize::from(k)]
 }
 
-// Whether a gain stands in the relation of this number to a bound. It takes any number, as its contract says what 0, and each above 3, comes to.
+// The bytes of two relations, for a match.
+const LESS: u8 = Relation::Less as u8;
+
+const EQUAL: u8 = Relation::Equal as u8;
+
+// Whether a gain stands in the relation of this number to a bound. A match of the byte, since last_step's loop over lanes asks this of each: from
+// three arms the compiler makes a loop for each relation, and from tests one after another it makes a loop that takes a third longer.
 pub fn related(kind: u8, gain: i64, bound: i64) -> bool
     ensures { result ≡ quantity.related integers (relation kind) gain bound }
 {
-    if kind == Relation::Less as u8 {
-        gain < bound
-    } else if kind == 0 || kind == Relation::Equal as u8 {
-        gain == bound
-    } else {
-        gain > bound
+    match kind {
+        LESS => gain < bound,
+        0 | EQUAL => gain == bound,
+        _ => gain > bound,
     }
 }
 

@@ -1,4 +1,5 @@
 -- What the layers above and below promise each other; nobody has to believe it.
+pub mod Operators
 pub mod Formed
 pub mod Tables
 pub mod Passes

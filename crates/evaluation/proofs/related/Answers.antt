@@ -9,25 +9,25 @@ use Rattle.logic.specs.Quantity.{related}
 use Rattle.logic.specs.Formula.{relation}
 use Rattle.evaluation.proofs.related.Goals as goal
 
-pub returns-then-kind : goal.returns-then-kind
+pub returns-in-1 : goal.returns-in-1
 unfolding related relation
-returns-then-kind c = let a = c.args.gain in
+returns-in-1 c = let a = c.args.gain in
     let b = c.args.bound in
     let x = c.ranges.gain in
     let y = c.ranges.bound in
-    rw (to_z-of_z w64 a x, to_z-of_z w64 b y, c.if-kind.true) (less_is a b)
+    rw (to_z-of_z w64 a x, to_z-of_z w64 b y, c.in-1.is) (less_is a b)
 
-pub returns-then-kind-2 : goal.returns-then-kind-2
+pub returns-in-0 : goal.returns-in-0
 unfolding related relation
-returns-then-kind-2 c = let a = c.args.gain in
+returns-in-0 c = let a = c.args.gain in
     let b = c.args.bound in
     let x = c.ranges.gain in
     let y = c.ranges.bound in
-    ⊎_elim (λ e. rw e (same_bits a b x y)) (λ e. rw e.1 (same_bits a b x y)) c.if-kind-2.either
+    ⊎_elim (λ e. rw e (same_bits a b x y)) (λ e. rw e (same_bits a b x y)) c.in-0.is
 
-pub returns-else-kind-2 : goal.returns-else-kind-2
-returns-else-kind-2 c = let a = c.args.gain in
+pub returns-in_default : goal.returns-in_default
+returns-in_default c = let a = c.args.gain in
     let b = c.args.bound in
     let x = c.ranges.gain in
     let y = c.ranges.bound in
-    rw (to_z-of_z w64 a x, to_z-of_z w64 b y) (less_is b a ∙ sym (greater_by integers c.args.kind a b c.if-kind.false (⊎_elim c.if-kind-2.false.0 c.if-kind-2.false.1)))
+    rw (to_z-of_z w64 a x, to_z-of_z w64 b y) (less_is b a ∙ sym (greater_by integers c.args.kind a b c.in_default.in_default-own.rest.0.1 c.in_default.in_default-own.rest.1))
