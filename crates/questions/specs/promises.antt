@@ -1,5 +1,4 @@
 -- What the layers above and below promise each other; nobody has to believe it.
-pub mod Operators
 pub mod Formed
 pub mod Tables
 pub mod Passes
