@@ -228,6 +228,9 @@ module _ (d : Desk) (a : Bytes) where
       pub count_few : count ≤ length d.choices
       count_few = omega (arith, (shown_by d e).few)
 
+      pub count_small : length d.choices ≡ 1365 → count ≤ 1365
+      count_small k = let l = count_few in omega arith
+
       shown_length : length shown ≡ count
       shown_length = length-take-le count d.choices count_few
 
