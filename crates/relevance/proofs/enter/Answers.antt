@@ -17,9 +17,10 @@ pub returns-in_default-operator : goal.returns-in_default-operator
 returns-in_default-operator c = let n = c.in_default-operator in
     let r = c.try_from.ensures in
     let is = c.in-Ok.is in
-    let e = c.operator.ensures in
-    (grown_none _ c.args.marks.now,
-      λ _. entered_none (⊎_elim (λ x. number_not Not r is n.not-Not (e ∙ x)) (λ x. number_not Next r is n.not-Next (e ∙ x))) (λ o. number_not And r is n.not-And (e ∙ o)))
+    let e = c.operator.ensures in (
+      grown_none _ c.args.marks.now,
+      λ _. entered_none (⊎_elim (λ x. number_not Not r is n.not-Not (e ∙ x)) (λ x. number_not Next r is n.not-Next (e ∙ x))) (λ o. number_not And r is n.not-And (e ∙ o)),
+    )
 
 pub returns-in-Not : goal.returns-in-Not
 returns-in-Not c =

@@ -1,5 +1,4 @@
 -- Which operator the node's byte was read as says what it passes on.
-use Prim.Native.Nat.{ℕ}
 use mathlib.Core.Path.{◌≡◌}
 use mathlib.Core.Logic.{◌⊎◌, inl, inr, ⊎_elim}
 use Rattle.questions.specs.declared.operators.Operator.TheVariants.{Not, And, Next, Plan}
