@@ -81,7 +81,8 @@ pub fn totals(
     )
 }
 
-// The place of the first plan in dictionary order whose total is x; where there is none, the number of plans.
+// The place of the first plan in dictionary order whose total is x; where there is none, the number of plans, and no Option: a caller tells it as
+// the count of a no, and the contract says it.
 pub fn first_equal(
     m: &[u16; MODEL],
     q: &[u8; QUESTION],

@@ -14,7 +14,7 @@ use limits::{COUNTS, plans_counted};
 use prepared_model::MODEL;
 use prepared_question::QUESTION;
 
-// A number of a list, and its place there; the list's length where there is none.
+// A number of a list, and its place there; the list's length where there is none, and no Option: that is what the contract of `nearest` says.
 #[derive(Clone, Copy)]
 pub struct Near {
     pub place: usize,

@@ -7,7 +7,7 @@ ghost use Rattle.std.specs.Io.KnownBytes.{Appends, Consumes, IsAtEnd};
 
 use std::io::{Read, Write};
 
-// How many bytes were moved, and whether it was a failure that ended the call.
+// How many bytes were moved, and whether it was a failure that ended the call. No Result: the count says how much was moved also where it failed.
 #[derive(Clone, Copy)]
 pub struct Moved {
     pub count: usize,
