@@ -273,7 +273,7 @@ pub fn plans_fit(m: &[u16; MODEL], q: &[u8; QUESTION], counts: &[u64; COUNTS]) -
     nodes_fit::<Plans>(m, q, counts)
 }
 
-// The ground, 24 or 25, on which a prepared question is not judged on a prepared model; 0 where there is none. The plans are counted by the caller,
+// The ground, 24 or 25, on which a prepared question is not judged on a prepared model; `Ok` where there is none. The plans are counted by the caller,
 // who judges with the same table.
 pub fn accept_limits(
     m: &[u16; MODEL],

@@ -291,7 +291,6 @@ fn replay_one(
     if streams::read_full(from, &mut head).count < 5 {
         return None;
     }
-    let operation = operation_of(head[0])?;
     let n = blocks::u32_at(&head, 1) as usize;
     if space.len() < n {
         return None;
@@ -299,6 +298,8 @@ fn replay_one(
     if streams::read_full(from, &mut space[..n]).count < n {
         return None;
     }
+    // Only now, so that a record of no operation is read whole before it ends the list.
+    let operation = operation_of(head[0])?;
     call(to, desk, operation, &mut space[..n], out)
 }
 
